@@ -1,0 +1,10 @@
+pub mod OptionLemmas
+pub mod TextLemmas
+pub mod FieldLemmas
+pub mod ReaderLemmas
+pub mod YearLemmas
+pub mod FormLemmas
+pub mod DateLemmas
+pub mod PrintLemmas
+pub mod CalendarLemmas
+pub mod DayLemmas

@@ -1,0 +1,9 @@
+pub mod Names
+pub mod Text
+pub mod Forms
+pub mod Days
+pub mod Steps
+pub mod Calendar
+pub mod Fields
+pub mod Reader
+pub mod Moments

@@ -1,0 +1,48 @@
+-- The date-time that a text stands for, and the one that lies some days later, as functions.
+use Rattle.std.specs.Prelude.{ℕ, zero, suc, List, Option, Some, unwrap_or, ℤ, pos, neg_ℤ, ◌+ℤ◌, int_lt, unsigned_abs, if◌then◌else◌}
+use Rattle.jiff.specs.Types.{DateTime, Date}
+use Rattle.jiff.specs.Words.{epoch_day}
+use Rattle.cookie_date.specs.Forms.{full_year}
+use Rattle.cookie_date.specs.Calendar.{date_at, time_at, next_date}
+use Rattle.cookie_date.specs.Reader.{read_fields}
+use Rattle.cookie_date.specs.Steps.{◌>>=◌}
+
+-- The date-time that a text stands for, or `None` where it stands for none. That it is exactly the one of
+-- `IsDateText` is the lemma `date_of-is` of proofs/DateLemmas.
+unfoldable pub date_of : List ℕ → Option DateTime
+date_of text = do
+  fields ← read_fields text
+  date ← date_at (full_year fields.year) fields.month fields.day
+  time ← time_at fields.hour fields.minute fields.second 0
+  Some (record { date = date; time = time })
+
+-- the date so many days after another
+unfoldable pub date_after : Date → ℕ → Date
+date_after first zero = first
+date_after first (suc days) = next_date (date_after first days)
+
+-- the first date-time of the calendar; its date and time exist, so those of the other one are never taken
+unfoldable pub first_moment : DateTime → DateTime
+first_moment other = record {
+  date = unwrap_or (date_at (neg_ℤ (pos 9999)) 1 1) other.date;
+  time = unwrap_or (time_at 0 0 0 0) other.time;
+}
+
+-- the last one, likewise
+unfoldable pub last_moment : DateTime → DateTime
+last_moment other = record {
+  date = unwrap_or (date_at (pos 9999) 12 31) other.date;
+  time = unwrap_or (time_at 23 59 59 999_999_999) other.time;
+}
+
+-- The date-time so many days later, found by counting from the first date of the calendar. That it is exactly the
+-- one of `IsDaysLater` is the lemmas `days_later-is` and `days_later-only` of proofs/DayLemmas.
+unfoldable pub days_later : DateTime → ℤ → DateTime
+days_later moment days =
+    let day = epoch_day moment.date +ℤ days in
+    if int_lt day (neg_ℤ (pos 4_371_587)) then first_moment moment
+    else if int_lt (pos 2_932_896) day then last_moment moment
+    else record {
+      date = date_after (first_moment moment).date (unsigned_abs (day +ℤ pos 4_371_587));
+      time = moment.time;
+    }
