@@ -1,0 +1,348 @@
+-- The function of a text that says what it is read as agrees with `Reads` (RFC 6265 5.2).
+use Rattle.std.proofs.Common.{◌≡◌, ◌↔◌, ◌⊎◌, ◌==◌, cond, Bool, true, false, ℕ, ◌<◌, List, [], ◌∷◌, ◌++◌, length, Option, Some, None, Ok, Err, Result, option_map, inl, inr, refl, sym, ap, ◌∙◌, subst, codes, arith}
+use Rattle.std.proofs.lemmas.Bool.{false≢true, cases_lt}
+use Rattle.std.proofs.lemmas.Bool.Decides.{Decides-eqb}
+use Rattle.std.proofs.lemmas.List.{take_all}
+use Rattle.std.proofs.lemmas.List.Elements.{All-nil, All-cons, All-head, All-tail, All-from_get_or}
+use Rattle.std.proofs.lemmas.List.Folds.{list_any_at, list_any_none}
+use Rattle.std.proofs.lemmas.List.Sums.{split_at_first, fails_before_first, passes_at_first}
+use Rattle.std.proofs.lemmas.Option.{none-some, same_Some}
+use Rattle.std.proofs.lemmas.Slice.Eq.{bytes_eq-Decides}
+use Rattle.std.proofs.lemmas.Str.{is_utf8-from_IsUtf8, IsUtf8-from_is_utf8}
+use Rattle.std.specs.List.{All, before_first, after_first, list_any, position_or_len, find, filter_map}
+use Rattle.std.specs.Option.{option_or, option_and_then}
+use Rattle.std.specs.Result.{result_ok}
+use Rattle.std.specs.Str.{IsUtf8, trim, bytes_eq, str_to_ascii_lowercase, is_utf8}
+use mathlib.Core.Logic.{◌≢◌}
+use Rattle.jiff.specs.Types.{DateTime}
+use Rattle.cookie_date.specs.Moments.{date_of}
+use Rattle.cookie_date.proofs.DateLemmas.{date_of-is}
+use Rattle.cookie_date.proofs.OptionLemmas.{through}
+use Rattle.cookie_core.specs.Attributes.{IsPair, IsAttribute, Setting, key_of, same_site_key, nanos_of_seconds, max_age_seconds, GivesExpiry, Gives, Sets, Skips, IsLastSet, SetsAttributes, http_only, secure, partitioned, same_site, path, domain, max_age, expires}
+use Rattle.cookie_core.specs.CookieOf.{key_text, value_text, set_by, filled, same_site_named, http_only_in, secure_in, partitioned_in, same_site_in, path_in, domain_in, max_age_in, expires_in, last_set, record_in, decoded, cookie_in, cookie_of, header_cookies}
+use Rattle.cookie_core.specs.Escapes.{unescape}
+use Rattle.cookie_core.specs.Header.{kept, IsHeaderTexts}
+use Rattle.cookie_core.specs.Pieces.{IsPieces}
+use Rattle.cookie_core.specs.Reads.{IsDecoded, IsUndecodable, ReadsPieces, Reads}
+use Rattle.cookie_core.specs.Record.{Record, without_leading_dot}
+use Rattle.cookie_core.specs.declared.same_site.SameSite.{SameSite}
+use Rattle.cookie_core.specs.declared.same_site.SameSite.TheVariants as same_site_of
+use Rattle.cookie_core.specs.declared.expiration.Expiration.{Expiration}
+use Rattle.cookie_core.specs.declared.expiration.Expiration.TheVariants as expiration
+use Rattle.cookie_core.specs.declared.parse_error.ParseError.{ParseError}
+use Rattle.cookie_core.specs.declared.parse_error.ParseError.TheVariants.{MissingPair, EmptyName, Utf8Error, OutOfMemory}
+use Rattle.cookie_core.proofs.PieceLemmas.{IsPieces-pieces}
+use Rattle.cookie_core.proofs.PlaceLemmas.{Lacks-front}
+use Rattle.cookie_core.proofs.ReadingLemmas.{not_lacking, IsAttribute-unique, IsPieces-unique, IsPieces-some}
+
+-- ---- options
+
+cond-some : {X : Type 0} (b : Bool) (o : Option X) (x : X) → cond b o None ≡ Some x → (b ≡ true) × (o ≡ Some x)
+cond-some true o x e = (refl, e)
+cond-some false o x e = absurd (none-some x e)
+
+onward : {A B : Type 0} (f : A → Option B) (o : Option A) (x : A) (y : B) → o ≡ Some x → f x ≡ Some y → option_and_then f o ≡ Some y
+onward f o x y e h = rw e h
+
+unless-some : {X : Type 0} (o : Option X) → ((x : X) → o ≢ Some x) → o ≡ None
+unless-some None h = refl
+unless-some (Some x) h = absurd (h x refl)
+
+-- ---- the key and the value of a piece
+
+differs : (c b : ℕ) → (b == c) ≡ false → b ≢ c
+differs c b e h = false≢true (sym e ∙ (Decides-eqb b c).1 h)
+
+-- the byte is `=`
+abbrev is_mark : ℕ → Bool
+is_mark b = b == 61
+
+-- the key and the value of a piece are those of `key_text` and `value_text`
+pub IsAttribute-texts : (p : List ℕ) → IsAttribute p (key_text p) (value_text p)
+IsAttribute-texts p =
+    elim (cases_lt (position_or_len is_mark p) (length p)) [
+      | inl lt ↦
+          let here = passes_at_first is_mark p 0 lt in
+          let found : list_any is_mark p ≡ true = list_any_at is_mark p _ 0 lt here in
+          let whole = split_at_first is_mark p 0 lt ∙ ap (λ c. before_first is_mark p ++ c ∷ after_first is_mark p) ((Decides-eqb _ 61).0 here) in
+          let front = Lacks-front 61 p _ (before_first is_mark p) refl (λ i below. differs 61 _ (fails_before_first is_mark p i 0 below)) in
+          rw found (before_first is_mark p, after_first is_mark p, whole, front, refl, refl)
+      | inr ge ↦
+          let fails = λ (i : ℕ) (lt : i < length p). fails_before_first is_mark p i 0 (omega arith) in
+          let none : list_any is_mark p ≡ false = list_any_none is_mark p (All-from_get_or (λ b. is_mark b ≡ false) p 0 fails) in
+          rw none ((λ i lt. differs 61 _ (fails i lt)), ap trim (take_all _ p ge))
+    ]
+
+-- ---- what one piece sets
+
+-- f gives exactly what a piece sets the field to
+abbrev pub IsSetter : {X : Type 0} → (X → Setting) → (List ℕ → Option X) → Type 0
+IsSetter {X} field f = (p : List ℕ) (x : X) → (f p ≡ Some x) ↔ Sets p (field x)
+
+-- g gives exactly what the value of an attribute sets the field to
+abbrev IsGiver : {X : Type 0} → (X → Setting) → (Option (List ℕ) → Option X) → Type 0
+IsGiver {X} field g = (v : Option (List ℕ)) (x : X) → (g v ≡ Some x) ↔ Gives v (field x)
+
+IsSetter-set_by : {X : Type 0} (field : X → Setting) (word : List ℕ) (g : Option (List ℕ) → Option X) → ((x : X) → key_of (field x) ≡ word) → IsGiver field g → IsSetter field (set_by word g)
+IsSetter-set_by {X} field word g keys gives p x = (sound, complete)
+  where
+    sound : set_by word g p ≡ Some x → Sets p (field x)
+    sound e =
+        let (named, given) = cond-some _ (g (value_text p)) x e in
+        (key_text p, value_text p, IsAttribute-texts p, (bytes_eq-Decides _ word).0 named ∙ sym (keys x), (gives (value_text p) x).0 given)
+
+    complete : Sets p (field x) → set_by word g p ≡ Some x
+    complete (k, v, is, named, given) =
+        let (same_key, same_value) = IsAttribute-unique p k v (key_text p) (value_text p) is (IsAttribute-texts p) in
+        let test : bytes_eq (str_to_ascii_lowercase (key_text p)) word ≡ true = (bytes_eq-Decides _ word).1 (ap str_to_ascii_lowercase (sym same_key) ∙ named ∙ keys x) in
+        ap (λ b. cond b (g (value_text p)) None) test ∙ (gives (value_text p) x).1 (subst (λ w. Gives w (field x)) same_value given)
+
+flag : (x : Bool) → (Some true ≡ Some x) ↔ (x ≡ true)
+flag x = (λ e. sym (same_Some _ _ e), λ e. ap Some (sym e))
+
+same_site-found : (b b' b'' : Bool) (x y z w : SameSite) → cond b (Some x) (cond b' (Some y) (cond b'' (Some z) None)) ≡ Some w → ((b ≡ true) × (x ≡ w)) ⊎ (((b' ≡ true) × (y ≡ w)) ⊎ ((b'' ≡ true) × (z ≡ w)))
+same_site-found true b' b'' x y z w e = inl (refl, same_Some _ _ e)
+same_site-found false true b'' x y z w e = inr (inl (refl, same_Some _ _ e))
+same_site-found false false true x y z w e = inr (inr (refl, same_Some _ _ e))
+same_site-found false false false x y z w e = absurd (none-some w e)
+
+same_site-sound : (v : List ℕ) (x : SameSite) → same_site_named v ≡ Some x → str_to_ascii_lowercase v ≡ same_site_key x
+same_site-sound v x e =
+    elim (same_site-found _ _ _ same_site_of.Strict same_site_of.Lax same_site_of.None x e) [
+      | inl h ↦ (bytes_eq-Decides _ _).0 h.0 ∙ ap same_site_key h.1
+      | inr (inl h) ↦ (bytes_eq-Decides _ _).0 h.0 ∙ ap same_site_key h.1
+      | inr (inr h) ↦ (bytes_eq-Decides _ _).0 h.0 ∙ ap same_site_key h.1
+    ]
+
+-- the rule whose name is the word
+abbrev rule_of : List ℕ → Option SameSite
+rule_of w = find (λ s. bytes_eq w (same_site_key s)) (same_site_of.Strict ∷ same_site_of.Lax ∷ same_site_of.None ∷ [])
+
+same_site-complete : (v : List ℕ) (x : SameSite) → str_to_ascii_lowercase v ≡ same_site_key x → same_site_named v ≡ Some x
+same_site-complete v same_site_of.Strict e = ap rule_of e
+same_site-complete v same_site_of.Lax e = ap rule_of e
+same_site-complete v same_site_of.None e = ap rule_of e
+
+same_site-gives : IsGiver same_site (option_and_then same_site_named)
+same_site-gives None x = (none-some x, absurd)
+same_site-gives (Some v) x = (same_site-sound v x, same_site-complete v x)
+
+path-gives : IsGiver path (λ v. v)
+path-gives None x = (none-some x, absurd)
+path-gives (Some v) x = (same_Some v x, ap Some)
+
+domain-gives : IsGiver domain (option_and_then (λ v. option_map without_leading_dot (filled v)))
+domain-gives None x = (none-some x, absurd)
+domain-gives (Some []) x = (λ e. absurd (none-some x e), λ h. absurd (h.0 refl))
+domain-gives (Some (c ∷ cs)) x = (λ e. ((λ n. cc), sym (same_Some _ _ e)), λ h. ap Some (sym h.1))
+
+max_age-gives : IsGiver max_age (option_and_then (λ v. option_map nanos_of_seconds (max_age_seconds v)))
+max_age-gives None x = (none-some x, absurd)
+max_age-gives (Some v) x = (λ e. e, λ e. e)
+
+expiry-sound : (v : List ℕ) (o : Option DateTime) (x : Expiration) → date_of v ≡ o → option_map (λ m. expiration.DateTime m) o ≡ Some x → GivesExpiry v x
+expiry-sound v None x is e = absurd (none-some x e)
+expiry-sound v (Some m) x is e = subst (GivesExpiry v) (same_Some _ x e) ((date_of-is v m).0 is)
+
+expiry-complete : (v : List ℕ) (x : Expiration) → GivesExpiry v x → option_map (λ m. expiration.DateTime m) (date_of v) ≡ Some x
+expiry-complete v (expiration.DateTime m) h = ap (option_map (λ m. expiration.DateTime m)) ((date_of-is v m).1 h)
+expiry-complete v expiration.Session h = absurd h
+
+expires-gives : IsGiver expires (option_and_then (λ v. option_map expiration.DateTime (date_of v)))
+expires-gives None x = (none-some x, absurd)
+expires-gives (Some v) x = (expiry-sound v (date_of v) x refl, expiry-complete v x)
+
+pub http_only_in-is : IsSetter http_only http_only_in
+http_only_in-is = IsSetter-set_by http_only (codes "httponly") (λ _. Some true) (λ x. refl) (λ v. flag)
+
+pub secure_in-is : IsSetter secure secure_in
+secure_in-is = IsSetter-set_by secure (codes "secure") (λ _. Some true) (λ x. refl) (λ v. flag)
+
+pub partitioned_in-is : IsSetter partitioned partitioned_in
+partitioned_in-is = IsSetter-set_by partitioned (codes "partitioned") (λ _. Some true) (λ x. refl) (λ v. flag)
+
+pub same_site_in-is : IsSetter same_site same_site_in
+same_site_in-is = IsSetter-set_by same_site (codes "samesite") _ (λ x. refl) same_site-gives
+
+pub path_in-is : IsSetter path path_in
+path_in-is = IsSetter-set_by path (codes "path") _ (λ x. refl) path-gives
+
+pub domain_in-is : IsSetter domain domain_in
+domain_in-is = IsSetter-set_by domain (codes "domain") _ (λ x. refl) domain-gives
+
+pub max_age_in-is : IsSetter max_age max_age_in
+max_age_in-is = IsSetter-set_by max_age (codes "max-age") _ (λ x. refl) max_age-gives
+
+pub expires_in-is : IsSetter expires expires_in
+expires_in-is = IsSetter-set_by expires (codes "expires") _ (λ x. refl) expires-gives
+
+-- ---- what the last piece sets
+
+last_set-none : {X : Type 0} (field : X → Setting) (f : List ℕ → Option X) → IsSetter field f → (ps : List (List ℕ)) → All (Skips field) ps → last_set f ps ≡ None
+last_set-none field f is [] h = refl
+last_set-none field f is (p ∷ ps) h =
+    let later = last_set-none field f is ps (All-tail (Skips field) p ps h) in
+    let here = unless-some (f p) (λ x e. All-head (Skips field) p ps h x ((is p x).0 e)) in
+    rw (later, here) refl
+
+last_set-some : {X : Type 0} (field : X → Setting) (f : List ℕ → Option X) → IsSetter field f → (before : List (List ℕ)) (p : List ℕ) (after : List (List ℕ)) (x : X) → Sets p (field x) → All (Skips field) after → last_set f (before ++ p ∷ after) ≡ Some x
+last_set-some field f is [] p after x s none = rw (last_set-none field f is after none) ((is p x).1 s)
+last_set-some field f is (q ∷ before) p after x s none = rw (last_set-some field f is before p after x s none) refl
+
+IsLastSet-more : {X : Type 0} (field : X → Setting) (f : List ℕ → Option X) → IsSetter field f → (p : List ℕ) (ps : List (List ℕ)) (o o' : Option X) → f p ≡ o' → IsLastSet field ps o → IsLastSet field (p ∷ ps) (option_or o o')
+IsLastSet-more field f is p ps (Some x) o' e (before, q, after, whole, s, none) = (p ∷ before, q, after, ap (λ qs. p ∷ qs) whole, s, none)
+IsLastSet-more field f is p ps None (Some x) e h = ([], p, ps, refl, (is p x).0 e, h)
+IsLastSet-more field f is p ps None None e h = All-cons (Skips field) p ps (λ x s. none-some x (sym e ∙ (is p x).1 s)) h
+
+-- the last setting is `last_set`, and no other
+pub IsLastSet-last_set : {X : Type 0} (field : X → Setting) (f : List ℕ → Option X) → IsSetter field f → (ps : List (List ℕ)) → IsLastSet field ps (last_set f ps)
+IsLastSet-last_set field f is [] = All-nil (Skips field)
+IsLastSet-last_set field f is (p ∷ ps) = IsLastSet-more field f is p ps (last_set f ps) (f p) refl (IsLastSet-last_set field f is ps)
+
+pub last_set-IsLastSet : {X : Type 0} (field : X → Setting) (f : List ℕ → Option X) → IsSetter field f → (ps : List (List ℕ)) (o : Option X) → IsLastSet field ps o → last_set f ps ≡ o
+last_set-IsLastSet field f is ps None h = last_set-none field f is ps h
+last_set-IsLastSet field f is ps (Some x) (before, p, after, whole, s, none) = ap (last_set f) whole ∙ last_set-some field f is before p after x s none
+
+pub SetsAttributes-record_in : (n v : List ℕ) (ps : List (List ℕ)) → SetsAttributes ps (record_in n v ps)
+SetsAttributes-record_in n v ps =
+    record {
+      http_only = IsLastSet-last_set http_only http_only_in http_only_in-is ps;
+      secure = IsLastSet-last_set secure secure_in secure_in-is ps;
+      partitioned = IsLastSet-last_set partitioned partitioned_in partitioned_in-is ps;
+      same_site = IsLastSet-last_set same_site same_site_in same_site_in-is ps;
+      path = IsLastSet-last_set path path_in path_in-is ps;
+      domain = IsLastSet-last_set domain domain_in domain_in-is ps;
+      max_age = IsLastSet-last_set max_age max_age_in max_age_in-is ps;
+      expires = IsLastSet-last_set expires expires_in expires_in-is ps;
+    }
+
+-- so the pieces determine the attributes
+pub record_in-SetsAttributes : (ps : List (List ℕ)) (r : Record) → SetsAttributes ps r → record_in r.name r.value ps ≡ r
+record_in-SetsAttributes ps r h =
+    λ i. record {
+      name = r.name;
+      value = r.value;
+      http_only = last_set-IsLastSet http_only http_only_in http_only_in-is ps r.http_only h.http_only i;
+      secure = last_set-IsLastSet secure secure_in secure_in-is ps r.secure h.secure i;
+      partitioned = last_set-IsLastSet partitioned partitioned_in partitioned_in-is ps r.partitioned h.partitioned i;
+      same_site = last_set-IsLastSet same_site same_site_in same_site_in-is ps r.same_site h.same_site i;
+      path = last_set-IsLastSet path path_in path_in-is ps r.path h.path i;
+      domain = last_set-IsLastSet domain domain_in domain_in-is ps r.domain h.domain i;
+      max_age = last_set-IsLastSet max_age max_age_in max_age_in-is ps r.max_age h.max_age i;
+      expires = last_set-IsLastSet expires expires_in expires_in-is ps r.expires h.expires i;
+    }
+
+-- ---- the pair, and decoding
+
+filled-some : (t u : List ℕ) → filled t ≡ Some u → (t ≡ u) × (u ≢ [])
+filled-some [] u e = absurd (none-some u e)
+filled-some (c ∷ cs) u e = (same_Some _ u e, λ n. let f : Some (c ∷ cs) ≡ Some [] = e ∙ ap Some n in cc)
+
+some-filled : (t : List ℕ) → t ≢ [] → filled t ≡ Some t
+some-filled [] h = absurd (h refl)
+some-filled (c ∷ cs) h = refl
+
+-- `decoded` gives the text that another is read as, and that one alone
+pub decoded-IsDecoded : (decode : Bool) (t u : List ℕ) → (decoded decode t ≡ Some u) ↔ IsDecoded decode t u
+decoded-IsDecoded false t u = (λ e. sym (same_Some t u e), λ e. ap Some (sym e))
+decoded-IsDecoded true t u = (sound, complete)
+  where
+    sound : decoded true t ≡ Some u → IsDecoded true t u
+    sound e =
+        let (test, same) = cond-some (is_utf8 (unescape t)) (Some (unescape t)) u e in
+        let q : unescape t ≡ u = same_Some _ u same in
+        (sym q, subst IsUtf8 q (IsUtf8-from_is_utf8 (unescape t) test))
+
+    complete : IsDecoded true t u → decoded true t ≡ Some u
+    complete (q, h) =
+        ap (λ b. cond b (Some (unescape t)) None) (is_utf8-from_IsUtf8 (unescape t) (subst IsUtf8 q h)) ∙ ap Some (sym q)
+
+-- ---- the pieces of a text
+
+cookie_in-sound : (decode : Bool) (p : List ℕ) (ps : List (List ℕ)) (r : Record) → cookie_in decode (p ∷ ps) ≡ Some r → ReadsPieces decode p ps (Ok r)
+cookie_in-sound decode p ps r e₀ =
+    let (v, is_value, e₁) = through _ (value_text p) r e₀ in
+    let (n, is_name, e₂) = through _ (filled (key_text p)) r e₁ in
+    let (name, is_decoded_name, e₃) = through _ (decoded decode n) r e₂ in
+    let (value, is_decoded_value, e₄) = through _ (decoded decode v) r e₃ in
+    let (same_name, some) = filled-some (key_text p) n is_name in
+    let pair : IsPair p n v = subst (λ k. IsPair p k v) same_name (subst (IsAttribute p (key_text p)) is_value (IsAttribute-texts p)) in
+    subst (λ q. ReadsPieces decode p ps (Ok q)) (same_Some _ r e₄) (n, v, pair, some, (decoded-IsDecoded decode n name).0 is_decoded_name, (decoded-IsDecoded decode v value).0 is_decoded_value, SetsAttributes-record_in name value ps)
+
+cookie_in-complete : (decode : Bool) (p : List ℕ) (ps : List (List ℕ)) (r : Record) → ReadsPieces decode p ps (Ok r) → cookie_in decode (p ∷ ps) ≡ Some r
+cookie_in-complete decode p ps r (n, v, pair, some, name, value, sets) =
+    let (same_name, same_value) = IsAttribute-unique p n (Some v) (key_text p) (value_text p) pair (IsAttribute-texts p) in
+    let is_name : filled (key_text p) ≡ Some n = ap filled (sym same_name) ∙ some-filled n some in
+    onward _ (value_text p) v r (sym same_value) (onward _ (filled (key_text p)) n r is_name (onward _ (decoded decode n) r.name r ((decoded-IsDecoded decode n r.name).1 name) (onward _ (decoded decode v) r.value r ((decoded-IsDecoded decode v r.value).1 value) (ap Some (record_in-SetsAttributes ps r sets)))))
+
+not_undecodable : (decode : Bool) (n v n' v' : List ℕ) → IsDecoded decode n n' → IsDecoded decode v v' → ¬ (IsUndecodable decode n v)
+not_undecodable false n v n' v' h k u = u
+not_undecodable true n v n' v' h k (inl u) = u (subst IsUtf8 h.0 h.1)
+not_undecodable true n v n' v' h k (inr u) = u (subst IsUtf8 k.0 k.1)
+
+-- pieces that are read as a record are not refused
+ReadsPieces-one : (decode : Bool) (p : List ℕ) (ps : List (List ℕ)) (r : Record) (e : ParseError) → ReadsPieces decode p ps (Ok r) → ¬ (ReadsPieces decode p ps (Err e))
+ReadsPieces-one decode p ps r MissingPair (n, v, (a, b, whole, _, _, _), _, _, _, _) h = not_lacking 61 p a b whole h
+ReadsPieces-one decode p ps r EmptyName (n, v, pair, some, _, _, _) (w, h) = some (IsAttribute-unique p n (Some v) [] (Some w) pair h).0
+ReadsPieces-one decode p ps r (Utf8Error x) (n, v, pair, some, name, value, _) (m, w, pair', _, bad) =
+    let (same_name, same_value) = IsAttribute-unique p m (Some w) n (Some v) pair' pair in
+    not_undecodable decode n v r.name r.value name value (subst (IsUndecodable decode n) (same_Some w v same_value) (subst (λ k. IsUndecodable decode k w) same_name bad))
+ReadsPieces-one decode p ps r OutOfMemory h k = k
+
+-- ---- texts
+
+cookie_of-pieces : (decode : Bool) (t p : List ℕ) (ps : List (List ℕ)) → IsPieces t p ps → cookie_of decode t ≡ cookie_in decode (p ∷ ps)
+unfolding cookie_of
+cookie_of-pieces decode t p ps h = ap (cookie_in decode) (IsPieces-pieces t p ps h)
+
+-- a text is read as the record that `cookie_of` gives, and as no other
+pub cookie_of-Reads : (decode : Bool) (t : List ℕ) (r : Record) → (cookie_of decode t ≡ Some r) ↔ Reads decode t (Ok r)
+cookie_of-Reads decode t r = (sound, complete)
+  where
+    sound : cookie_of decode t ≡ Some r → Reads decode t (Ok r)
+    sound e =
+        let (p, ps, h) = IsPieces-some t in
+        (p, ps, h, cookie_in-sound decode p ps r (sym (cookie_of-pieces decode t p ps h) ∙ e))
+
+    complete : Reads decode t (Ok r) → cookie_of decode t ≡ Some r
+    complete (p, ps, h, k) = cookie_of-pieces decode t p ps h ∙ cookie_in-complete decode p ps r k
+
+pub Reads-same : (decode : Bool) (t : List ℕ) (r r' : Record) → Reads decode t (Ok r) → Reads decode t (Ok r') → r ≡ r'
+Reads-same decode t r r' h k = same_Some r r' (sym ((cookie_of-Reads decode t r).1 h) ∙ (cookie_of-Reads decode t r').1 k)
+
+-- a text that is refused is read as no record
+pub Reads-one : (decode : Bool) (t : List ℕ) (r : Record) (e : ParseError) → Reads decode t (Ok r) → ¬ (Reads decode t (Err e))
+Reads-one decode t r e (p, ps, h, k) (q, qs, h', k') =
+    let (first, later) = IsPieces-unique t q qs p ps h' h in
+    ReadsPieces-one decode p ps r e k (subst (λ xs. ReadsPieces decode p xs (Err e)) later (subst (λ x. ReadsPieces decode x qs (Err e)) first k'))
+
+pub cookie_of-refused : (decode : Bool) (t : List ℕ) (e : ParseError) → Reads decode t (Err e) → cookie_of decode t ≡ None
+cookie_of-refused decode t e h =
+    unless-some (cookie_of decode t) (λ r is. Reads-one decode t r e ((cookie_of-Reads decode t r).0 is) h)
+
+-- what a reader's answer is, where `Reads` says what the text is read as
+pub cookie_of-result : (decode : Bool) (t : List ℕ) (o : Result Record ParseError) → Reads decode t o → result_ok o ≡ cookie_of decode t
+cookie_of-result decode t (Ok r) h = sym ((cookie_of-Reads decode t r).1 h)
+cookie_of-result decode t (Err e) h = sym (cookie_of-refused decode t e h)
+
+refused_pieces : (p : List ℕ) (ps : List (List ℕ)) (k : List ℕ) (v : Option (List ℕ)) → IsAttribute p k v → ((r : Record) → ¬ (ReadsPieces false p ps (Ok r))) → ReadsPieces false p ps (Err MissingPair) ⊎ ReadsPieces false p ps (Err EmptyName)
+refused_pieces p ps k None is none = inl is.0
+refused_pieces p ps [] (Some v) is none = inr (v, is)
+refused_pieces p ps (c ∷ cs) (Some v) is none =
+    absurd (none (record_in (c ∷ cs) v ps) (c ∷ cs, v, is, (λ n. cc), refl, refl, SetsAttributes-record_in (c ∷ cs) v ps))
+
+-- without decoding, a text that is read as no record has no `=` in its first piece, or an empty name
+pub cookie_of-none : (t : List ℕ) → cookie_of false t ≡ None → Reads false t (Err MissingPair) ⊎ Reads false t (Err EmptyName)
+cookie_of-none t e =
+    let (p, ps, h) = IsPieces-some t in
+    let none = λ (r : Record) (k : ReadsPieces false p ps (Ok r)). none-some r (sym e ∙ (cookie_of-Reads false t r).1 (p, ps, h, k)) in
+    elim (refused_pieces p ps (key_text p) (value_text p) (IsAttribute-texts p) none) [
+      | inl k ↦ inl (p, ps, h, k)
+      | inr k ↦ inr (p, ps, h, k)
+    ]
+
+-- the records of a header are those of its texts
+pub header_cookies-texts : (decode : Bool) (header : List ℕ) (texts : List (List ℕ)) → IsHeaderTexts header texts → header_cookies decode header ≡ filter_map (cookie_of decode) texts
+unfolding header_cookies
+header_cookies-texts decode header texts (p, ps, h, e) =
+    ap (λ qs. filter_map (cookie_of decode) (kept qs)) (IsPieces-pieces header p ps h) ∙ ap (filter_map (cookie_of decode)) (sym e)

@@ -1,0 +1,12 @@
+pub mod AgeLemmas
+pub mod CookieOfLemmas
+pub mod CopyLemmas
+pub mod DotLemmas
+pub mod PieceLemmas
+pub mod PlaceLemmas
+pub mod ReadingLemmas
+pub mod SpanLemmas
+pub mod TrimLemmas
+pub use Rattle.cookie_date.proofs.DateLemmas
+pub use Rattle.cookie_date.proofs.DayLemmas
+pub use Rattle.cookie_date.proofs.PrintLemmas

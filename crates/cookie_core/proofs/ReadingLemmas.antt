@@ -1,0 +1,289 @@
+-- Pieces, and what they set.
+use Rattle.std.proofs.Common.{◌≡◌, ◌↔◌, Bool, false, IsTrue, option_map, ℕ, ◌+◌, List, [], ◌∷◌, ◌++◌, length, get_or, Option, Some, None, Ok, Err, MatchOption, inl, inr, refl, sym, ap, ◌∙◌, subst, zero, suc, append_assoc, add-one, arith}
+use Rattle.std.proofs.Math.Seq.{get_or-append_seam}
+use Rattle.std.proofs.lemmas.List.{length-append}
+use Rattle.std.proofs.lemmas.Bool.{false≢true, cases_lt}
+use Rattle.std.proofs.lemmas.Slice.Eq.{bytes_eq-Decides}
+use Rattle.std.specs.Str.{bytes_eq}
+use Rattle.std.specs.Option.{option_or}
+use Rattle.std.proofs.lemmas.List.{append-nil}
+use Rattle.std.proofs.lemmas.List.Elements.{All-append}
+use Rattle.std.specs.List.{All}
+use Rattle.std.specs.Str.{trim, str_to_ascii_lowercase}
+use Rattle.cookie_core.specs.Record.{Record, plain, without_leading_dot}
+use Rattle.jiff.specs.Words.{signed_nanos}
+use Rattle.jiff.specs.declared.SignedDuration.{SignedDuration}
+use Rattle.cookie_core.specs.Walk.{behind, before_rest, HasRead}
+use Rattle.cookie_core.specs.declared.part.Part.{Part}
+use Rattle.cookie_core.specs.declared.parse_error.ParseError.TheVariants.{MissingPair, EmptyName}
+use mathlib.Core.Logic.{◌≢◌}
+use Rattle.cookie_core.specs.Pieces.{Lacks, joined, IsPieces}
+use Rattle.cookie_core.specs.Reads.{Reads}
+use Rattle.cookie_core.specs.Attributes.{IsPair, IsAttribute, IsWord, Skips, IsLastSet, SetsAttributes, Setting, http_only, secure, partitioned, same_site, path, domain, max_age, expires, key_of, Gives, Sets, SetsNothing, nanos_of_seconds, max_age_seconds}
+use Rattle.cookie_core.specs.Settings.{Value, setting_at, field_at, only, either, word_of, GivesNothing, IsGiven, ReadsParts}
+use Rattle.cookie_core.specs.declared.attributes.Key.{Key}
+use Rattle.cookie_core.specs.declared.attributes.Key.TheVariants as key
+
+Lacks-tail : (c x : ℕ) (xs : List ℕ) → Lacks c (x ∷ xs) → Lacks c xs
+Lacks-tail c x xs h i lt e = h (i + 1) (omega arith) (rw add-one e)
+
+Lacks-more : (c x : ℕ) (xs : List ℕ) → x ≢ c → Lacks c xs → Lacks c (x ∷ xs)
+Lacks-more c x xs h l zero lt e = h e
+Lacks-more c x xs h l (suc i) lt e = l i (omega arith) e
+
+-- the first `c` is in one place
+pub cut_unique : (c : ℕ) (a b a' b' : List ℕ) → Lacks c a → Lacks c a' → a ++ c ∷ b ≡ a' ++ c ∷ b' → (a ≡ a') × (b ≡ b')
+cut_unique c [] b [] b' h h' e = (refl, cc)
+cut_unique c [] b (x ∷ xs) b' h h' e = let q : x ≡ c = cc in absurd (h' 0 (omega arith) q)
+cut_unique c (x ∷ xs) b [] b' h h' e = let q : x ≡ c = cc in absurd (h 0 (omega arith) q)
+cut_unique c (x ∷ xs) b (y ∷ ys) b' h h' e =
+    let q : xs ++ c ∷ b ≡ ys ++ c ∷ b' = cc in
+    let r = cut_unique c xs b ys b' (Lacks-tail c x xs h) (Lacks-tail c y ys h') q in
+    let z : x ≡ y = cc in
+    (rw (z, r.0) refl, r.1)
+
+pub not_lacking : (c : ℕ) (p a b : List ℕ) → p ≡ a ++ c ∷ b → ¬ (Lacks c p)
+not_lacking c p a b e h =
+    h (length a) (omega (arith, ap length e, length-append a (c ∷ b))) (ap (λ s. get_or s (length a) 0) e ∙ get_or-append_seam a c b 0)
+
+pub IsAttribute-unique : (p k : List ℕ) (v : Option (List ℕ)) (k' : List ℕ) (v' : Option (List ℕ)) → IsAttribute p k v → IsAttribute p k' v' → (k ≡ k') × (v ≡ v')
+IsAttribute-unique p k None k' None (_, e) (_, f) = (e ∙ sym f, refl)
+IsAttribute-unique p k None k' (Some v') (h, _) (a, b, e, _, _, _) = absurd (not_lacking 61 p a b e h)
+IsAttribute-unique p k (Some v) k' None (a, b, e, _, _, _) (h, _) = absurd (not_lacking 61 p a b e h)
+IsAttribute-unique p k (Some v) k' (Some v') (a, b, e, l, n, m) (a', b', e', l', n', m') =
+    let u = cut_unique 61 a b a' b' l l' (sym e ∙ e') in
+    (n ∙ ap trim u.0 ∙ sym n', ap Some (m ∙ ap trim u.1 ∙ sym m'))
+
+pub refuted : (r : Bool) (P : Type 0) → (IsTrue r ↔ P) → r ≡ false → ¬ P
+refuted r P h e q = false≢true (sym e ∙ h.1 q)
+
+-- two words differ where a test of them fails
+differ : {w w' : List ℕ} → w ≡ w' → bytes_eq w w' ≡ false → ⊥
+differ {w} {w'} e f = false≢true (sym f ∙ (bytes_eq-Decides w w').1 e)
+
+-- each setting has a key
+by_key : (P : Setting → Type 0) → ((k : Key) (x : Value k) → P (setting_at k x)) → (s : Setting) → P s
+by_key P h (http_only x) = h key.HttpOnly x
+by_key P h (secure x) = h key.Secure x
+by_key P h (partitioned x) = h key.Partitioned x
+by_key P h (same_site x) = h key.SameSite x
+by_key P h (path x) = h key.Path x
+by_key P h (domain x) = h key.Domain x
+by_key P h (max_age x) = h key.MaxAge x
+by_key P h (expires x) = h key.Expires x
+
+key_of-setting_at : (k : Key) (x : Value k) → key_of (setting_at k x) ≡ word_of k
+key_of-setting_at key.HttpOnly x = refl
+key_of-setting_at _ x = refl
+
+-- a piece sets nothing where its key is none
+SetsNothing-no_key : (p t : List ℕ) (v : Option (List ℕ)) → IsAttribute p t v → ((k : Key) → ¬ (IsWord t (word_of k))) → SetsNothing p
+SetsNothing-no_key p t v att none =
+    by_key (λ s. ¬ (Sets p s)) (λ k x (t', v', att', is, _).
+    none k (ap str_to_ascii_lowercase (IsAttribute-unique p t v t' v' att att').0 ∙ is ∙ key_of-setting_at k x))
+
+-- a piece with the key k does not set the field of another key
+Skips-other : (p t : List ℕ) (v : Option (List ℕ)) (k k' : Key) → IsAttribute p t v → IsWord t (word_of k) → bytes_eq (word_of k) (word_of k') ≡ false → (x : Value k') → ¬ (Sets p (setting_at k' x))
+Skips-other p t v k k' att is ne x (t', v', att', is', _) =
+    differ (sym is ∙ ap str_to_ascii_lowercase (IsAttribute-unique p t v t' v' att att').0 ∙ is' ∙ key_of-setting_at k' x) ne
+
+-- nor its own, where its value gives nothing
+Skips-own : (p t : List ℕ) (v : Option (List ℕ)) (k : Key) → IsAttribute p t v → GivesNothing k v → (x : Value k) → ¬ (Sets p (setting_at k x))
+Skips-own p t v k att none x (t', v', att', is', gives) =
+    none x (subst (λ (q : Option (List ℕ)). Gives q (setting_at k x)) (sym (IsAttribute-unique p t v t' v' att att').1) gives)
+
+pub undotted-field : (v : Part) (o : Option Part) → MatchOption o (v.text.now ≡ []) (λ p. (p ≡ v) × (v.text.now ≢ [])) → MatchOption (option_map (λ (p : Part). without_leading_dot p.text.now) o) (GivesNothing key.Domain (Some v.text.now)) (λ x. Gives (Some v.text.now) (domain x))
+undotted-field v None e = λ x h. h.0 e
+undotted-field v (Some p) h = (h.1, ap (λ (q : Part). without_leading_dot q.text.now) h.0)
+
+pub age-field : (t : List ℕ) (o : Option SignedDuration) → option_map signed_nanos o ≡ option_map nanos_of_seconds (max_age_seconds t) → MatchOption (option_map signed_nanos o) (GivesNothing key.MaxAge (Some t)) (λ x. Gives (Some t) (max_age x))
+age-field t None e = λ x h. cc
+age-field t (Some d) e = sym e
+
+All-none : {X : Type 0} (P : X → Type 0) → All P []
+All-none P k d lt = absurd (omega arith)
+
+All-one : {X : Type 0} (P : X → Type 0) (x : X) → P x → All P (x ∷ [])
+All-one P x h zero d lt = h
+All-one P x h (suc k) d lt = absurd (omega arith)
+
+pub All-push : {X : Type 0} (P : X → Type 0) (xs : List X) (x : X) → All P xs → P x → All P (xs ++ x ∷ [])
+All-push P xs x h q = All-append P xs (x ∷ []) h (All-one P x q)
+
+-- what one more piece sets, or else what the pieces before it set
+IsLastSet-or : {X : Type 0} (field : X → Setting) (ps : List (List ℕ)) (p : List ℕ) (o o' : Option X) → IsLastSet field ps o → IsLastSet field (p ∷ []) o' → IsLastSet field (ps ++ p ∷ []) (option_or o' o)
+IsLastSet-or field ps p None None h h' = All-append (Skips field) ps (p ∷ []) h h'
+IsLastSet-or field ps p (Some x) None (before, q, after, e, s, none) h' =
+    (before, q, after ++ p ∷ [], rw e (append_assoc before (q ∷ after) (p ∷ [])), s, All-append (Skips field) after (p ∷ []) none h')
+IsLastSet-or field ps p o (Some x) h (before, q, after, e, s, none) =
+    (ps ++ before, q, after, rw e (sym (append_assoc ps before (q ∷ after))), s, none)
+
+-- what one piece sets
+IsLastSet-one : (p t : List ℕ) (v : Option (List ℕ)) (k : Key) (o : Option (Value k)) → IsAttribute p t v → IsWord t (word_of k) → MatchOption o (GivesNothing k v) (λ x. Gives v (setting_at k x)) → IsLastSet (setting_at k) (p ∷ []) o
+IsLastSet-one p t v k None att is h = All-one (Skips (setting_at k)) p (Skips-own p t v k att h)
+IsLastSet-one p t v k (Some x) att is h =
+    ([], p, [], refl, (t, v, att, is ∙ sym (key_of-setting_at k x), h), All-none (Skips (setting_at k)))
+
+IsLastSet-other : (p t : List ℕ) (v : Option (List ℕ)) (k k' : Key) → IsAttribute p t v → IsWord t (word_of k) → bytes_eq (word_of k) (word_of k') ≡ false → IsLastSet (setting_at k') (p ∷ []) None
+IsLastSet-other p t v k k' att is ne = All-one (Skips (setting_at k')) p (Skips-other p t v k k' att is ne)
+
+-- the field of the key k' after a piece with the key k
+field-one : (p t : List ℕ) (v : Option (List ℕ)) (k k' : Key) (o : Option (Value k)) → IsAttribute p t v → IsWord t (word_of k) → MatchOption o (GivesNothing k v) (λ x. Gives v (setting_at k x)) → IsLastSet (setting_at k') (p ∷ []) (field_at k' (only k o))
+field-one p t v key.HttpOnly key.HttpOnly o att is h = IsLastSet-one p t v key.HttpOnly o att is h
+field-one p t v key.Secure key.Secure o att is h = IsLastSet-one p t v key.Secure o att is h
+field-one p t v key.Partitioned key.Partitioned o att is h = IsLastSet-one p t v key.Partitioned o att is h
+field-one p t v key.SameSite key.SameSite o att is h = IsLastSet-one p t v key.SameSite o att is h
+field-one p t v key.Path key.Path o att is h = IsLastSet-one p t v key.Path o att is h
+field-one p t v key.Domain key.Domain o att is h = IsLastSet-one p t v key.Domain o att is h
+field-one p t v key.MaxAge key.MaxAge o att is h = IsLastSet-one p t v key.MaxAge o att is h
+field-one p t v key.Expires key.Expires o att is h = IsLastSet-one p t v key.Expires o att is h
+field-one p t v k k' o att is h = IsLastSet-other p t v k k' att is refl
+
+unset : (ps : List (List ℕ)) (k : Key) → All (Skips (setting_at k)) ps → IsLastSet (setting_at k) ps (field_at k (plain [] []))
+unset ps key.HttpOnly h = h
+unset ps k h = h
+
+by_fields : (ps : List (List ℕ)) (r : Record) → ((k : Key) → IsLastSet (setting_at k) ps (field_at k r)) → SetsAttributes ps r
+by_fields ps r h =
+    record {
+      http_only = h key.HttpOnly;
+      secure = h key.Secure;
+      partitioned = h key.Partitioned;
+      same_site = h key.SameSite;
+      path = h key.Path;
+      domain = h key.Domain;
+      max_age = h key.MaxAge;
+      expires = h key.Expires;
+    }
+
+pub SetsAttributes-none : SetsAttributes [] (plain [] [])
+SetsAttributes-none = by_fields [] (plain [] []) (λ k. unset [] k (All-none (Skips (setting_at k))))
+
+pub SetsAttributes-no_key : (p t : List ℕ) (v : Option (List ℕ)) → IsAttribute p t v → ((k : Key) → ¬ (IsWord t (word_of k))) → SetsAttributes (p ∷ []) (plain [] [])
+SetsAttributes-no_key p t v att none =
+    by_fields (p ∷ []) (plain [] []) (λ k. unset (p ∷ []) k (All-one (Skips (setting_at k)) p (λ x. SetsNothing-no_key p t v att none (setting_at k x))))
+
+pub SetsAttributes-given : (p t : List ℕ) (v : Option (List ℕ)) (k : Key) (r : Record) → IsAttribute p t v → IsWord t (word_of k) → IsGiven k v r → SetsAttributes (p ∷ []) r
+SetsAttributes-given p t v k r att is h =
+    rw h.alone (by_fields (p ∷ []) (only k (field_at k r)) (λ k'. field-one p t v k k' (field_at k r) att is h.field))
+
+pub SetsAttributes-or : (ps : List (List ℕ)) (p : List ℕ) (r r' : Record) → SetsAttributes ps r → SetsAttributes (p ∷ []) r' → SetsAttributes (ps ++ p ∷ []) (either r' r)
+SetsAttributes-or ps p r r' a a' =
+    record {
+      http_only = IsLastSet-or http_only ps p r.http_only r'.http_only a.http_only a'.http_only;
+      secure = IsLastSet-or secure ps p r.secure r'.secure a.secure a'.secure;
+      partitioned = IsLastSet-or partitioned ps p r.partitioned r'.partitioned a.partitioned a'.partitioned;
+      same_site = IsLastSet-or same_site ps p r.same_site r'.same_site a.same_site a'.same_site;
+      path = IsLastSet-or path ps p r.path r'.path a.path a'.path;
+      domain = IsLastSet-or domain ps p r.domain r'.domain a.domain a'.domain;
+      max_age = IsLastSet-or max_age ps p r.max_age r'.max_age a.max_age a'.max_age;
+      expires = IsLastSet-or expires ps p r.expires r'.expires a.expires a'.expires;
+    }
+
+-- ---- the pieces of a text
+
+pub before_rest-push : (ps : List (List ℕ)) (p : List ℕ) (o : Option (List ℕ)) → before_rest (ps ++ p ∷ []) o ≡ before_rest ps (Some (p ++ behind o))
+before_rest-push [] p o = refl
+before_rest-push (q ∷ ps) p o = ap (λ t. Some (q ++ behind t)) (before_rest-push ps p o)
+
+joined-before_rest : (p : List ℕ) (ps : List (List ℕ)) → joined 59 p ps ≡ p ++ behind (before_rest ps None)
+joined-before_rest p [] = sym (append-nil p)
+joined-before_rest p (q ∷ qs) = ap (λ t. p ++ 59 ∷ t) (joined-before_rest q qs)
+
+pub HasRead-none : (all : Option (List ℕ)) → HasRead all (plain [] []) all
+HasRead-none all =
+    record { pieces = []; whole = refl; apart = All-none (Lacks 59); sets = SetsAttributes-none }
+
+HasRead-piece : (all : Option (List ℕ)) (r r' : Record) (t p : List ℕ) (o : Option (List ℕ)) → (h : HasRead all r (Some t)) → t ≡ p ++ behind o → Lacks 59 p → SetsAttributes (h.pieces ++ p ∷ []) r' → HasRead all r' o
+HasRead-piece all r r' t p o h e l s =
+    record {
+      pieces = h.pieces ++ p ∷ [];
+      whole = h.whole ∙ ap (λ u. before_rest h.pieces (Some u)) e ∙ sym (before_rest-push h.pieces p o);
+      apart = All-push (Lacks 59) h.pieces p h.apart l;
+      sets = s;
+    }
+
+pub HasRead-or : (all : Option (List ℕ)) (r r' : Record) (t p : List ℕ) (o : Option (List ℕ)) → HasRead all r (Some t) → t ≡ p ++ behind o → Lacks 59 p → SetsAttributes (p ∷ []) r' → HasRead all (either r' r) o
+HasRead-or all r r' t p o h e l q =
+    HasRead-piece all r (either r' r) t p o h e l (SetsAttributes-or h.pieces p r r' h.sets q)
+
+pub IsPieces-read : (t p : List ℕ) (o : Option (List ℕ)) (r : Record) → t ≡ p ++ behind o → Lacks 59 p → (h : HasRead o r None) → IsPieces t p h.pieces
+IsPieces-read t p o r e l h =
+    record {
+      joined = e ∙ ap (λ u. p ++ behind u) h.whole ∙ sym (joined-before_rest p h.pieces);
+      first = l;
+      later = h.apart;
+    }
+
+-- every text has pieces
+pub pieces_of : (t : List ℕ) → (p : List ℕ) × (ps : List (List ℕ)) × (t ≡ p ++ behind (before_rest ps None)) × Lacks 59 p × All (Lacks 59) ps
+pieces_of [] = ([], [], refl, (λ i lt. absurd (omega arith)), All-none (Lacks 59))
+pieces_of (c ∷ cs) =
+    let q = pieces_of cs in
+    elim (cases_lt c 59) [
+      | inl lt ↦ (c ∷ q.0, q.1, ap (λ t. c ∷ t) q.2, Lacks-more 59 c q.0 (λ e. omega arith) q.3, q.4)
+      | inr ge ↦ elim (cases_lt 59 c) [
+        | inl gt ↦ (c ∷ q.0, q.1, ap (λ t. c ∷ t) q.2, Lacks-more 59 c q.0 (λ e. omega arith) q.3, q.4)
+        | inr le ↦ let e : c ≡ 59 = omega arith in
+            ([], q.0 ∷ q.1, rw e (ap (λ t. 59 ∷ t) q.2), (λ i lt. absurd (omega arith)), All-append (Lacks 59) (q.0 ∷ []) q.1 (All-one (Lacks 59) q.0 q.3) q.4)
+      ]
+    ]
+
+rest_pieces : (o : Option (List ℕ)) → (ps : List (List ℕ)) × (o ≡ before_rest ps None) × All (Lacks 59) ps
+rest_pieces None = ([], refl, All-none (Lacks 59))
+rest_pieces (Some t) =
+    let q = pieces_of t in
+    (q.0 ∷ q.1, ap Some q.2, All-append (Lacks 59) (q.0 ∷ []) q.1 (All-one (Lacks 59) q.0 q.3) q.4)
+
+-- what a cut leaves
+pub behind-cut : (t p : List ℕ) (o : Option Part) → MatchOption o (p ≡ t) (λ after. t ≡ p ++ 59 ∷ after.text.now) → t ≡ p ++ behind (option_map (λ (a : Part). a.text.now) o)
+behind-cut t p None e = sym (append-nil p ∙ e)
+behind-cut t p (Some a) e = e
+
+pub first_piece : (t p : List ℕ) (o : Option (List ℕ)) → t ≡ p ++ behind o → Lacks 59 p → (ps : List (List ℕ)) → o ≡ before_rest ps None → All (Lacks 59) ps → IsPieces t p ps
+first_piece t p o e l ps f a =
+    record { joined = e ∙ ap (λ u. p ++ behind u) f ∙ sym (joined-before_rest p ps); first = l; later = a }
+
+pub Reads-no_pair : (t p : List ℕ) (o : Option (List ℕ)) → t ≡ p ++ behind o → Lacks 59 p → Lacks 61 p → ReadsParts t (Err MissingPair)
+Reads-no_pair t p o e l h decode =
+    let q = rest_pieces o in (p, q.0, first_piece t p o e l q.0 q.1 q.2, h)
+
+pub Reads-empty_name : (t p v : List ℕ) (o : Option (List ℕ)) → t ≡ p ++ behind o → Lacks 59 p → IsPair p [] v → ReadsParts t (Err EmptyName)
+Reads-empty_name t p v o e l h decode =
+    let q = rest_pieces o in (p, q.0, first_piece t p o e l q.0 q.1 q.2, (v, h))
+
+pub SetsAttributes-named : (ps : List (List ℕ)) (r : Record) (n v : List ℕ) → SetsAttributes ps r → SetsAttributes ps (record r { name = n; value = v })
+SetsAttributes-named ps r n v a =
+    record { http_only = a.http_only; secure = a.secure; partitioned = a.partitioned; same_site = a.same_site; path = a.path; domain = a.domain; max_age = a.max_age; expires = a.expires }
+
+pub Reads-record : (t p n v : List ℕ) (o : Option (List ℕ)) (r : Record) → t ≡ p ++ behind o → Lacks 59 p → IsPair p n v → n ≢ [] → HasRead o r None → ReadsParts t (Ok (record r { name = n; value = v }))
+Reads-record t p n v o r e l h m a =
+    (p, a.pieces, IsPieces-read t p o r e l a, h, m, SetsAttributes-named a.pieces r n v a.sets)
+
+All-tail : {X : Type 0} (P : X → Type 0) (x : X) (xs : List X) → All P (x ∷ xs) → All P xs
+All-tail P x xs h k d lt = h (suc k) d (omega arith)
+
+pub tail_pieces : (t p q : List ℕ) (qs : List (List ℕ)) → IsPieces t p (q ∷ qs) → IsPieces (joined 59 q qs) q qs
+tail_pieces t p q qs h =
+    record { joined = refl; first = h.later 0 q (omega arith); later = All-tail (Lacks 59) q qs h.later }
+
+-- a text has one list of pieces
+pub IsPieces-unique : (t p : List ℕ) (ps : List (List ℕ)) (q : List ℕ) (qs : List (List ℕ)) → IsPieces t p ps → IsPieces t q qs → (p ≡ q) × (ps ≡ qs)
+IsPieces-unique t p [] q [] h k = (sym h.joined ∙ k.joined, refl)
+IsPieces-unique t p [] q (r ∷ rs) h k = absurd (not_lacking 59 p q (joined 59 r rs) (sym h.joined ∙ k.joined) h.first)
+IsPieces-unique t p (r ∷ rs) q [] h k = absurd (not_lacking 59 q p (joined 59 r rs) (sym k.joined ∙ h.joined) k.first)
+IsPieces-unique t p (r ∷ rs) q (u ∷ us) h k =
+    let c = cut_unique 59 p (joined 59 r rs) q (joined 59 u us) h.first k.first (sym h.joined ∙ k.joined) in
+    let m : IsPieces (joined 59 r rs) u us = rw c.1 (tail_pieces t q u us k) in
+    let i = IsPieces-unique (joined 59 r rs) r rs u us (tail_pieces t p r rs h) m in
+    (c.0, rw (i.0, i.1) refl)
+
+-- the parts of a text that is read as it stands
+pub Reads-plain : (t : List ℕ) (r : Record) → ReadsParts t (Ok r) → Reads false t (Ok r)
+Reads-plain t r (p, ps, pieces, pair, filled, sets) = (p, ps, pieces, (r.name, r.value, pair, filled, refl, refl, sets))
+
+-- every text has a list of pieces
+pub IsPieces-some : (t : List ℕ) → (p : List ℕ) × (ps : List (List ℕ)) × IsPieces t p ps
+IsPieces-some t =
+    let (p, ps, whole, first, later) = pieces_of t in
+    (p, ps, first_piece t p (before_rest ps None) whole first ps refl later)

@@ -1,0 +1,16 @@
+use Rattle.std.proofs.Common.{ℕ, List, refl, None}
+use Rattle.cookie_date.specs.Forms.{IsDateOf}
+use Rattle.cookie_core.specs.Attributes.{GivesExpiry}
+use Rattle.cookie_core.specs.declared.expiration.Expiration.{Expiration}
+use Rattle.cookie_core.specs.declared.expiration.Expiration.TheVariants as expiration
+use Rattle.cookie_core.proofs.attributes.expiration.Goals as goal
+
+no_expiry : (t : List ℕ) → IsDateOf t None → (x : Expiration) → ¬ (GivesExpiry t x)
+no_expiry t none (expiration.DateTime m) gives = let e = (none m).1 gives in absurd cc
+no_expiry t none expiration.Session gives = gives
+
+pub returns-in-Some : goal.returns-in-Some
+returns-in-Some c = (c.in-Some.ensures.exact _).0 refl
+
+pub returns-in-None : goal.returns-in-None
+returns-in-None c = no_expiry c.args.text.now c.in-None.ensures.exact

@@ -1,0 +1,27 @@
+pub mod Attributes
+pub mod Cookie
+pub mod CookieOf
+pub mod CookieStr
+pub mod Escapes
+pub mod Expiration
+pub mod Fit
+pub mod Header
+pub mod Memory
+pub mod ParseError
+pub mod Pieces
+pub mod Place
+pub mod Printers
+pub mod Reads
+pub mod Record
+pub mod RecordCode
+pub mod Removal
+pub mod SameSite
+pub mod Settings
+pub mod SplitCookies
+pub mod Text
+pub mod Trim
+pub mod Walk
+pub use Rattle.cookie_date.specs.Forms
+pub use Rattle.cookie_date.specs.Moments
+pub use Rattle.cookie_date.specs.Days
+pub use Rattle.cookie_date.specs.Text as DateText

@@ -1,0 +1,22 @@
+-- The pieces of a text between its semicolons (RFC 6265 5.2).
+use Rattle.std.specs.Prelude.{◌≡◌, ◌≢◌, ℕ, ◌<◌, ◌==◌, List, [], ◌∷◌, ◌++◌, All, length, slice_index}
+use Rattle.std.specs.List.{slice_split}
+
+-- no byte of s is c
+abbrev pub Lacks : ℕ → List ℕ → Type 0
+Lacks c s = (i : ℕ) → i < length s → slice_index s i ≢ c
+
+-- the texts p and ps, joined by the byte c
+abbrev pub joined : ℕ → List ℕ → List (List ℕ) → List ℕ
+joined c p [] = p
+joined c p (q ∷ qs) = p ++ c ∷ joined c q qs
+
+-- p and ps are the texts without `;` that, joined by `;`, give t
+pub record IsPieces (t p : List ℕ) (ps : List (List ℕ)) : Type 0 where
+  pub joined : t ≡ joined 59 p ps
+  pub first : Lacks 59 p
+  pub later : All (Lacks 59) ps
+
+-- the one list of the pieces of t
+abbrev pub pieces : List ℕ → List (List ℕ)
+pieces t = slice_split (λ b. b == 59) t

@@ -1,0 +1,38 @@
+-- How a cookie's record is stored, so that a map of records can be what contracts see of a type.
+use Rattle.std.specs.Prelude.{ℕ, ℤ, List, Option, Bool, refl}
+use Rattle.std.specs.Coded.{Coded, code_by, coded×, coded_ℕ, coded_ℤ, coded_bool, coded_list, coded_option}
+use Rattle.cookie_core.specs.Record.{Record}
+use Rattle.cookie_core.specs.declared.expiration.Expiration.{Expiration}
+use Rattle.cookie_core.specs.declared.same_site.SameSite.{SameSite}
+use Rattle.cookie_core.specs.contracts.expiration.Expiration as expiration
+use Rattle.cookie_core.specs.contracts.same_site.SameSite as same_site
+
+-- the fields of a record, as nested pairs
+abbrev pub Fields : Type 0
+Fields = List ℕ × (List ℕ × (Option Bool × (Option Bool × (Option Bool × (Option SameSite × (Option (List ℕ) × (Option (List ℕ) × (Option ℤ × Option Expiration))))))))
+
+-- how these pairs are stored
+abbrev pub fields_code : Coded Fields
+fields_code =
+    coded× (coded_list coded_ℕ) (coded× (coded_list coded_ℕ) (coded× (coded_option coded_bool) (coded× (coded_option coded_bool)
+    (coded× (coded_option coded_bool) (coded× (coded_option (same_site.the_row).coded) (coded× (coded_option (coded_list coded_ℕ))
+    (coded× (coded_option (coded_list coded_ℕ)) (coded× (coded_option coded_ℤ) (coded_option (expiration.the_row).coded)))))))))
+
+-- how a record is stored, as the pairs of its fields
+abbrev pub record_code : Coded Record
+record_code =
+    code_by Fields fields_code
+    (λ r. (r.name, (r.value, (r.http_only, (r.secure, (r.partitioned, (r.same_site, (r.path, (r.domain, (r.max_age, r.expires))))))))))
+    (λ p. record {
+      name = p.0;
+      value = p.1.0;
+      http_only = p.1.1.0;
+      secure = p.1.1.1.0;
+      partitioned = p.1.1.1.1.0;
+      same_site = p.1.1.1.1.1.0;
+      path = p.1.1.1.1.1.1.0;
+      domain = p.1.1.1.1.1.1.1.0;
+      max_age = p.1.1.1.1.1.1.1.1.0;
+      expires = p.1.1.1.1.1.1.1.1.1;
+    })
+    (λ _. refl)

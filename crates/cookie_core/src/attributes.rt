@@ -1,0 +1,300 @@
+//! The attributes of a cookie, read from the pieces behind its pair (RFC 6265 5.2).
+ghost use Rattle.std.specs.Prelude.{◌≡◌, ◌≢◌, ◌++◌, ◌∷◌, ◌↔◌, [], List, ℕ, pos, eqb, Option, Some, None, Ok, IfSome, IfOk, IsTrue, MatchOption, map, option_map, codes};
+ghost use Rattle.std.specs.List.{list_all, starts_with};
+ghost use Rattle.std.specs.Char.{is_ascii_digit, to_ascii_lowercase};
+ghost use Rattle.jiff.specs.Words.{signed_nanos};
+ghost use Rattle.cookie_core.specs.declared.expiration.Expiration.{Expiration};
+ghost use Rattle.cookie_core.specs.Fit.{Fit};
+ghost use Rattle.cookie_core.specs.Place.{IsPartAt};
+ghost use Rattle.cookie_core.specs.Record.{plain};
+ghost use Rattle.cookie_core.specs.Walk.{HasRead};
+ghost use Rattle.cookie_core.specs.Settings.{no_attributes, attributes_of, either, IsTextIn, AreTextsIn, word_of, IsGiven};
+ghost use Rattle.cookie_core.specs.Attributes.{IsAttribute, IsWord, SetsAttributes, GivesExpiry, seconds_of_digits, max_age_seconds, nanos_of_seconds, same_site_key};
+
+use crate::expiration::Expiration;
+use crate::part::Part;
+use crate::same_site::SameSite;
+use cookie_date::read_date;
+use jiff::SignedDuration;
+
+/// The attributes of a cookie, as the pieces behind its pair give them.
+#[derive(Clone, Copy)]
+pub(crate) struct Attributes<'t> {
+    pub(crate) http_only: Option<bool>,
+    pub(crate) secure: Option<bool>,
+    pub(crate) partitioned: Option<bool>,
+    pub(crate) same_site: Option<SameSite>,
+    pub(crate) path: Option<Part<'t>>,
+    pub(crate) domain: Option<Part<'t>>,
+    pub(crate) max_age: Option<SignedDuration>,
+    pub(crate) expires: Option<Expiration>,
+}
+
+/// The key of a piece, and its value if there is a `=`.
+fn attribute<'t>(piece: Part<'t>) -> (&'t str, Option<Part<'t>>)
+    requires { Fit piece }
+    ensures fits { IfSome result.1 Fit }
+    ensures attribute { IsAttribute piece.entry.text.now result.0.now (option_map (λ v. v.text.now) result.1) }
+    ensures place { (s : List ℕ) → IsPartAt s piece.entry.start piece.entry.text.now → IfSome result.1 (λ v. IsPartAt s v.start v.text.now) }
+{
+    match piece.cut('=') {
+        (key, Some(value)) => (key.trim().text, Some(value.trim())),
+        (key, None) => (key.trim().text, None),
+    }
+}
+
+fn is_key(key: &str, word: &str) -> bool
+    ensures { IsTrue result ↔ (IsWord key.now (map to_ascii_lowercase word.now)) }
+{
+    key.eq_ignore_ascii_case(word)
+}
+
+fn are_digits(text: &str) -> bool
+    ensures { result ≡ list_all is_ascii_digit text.now }
+{
+    text.as_bytes().iter().all(|byte| byte.is_ascii_digit())
+}
+
+/// The number that the digits give, or the greatest.
+fn seconds(digits: &str) -> i64
+    requires { IsTrue (list_all is_ascii_digit digits.now) }
+    ensures { result ≡ pos (seconds_of_digits digits.now) }
+{
+    match digits.parse::<i64>() {
+        Ok(number) => number,
+        Err(_) => i64::MAX,
+    }
+}
+
+fn max_age(value: &str) -> Option<SignedDuration>
+    ensures { option_map signed_nanos result ≡ option_map nanos_of_seconds (max_age_seconds value.now) }
+{
+    if value.starts_with("-") {
+        return if are_digits(&value[1..]) {
+            Some(SignedDuration::ZERO)
+        } else {
+            None
+        };
+    }
+    if are_digits(value) {
+        Some(SignedDuration::from_secs(seconds(value)))
+    } else {
+        None
+    }
+}
+
+/// The key of an attribute.
+#[derive(Clone, Copy)]
+pub(crate) enum Key {
+    HttpOnly,
+    Secure,
+    Partitioned,
+    SameSite,
+    Path,
+    Domain,
+    MaxAge,
+    Expires,
+}
+
+impl Key {
+    /// The key that the text is, in any ASCII case.
+    fn of(text: &str) -> Option<Key>
+        ensures { MatchOption result ((k : Key) → ¬ (IsWord text.now (word_of k))) (λ k. IsWord text.now (word_of k)) }
+    {
+        if is_key(text, "httponly") {
+            return Some(Key::HttpOnly);
+        }
+        if is_key(text, "secure") {
+            return Some(Key::Secure);
+        }
+        if is_key(text, "partitioned") {
+            return Some(Key::Partitioned);
+        }
+        if is_key(text, "samesite") {
+            return Some(Key::SameSite);
+        }
+        if is_key(text, "path") {
+            return Some(Key::Path);
+        }
+        if is_key(text, "domain") {
+            return Some(Key::Domain);
+        }
+        if is_key(text, "max-age") {
+            return Some(Key::MaxAge);
+        }
+        if is_key(text, "expires") {
+            return Some(Key::Expires);
+        }
+        None
+    }
+}
+
+/// The part, if it is not empty.
+fn filled(part: Part<'_>) -> Option<Part<'_>>
+    ensures { MatchOption result (part.entry.text.now ≡ []) (λ p. (p ≡ part.entry) × (part.entry.text.now ≢ [])) }
+{
+    if part.text.is_empty() {
+        None
+    } else {
+        Some(part)
+    }
+}
+
+/// The rule for requests from other sites that the text names, in any ASCII case.
+fn same_site(text: &str) -> Option<SameSite>
+    ensures { MatchOption result ((x : SameSite) → ¬ (IsWord text.now (same_site_key x))) (λ x. IsWord text.now (same_site_key x)) }
+{
+    if is_key(text, "strict") {
+        return Some(SameSite::Strict);
+    }
+    if is_key(text, "lax") {
+        return Some(SameSite::Lax);
+    }
+    if is_key(text, "none") {
+        return Some(SameSite::None);
+    }
+    None
+}
+
+/// The expiry that the text gives.
+fn expiration(text: &str) -> Option<Expiration>
+    ensures { MatchOption result ((x : Expiration) → ¬ (GivesExpiry text.now x)) (GivesExpiry text.now) }
+{
+    match read_date(text) {
+        Some(moment) => Some(Expiration::DateTime(moment)),
+        None => None,
+    }
+}
+
+impl<'t> Attributes<'t> {
+    fn unset() -> Attributes<'t>
+        ensures { result ≡ no_attributes }
+    {
+        Attributes {
+            http_only: None,
+            secure: None,
+            partitioned: None,
+            same_site: None,
+            path: None,
+            domain: None,
+            max_age: None,
+            expires: None,
+        }
+    }
+
+    /// What an attribute with this key and without a value sets.
+    fn without_value(key: Key) -> Attributes<'t>
+        ensures gives { IsGiven key None (attributes_of result) }
+        ensures place { (s : List ℕ) → AreTextsIn s result }
+    {
+        let unset = Attributes::unset();
+        match key {
+            Key::HttpOnly => Attributes {
+                http_only: Some(true),
+                ..unset
+            },
+            Key::Secure => Attributes {
+                secure: Some(true),
+                ..unset
+            },
+            Key::Partitioned => Attributes {
+                partitioned: Some(true),
+                ..unset
+            },
+            Key::SameSite => unset,
+            Key::Path => unset,
+            Key::Domain => unset,
+            Key::MaxAge => unset,
+            Key::Expires => unset,
+        }
+    }
+
+    /// What an attribute with this key and value sets.
+    fn with_value(key: Key, value: Part<'t>) -> Attributes<'t>
+        ensures gives { IsGiven key (Some value.entry.text.now) (attributes_of result) }
+        ensures place { (s : List ℕ) → IsPartAt s value.entry.start value.entry.text.now → AreTextsIn s result }
+    {
+        let unset = Attributes::unset();
+        match key {
+            Key::HttpOnly => Attributes {
+                http_only: Some(true),
+                ..unset
+            },
+            Key::Secure => Attributes {
+                secure: Some(true),
+                ..unset
+            },
+            Key::Partitioned => Attributes {
+                partitioned: Some(true),
+                ..unset
+            },
+            Key::SameSite => Attributes {
+                same_site: same_site(value.text),
+                ..unset
+            },
+            Key::Path => Attributes {
+                path: Some(value),
+                ..unset
+            },
+            Key::Domain => Attributes {
+                domain: filled(value),
+                ..unset
+            },
+            Key::MaxAge => Attributes {
+                max_age: max_age(value.text),
+                ..unset
+            },
+            Key::Expires => Attributes {
+                expires: expiration(value.text),
+                ..unset
+            },
+        }
+    }
+
+    /// What the piece sets.
+    fn of(piece: Part<'t>) -> Attributes<'t>
+        requires { Fit piece }
+        ensures sets { SetsAttributes (piece.entry.text.now ∷ []) (attributes_of result) }
+        ensures place { (s : List ℕ) → IsPartAt s piece.entry.start piece.entry.text.now → AreTextsIn s result }
+    {
+        let (key, value) = attribute(piece);
+        match Key::of(key) {
+            Some(key) => match value {
+                Some(value) => Attributes::with_value(key, value),
+                None => Attributes::without_value(key),
+            },
+            None => Attributes::unset(),
+        }
+    }
+
+    /// Sets each attribute that `later` sets.
+    fn update(&mut self, later: Attributes<'t>)
+        ensures or { attributes_of self.new ≡ either (attributes_of later.entry) (attributes_of self.old) }
+        ensures place { (s : List ℕ) → AreTextsIn s later.entry → AreTextsIn s self.old → AreTextsIn s self.new }
+    {
+        self.http_only = later.http_only.or(self.http_only);
+        self.secure = later.secure.or(self.secure);
+        self.partitioned = later.partitioned.or(self.partitioned);
+        self.same_site = later.same_site.or(self.same_site);
+        self.path = later.path.or(self.path);
+        self.domain = later.domain.or(self.domain);
+        self.max_age = later.max_age.or(self.max_age);
+        self.expires = later.expires.or(self.expires);
+    }
+
+    /// The attributes that the pieces of `later` set.
+    pub(crate) fn read(later: Option<Part<'t>>) -> Attributes<'t>
+        requires { IfSome later Fit }
+        ensures read { HasRead (option_map (λ p. p.text.now) later.entry) (attributes_of result) None }
+        ensures place { (s : List ℕ) → IsTextIn s later.entry → AreTextsIn s result }
+    {
+        let mut attributes = Attributes::unset();
+        let mut rest = later;
+        while let Some(part) = rest {
+            let (piece, after) = part.cut(';');
+            attributes.update(Attributes::of(piece));
+            rest = after;
+        }
+        attributes
+    }
+}

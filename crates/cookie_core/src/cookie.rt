@@ -1,0 +1,298 @@
+//! The cookie: its record, its reading and its copies (RFC 6265 5.2, 5.3).
+ghost use Rattle.std.specs.Prelude.{false, ◌≡◌, ◌↔◌, pos, int_div, Option, None, Some, Ok, [], option_map, IfOk, alloc_error};
+ghost use Rattle.cookie_core.specs.Memory.{Gives};
+ghost use Rattle.std.specs.Result.{result_map_both, result_ok};
+ghost use Rattle.std.specs.Option.{option_and_then};
+ghost use Rattle.jiff.specs.Words.{signed_nanos};
+ghost use Rattle.cookie_core.specs.Reads.{Reads};
+ghost use Rattle.cookie_core.specs.Expiration.{datetime_of};
+ghost use Rattle.cookie_core.specs.CookieStr.{source_bytes, lent_forms};
+ghost use Rattle.cookie_core.specs.CookieOf.{cookie_of};
+ghost use Rattle.cookie_core.specs.Record.{Record, IsCookie, no_raw_forms, all_lent, plain, without_leading_dot};
+
+mod setters;
+
+use crate::cookie_str::{self, CookieStr};
+use crate::expiration::Expiration;
+use crate::layout::Layout;
+use crate::parse_error::ParseError;
+use crate::same_site::SameSite;
+use crate::source::Source;
+use jiff::SignedDuration;
+use jiff::civil::DateTime;
+use std::alloc::{AllocError, Global};
+use std::marker::Model;
+
+/// A cookie: its name, its value and its attributes (RFC 6265 5.3).
+///
+/// One that was read from a borrowed text keeps its parts as spans of that text.
+#[derive(Drop)]
+pub struct Cookie<'c> {
+    source: Source<'c>,
+    name: CookieStr<'c>,
+    value: CookieStr<'c>,
+    http_only: Option<bool>,
+    secure: Option<bool>,
+    partitioned: Option<bool>,
+    same_site: Option<SameSite>,
+    path: Option<CookieStr<'c>>,
+    domain: Option<CookieStr<'c>>,
+    max_age: Option<SignedDuration>,
+    expires: Option<Expiration>,
+}
+
+// Contracts see a cookie as the record of its ten fields, beside the parts of a borrowed source that
+// it lends.
+impl<'c> Model for Cookie<'c> {
+    ghost use Rattle.cookie_core.specs.Record.{CookieView};
+
+    ghost Value = { CookieView };
+
+    ghost use Rattle.cookie_core.specs.Cookie.{view_of, HasFittingSpans};
+
+    ghost view = { view_of };
+
+    ghost invariant = { HasFittingSpans };
+}
+
+impl<'c> Cookie<'c> {
+    /// The cookie of a name and a value, with no attribute set.
+    pub fn new(name: &'c str, value: &'c str) -> Cookie<'c>
+        ensures { result ≡ record { fields = plain name.now value.now; raw = no_raw_forms } }
+    {
+        Cookie {
+            source: Source::None,
+            name: CookieStr::Borrowed(name),
+            value: CookieStr::Borrowed(value),
+            http_only: None,
+            secure: None,
+            partitioned: None,
+            same_site: None,
+            path: None,
+            domain: None,
+            max_age: None,
+            expires: None,
+        }
+    }
+
+    /// The cookie of a name, with the empty value.
+    pub fn named(name: &'c str) -> Cookie<'c>
+        ensures { result ≡ record { fields = plain name.now []; raw = no_raw_forms } }
+    {
+        Cookie::new(name, "")
+    }
+
+    /// Reads a text as a cookie (RFC 6265 5.2). It takes no memory: the parts are spans of the text.
+    pub fn parse(text: &'c str) -> Result<Cookie<'c>, ParseError>
+        ensures reads { Reads false text.now (result_map_both (λ c. c.fields) (λ e. e) result) }
+        ensures value { result_ok (result_map_both (λ c. c.fields) (λ e. e) result) ≡ cookie_of false text.now }
+        ensures agrees { (r : Record) → (cookie_of false text.now ≡ Some r) ↔ Reads false text.now (Ok r) }
+        ensures raw { IfOk result (λ c. c.raw ≡ all_lent c.fields) }
+    {
+        Cookie::read(Source::Borrowed(text))
+    }
+
+    fn read(source: Source<'c>) -> Result<Cookie<'c>, ParseError>
+        ensures reads { Reads false (source_bytes source.entry) (result_map_both (λ c. c.fields) (λ e. e) result) }
+        ensures raw { IfOk result (λ c. c.raw ≡ lent_forms source.entry c.fields) }
+    {
+        let layout = match Layout::of(source.as_str()) {
+            Ok(layout) => layout,
+            Err(error) => return Err(error),
+        };
+        let name = CookieStr::span(layout.name);
+        let value = CookieStr::span(layout.value);
+        let attributes = layout.attributes;
+        let path = cookie_str::span(attributes.path);
+        let domain = cookie_str::span(attributes.domain);
+        Ok(Cookie {
+            name,
+            value,
+            http_only: attributes.http_only,
+            secure: attributes.secure,
+            partitioned: attributes.partitioned,
+            same_site: attributes.same_site,
+            path,
+            domain,
+            max_age: attributes.max_age,
+            expires: attributes.expires,
+            source,
+        })
+    }
+
+    /// The same cookie with texts of its own.
+    pub fn into_owned(self, alloc: Global) -> Result<Cookie<'static>, AllocError>
+        ensures { Gives alloc_error result (λ c. c ≡ record { fields = self.entry.fields; raw = no_raw_forms }) }
+    {
+        let Cookie {
+            source,
+            name,
+            value,
+            http_only,
+            secure,
+            partitioned,
+            same_site,
+            path,
+            domain,
+            max_age,
+            expires,
+        } = self;
+        Ok(Cookie {
+            source: source.into_owned(alloc)?,
+            name: name.into_owned(alloc)?,
+            value: value.into_owned(alloc)?,
+            http_only,
+            secure,
+            partitioned,
+            same_site,
+            path: cookie_str::into_owned(path, alloc)?,
+            domain: cookie_str::into_owned(domain, alloc)?,
+            max_age,
+            expires,
+        })
+    }
+
+    /// A copy, with the same raw forms.
+    pub fn clone(&self, alloc: Global) -> Result<Cookie<'c>, AllocError>
+        ensures { Gives alloc_error result (λ c. c ≡ self.now) }
+    {
+        Ok(Cookie {
+            source: self.source.clone(alloc)?,
+            name: self.name.clone(alloc)?,
+            value: self.value.clone(alloc)?,
+            http_only: self.http_only,
+            secure: self.secure,
+            partitioned: self.partitioned,
+            same_site: self.same_site,
+            path: cookie_str::clone(&self.path, alloc)?,
+            domain: cookie_str::clone(&self.domain, alloc)?,
+            max_age: self.max_age,
+            expires: self.expires,
+        })
+    }
+
+    /// What holds of every cookie: its texts are UTF-8, and its age is one that a duration can have. The call
+    /// does nothing; its contract is for proofs that know a cookie by its record alone.
+    pub fn known(&self)
+        ensures { IsCookie self.now.fields }
+    {
+        let _name = self.name();
+        let _value = self.value();
+        let _path = self.path();
+        let _domain = self.domain();
+        let _max_age = self.max_age();
+    }
+
+    /// The name.
+    pub fn name(&self) -> &str
+        ensures { result.now ≡ self.now.fields.name }
+    {
+        self.name.as_str(&self.source)
+    }
+
+    /// The value.
+    pub fn value(&self) -> &str
+        ensures { result.now ≡ self.now.fields.value }
+    {
+        self.value.as_str(&self.source)
+    }
+
+    /// The name and the value.
+    pub fn name_value(&self) -> (&str, &str)
+        ensures name { result.0.now ≡ self.now.fields.name }
+        ensures value { result.1.now ≡ self.now.fields.value }
+    {
+        (self.name(), self.value())
+    }
+
+    /// Whether scripts are kept from it, if that is set.
+    pub fn http_only(&self) -> Option<bool>
+        ensures { result ≡ self.now.fields.http_only }
+    {
+        self.http_only
+    }
+
+    /// Whether it is for secure connections alone, if that is set.
+    pub fn secure(&self) -> Option<bool>
+        ensures { result ≡ self.now.fields.secure }
+    {
+        self.secure
+    }
+
+    /// Whether it is kept apart for each top-level site, if that is set.
+    pub fn partitioned(&self) -> Option<bool>
+        ensures { result ≡ self.now.fields.partitioned }
+    {
+        self.partitioned
+    }
+
+    /// To which requests from other sites it is sent, if that is set.
+    pub fn same_site(&self) -> Option<SameSite>
+        ensures { result ≡ self.now.fields.same_site }
+    {
+        self.same_site
+    }
+
+    /// The path, if it is set.
+    pub fn path(&self) -> Option<&str>
+        ensures { option_map (λ p. p.now) result ≡ self.now.fields.path }
+    {
+        match &self.path {
+            Some(path) => Some(path.as_str(&self.source)),
+            None => None,
+        }
+    }
+
+    /// The domain, if it is set, without one leading dot.
+    pub fn domain(&self) -> Option<&str>
+        ensures { option_map (λ d. d.now) result ≡ self.now.fields.domain }
+    {
+        match &self.domain {
+            Some(domain) => Some(after_dot(domain.as_str(&self.source))),
+            None => None,
+        }
+    }
+
+    /// The age from now on after which it expires, if it is set.
+    pub fn max_age(&self) -> Option<SignedDuration>
+        ensures { option_map signed_nanos result ≡ self.now.fields.max_age }
+    {
+        self.max_age
+    }
+
+    // The age in whole seconds, cut toward zero.
+    pub(crate) fn whole_seconds(&self) -> Option<i64>
+        ensures { result ≡ option_map (λ n. int_div n (pos 1000000000)) self.now.fields.max_age }
+    {
+        match self.max_age() {
+            Some(age) => Some(age.as_secs()),
+            None => None,
+        }
+    }
+
+    /// The expiry, if it is set.
+    pub fn expires(&self) -> Option<Expiration>
+        ensures { result ≡ self.now.fields.expires }
+    {
+        self.expires
+    }
+
+    /// The date and time at which it expires, if that is set.
+    pub fn expires_datetime(&self) -> Option<DateTime>
+        ensures { result ≡ option_and_then datetime_of self.now.fields.expires }
+    {
+        match self.expires {
+            Some(expiration) => expiration.datetime(),
+            None => None,
+        }
+    }
+}
+
+fn after_dot(domain: &str) -> &str
+    ensures { result.now ≡ without_leading_dot domain.now }
+{
+    match domain.strip_prefix('.') {
+        Some(rest) => rest,
+        None => domain,
+    }
+}

@@ -1,0 +1,24 @@
+//! Cookies: their record, how a text is read as one, and how they are printed (RFC 6265).
+#![tactic(auto)]
+
+mod attributes;
+mod cookie;
+mod cookie_str;
+mod display;
+mod expiration;
+mod layout;
+mod parse_error;
+mod part;
+mod same_site;
+mod source;
+mod split;
+
+pub use cookie::Cookie;
+pub use cookie_date::{DateText, days_after, read_date};
+pub use expiration::Expiration;
+pub use parse_error::ParseError;
+pub use same_site::SameSite;
+pub use split::SplitCookies;
+
+#[cfg(test)]
+mod tests;

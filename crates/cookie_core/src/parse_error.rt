@@ -1,0 +1,49 @@
+//! Why a text is no cookie.
+ghost use Rattle.std.specs.Prelude.{◌≡◌};
+ghost use Rattle.cookie_core.specs.ParseError.{error_text};
+
+use std::error::Error;
+use std::fmt;
+use std::str::Utf8Error;
+
+/// Why a text is no cookie.
+#[derive(Clone, Copy, Debug, PartialEq, Eq)]
+pub enum ParseError {
+    /// The first piece holds no `=`.
+    MissingPair,
+    /// The name is empty.
+    EmptyName,
+    /// The decoded name, or the decoded value, isn't UTF-8.
+    Utf8Error(Utf8Error),
+    /// There was no memory for an own text.
+    OutOfMemory,
+}
+
+impl ParseError {
+    /// The text of the refusal.
+    pub fn as_str(&self) -> &'static str
+        ensures { result.now ≡ error_text self.now }
+    {
+        match self {
+            ParseError::MissingPair => "the cookie is missing a name/value pair",
+            ParseError::EmptyName => "the cookie's name is empty",
+            ParseError::Utf8Error(_) => {
+                "decoding the cookie's name or value resulted in invalid UTF-8"
+            }
+            ParseError::OutOfMemory => "memory ran out while reading the cookie",
+        }
+    }
+}
+
+impl fmt::Display for ParseError {
+    ghost use Rattle.std.specs.Prelude.{Some};
+    ghost use Rattle.cookie_core.specs.ParseError.{error_text};
+
+    ghost output = { λ e. Some (error_text e) };
+
+    fn fmt<W: fmt::Write>(&self, f: &mut fmt::Formatter<W>) -> fmt::Result {
+        f.write_str(self.as_str())
+    }
+}
+
+impl Error for ParseError {}

@@ -1,0 +1,46 @@
+//! What a cookie was read from.
+ghost use Rattle.std.specs.Prelude.{◌≡◌, IfOk};
+ghost use Rattle.cookie_core.specs.CookieStr.{source_bytes, IsNotLent, IsSameSource};
+
+use std::alloc::{AllocError, Global};
+
+/// What a cookie was read from.
+#[derive(Drop)]
+pub(crate) enum Source<'c> {
+    None,
+    Borrowed(&'c str),
+    Owned(String),
+}
+
+impl<'c> Source<'c> {
+    pub(crate) fn as_str(&self) -> &str
+        ensures { result.now ≡ source_bytes self.now }
+    {
+        match self {
+            Source::None => "",
+            Source::Borrowed(text) => text,
+            Source::Owned(text) => text.as_str(),
+        }
+    }
+
+    pub(crate) fn into_owned(self, alloc: Global) -> Result<Source<'static>, AllocError>
+        ensures bytes { IfOk result (λ s. source_bytes s ≡ source_bytes self.entry) }
+        ensures own { IfOk result IsNotLent }
+    {
+        match self {
+            Source::None => Ok(Source::None),
+            Source::Borrowed(text) => Ok(Source::Owned(String::from_str(alloc, text)?)),
+            Source::Owned(text) => Ok(Source::Owned(text)),
+        }
+    }
+
+    pub(crate) fn clone(&self, alloc: Global) -> Result<Source<'c>, AllocError>
+        ensures { IfOk result (IsSameSource self.now) }
+    {
+        match self {
+            Source::None => Ok(Source::None),
+            Source::Borrowed(text) => Ok(Source::Borrowed(text)),
+            Source::Owned(text) => Ok(Source::Owned(String::from_str(alloc, text.as_str())?)),
+        }
+    }
+}
