@@ -1,0 +1,11 @@
+pub mod JarLemmas
+pub mod NameLemmas
+pub mod WalkLemmas
+pub use Rattle.cookie_core.proofs.AgeLemmas
+pub use Rattle.cookie_core.proofs.CookieOfLemmas
+pub use Rattle.cookie_core.proofs.CopyLemmas
+pub use Rattle.cookie_core.proofs.DotLemmas
+pub use Rattle.cookie_core.proofs.PieceLemmas
+pub use Rattle.cookie_core.proofs.PlaceLemmas
+pub use Rattle.cookie_core.proofs.ReadingLemmas
+pub use Rattle.cookie_core.proofs.SpanLemmas

@@ -1,0 +1,90 @@
+-- The finite map that a table with text keys shows, through the table's calls.
+use Rattle.std.proofs.Common.{◌≡◌, ℕ, Bool, true, false, cond, Bor, List, [], ◌∷◌, map, Option, None, Some, IfSome, String, refl, sym, ap, subst, ◌∙◌}
+use Rattle.std.proofs.lemmas.Map.Text.{is_eq-slice_cmp, hash_map_updates_text}
+use Rattle.std.proofs.lemmas.Slice.Eq.{bytes_eq-Decides}
+use Rattle.std.specs.Cmp.{eq_by_cmp_equiv}
+use Rattle.std.specs.Cmp.Lexicographic.{nat_list_cmp_total}
+use Rattle.std.specs.FinMap.{FinMap, find, get, insert, remove, empty, get-from_entries, get-insert, get-remove, get-empty, same_map, IsAntisymmetric, slice_cmp-IsAntisymmetric, nat_cmp-IsAntisymmetric}
+use Rattle.std.specs.HashMap.{HashMap, UpdatesBy}
+use Rattle.std.specs.Map.{lookup, update}
+use Rattle.std.specs.Option.{option_map, option_copied}
+use Rattle.std.specs.Ordering.{eq_by_cmp}
+use Rattle.std.specs.Str.{bytes_eq}
+use Rattle.std.specs.String.{string_bytes, string_eq}
+use Rattle.cookie.specs.Jar.{name_cmp}
+use Rattle.cookie.specs.Table.{by_name, IsNamed}
+
+names_apart : IsAntisymmetric name_cmp
+names_apart = slice_cmp-IsAntisymmetric nat_cmp-IsAntisymmetric
+
+module _ {X Z : Type 0} (shows : X → Z) where
+  pub option_map-cond : (b : Bool) (w o : Option X) → option_map shows (cond b w o) ≡ cond b (option_map shows w) (option_map shows o)
+  option_map-cond true w o = refl
+  option_map-cond false w o = refl
+
+  -- what is shown of a lent value
+  pub shown_copied : (o : Option (Bor X)) → option_map (λ x. shows x.now) o ≡ option_map shows (option_copied o)
+  shown_copied (Some x) = refl
+  shown_copied None = refl
+
+  -- the test of a look-up, as both kinds of map write it
+  turned : (w o : Option X) (k q : List ℕ) → option_map shows (cond (bytes_eq k q) w o) ≡ cond (eq_by_cmp name_cmp q k) (option_map shows w) (option_map shows o)
+  turned w o k q =
+      option_map-cond (bytes_eq k q) w o
+      ∙ ap (λ b. cond b (option_map shows w) (option_map shows o)) (sym (is_eq-slice_cmp k q) ∙ (eq_by_cmp_equiv nat_list_cmp_total).symm k q)
+
+  module _ {Y : Type 0} where
+    -- what a look-up by bytes finds
+    abbrev pub at_text : List (String Y × X) → List ℕ → Option X
+    at_text es q = lookup (λ k. bytes_eq q (string_bytes k)) es
+
+    find_text : (es : List (String Y × X)) (q : List ℕ) → find name_cmp q (map (λ e. (string_bytes e.0, shows e.1)) es) ≡ option_map shows (at_text es q)
+    find_text [] q = refl
+    find_text (e ∷ es) q =
+        ap (λ b. cond b (Some (shows e.1)) (find name_cmp q (map (λ e. (string_bytes e.0, shows e.1)) es))) (is_eq-slice_cmp q (string_bytes e.0))
+        ∙ ap (cond (bytes_eq q (string_bytes e.0)) (Some (shows e.1))) (find_text es q)
+        ∙ sym (option_map-cond (bytes_eq q (string_bytes e.0)) (Some e.1) (at_text es q))
+
+    -- what the finite map has at a name
+    pub get-by_name : (es : List (String Y × X)) (q : List ℕ) → get (by_name shows es) q ≡ option_map shows (at_text es q)
+    get-by_name es q = get-from_entries nat_list_cmp_total (map (λ e. (string_bytes e.0, shows e.1)) es) q ∙ find_text es q
+
+    module _ {S : Type 0} (m n : HashMap (String Y) X S) where
+      -- a changed table's look-up, over the one before
+      changed : (k q : List ℕ) (w : Option X) → at_text n.entries q ≡ update bytes_eq (at_text m.entries) k w q
+          → get (by_name shows n.entries) q ≡ cond (eq_by_cmp name_cmp q k) (option_map shows w) (get (by_name shows m.entries) q)
+      changed k q w h =
+          get-by_name n.entries q ∙ ap (option_map shows) h ∙ turned w (at_text m.entries q) k q
+          ∙ ap (cond (eq_by_cmp name_cmp q k) (option_map shows w)) (sym (get-by_name m.entries q))
+
+      -- what `insert` leaves
+      pub insert_shows : (key : String Y) (k : List ℕ) (v : X) → string_bytes key ≡ k → UpdatesBy string_eq (string_eq key) m n (Some v)
+          → by_name shows n.entries ≡ insert (by_name shows m.entries) k (shows v)
+      insert_shows key k v e u = same_map nat_list_cmp_total names_apart _ _ (λ q.
+          changed k q (Some v) (subst (λ bs. at_text n.entries q ≡ update bytes_eq (at_text m.entries) bs (Some v) q) e (hash_map_updates_text (string_bytes key) m n (Some v) u q))
+          ∙ sym (get-insert nat_list_cmp_total (by_name shows m.entries) k (shows v) q))
+
+      -- what a removal leaves
+      pub remove_shows : (k : List ℕ) → UpdatesBy string_eq (λ x. bytes_eq k (string_bytes x)) m n None
+          → by_name shows n.entries ≡ remove (by_name shows m.entries) k
+      remove_shows k u = same_map nat_list_cmp_total names_apart _ _ (λ q.
+          changed k q None (hash_map_updates_text k m n None u q)
+          ∙ sym (get-remove nat_list_cmp_total (by_name shows m.entries) k q))
+
+module _ {Z : Type 0} (name_of : Z → List ℕ) where
+  pub IsNamed-empty : IsNamed name_of empty
+  IsNamed-empty n = subst (λ o. IfSome o (λ z. name_of z ≡ n)) (sym (get-empty name_cmp n)) tt
+
+  pub IsNamed-insert : (m : FinMap name_cmp Z) (v : Z) → IsNamed name_of m → IsNamed name_of (insert m (name_of v) v)
+  IsNamed-insert m v h n = subst (λ o. IfSome o (λ z. name_of z ≡ n)) (sym (get-insert nat_list_cmp_total m (name_of v) v n)) (by (eq_by_cmp name_cmp n (name_of v)) refl)
+    where
+      by : (b : Bool) → eq_by_cmp name_cmp n (name_of v) ≡ b → IfSome (cond b (Some v) (get m n)) (λ z. name_of z ≡ n)
+      by true e = sym ((bytes_eq-Decides n (name_of v)).0 (sym (is_eq-slice_cmp n (name_of v)) ∙ e))
+      by false e = h n
+
+  pub IsNamed-remove : (m : FinMap name_cmp Z) (k : List ℕ) → IsNamed name_of m → IsNamed name_of (remove m k)
+  IsNamed-remove m k h n = subst (λ o. IfSome o (λ z. name_of z ≡ n)) (sym (get-remove nat_list_cmp_total m k n)) (by (eq_by_cmp name_cmp n k))
+    where
+      by : (b : Bool) → IfSome (cond b None (get m n)) (λ z. name_of z ≡ n)
+      by true = tt
+      by false = h n

@@ -1,0 +1,8 @@
+use Rattle.cookie.proofs.NameLemmas.{IsNamed-empty}
+use Rattle.cookie.proofs.jar.CookieJar.new.Goals as goal
+
+pub invariant_of-result : goal.invariant_of-result
+invariant_of-result c = record {
+  originals = rw c.new.ensures.empty (IsNamed-empty _);
+  delta = rw c.new-2.ensures.empty (IsNamed-empty _);
+}

@@ -1,0 +1,36 @@
+//! The cookies of a jar's delta.
+ghost use Rattle.std.specs.Prelude.{◌≡◌};
+ghost use Rattle.cookie.specs.Jar.{added, dropped};
+ghost use Rattle.cookie.specs.Table.{marked};
+ghost use Rattle.cookie_core.specs.Removal.{removal};
+
+use cookie_core::Cookie;
+use jiff::civil::DateTime;
+
+// A cookie that was added, or one that tells the client to drop its name.
+#[derive(Drop)]
+pub(crate) struct DeltaCookie {
+    pub(crate) cookie: Cookie<'static>,
+    pub(crate) removed: bool,
+}
+
+impl DeltaCookie {
+    pub(crate) fn added(cookie: Cookie<'static>) -> DeltaCookie
+        ensures { marked result ≡ added cookie.entry.fields }
+    {
+        DeltaCookie {
+            cookie,
+            removed: false,
+        }
+    }
+
+    pub(crate) fn removed(mut cookie: Cookie<'static>, now: DateTime) -> DeltaCookie
+        ensures { marked result ≡ dropped (removal now cookie.entry.fields) }
+    {
+        cookie.make_removal(now);
+        DeltaCookie {
+            cookie,
+            removed: true,
+        }
+    }
+}

@@ -1,0 +1,76 @@
+//! What stands at a name of a table, and the calls that a jar makes of its two tables.
+ghost use Rattle.std.specs.Prelude.{◌≡◌, ℕ, List, OnOk, OnErr};
+ghost use Rattle.std.specs.FinMap as map;
+ghost use Rattle.std.specs.Option.{option_map};
+ghost use Rattle.cookie.specs.Table.{by_name, marked, unmarked, IsNamed};
+ghost use Rattle.cookie_core.specs.Record.{Record};
+ghost use Rattle.cookie.specs.Jar.{Marked};
+
+use crate::delta::DeltaCookie;
+use crate::original::Original;
+use indexmap::IndexMap;
+use std::alloc::AllocError;
+
+// What stands at a cookie's name.
+pub(crate) trait Entry: Drop {
+    // What a jar's contracts see of it.
+    ghost Shown: { Type 0 };
+
+    ghost shows: { Self → Shown };
+
+    // The name of its cookie.
+    ghost name_of: { Shown → List ℕ };
+
+    fn own_name(&self) -> &str
+        ensures { result.now ≡ name_of (shows self.now) };
+}
+
+impl Entry for Original {
+    ghost Shown = { Record };
+
+    ghost shows = { unmarked };
+
+    ghost name_of = { λ r. r.name };
+
+    fn own_name(&self) -> &str {
+        self.cookie.name()
+    }
+}
+
+impl Entry for DeltaCookie {
+    ghost Shown = { Marked };
+
+    ghost shows = { marked };
+
+    ghost name_of = { λ m. m.cookie.name };
+
+    fn own_name(&self) -> &str {
+        self.cookie.name()
+    }
+}
+
+// The entry at a name.
+pub(crate) fn find<'a, X: Entry>(table: &'a IndexMap<String, X>, name: &str) -> Option<&'a X>
+    ensures { option_map (λ x. X.shows x.now) result ≡ map.get (by_name X.shows table.now.entries) name.now }
+{
+    table.get(name)
+}
+
+// Puts an entry at its name. On an error the table stays as it was.
+pub(crate) fn put<X: Entry>(table: &mut IndexMap<String, X>, entry: X) -> Result<(), AllocError>
+    ensures ok { OnOk result (by_name X.shows table.new.entries ≡ map.insert (by_name X.shows table.old.entries) (X.name_of (X.shows entry)) (X.shows entry)) }
+    ensures err { OnErr result (by_name X.shows table.new.entries ≡ by_name X.shows table.old.entries) }
+    ensures named { IsNamed X.name_of (by_name X.shows table.old.entries) → IsNamed X.name_of (by_name X.shows table.new.entries) }
+{
+    let key = String::from_str(*table.allocator(), entry.own_name())?;
+    table.insert(key, entry)?;
+    Ok(())
+}
+
+// Drops the entry at a name.
+pub(crate) fn discard<X: Entry>(table: &mut IndexMap<String, X>, name: &str)
+    ensures removed { by_name X.shows table.new.entries ≡ map.remove (by_name X.shows table.old.entries) name.now }
+    ensures named { IsNamed X.name_of (by_name X.shows table.old.entries) → IsNamed X.name_of (by_name X.shows table.new.entries) }
+{
+    table.shift_remove(name);
+}

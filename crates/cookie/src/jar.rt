@@ -1,0 +1,117 @@
+//! The jar: original cookies, and the changes since.
+ghost use Rattle.std.specs.Prelude.{◌≡◌, None, OnErr, IsOk};
+ghost use Rattle.std.specs.FinMap.{get};
+ghost use Rattle.std.specs.Option.{option_map};
+ghost use Rattle.cookie_core.specs.Memory.{Gives};
+ghost use Rattle.cookie.specs.Jar.{Add, AddOriginal, Remove, after, empty_jar, view};
+ghost use Rattle.cookie.specs.Walk.{Walks};
+ghost use Rattle.cookie.specs.declared.jar_error.JarError.TheVariants as refusal;
+
+use crate::delta::DeltaCookie;
+use crate::entry::{discard, find, put};
+use crate::iter::Delta;
+use crate::jar_error::JarError;
+use crate::original::Original;
+use cookie_core::Cookie;
+use indexmap::IndexMap;
+use jiff::civil::DateTime;
+use std::alloc::Global;
+use std::marker::Model;
+
+/// Cookies by their names, and which of them were changed since they came (RFC 6265 5.3).
+#[derive(Drop)]
+pub struct CookieJar {
+    originals: IndexMap<String, Original>,
+    delta: IndexMap<String, DeltaCookie>,
+}
+
+// Contracts see the jar as two finite maps from names to the records of cookies.
+impl Model for CookieJar {
+    ghost use Rattle.cookie.specs.Jar.{JarState, jar_code};
+    ghost use Rattle.cookie.specs.Table.{AreNamed, by_name, marked, unmarked};
+
+    ghost Value = { JarState };
+
+    ghost coded = { jar_code };
+
+    ghost view = { λ a. record { originals = by_name unmarked a.originals.entries; delta = by_name marked a.delta.entries } };
+
+    // Each key is its cookie's name.
+    ghost invariant = { λ a. AreNamed (record { originals = by_name unmarked a.originals.entries; delta = by_name marked a.delta.entries }) };
+}
+
+impl CookieJar {
+    /// A jar with no cookie. It takes no memory.
+    pub fn new(alloc: Global) -> CookieJar
+        ensures { result ≡ empty_jar }
+    {
+        CookieJar {
+            originals: IndexMap::new(alloc),
+            delta: IndexMap::new(alloc),
+        }
+    }
+
+    /// The cookie that the jar shows under `name`.
+    pub fn get(&self, name: &str) -> Option<&Cookie<'static>>
+        ensures { option_map (λ c. c.now.fields) result ≡ view self.now name.now }
+    {
+        match find(&self.delta, name) {
+            Some(entry) if entry.removed => None,
+            Some(entry) => Some(&entry.cookie),
+            None => match find(&self.originals, name) {
+                Some(entry) => Some(&entry.cookie),
+                None => None,
+            },
+        }
+    }
+
+    /// Adds an original cookie, in the place of the one of its name. It is no change: the delta stays.
+    ///
+    /// Fails for want of memory alone, and then leaves the jar as it was.
+    pub fn add_original(&mut self, cookie: Cookie<'static>) -> Result<(), JarError>
+        ensures gives { Gives refusal.OutOfMemory result (λ _. self.new ≡ after (AddOriginal cookie.entry.fields) self.old) }
+        ensures err { OnErr result (self.new ≡ self.old) }
+    {
+        put(&mut self.originals, Original { cookie })?;
+        Ok(())
+    }
+
+    /// Adds a cookie, in the place of the one that the jar shows under its name.
+    ///
+    /// Fails for want of memory alone, and then leaves the jar as it was.
+    pub fn add(&mut self, cookie: Cookie<'static>) -> Result<(), JarError>
+        ensures gives { Gives refusal.OutOfMemory result (λ _. self.new ≡ after (Add cookie.entry.fields) self.old) }
+        ensures err { OnErr result (self.new ≡ self.old) }
+    {
+        put(&mut self.delta, DeltaCookie::added(cookie))?;
+        Ok(())
+    }
+
+    /// Removes the cookie of that name, at the date and time `now` in UTC. Where there is an original of that
+    /// name, the delta gets a cookie that tells the client to drop it, with this cookie's path and domain.
+    ///
+    /// Fails for want of memory alone, where there is such an original, and then leaves the jar as it was.
+    pub fn remove(&mut self, cookie: Cookie<'static>, now: DateTime) -> Result<(), JarError>
+        ensures gives { Gives refusal.OutOfMemory result (λ _. self.new ≡ after (Remove cookie.entry.fields now) self.old) }
+        ensures err { OnErr result (self.new ≡ self.old) }
+        ensures certain { get self.old.originals cookie.entry.fields.name ≡ None → IsOk result }
+    {
+        if find(&self.originals, cookie.name()).is_some() {
+            put(&mut self.delta, DeltaCookie::removed(cookie, now))?;
+        } else {
+            discard(&mut self.delta, cookie.name());
+        }
+        Ok(())
+    }
+
+    /// The cookies that were changed, each name once: those that were added, and those that tell the client to
+    /// drop an original. It takes no memory.
+    pub fn delta(&self) -> Delta<'_>
+        ensures { Walks (λ n. option_map (λ m. m.cookie) (get self.now.delta n)) result }
+    {
+        // `len` is called for its clause that the keys differ, which the proof cites.
+        let _len = self.delta.len();
+        let entries = self.delta.values();
+        Delta::new(entries)
+    }
+}

@@ -1,0 +1,19 @@
+//! Cookies and the jar that keeps them: original cookies, and the changes since (RFC 6265).
+#![tactic(auto)]
+
+mod delta;
+mod entry;
+mod iter;
+mod jar;
+mod jar_error;
+mod original;
+
+pub use cookie_core::{
+    Cookie, DateText, Expiration, ParseError, SameSite, SplitCookies, days_after, read_date,
+};
+pub use iter::Delta;
+pub use jar::CookieJar;
+pub use jar_error::JarError;
+
+#[cfg(test)]
+mod tests;

@@ -1,0 +1,8 @@
+//! The original cookies of a jar.
+use cookie_core::Cookie;
+
+// A cookie that the jar began with. Its type names no lifetime, as the calls on tables want it.
+#[derive(Drop)]
+pub(crate) struct Original {
+    pub(crate) cookie: Cookie<'static>,
+}
