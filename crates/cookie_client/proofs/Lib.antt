@@ -1,0 +1,5 @@
+pub mod LineLemmas
+pub mod LiveLemmas
+pub mod TextMapLemmas
+pub mod SessionLemmas
+pub mod RunLemmas

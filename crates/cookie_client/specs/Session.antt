@@ -1,0 +1,110 @@
+-- What the program writes for a moment and the bytes of its input, or its first fault.
+--
+-- Line 1 of the input is the value of a `Cookie` header: its cookies are the jar's originals, and what the
+-- client holds at first. Each later line that isn't empty is a call: `add`, one space and the text of a
+-- `Set-Cookie` header, or `remove`, one space and a name.
+use Rattle.std.specs.Prelude.{ℕ, ◌+◌, pos, int_lt, false, List, [], ◌∷◌, ◌++◌, map, drop, option_and_then, option_map, Option, Some, None, Result, Ok, Err, codes, eqb, if◌then◌else◌}
+use Rattle.std.specs.FinMap.{empty, insert, entries}
+use Rattle.std.specs.List.{starts_with}
+use Rattle.std.specs.Str.{trim, is_utf8}
+use Rattle.jiff.specs.Types.{DateTime}
+use Rattle.cookie.specs.CookieOf.{cookie_of, header_cookies}
+use Rattle.cookie.specs.Jar.{JarState, Change, AddOriginal, Add, Remove, after, empty_jar}
+use Rattle.cookie.specs.Moments.{date_of}
+use Rattle.cookie.specs.Record.{Record, plain}
+use Rattle.cookie.specs.Text.{cookie_text}
+use Rattle.cookie_client.specs.Client.{Values, after_texts, header_text}
+use Rattle.cookie_client.specs.Lines.{lines_of}
+
+-- why a session has no text; lines are counted from 1
+pub data Fault : Type 0 where
+  BadMoment : Fault
+  BadInput : Fault
+  BadLine : ℕ → Fault
+
+-- the removal of a name that isn't empty
+abbrev pub removal_of : DateTime → List ℕ → Option Change
+removal_of now [] = None
+removal_of now (c ∷ cs) = Some (Remove (plain (c ∷ cs) []) now)
+
+-- the call that a line asks for: `add` of a text that is read as a cookie, or `remove` of a name
+abbrev pub call_of : DateTime → List ℕ → Option Change
+call_of now line =
+    if starts_with eqb line (codes "add ") then option_map Add (cookie_of false (drop 4 line))
+    else if starts_with eqb line (codes "remove ") then removal_of now (trim (drop 7 line))
+    else None
+
+-- the jar after a line: an empty line changes nothing, and another that asks for no call is bad
+abbrev pub followed : DateTime → List ℕ → JarState → Option JarState
+followed now [] jar = Some jar
+followed now (c ∷ cs) jar = option_map (λ call. after call jar) (call_of now (c ∷ cs))
+
+-- the jar after the lines, of which the first is number n, or the first bad line
+abbrev pub jar_after : DateTime → ℕ → List (List ℕ) → JarState → Result JarState Fault
+jar_after now n [] jar = Ok jar
+jar_after now n (line ∷ lines) jar =
+    elim (followed now line jar) as (λ _. Result JarState Fault) [
+      | None ↦ Err (BadLine n)
+      | Some next ↦ jar_after now (n + 1) lines next
+    ]
+
+-- the jar with these originals
+abbrev pub with_originals : List Record → JarState → JarState
+with_originals [] jar = jar
+with_originals (cookie ∷ cookies) jar = with_originals cookies (after (AddOriginal cookie) jar)
+
+-- a client that holds these cookies' values at their names
+abbrev pub holding : List Record → Values → Values
+holding [] values = values
+holding (cookie ∷ cookies) values = holding cookies (insert values cookie.name cookie.value)
+
+-- the texts of the delta's cookies, in byte order of the names
+abbrev pub delta_texts : JarState → List (List ℕ)
+delta_texts jar = map (λ e. cookie_text false false e.1.cookie) (entries jar.delta)
+
+-- a line for each text
+abbrev pub set_cookie_lines : List (List ℕ) → List ℕ
+set_cookie_lines [] = []
+set_cookie_lines (text ∷ texts) = codes "Set-Cookie: " ++ (text ++ (codes "\n" ++ set_cookie_lines texts))
+
+-- the line of the client's header
+abbrev pub cookie_line : Values → List ℕ
+cookie_line values = codes "Cookie: " ++ (header_text values ++ codes "\n")
+
+-- what is written of a jar, and of a client that reads its delta at the moment
+abbrev pub written : DateTime → Values → JarState → List ℕ
+written now values jar =
+    set_cookie_lines (delta_texts jar) ++ cookie_line (after_texts now (delta_texts jar) values)
+
+-- the text of a jar's session, or its fault
+abbrev pub finished : DateTime → Values → Result JarState Fault → Result (List ℕ) Fault
+finished now values (Ok jar) = Ok (written now values jar)
+finished now values (Err fault) = Err fault
+
+-- the session of a header and the lines behind it
+abbrev pub played_lines : DateTime → List ℕ → List (List ℕ) → Result (List ℕ) Fault
+played_lines now header lines =
+    finished now (holding (header_cookies false header) empty)
+    (jar_after now 2 lines (with_originals (header_cookies false header) empty_jar))
+
+-- the session of lines, of which the first is the header
+abbrev pub played : DateTime → List (List ℕ) → Result (List ℕ) Fault
+played now [] = played_lines now [] []
+played now (header ∷ lines) = played_lines now header lines
+
+-- the session of bytes at a moment, if they are UTF-8
+abbrev pub played_bytes : DateTime → List ℕ → Result (List ℕ) Fault
+played_bytes now bytes = if is_utf8 bytes then played now (lines_of bytes) else Err BadInput
+
+-- the moment that a text stands for, of the year 100 or later
+abbrev pub moment_of : List ℕ → Option DateTime
+moment_of text =
+    option_and_then (λ moment. if int_lt moment.date.year (pos 100) then None else Some moment) (date_of text)
+
+-- the session of a moment's text and the bytes of the input
+abbrev pub session : List ℕ → List ℕ → Result (List ℕ) Fault
+session moment bytes =
+    elim (moment_of moment) as (λ _. Result (List ℕ) Fault) [
+      | None ↦ Err BadMoment
+      | Some now ↦ played_bytes now bytes
+    ]

@@ -1,0 +1,121 @@
+//! A client that keeps cookies by name (RFC 6265 5.3, 5.4).
+ghost use Rattle.std.specs.Prelude.{◌≡◌, ◌++◌, false, Some, OnOk, OnErr, is_some, string_bytes};
+ghost use Rattle.std.specs.FinMap.{empty, get, insert};
+ghost use Rattle.std.specs.Option.{option_copied};
+ghost use Rattle.cookie.specs.CookieOf.{cookie_of};
+ghost use Rattle.cookie.specs.Memory.{Gives};
+ghost use Rattle.cookie_client.specs.Client.{after_cookie, after_text, header_text, pair_text};
+ghost use Rattle.cookie_client.specs.declared.client_error.ClientError.TheVariants.{OutOfMemory};
+
+use crate::client_error::ClientError;
+use crate::live::is_live;
+use crate::text_map::TextMap;
+use cookie::Cookie;
+use jiff::civil::DateTime;
+use std::alloc::{AllocError, Global};
+use std::marker::Model;
+
+/// A client that holds a value for each name.
+#[derive(Drop)]
+pub struct Client {
+    alloc: Global,
+    values: TextMap,
+}
+
+// Contracts see the finite map from names to values.
+impl Model for Client {
+    ghost use Rattle.std.specs.Prelude.{List, ℕ};
+    ghost use Rattle.std.specs.FinMap.{FinMap};
+    ghost use Rattle.cookie.specs.Jar.{name_cmp};
+    ghost use Rattle.cookie_client.specs.TextMap.{texts_code};
+
+    ghost Value = { FinMap name_cmp (List ℕ) };
+
+    ghost coded = { texts_code };
+
+    ghost view = { λ c. c.values };
+}
+
+impl Client {
+    /// A client that holds nothing.
+    pub fn new(alloc: Global) -> Client
+        ensures { result ≡ empty }
+    {
+        Client {
+            alloc,
+            values: TextMap::new(alloc),
+        }
+    }
+
+    /// The value that it holds for the name.
+    pub fn get(&self, name: &str) -> Option<&str>
+        ensures { option_copied result ≡ get self.now name.now }
+    {
+        self.values.get(name)
+    }
+
+    /// Holds this value for the name from now on. After an error the client is as before.
+    pub fn hold(&mut self, name: &str, value: &str) -> Result<(), ClientError>
+        ensures gives { Gives OutOfMemory result (λ _. self.new ≡ insert self.old name.now value.now) }
+        ensures err { OnErr result (self.new ≡ self.old) }
+    {
+        self.values.set(name, value)?;
+        Ok(())
+    }
+
+    /// Takes a cookie that was read: one that is live sets its name to its value, and another drops its name.
+    fn take(&mut self, cookie: &Cookie<'_>, now: DateTime) -> Result<(), ClientError>
+        ensures gives { Gives OutOfMemory result (λ _. self.new ≡ after_cookie now (Some cookie.now.fields) self.old) }
+        ensures err { OnErr result (self.new ≡ self.old) }
+    {
+        if is_live(cookie, now) {
+            self.hold(cookie.name(), cookie.value())?;
+        } else {
+            self.values.remove(cookie.name());
+        }
+        Ok(())
+    }
+
+    /// Reads the text of a `Set-Cookie` header at a moment in UTC (RFC 6265 5.3), and answers whether it is a
+    /// cookie. One that is live sets its name to its value, one that isn't drops its name, and a text that is no
+    /// cookie changes nothing. After an error the client is as before.
+    pub fn read(&mut self, text: &str, now: DateTime) -> Result<bool, ClientError>
+        ensures gives { Gives OutOfMemory result (λ is_cookie. (self.new ≡ after_text now text.now self.old) × (is_cookie ≡ is_some (cookie_of false text.now))) }
+        ensures err { OnErr result (self.new ≡ self.old) }
+    {
+        match Cookie::parse(text) {
+            Ok(cookie) => {
+                self.take(&cookie, now)?;
+                Ok(true)
+            }
+            Err(_) => Ok(false),
+        }
+    }
+
+    /// The value of its `Cookie` header (RFC 6265 5.4): each name and value, in byte order of the names.
+    pub fn header(&self) -> Result<String, ClientError>
+        ensures { Gives OutOfMemory result (λ header. string_bytes header ≡ header_text self.now) }
+    {
+        let mut header = String::new(self.alloc);
+        let mut pairs = self.values.pairs();
+        let Some((name, value)) = pairs.next() else {
+            return Ok(header);
+        };
+        push_pair(&mut header, name, value)?;
+        for (name, value) in pairs {
+            header.push_str("; ")?;
+            push_pair(&mut header, name, value)?;
+        }
+        Ok(header)
+    }
+}
+
+/// Writes `name=value`.
+fn push_pair(header: &mut String, name: &str, value: &str) -> Result<(), AllocError>
+    ensures { OnOk result (string_bytes header.new ≡ string_bytes header.old ++ pair_text (name.now, value.now)) }
+{
+    header.push_str(name)?;
+    header.push_str("=")?;
+    header.push_str(value)?;
+    Ok(())
+}

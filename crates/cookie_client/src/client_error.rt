@@ -1,0 +1,45 @@
+//! Why a client's call fails.
+ghost use Rattle.std.specs.Prelude.{◌≡◌};
+
+use std::alloc::{AllocError, AllocFailed};
+use std::error::Error;
+use std::fmt;
+
+/// Why a client's call fails.
+#[derive(Clone, Copy, Debug, PartialEq, Eq)]
+pub enum ClientError {
+    /// Memory ran out.
+    OutOfMemory,
+}
+
+impl fmt::Display for ClientError {
+    ghost use Rattle.std.specs.Prelude.{Some, codes};
+
+    ghost output = { λ _. Some (codes "out of memory") };
+
+    fn fmt<W: fmt::Write>(&self, f: &mut fmt::Formatter<W>) -> fmt::Result {
+        f.write_str("out of memory")
+    }
+}
+
+impl Error for ClientError {}
+
+impl From<AllocError> for ClientError {
+    ghost use Rattle.cookie_client.specs.declared.client_error.ClientError.TheVariants.{OutOfMemory};
+
+    ghost from_gives = { λ _ e. e ≡ OutOfMemory };
+
+    fn from(_error: AllocError) -> ClientError {
+        ClientError::OutOfMemory
+    }
+}
+
+impl<T: Drop> From<AllocFailed<T>> for ClientError {
+    ghost use Rattle.cookie_client.specs.declared.client_error.ClientError.TheVariants.{OutOfMemory};
+
+    ghost from_gives = { λ _ e. e ≡ OutOfMemory };
+
+    fn from(_error: AllocFailed<T>) -> ClientError {
+        ClientError::OutOfMemory
+    }
+}

@@ -1,0 +1,19 @@
+//! A client that reads cookies, and the engine of the program `cookiejar`.
+#![tactic(auto)]
+
+mod client;
+mod client_error;
+mod lines;
+mod live;
+mod run_error;
+mod session;
+mod streams;
+mod text_map;
+
+pub use client::Client;
+pub use client_error::ClientError;
+pub use run_error::RunError;
+pub use session::run;
+
+#[cfg(test)]
+mod tests;

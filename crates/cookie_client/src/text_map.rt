@@ -1,0 +1,113 @@
+//! Texts by name, in byte order of the names.
+ghost use Rattle.std.specs.Prelude.{◌≡◌, OnOk, OnErr};
+ghost use Rattle.std.specs.FinMap.{empty, entries, get, insert, remove};
+ghost use Rattle.std.specs.Option.{option_copied};
+
+use std::alloc::{AllocError, Global};
+use std::collections::{BTreeMap, btree_map};
+use std::marker::Model;
+
+/// Texts by name, in byte order of the names.
+#[derive(Drop)]
+pub(crate) struct TextMap {
+    // `BTreeMap` does not lend its own.
+    alloc: Global,
+    texts: BTreeMap<String, String>,
+}
+
+impl Model for TextMap {
+    ghost use Rattle.std.specs.Prelude.{List, ℕ};
+    ghost use Rattle.std.specs.FinMap.{FinMap};
+    ghost use Rattle.cookie.specs.Jar.{name_cmp};
+    ghost use Rattle.cookie_client.specs.TextMap.{texts_code, by_name};
+
+    ghost Value = { FinMap name_cmp (List ℕ) };
+
+    ghost coded = { texts_code };
+
+    ghost view = { λ a. by_name a.texts.entries };
+}
+
+#[tactic(auto, using(crate::proofs::TextMapLemmas::by_name_calls))]
+impl TextMap {
+    /// An empty map.
+    pub(crate) fn new(alloc: Global) -> TextMap
+        ensures { result ≡ empty }
+    {
+        TextMap {
+            alloc,
+            texts: BTreeMap::new(alloc),
+        }
+    }
+
+    /// The text at `name`.
+    pub(crate) fn get(&self, name: &str) -> Option<&str>
+        ensures { option_copied result ≡ get self.now name.now }
+    {
+        match self.texts.get(name) {
+            Some(text) => Some(text.as_str()),
+            None => None,
+        }
+    }
+
+    /// Puts a copy of `text` at `name`. On an error the map stays as it was.
+    pub(crate) fn set(&mut self, name: &str, text: &str) -> Result<(), AllocError>
+        ensures ok { OnOk result (self.new ≡ insert self.old name.now text.now) }
+        ensures err { OnErr result (self.new ≡ self.old) }
+    {
+        let key = String::from_str(self.alloc, name)?;
+        let value = String::from_str(self.alloc, text)?;
+        self.texts.insert(key, value)?;
+        Ok(())
+    }
+
+    /// Drops the text at `name`.
+    pub(crate) fn remove(&mut self, name: &str)
+        ensures { self.new ≡ remove self.old name.now }
+    {
+        self.texts.remove(name);
+    }
+
+    /// The names with their texts, in byte order of the names.
+    pub(crate) fn pairs(&self) -> Pairs<'_>
+        ensures { result ≡ entries self.now }
+    {
+        Pairs {
+            rest: self.texts.iter(),
+        }
+    }
+}
+
+/// The pairs of a [`TextMap`], seen as the list of those that are left.
+#[derive(Drop)]
+pub(crate) struct Pairs<'a> {
+    rest: btree_map::Iter<'a, String, String>,
+}
+
+impl<'a> Model for Pairs<'a> {
+    ghost use Rattle.std.specs.Prelude.{List, ℕ};
+    ghost use Rattle.cookie_client.specs.TextMap.{bytes_of};
+
+    ghost Value = { List (List ℕ × List ℕ) };
+
+    ghost view = { λ a. bytes_of a.rest };
+}
+
+impl<'a> Iterator for Pairs<'a> {
+    ghost use Rattle.std.specs.Prelude.{length};
+    ghost use Rattle.std.specs.Iterator.{at_most};
+    ghost use Rattle.std.specs.Map.Iter.{TakesFirst, deref_pair};
+
+    type Item = (&'a str, &'a str);
+
+    ghost next_gives = { TakesFirst deref_pair };
+
+    ghost remaining = { λ s. at_most (length s) };
+
+    fn next(&mut self) -> Option<(&'a str, &'a str)> {
+        match self.rest.next() {
+            Some((name, text)) => Some((name.as_str(), text.as_str())),
+            None => None,
+        }
+    }
+}
