@@ -1,0 +1,33 @@
+//! `cookiejar MOMENT`: plays a session over the standard input, and writes its text.
+#![tactic(auto)]
+
+use cookie_client::RunError;
+use std::env;
+use std::process::ExitCode;
+
+/// Runs with the one argument, the moment.
+fn play(rt: &HostRuntime) -> Result<(), RunError> {
+    let Ok(mut arguments) = env::args(rt) else {
+        return Err(RunError::BadMoment);
+    };
+    let _program = arguments.next();
+    let (Some(moment), None) = (arguments.next(), arguments.next()) else {
+        return Err(RunError::BadMoment);
+    };
+    cookie_client::run(
+        rt.alloc(),
+        moment.as_str(),
+        &mut rt.stdin(),
+        &mut rt.stdout(),
+    )
+}
+
+fn main(rt: HostRuntime) -> ExitCode {
+    match play(&rt) {
+        Ok(()) => ExitCode::SUCCESS,
+        Err(error) => {
+            let _ = eprintln!(rt; "{error}");
+            ExitCode::from(error.status())
+        }
+    }
+}
