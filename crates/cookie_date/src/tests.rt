@@ -49,6 +49,8 @@ fn years_may_have_a_sign(rt: HostRuntime) {
     ] {
         assert_eq!(rt; read_date(text), at(year, 10, 21, [0, 0, 0]), "at {text}");
     }
+    let date = at(-94, 11, 6, [8, 49, 37]);
+    assert_eq!(rt; read_date("06-Nov--94 08:49:37 GMT"), date);
 }
 
 #[test]
