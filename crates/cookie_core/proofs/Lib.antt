@@ -2,6 +2,7 @@ pub mod AgeLemmas
 pub mod CookieOfLemmas
 pub mod CopyLemmas
 pub mod DotLemmas
+pub mod ExpiryLemmas
 pub mod PieceLemmas
 pub mod PlaceLemmas
 pub mod ReadingLemmas

@@ -1,7 +1,9 @@
 -- What an expiry says.
-use Rattle.std.specs.Prelude.{Option, Some, None}
+use Rattle.std.specs.Prelude.{ℕ, pos, int_lt, Option, Some, None, unwrap_or, if◌then◌else◌}
 use Rattle.std.proofs.Common.{lit<}
 use Rattle.jiff.specs.Types.{DateTime}
+use Rattle.jiff.specs.Words.{civil_nanos}
+use Rattle.cookie_date.specs.Calendar.{date_at, time_at}
 use Rattle.cookie_core.specs.declared.expiration.Expiration.{Expiration}
 use Rattle.cookie_core.specs.declared.expiration.Expiration.TheVariants as expiration
 
@@ -9,6 +11,28 @@ use Rattle.cookie_core.specs.declared.expiration.Expiration.TheVariants as expir
 abbrev pub datetime_of : Expiration → Option DateTime
 datetime_of (expiration.DateTime moment) = Some moment
 datetime_of expiration.Session = None
+
+-- the expiry at this date and time, or at the session's end if there is none
+abbrev pub expiration_of : Option DateTime → Expiration
+expiration_of (Some moment) = expiration.DateTime moment
+expiration_of None = expiration.Session
+
+-- The last expiry that a cookie keeps, 9999-12-31 23:59:59.999999. That date and that time exist, so those of the
+-- other date-time are never taken.
+unfoldable pub last_expiry : DateTime → DateTime
+last_expiry other = record {
+  date = unwrap_or (date_at (pos 9999) 12 31) other.date;
+  time = unwrap_or (time_at 23 59 59 999_999_000) other.time;
+}
+
+-- the date-time, or the last expiry if it is later
+abbrev pub capped_moment : DateTime → DateTime
+capped_moment moment = if int_lt (civil_nanos (last_expiry moment)) (civil_nanos moment) then last_expiry moment else moment
+
+-- the expiry that a cookie keeps: the session's end, or the lesser of a date-time and the last expiry
+abbrev pub capped : Expiration → Expiration
+capped (expiration.DateTime moment) = expiration.DateTime (capped_moment moment)
+capped expiration.Session = expiration.Session
 
 -- the same date-time without its fraction of a second
 abbrev pub whole_second : DateTime → DateTime

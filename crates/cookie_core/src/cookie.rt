@@ -8,7 +8,9 @@ ghost use Rattle.cookie_core.specs.Reads.{Reads};
 ghost use Rattle.cookie_core.specs.Expiration.{datetime_of};
 ghost use Rattle.cookie_core.specs.CookieStr.{source_bytes, lent_forms};
 ghost use Rattle.cookie_core.specs.CookieOf.{cookie_of};
+ghost use Rattle.cookie_core.specs.Quotes.{trimmed_value};
 ghost use Rattle.cookie_core.specs.Record.{Record, IsCookie, no_raw_forms, all_lent, plain, without_leading_dot};
+ghost use Rattle.cookie_core.specs.Same.{same, IsEquality};
 
 mod setters;
 
@@ -16,6 +18,7 @@ use crate::cookie_str::{self, CookieStr};
 use crate::expiration::Expiration;
 use crate::layout::Layout;
 use crate::parse_error::ParseError;
+use crate::quotes;
 use crate::same_site::SameSite;
 use crate::source::Source;
 use jiff::SignedDuration;
@@ -171,10 +174,12 @@ impl<'c> Cookie<'c> {
         })
     }
 
-    /// What holds of every cookie: its texts are UTF-8, and its age is one that a duration can have. The call
-    /// does nothing; its contract is for proofs that know a cookie by its record alone.
+    /// What holds of every cookie: its texts are UTF-8, its age is one that a duration can have, and `==` is
+    /// reflexive, symmetric and transitive. The call does nothing; its contract is for proofs that know a cookie
+    /// by its record alone.
     pub fn known(&self)
-        ensures { IsCookie self.now.fields }
+        ensures cookie { IsCookie self.now.fields }
+        ensures equality { IsEquality same }
     {
         let _name = self.name();
         let _value = self.value();
@@ -203,6 +208,21 @@ impl<'c> Cookie<'c> {
         ensures value { result.1.now ≡ self.now.fields.value }
     {
         (self.name(), self.value())
+    }
+
+    /// The value without a `"` at both ends, where it has both, else the value.
+    pub fn value_trimmed(&self) -> &str
+        ensures { result.now ≡ trimmed_value self.now.fields.value }
+    {
+        quotes::trimmed(self.value())
+    }
+
+    /// The name, and the value without a `"` at both ends, where it has both.
+    pub fn name_value_trimmed(&self) -> (&str, &str)
+        ensures name { result.0.now ≡ self.now.fields.name }
+        ensures value { result.1.now ≡ trimmed_value self.now.fields.value }
+    {
+        (self.name(), self.value_trimmed())
     }
 
     /// Whether scripts are kept from it, if that is set.

@@ -1,5 +1,9 @@
 //! The expiry of a cookie (RFC 6265 5.3).
-use jiff::civil::DateTime;
+ghost use Rattle.std.specs.Prelude.{◌≡◌, ◌↔◌, IsTrue, IsSomeAnd, IfSome, None, MatchOption, is_some};
+ghost use Rattle.jiff.specs.Types.{DateTime as Moment};
+ghost use Rattle.cookie_core.specs.Expiration.{datetime_of, expiration_of, last_expiry, capped};
+
+use jiff::civil::{DateTime, datetime};
 
 /// When a cookie expires (RFC 6265 5.3).
 #[derive(Clone, Copy, PartialEq, Eq)]
@@ -10,9 +14,37 @@ pub enum Expiration {
     Session,
 }
 
+/// The last expiry that a cookie keeps.
+fn last_expiry() -> DateTime
+    ensures { (other : Moment) → result ≡ last_expiry other }
+{
+    datetime(9999, 12, 31, 23, 59, 59, 999_999_000)
+}
+
 impl Expiration {
-    ghost use Rattle.std.specs.Prelude.{◌≡◌};
-    ghost use Rattle.cookie_core.specs.Expiration.{datetime_of};
+    /// The expiry at this date and time in UTC, or at the end of the session for `None`.
+    pub fn from_option(moment: Option<DateTime>) -> Expiration
+        ensures { result ≡ expiration_of moment }
+    {
+        match moment {
+            Some(moment) => Expiration::DateTime(moment),
+            None => Expiration::Session,
+        }
+    }
+
+    /// Whether it is a date and time.
+    pub fn is_datetime(&self) -> bool
+        ensures { result ≡ is_some (datetime_of self.now) }
+    {
+        matches!(self, Expiration::DateTime(_))
+    }
+
+    /// Whether it is the end of the session.
+    pub fn is_session(&self) -> bool
+        ensures { IsTrue result ↔ (datetime_of self.now ≡ None) }
+    {
+        matches!(self, Expiration::Session)
+    }
 
     /// The date and time, or `None` for the end of the session.
     pub fn datetime(self) -> Option<DateTime>
@@ -21,6 +53,27 @@ impl Expiration {
         match self {
             Expiration::DateTime(moment) => Some(moment),
             Expiration::Session => None,
+        }
+    }
+
+    /// The expiry at what the function makes of its date and time; the end of the session stays.
+    pub fn map<F: FnOnce(DateTime) -> DateTime + Drop>(self, f: F) -> Expiration
+        requires { IfSome (datetime_of self) (F.pre f) }
+        ensures { MatchOption (datetime_of self) (datetime_of result ≡ None) (λ m. IsSomeAnd (datetime_of result) (F.post f m)) }
+    {
+        match self {
+            Expiration::DateTime(moment) => Expiration::DateTime(f(moment)),
+            Expiration::Session => Expiration::Session,
+        }
+    }
+
+    /// The expiry, or the last one that a cookie keeps if it is later.
+    pub(crate) fn capped(self) -> Expiration
+        ensures { result ≡ capped self }
+    {
+        match self {
+            Expiration::DateTime(moment) => Expiration::DateTime(moment.min(last_expiry())),
+            Expiration::Session => Expiration::Session,
         }
     }
 }

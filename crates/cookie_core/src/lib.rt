@@ -2,6 +2,7 @@
 #![tactic(auto)]
 
 mod attributes;
+mod builder;
 mod cookie;
 mod cookie_str;
 mod display;
@@ -9,10 +10,13 @@ mod expiration;
 mod layout;
 mod parse_error;
 mod part;
+mod quotes;
+mod same;
 mod same_site;
 mod source;
 mod split;
 
+pub use builder::{Builder, CookieBuilder};
 pub use cookie::Cookie;
 pub use cookie_date::{DateText, days_after, read_date};
 pub use expiration::Expiration;

@@ -1,8 +1,11 @@
 //! The attribute `SameSite` (RFC 6265bis 4.1.2.7).
+ghost use Rattle.std.specs.Prelude.{◌≡◌, ◌↔◌, IsTrue};
+ghost use Rattle.cookie_core.specs.declared.same_site.SameSite.TheVariants as same_site;
+
 use std::fmt;
 
 /// To which requests from other sites a cookie is sent (RFC 6265bis 4.1.2.7).
-#[derive(Clone, Copy, PartialEq, Eq)]
+#[derive(Clone, Copy, PartialEq, Eq, Hash)]
 pub enum SameSite {
     /// To requests of the cookie's own site alone.
     Strict,
@@ -10,6 +13,29 @@ pub enum SameSite {
     Lax,
     /// To every request.
     None,
+}
+
+impl SameSite {
+    /// Whether it is `Strict`.
+    pub fn is_strict(&self) -> bool
+        ensures { IsTrue result ↔ (self.now ≡ same_site.Strict) }
+    {
+        matches!(self, SameSite::Strict)
+    }
+
+    /// Whether it is `Lax`.
+    pub fn is_lax(&self) -> bool
+        ensures { IsTrue result ↔ (self.now ≡ same_site.Lax) }
+    {
+        matches!(self, SameSite::Lax)
+    }
+
+    /// Whether it is `None`, which is set, in contrast to an attribute that is not.
+    pub fn is_none(&self) -> bool
+        ensures { IsTrue result ↔ (self.now ≡ same_site.None) }
+    {
+        matches!(self, SameSite::None)
+    }
 }
 
 impl fmt::Display for SameSite {

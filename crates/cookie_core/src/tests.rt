@@ -1,5 +1,8 @@
 //! Rows whose answers come from the crate `cookie` and from RFC 6265.
 
+mod carried;
+mod fields;
+
 use crate::{Cookie, Expiration, ParseError, SameSite, read_date};
 use jiff::SignedDuration;
 use std::test::Fail;

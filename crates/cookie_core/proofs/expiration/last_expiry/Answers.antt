@@ -1,0 +1,5 @@
+use Rattle.cookie_core.proofs.ExpiryLemmas.{last_expiry-is}
+use Rattle.cookie_core.proofs.expiration.last_expiry.Goals as goal
+
+pub returns : goal.returns
+returns c other = last_expiry-is c.datetime.result other c.datetime.ensures.date c.datetime.ensures.time

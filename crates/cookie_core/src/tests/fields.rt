@@ -1,0 +1,182 @@
+//! The calls that show and change a cookie's fields, and those of its builder.
+
+use crate::{Cookie, CookieBuilder, Expiration, SameSite, days_after, read_date};
+use jiff::SignedDuration;
+use jiff::civil::DateTime;
+use std::hash::{FoldHasher, Hash, Hasher};
+use std::test::Fail;
+
+fn hash_of(value: SameSite) -> u64 {
+    let mut hasher = FoldHasher::default();
+    value.hash(&mut hasher);
+    hasher.finish()
+}
+
+#[test]
+fn a_value_is_trimmed_of_its_quotes(rt: HostRuntime) {
+    for (value, trimmed) in [
+        ("\"value\"\"", "value\""),
+        ("\"", "\""),
+        ("\"\"", ""),
+        ("\"\u{e9}\"", "\u{e9}"),
+        ("\"value", "\"value"),
+        ("value\"", "value\""),
+        ("value", "value"),
+        ("", ""),
+    ] {
+        let cookie = Cookie::new("name", value);
+        assert_eq!(rt; cookie.value_trimmed(), trimmed);
+        assert_eq!(rt; cookie.name_value_trimmed(), ("name", trimmed));
+    }
+}
+
+#[test]
+fn each_field_is_set_and_unset(rt: HostRuntime) -> Result<(), Fail> {
+    let expiry = DateTime::new(1994, 11, 6, 8, 49, 37, 500_000_000)?;
+    let mut cookie = Cookie::named("name");
+    cookie.set_name("id");
+    cookie.set_value("x y");
+    cookie.set_http_only(Some(true));
+    cookie.set_same_site(Some(SameSite::Lax));
+    cookie.set_partitioned(Some(true));
+    cookie.set_secure(Some(false));
+    cookie.set_path("/");
+    cookie.set_domain(".a.example");
+    cookie.set_max_age(Some(SignedDuration::from_millis(90_700)));
+    cookie.set_expires(Expiration::DateTime(expiry));
+    let all =
+        "id=x y; HttpOnly; SameSite=Lax; Partitioned; Secure; Path=/; Domain=a.example; Max-Age=90; Expires=Sun, 06 Nov 1994 08:49:37 GMT";
+    assert_eq!(rt; cookie.to_string(rt.alloc())?.as_str(), all);
+    assert!(rt; cookie.expires_datetime() == Some(expiry));
+    cookie.set_http_only(None);
+    cookie.set_same_site(None);
+    cookie.set_partitioned(None);
+    cookie.set_secure(None);
+    cookie.unset_path();
+    cookie.unset_domain();
+    cookie.set_max_age(None);
+    cookie.unset_expires();
+    assert!(rt; cookie == Cookie::new("id", "x y"));
+    assert!(rt; cookie.same_site() == None);
+    Ok(())
+}
+
+#[test]
+fn an_age_is_printed_in_whole_seconds(rt: HostRuntime) -> Result<(), Fail> {
+    for (millis, wanted) in [
+        (-500, "a=1; Max-Age=0"),
+        (-1500, "a=1; Max-Age=-1"),
+        (90_700, "a=1; Max-Age=90"),
+    ] {
+        let mut cookie = Cookie::new("a", "1");
+        cookie.set_max_age(Some(SignedDuration::from_millis(millis)));
+        assert_eq!(rt; cookie.to_string(rt.alloc())?.as_str(), wanted);
+    }
+    Ok(())
+}
+
+#[test]
+fn an_expiry_has_a_greatest_value(rt: HostRuntime) -> Result<(), Fail> {
+    let midnight = DateTime::new(9999, 12, 31, 0, 0, 0, 0)?;
+    let greatest = DateTime::new(9999, 12, 31, 23, 59, 59, 999_999_000)?;
+    for (moment, kept) in [
+        (midnight, midnight),
+        (greatest, greatest),
+        (days_after(midnight, 1), greatest),
+        (DateTime::MIN, DateTime::MIN),
+    ] {
+        let mut cookie = Cookie::new("a", "1");
+        cookie.set_expires(Expiration::DateTime(moment));
+        assert!(rt; cookie.expires() == Some(Expiration::DateTime(kept)));
+    }
+    let mut cookie = Cookie::new("a", "1");
+    cookie.set_expires(Expiration::Session);
+    assert!(rt; cookie.expires() == Some(Expiration::Session));
+    assert_eq!(rt; cookie.to_string(rt.alloc())?.as_str(), "a=1");
+    Ok(())
+}
+
+#[test]
+fn a_permanent_cookie_lasts_twenty_years(rt: HostRuntime) -> Result<(), Fail> {
+    for (now, wanted) in [
+        (
+            "Wed, 21 Oct 2015 07:28:00 GMT",
+            "a=1; Max-Age=630720000; Expires=Tue, 16 Oct 2035 07:28:00 GMT",
+        ),
+        (
+            "01 Jun 9999 00:00:00 GMT",
+            "a=1; Max-Age=630720000; Expires=Fri, 31 Dec 9999 23:59:59 GMT",
+        ),
+    ] {
+        let now = read_date(now).ok_or("a date")?;
+        let mut cookie = Cookie::new("a", "1");
+        cookie.make_permanent(now);
+        assert_eq!(rt; cookie.to_string(rt.alloc())?.as_str(), wanted);
+        assert!(rt; cookie == CookieBuilder::new("a", "1").permanent(now).build());
+    }
+    Ok(())
+}
+
+#[test]
+fn a_builder_lends_copies_and_gives_its_cookie(rt: HostRuntime) -> Result<(), Fail> {
+    let now = read_date("Wed, 21 Oct 2015 07:28:00 GMT").ok_or("a date")?;
+    let mut builder = Cookie::build(Cookie::new("a", "1")).path("/x");
+    builder.inner_mut().set_path("/y");
+    assert_eq!(rt; builder.inner().path(), Some("/y"));
+    let copy = builder.clone(rt.alloc())?;
+    assert!(rt; copy == builder);
+    assert!(rt; copy.finish() == *builder.inner());
+    let removal = builder.removal(now);
+    assert_eq!(rt;
+        removal.to_string(rt.alloc())?.as_str(),
+        "a=; Path=/y; Max-Age=0; Expires=Tue, 21 Oct 2014 07:28:00 GMT"
+    );
+    Ok(())
+}
+
+#[test]
+fn cookies_are_equal_without_same_site_and_case_of_the_path(rt: HostRuntime) -> Result<(), Fail> {
+    let cookie = Cookie::parse("a=1; Path=/A")?;
+    assert!(rt; cookie == Cookie::parse("a=1; path=/a; SameSite=Lax")?);
+    assert!(rt; cookie != Cookie::parse("A=1; path=/a")?);
+    assert!(rt; Cookie::parse("a=1; Path=")? != Cookie::new("a", "1"));
+    assert!(rt; Cookie::parse("a=1; Domain=.B.c")? == Cookie::parse("a=1; Domain=b.C")?);
+    Ok(())
+}
+
+#[test]
+fn an_expiration_is_a_moment_or_the_session(rt: HostRuntime) -> Result<(), Fail> {
+    let moment = DateTime::new(2015, 10, 21, 7, 28, 0, 0)?;
+    let at = Expiration::from_option(Some(moment));
+    let session = Expiration::from_option(None);
+    assert!(rt; at == Expiration::DateTime(moment) && session == Expiration::Session);
+    assert!(rt; at.is_datetime() && !at.is_session());
+    assert!(rt; session.is_session() && !session.is_datetime());
+    assert_eq!(rt; at.datetime(), Some(moment));
+    assert_eq!(rt; session.datetime(), None);
+    let later = at.map(|moment| days_after(moment, 1));
+    assert_eq!(rt;
+        later.datetime(),
+        DateTime::new(2015, 10, 22, 7, 28, 0, 0).ok()
+    );
+    assert!(rt; session.map(|moment| days_after(moment, 1)) == Expiration::Session);
+    Ok(())
+}
+
+#[test]
+fn same_site_has_three_values(rt: HostRuntime) -> Result<(), Fail> {
+    for (value, wanted, text) in [
+        (SameSite::Strict, (true, false, false), "Strict"),
+        (SameSite::Lax, (false, true, false), "Lax"),
+        (SameSite::None, (false, false, true), "None"),
+    ] {
+        assert_eq!(rt;
+            (value.is_strict(), value.is_lax(), value.is_none()),
+            wanted
+        );
+        assert_eq!(rt; value.to_string(rt.alloc())?.as_str(), text);
+        assert_eq!(rt; hash_of(value), hash_of(value));
+    }
+    assert!(rt; hash_of(SameSite::Lax) != hash_of(SameSite::Strict));
+    Ok(())
+}
