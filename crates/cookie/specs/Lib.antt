@@ -8,13 +8,17 @@ pub use Rattle.cookie_core.specs.CookieOf
 pub use Rattle.cookie_core.specs.Escapes
 pub use Rattle.cookie_core.specs.Expiration
 pub use Rattle.cookie_core.specs.Header
+pub use Rattle.cookie_core.specs.Lending
 pub use Rattle.cookie_core.specs.Memory
 pub use Rattle.cookie_core.specs.ParseError
+pub use Rattle.cookie_core.specs.Permanent
 pub use Rattle.cookie_core.specs.Pieces
+pub use Rattle.cookie_core.specs.Quotes
 pub use Rattle.cookie_core.specs.Reads
 pub use Rattle.cookie_core.specs.Record
 pub use Rattle.cookie_core.specs.RecordCode
 pub use Rattle.cookie_core.specs.Removal
+pub use Rattle.cookie_core.specs.Same
 pub use Rattle.cookie_core.specs.SameSite
 pub use Rattle.cookie_core.specs.SplitCookies
 pub use Rattle.cookie_core.specs.Text

@@ -9,7 +9,8 @@ mod jar_error;
 mod original;
 
 pub use cookie_core::{
-    Cookie, DateText, Expiration, ParseError, SameSite, SplitCookies, days_after, read_date,
+    Builder, Cookie, CookieBuilder, DateText, Expiration, ParseError, SameSite, SplitCookies,
+    days_after, read_date,
 };
 pub use iter::Delta;
 pub use jar::CookieJar;
