@@ -5,11 +5,16 @@ pub mod Types
 pub mod Walk
 pub use Rattle.cookie_core.specs.Attributes
 pub use Rattle.cookie_core.specs.CookieOf
+pub use Rattle.cookie_core.specs.Decoding
+pub use Rattle.cookie_core.specs.Display
+pub use Rattle.cookie_core.specs.EscapeTest
 pub use Rattle.cookie_core.specs.Escapes
 pub use Rattle.cookie_core.specs.Expiration
 pub use Rattle.cookie_core.specs.Header
+pub use Rattle.cookie_core.specs.Laws
 pub use Rattle.cookie_core.specs.Lending
 pub use Rattle.cookie_core.specs.Memory
+pub use Rattle.cookie_core.specs.Normal
 pub use Rattle.cookie_core.specs.ParseError
 pub use Rattle.cookie_core.specs.Permanent
 pub use Rattle.cookie_core.specs.Pieces

@@ -9,8 +9,8 @@ mod jar_error;
 mod original;
 
 pub use cookie_core::{
-    Builder, Cookie, CookieBuilder, DateText, Expiration, ParseError, SameSite, SplitCookies,
-    days_after, read_date,
+    Builder, Cookie, CookieBuilder, DateText, Display, EncodedText, Expiration, ParseError,
+    SameSite, SplitCookies, days_after, encode, read_date,
 };
 pub use iter::Delta;
 pub use jar::CookieJar;

@@ -3,7 +3,7 @@
 -- Line 1 of the input is the value of a `Cookie` header: its cookies are the jar's originals, and what the
 -- client holds at first. Each later line that isn't empty is a call: `add`, one space and the text of a
 -- `Set-Cookie` header, or `remove`, one space and a name.
-use Rattle.std.specs.Prelude.{ℕ, ◌+◌, pos, int_lt, false, List, [], ◌∷◌, ◌++◌, map, drop, option_and_then, option_map, Option, Some, None, Result, Ok, Err, codes, eqb, if◌then◌else◌}
+use Rattle.std.specs.Prelude.{ℕ, ◌+◌, pos, int_lt, true, false, List, [], ◌∷◌, ◌++◌, map, drop, option_and_then, option_map, Option, Some, None, Result, Ok, Err, codes, eqb, if◌then◌else◌}
 use Rattle.std.specs.FinMap.{empty, insert, entries}
 use Rattle.std.specs.List.{starts_with}
 use Rattle.std.specs.Str.{trim, is_utf8}
@@ -30,7 +30,7 @@ removal_of now (c ∷ cs) = Some (Remove (plain (c ∷ cs) []) now)
 -- the call that a line asks for: `add` of a text that is read as a cookie, or `remove` of a name
 abbrev pub call_of : DateTime → List ℕ → Option Change
 call_of now line =
-    if starts_with eqb line (codes "add ") then option_map Add (cookie_of false (drop 4 line))
+    if starts_with eqb line (codes "add ") then option_map Add (cookie_of true (drop 4 line))
     else if starts_with eqb line (codes "remove ") then removal_of now (trim (drop 7 line))
     else None
 
@@ -60,7 +60,7 @@ holding (cookie ∷ cookies) values = holding cookies (insert values cookie.name
 
 -- the texts of the delta's cookies, in byte order of the names
 abbrev pub delta_texts : JarState → List (List ℕ)
-delta_texts jar = map (λ e. cookie_text false false e.1.cookie) (entries jar.delta)
+delta_texts jar = map (λ e. cookie_text true false e.1.cookie) (entries jar.delta)
 
 -- a line for each text
 abbrev pub set_cookie_lines : List (List ℕ) → List ℕ
@@ -84,8 +84,8 @@ finished now values (Err fault) = Err fault
 -- the session of a header and the lines behind it
 abbrev pub played_lines : DateTime → List ℕ → List (List ℕ) → Result (List ℕ) Fault
 played_lines now header lines =
-    finished now (holding (header_cookies false header) empty)
-    (jar_after now 2 lines (with_originals (header_cookies false header) empty_jar))
+    finished now (holding (header_cookies true header) empty)
+    (jar_after now 2 lines (with_originals (header_cookies true header) empty_jar))
 
 -- the session of lines, of which the first is the header
 abbrev pub played : DateTime → List (List ℕ) → Result (List ℕ) Fault

@@ -1,5 +1,5 @@
 //! A client that keeps cookies by name (RFC 6265 5.3, 5.4).
-ghost use Rattle.std.specs.Prelude.{◌≡◌, ◌++◌, false, Some, OnOk, OnErr, is_some, string_bytes};
+ghost use Rattle.std.specs.Prelude.{◌≡◌, ◌++◌, true, Some, OnOk, OnErr, is_some, string_bytes};
 ghost use Rattle.std.specs.FinMap.{empty, get, insert};
 ghost use Rattle.std.specs.Option.{option_copied};
 ghost use Rattle.cookie.specs.CookieOf.{cookie_of};
@@ -10,7 +10,7 @@ ghost use Rattle.cookie_client.specs.declared.client_error.ClientError.TheVarian
 use crate::client_error::ClientError;
 use crate::live::is_live;
 use crate::text_map::TextMap;
-use cookie::Cookie;
+use cookie::{Cookie, ParseError};
 use jiff::civil::DateTime;
 use std::alloc::{AllocError, Global};
 use std::marker::Model;
@@ -80,14 +80,15 @@ impl Client {
     /// cookie. One that is live sets its name to its value, one that isn't drops its name, and a text that is no
     /// cookie changes nothing. After an error the client is as before.
     pub fn read(&mut self, text: &str, now: DateTime) -> Result<bool, ClientError>
-        ensures gives { Gives OutOfMemory result (λ is_cookie. (self.new ≡ after_text now text.now self.old) × (is_cookie ≡ is_some (cookie_of false text.now))) }
+        ensures gives { Gives OutOfMemory result (λ is_cookie. (self.new ≡ after_text now text.now self.old) × (is_cookie ≡ is_some (cookie_of true text.now))) }
         ensures err { OnErr result (self.new ≡ self.old) }
     {
-        match Cookie::parse(text) {
+        match Cookie::parse_encoded(self.alloc, text) {
             Ok(cookie) => {
                 self.take(&cookie, now)?;
                 Ok(true)
             }
+            Err(ParseError::OutOfMemory) => Err(ClientError::OutOfMemory),
             Err(_) => Ok(false),
         }
     }
@@ -101,21 +102,20 @@ impl Client {
         let Some((name, value)) = pairs.next() else {
             return Ok(header);
         };
-        push_pair(&mut header, name, value)?;
+        push_pair(self.alloc, &mut header, name, value)?;
         for (name, value) in pairs {
             header.push_str("; ")?;
-            push_pair(&mut header, name, value)?;
+            push_pair(self.alloc, &mut header, name, value)?;
         }
         Ok(header)
     }
 }
 
-/// Writes `name=value`.
-fn push_pair(header: &mut String, name: &str, value: &str) -> Result<(), AllocError>
+/// Writes the name and the value as a cookie without attributes, escaped.
+fn push_pair(alloc: Global, header: &mut String, name: &str, value: &str) -> Result<(), AllocError>
     ensures { OnOk result (string_bytes header.new ≡ string_bytes header.old ++ pair_text (name.now, value.now)) }
 {
-    header.push_str(name)?;
-    header.push_str("=")?;
-    header.push_str(value)?;
-    Ok(())
+    let cookie = Cookie::new(name, value);
+    let pair = cookie.encoded().stripped().to_string(alloc)?;
+    header.push_str(pair.as_str())
 }

@@ -1,8 +1,9 @@
 //! The engine of the program: a session from the bytes of its input to its text.
-ghost use Rattle.std.specs.Prelude.{◌≡◌, ◌+◌, ◌++◌, ◌^◌, ◌<◌, codes, false, List, [], ◌∷◌, Option, option_map, Some, None, Ok, Err, IfErr, OnOk, MatchResult, map, length, string_bytes, if◌then◌else◌};
+ghost use Rattle.std.specs.Prelude.{◌≡◌, ◌+◌, ◌++◌, ◌^◌, ◌<◌, codes, true, false, List, [], ◌∷◌, ℕ, Option, option_map, Some, None, Ok, Err, IfErr, OnOk, MatchResult, map, length, string_bytes, if◌then◌else◌};
 ghost use Rattle.std.specs.FinMap.{entries};
-ghost use Rattle.std.specs.Result.{result_map_both, result_ok};
+ghost use Rattle.std.specs.Result.{result_map_both};
 ghost use Rattle.cookie.specs.CookieOf.{cookie_of, header_cookies};
+ghost use Rattle.cookie.specs.Decoding.{AgreesInMemory};
 ghost use Rattle.cookie.specs.Memory.{Gives};
 ghost use Rattle.cookie.specs.Record.{plain};
 ghost use Rattle.cookie.specs.Jar.{Add, Remove, after};
@@ -41,15 +42,20 @@ fn hold_one(
     jar: &mut CookieJar,
     client: &mut Client,
 ) -> Result<(), RunError>
-    ensures { Gives errors.OutOfMemory result (λ _.
-        let cookies = cookies_of (result_ok (result_map_both (λ c. c.fields) (λ e. e) outcome.entry)) in
-        (jar.new ≡ with_originals cookies jar.old) × (client.new ≡ holding cookies client.old)) }
+    ensures refused { Gives errors.OutOfMemory result (λ _. Unit {0}) }
+    ensures held { (text : List ℕ) → AgreesInMemory true text (result_map_both (λ c. c.fields) (λ e. e) outcome.entry) → OnOk result (
+        (jar.new ≡ with_originals (cookies_of (cookie_of true text)) jar.old)
+        × (client.new ≡ holding (cookies_of (cookie_of true text)) client.old)) }
 {
-    if let Ok(cookie) = outcome {
-        client.hold(cookie.name(), cookie.value())?;
-        jar.add_original(cookie.into_owned(alloc)?)?;
+    match outcome {
+        Ok(cookie) => {
+            client.hold(cookie.name(), cookie.value())?;
+            jar.add_original(cookie.into_owned(alloc)?)?;
+            Ok(())
+        }
+        Err(ParseError::OutOfMemory) => Err(RunError::OutOfMemory),
+        Err(_) => Ok(()),
     }
-    Ok(())
 }
 
 /// Holds the header's cookies, as originals and in the client.
@@ -59,10 +65,10 @@ fn hold_originals(
     jar: &mut CookieJar,
     client: &mut Client,
 ) -> Result<(), RunError>
-    ensures { Gives errors.OutOfMemory result (λ _. (jar.new ≡ with_originals (header_cookies false header.now) jar.old)
-        × (client.new ≡ holding (header_cookies false header.now) client.old)) }
+    ensures { Gives errors.OutOfMemory result (λ _. (jar.new ≡ with_originals (header_cookies true header.now) jar.old)
+        × (client.new ≡ holding (header_cookies true header.now) client.old)) }
 {
-    for outcome in Cookie::split_parse(header) {
+    for outcome in Cookie::split_parse_encoded(alloc, header) {
         hold_one(alloc, outcome, jar, client)?;
     }
     Ok(())
@@ -71,13 +77,14 @@ fn hold_originals(
 /// Adds the cookie that the text is, or answers false where it is none.
 fn add(alloc: Global, text: &str, jar: &mut CookieJar) -> Result<bool, RunError>
     ensures { Gives errors.OutOfMemory result (λ good.
-        option_map (λ c. after (Add c) jar.old) (cookie_of false text.now) ≡ (if good then Some jar.new else None)) }
+        option_map (λ c. after (Add c) jar.old) (cookie_of true text.now) ≡ (if good then Some jar.new else None)) }
 {
-    match Cookie::parse(text) {
+    match Cookie::parse_encoded(alloc, text) {
         Ok(cookie) => {
             jar.add(cookie.into_owned(alloc)?)?;
             Ok(true)
         }
+        Err(ParseError::OutOfMemory) => Err(RunError::OutOfMemory),
         Err(_) => Ok(false),
     }
 }
@@ -134,11 +141,11 @@ fn follow_all(
 /// The texts of the delta's cookies, by name.
 fn delta_texts(alloc: Global, jar: &CookieJar) -> Result<TextMap, RunError>
     ensures { Gives errors.OutOfMemory result (λ texts.
-        entries texts ≡ map (λ e. (e.0, cookie_text false false e.1.cookie)) (entries jar.now.delta)) }
+        entries texts ≡ map (λ e. (e.0, cookie_text true false e.1.cookie)) (entries jar.now.delta)) }
 {
     let mut texts = TextMap::new(alloc);
     for cookie in jar.delta() {
-        let text = cookie.to_string(alloc)?;
+        let text = cookie.encoded().to_string(alloc)?;
         texts.set(cookie.name(), text.as_str())?;
     }
     Ok(texts)

@@ -238,7 +238,7 @@ filled-some : (t u : List ℕ) → filled t ≡ Some u → (t ≡ u) × (u ≢ [
 filled-some [] u e = absurd (none-some u e)
 filled-some (c ∷ cs) u e = (same_Some _ u e, λ n. let f : Some (c ∷ cs) ≡ Some [] = e ∙ ap Some n in cc)
 
-some-filled : (t : List ℕ) → t ≢ [] → filled t ≡ Some t
+pub some-filled : (t : List ℕ) → t ≢ [] → filled t ≡ Some t
 some-filled [] h = absurd (h refl)
 some-filled (c ∷ cs) h = refl
 

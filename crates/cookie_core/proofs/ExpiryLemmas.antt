@@ -1,5 +1,5 @@
 -- The last expiry is the one date-time of its parts.
-use Rattle.std.proofs.Common.{◌≡◌, refl, sym, ◌∙◌, ap, arith, rules, pos}
+use Rattle.std.proofs.Common.{◌≡◌, sym, ◌∙◌, arith, rules, pos}
 use Rattle.std.proofs.lemmas.Int.{ints}
 use Rattle.jiff.specs.Types.{DateTime}
 use Rattle.jiff.specs.Words.{IsYmd, IsHms, epoch_day, time_nanos}

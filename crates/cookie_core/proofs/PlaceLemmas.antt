@@ -2,6 +2,7 @@
 use Rattle.std.proofs.Common.{◌≡◌, ℕ, ◌+◌, ◌-◌, ◌<◌, ◌≤◌, List, [], ◌++◌, length, get_or, take, drop, slice_range, add-zero, refl, sym, ap, ◌∙◌, subst, inl, inr, arith, length-append, length-drop, append_assoc, zero-add, add_assoc}
 use Rattle.std.proofs.lemmas.Bool.{cases_lt}
 use Rattle.std.proofs.lemmas.List.{append-nil, take-append-drop, get_or-append-add, length-take, length-take-le, get_or-take, drop_all}
+use Rattle.std.proofs.lemmas.List.Folds.{drop_split}
 use Rattle.std.proofs.lemmas.Str.{IsCharBoundary-start, IsCharBoundary-end, IsCharBoundary-from_drop, IsCharBoundary-from_take}
 use Rattle.std.proofs.Math.ListN.{get_or-append}
 use Rattle.std.proofs.Math.Seq.{drop-length}
@@ -103,6 +104,23 @@ pub IsPartAt-trimmed : (s : List ℕ) (i : ℕ) (t kept r : List ℕ) → IsPart
 IsPartAt-trimmed s i t kept r p (n, e, _, _, bound) u (m, f, _, _, _, le) w =
     let q : IsPartAt s (i + (length t - length kept)) kept = IsPartAt-rest s i t (length t - length kept) kept p (omega arith) (drop_by_length t n kept e) u in
     IsPartAt-front s _ kept m r q le f w
+
+-- a range of a text
+pub IsPartAt-range : (s : List ℕ) (i j : ℕ) (r : List ℕ) → (i ≤ j) × IsCharBoundary s i × IsCharBoundary s j → r ≡ slice_range s i j → IsUtf8 r → IsPartAt s i r
+IsPartAt-range s i j r (le, a, b) e u =
+    let below : j ≤ length s = b.0 in
+    let first : i ≤ length s = a.0 in
+    let n : length r ≡ j - i = ap length e ∙ length-take-le (j - i) (drop i s) (omega (arith, length-drop i s)) in
+    let last : i + length r ≡ j = omega (arith, n) in
+    record {
+      before = take i s;
+      after = drop j s;
+      whole = sym (take-append-drop i s) ∙ ap (λ (d : List ℕ). take i s ++ d) (drop_split s i j le ∙ ap (λ (d : List ℕ). d ++ drop j s) (sym e));
+      at = sym (length-take-le i s first);
+      start = a;
+      end = rw last b;
+      utf8 = u;
+    }
 
 pub Lacks-front : (c : ℕ) (t : List ℕ) (n : ℕ) (r : List ℕ) → r ≡ take n t → ((i : ℕ) → i < n → get_or t i 0 ≢ c) → Lacks c r
 Lacks-front c t n r e h i lt q =

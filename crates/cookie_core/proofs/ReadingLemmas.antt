@@ -24,10 +24,10 @@ use Rattle.cookie_core.specs.Settings.{Value, setting_at, field_at, only, either
 use Rattle.cookie_core.specs.declared.attributes.Key.{Key}
 use Rattle.cookie_core.specs.declared.attributes.Key.TheVariants as key
 
-Lacks-tail : (c x : ℕ) (xs : List ℕ) → Lacks c (x ∷ xs) → Lacks c xs
+pub Lacks-tail : (c x : ℕ) (xs : List ℕ) → Lacks c (x ∷ xs) → Lacks c xs
 Lacks-tail c x xs h i lt e = h (i + 1) (omega arith) (rw add-one e)
 
-Lacks-more : (c x : ℕ) (xs : List ℕ) → x ≢ c → Lacks c xs → Lacks c (x ∷ xs)
+pub Lacks-more : (c x : ℕ) (xs : List ℕ) → x ≢ c → Lacks c xs → Lacks c (x ∷ xs)
 Lacks-more c x xs h l zero lt e = h e
 Lacks-more c x xs h l (suc i) lt e = l i (omega arith) e
 
@@ -110,13 +110,17 @@ All-one P x h (suc k) d lt = absurd (omega arith)
 pub All-push : {X : Type 0} (P : X → Type 0) (xs : List X) (x : X) → All P xs → P x → All P (xs ++ x ∷ [])
 All-push P xs x h q = All-append P xs (x ∷ []) h (All-one P x q)
 
--- what one more piece sets, or else what the pieces before it set
-IsLastSet-or : {X : Type 0} (field : X → Setting) (ps : List (List ℕ)) (p : List ℕ) (o o' : Option X) → IsLastSet field ps o → IsLastSet field (p ∷ []) o' → IsLastSet field (ps ++ p ∷ []) (option_or o' o)
-IsLastSet-or field ps p None None h h' = All-append (Skips field) ps (p ∷ []) h h'
-IsLastSet-or field ps p (Some x) None (before, q, after, e, s, none) h' =
-    (before, q, after ++ p ∷ [], rw e (append_assoc before (q ∷ after) (p ∷ [])), s, All-append (Skips field) after (p ∷ []) none h')
-IsLastSet-or field ps p o (Some x) h (before, q, after, e, s, none) =
+-- a setting counts whatever stands before it
+pub IsLastSet-behind : {X : Type 0} (field : X → Setting) (ps qs : List (List ℕ)) (x : X) → IsLastSet field qs (Some x) → IsLastSet field (ps ++ qs) (Some x)
+IsLastSet-behind field ps qs x (before, q, after, e, s, none) =
     (ps ++ before, q, after, rw e (sym (append_assoc ps before (q ∷ after))), s, none)
+
+-- what the later pieces set, or else what the pieces before them set
+pub IsLastSet-or : {X : Type 0} (field : X → Setting) (ps qs : List (List ℕ)) (o o' : Option X) → IsLastSet field ps o → IsLastSet field qs o' → IsLastSet field (ps ++ qs) (option_or o' o)
+IsLastSet-or field ps qs None None h h' = All-append (Skips field) ps qs h h'
+IsLastSet-or field ps qs (Some x) None (before, q, after, e, s, none) h' =
+    (before, q, after ++ qs, rw e (append_assoc before (q ∷ after) qs), s, All-append (Skips field) after qs none h')
+IsLastSet-or field ps qs o (Some x) h h' = IsLastSet-behind field ps qs x h'
 
 -- what one piece sets
 IsLastSet-one : (p t : List ℕ) (v : Option (List ℕ)) (k : Key) (o : Option (Value k)) → IsAttribute p t v → IsWord t (word_of k) → MatchOption o (GivesNothing k v) (λ x. Gives v (setting_at k x)) → IsLastSet (setting_at k) (p ∷ []) o
@@ -167,17 +171,17 @@ pub SetsAttributes-given : (p t : List ℕ) (v : Option (List ℕ)) (k : Key) (r
 SetsAttributes-given p t v k r att is h =
     rw h.alone (by_fields (p ∷ []) (only k (field_at k r)) (λ k'. field-one p t v k k' (field_at k r) att is h.field))
 
-pub SetsAttributes-or : (ps : List (List ℕ)) (p : List ℕ) (r r' : Record) → SetsAttributes ps r → SetsAttributes (p ∷ []) r' → SetsAttributes (ps ++ p ∷ []) (either r' r)
-SetsAttributes-or ps p r r' a a' =
+pub SetsAttributes-or : (ps qs : List (List ℕ)) (r r' : Record) → SetsAttributes ps r → SetsAttributes qs r' → SetsAttributes (ps ++ qs) (either r' r)
+SetsAttributes-or ps qs r r' a a' =
     record {
-      http_only = IsLastSet-or http_only ps p r.http_only r'.http_only a.http_only a'.http_only;
-      secure = IsLastSet-or secure ps p r.secure r'.secure a.secure a'.secure;
-      partitioned = IsLastSet-or partitioned ps p r.partitioned r'.partitioned a.partitioned a'.partitioned;
-      same_site = IsLastSet-or same_site ps p r.same_site r'.same_site a.same_site a'.same_site;
-      path = IsLastSet-or path ps p r.path r'.path a.path a'.path;
-      domain = IsLastSet-or domain ps p r.domain r'.domain a.domain a'.domain;
-      max_age = IsLastSet-or max_age ps p r.max_age r'.max_age a.max_age a'.max_age;
-      expires = IsLastSet-or expires ps p r.expires r'.expires a.expires a'.expires;
+      http_only = IsLastSet-or http_only ps qs r.http_only r'.http_only a.http_only a'.http_only;
+      secure = IsLastSet-or secure ps qs r.secure r'.secure a.secure a'.secure;
+      partitioned = IsLastSet-or partitioned ps qs r.partitioned r'.partitioned a.partitioned a'.partitioned;
+      same_site = IsLastSet-or same_site ps qs r.same_site r'.same_site a.same_site a'.same_site;
+      path = IsLastSet-or path ps qs r.path r'.path a.path a'.path;
+      domain = IsLastSet-or domain ps qs r.domain r'.domain a.domain a'.domain;
+      max_age = IsLastSet-or max_age ps qs r.max_age r'.max_age a.max_age a'.max_age;
+      expires = IsLastSet-or expires ps qs r.expires r'.expires a.expires a'.expires;
     }
 
 -- ---- the pieces of a text
@@ -205,7 +209,7 @@ HasRead-piece all r r' t p o h e l s =
 
 pub HasRead-or : (all : Option (List ℕ)) (r r' : Record) (t p : List ℕ) (o : Option (List ℕ)) → HasRead all r (Some t) → t ≡ p ++ behind o → Lacks 59 p → SetsAttributes (p ∷ []) r' → HasRead all (either r' r) o
 HasRead-or all r r' t p o h e l q =
-    HasRead-piece all r (either r' r) t p o h e l (SetsAttributes-or h.pieces p r r' h.sets q)
+    HasRead-piece all r (either r' r) t p o h e l (SetsAttributes-or h.pieces (p ∷ []) r r' h.sets q)
 
 pub IsPieces-read : (t p : List ℕ) (o : Option (List ℕ)) (r : Record) → t ≡ p ++ behind o → Lacks 59 p → (h : HasRead o r None) → IsPieces t p h.pieces
 IsPieces-read t p o r e l h =

@@ -58,7 +58,7 @@ optional_bytes s (Some b) (Some t) h = ap Some h.bytes
 optional_bytes s None (Some t) h = absurd h
 optional_bytes s (Some b) None h = absurd h
 
-optional_raw : (s : List ℕ) (o : Option (List ℕ)) (t : Option CookieStr) (u : Source) → source_bytes u ≡ s → IsOptionalSpanOf s o t → option_and_then (raw_bytes u) t ≡ option_and_then (lent u) o
+pub optional_raw : (s : List ℕ) (o : Option (List ℕ)) (t : Option CookieStr) (u : Source) → source_bytes u ≡ s → IsOptionalSpanOf s o t → option_and_then (raw_bytes u) t ≡ option_and_then (lent u) o
 optional_raw s None None u e h = refl
 optional_raw s (Some b) (Some t) u e h = h.raw u e
 optional_raw s None (Some t) u e h = absurd h
@@ -77,7 +77,7 @@ undotted : (o : Option Part) → option_map without_leading_dot (option_map (λ 
 undotted None = refl
 undotted (Some p) = refl
 
-lent_undotted : (u : Source) (o : Option Part) → option_map without_leading_dot (option_and_then (lent u) (option_map (λ (p : Part). p.text.now) o)) ≡ option_and_then (lent u) (option_map (λ (p : Part). without_leading_dot p.text.now) o)
+pub lent_undotted : (u : Source) (o : Option Part) → option_map without_leading_dot (option_and_then (lent u) (option_map (λ (p : Part). p.text.now) o)) ≡ option_and_then (lent u) (option_map (λ (p : Part). without_leading_dot p.text.now) o)
 lent_undotted u None = refl
 lent_undotted source.None (Some p) = refl
 lent_undotted (source.Borrowed s) (Some p) = refl

@@ -1,5 +1,5 @@
 -- What an expiry says.
-use Rattle.std.specs.Prelude.{ℕ, pos, int_lt, Option, Some, None, unwrap_or, if◌then◌else◌}
+use Rattle.std.specs.Prelude.{pos, int_lt, Option, Some, None, unwrap_or, if◌then◌else◌}
 use Rattle.std.proofs.Common.{lit<}
 use Rattle.jiff.specs.Types.{DateTime}
 use Rattle.jiff.specs.Words.{civil_nanos}

@@ -1,5 +1,5 @@
 -- How a header is split into cookies (RFC 6265 4.2.1, 5.4).
-use Rattle.std.specs.Prelude.{◌≡◌, ℕ, ◌==◌, not, filter, map, length, List, ◌∷◌}
+use Rattle.std.specs.Prelude.{◌≡◌, ℕ, ◌==◌, not, filter, map, length, List, [], ◌∷◌, ◌++◌, codes}
 use Rattle.std.specs.Str.{trim}
 use Rattle.cookie_core.specs.Pieces.{IsPieces, pieces}
 
@@ -15,3 +15,13 @@ IsHeaderTexts header texts =
 -- the one list of those texts
 abbrev pub header_texts : List ℕ → List (List ℕ)
 header_texts t = kept (pieces t)
+
+-- texts, each behind `; ` (RFC 6265 4.2.1)
+abbrev pub more_joined : List (List ℕ) → List ℕ
+more_joined [] = []
+more_joined (text ∷ texts) = codes "; " ++ (text ++ more_joined texts)
+
+-- texts, joined by `; ` (RFC 6265 4.2.1)
+abbrev pub joined_texts : List (List ℕ) → List ℕ
+joined_texts [] = []
+joined_texts (text ∷ texts) = text ++ more_joined texts

@@ -1,8 +1,8 @@
 -- What the small printers write. This file mirrors private code.
-use Rattle.std.specs.Prelude.{ℕ, List, [], ◌++◌, Option, Some, None, codes, option_map}
+use Rattle.std.specs.Prelude.{ℕ, Bool, List, [], ◌++◌, Option, Some, None, codes, option_map, if◌then◌else◌}
 use Rattle.cookie_date.specs.Text.{date_text}
 use Rattle.cookie_date.specs.declared.text.DateText.{DateText}
-use Rattle.cookie_core.specs.Text.{flag_text, attribute_text, seconds_text, expiry_text, is_true, prints_secure}
+use Rattle.cookie_core.specs.Text.{flag_text, attribute_text, attributes_text, seconds_text, expiry_text, is_true, prints_secure}
 use Rattle.cookie_core.specs.Record.{Record}
 use Rattle.cookie_core.specs.SameSite.{same_site_text}
 
@@ -27,3 +27,7 @@ lifetime_text r = attribute_text (codes "; Max-Age=") (option_map seconds_text r
 -- the text of a date-time of an expiry
 abbrev pub date_text_of : DateText → List ℕ
 date_text_of d = date_text d.0
+
+-- the attributes, unless they are stripped
+abbrev pub printed_attributes : Bool → Record → List ℕ
+printed_attributes is_stripped r = if is_stripped then [] else attributes_text r

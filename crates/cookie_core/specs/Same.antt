@@ -50,33 +50,42 @@ pub record IsEquality (equal : Record → Record → Bool) : Type 0 where
 abbrev pub same_cookie : CookieView → CookieView → Bool
 same_cookie = on (λ c. c.fields) same
 
+-- each part of it is an equivalence
 same_pair-equiv : IsEquivalence same_pair
 same_pair-equiv = and_equiv (on_equiv (λ (r : Record). r.name) nat_list_eq_equiv) (on_equiv (λ (r : Record). r.value) nat_list_eq_equiv)
 
+-- the same of the flags
 same_flags-equiv : IsEquivalence same_flags
 same_flags-equiv =
     and_equiv (on_equiv (λ (r : Record). r.http_only) (options_equiv bool_eq_equiv)) (and_equiv (on_equiv (λ (r : Record). r.secure) (options_equiv bool_eq_equiv)) (on_equiv (λ (r : Record). r.partitioned) (options_equiv bool_eq_equiv)))
 
+-- the same of texts
 same_ignoring_case-equiv : IsEquivalence same_ignoring_case
 same_ignoring_case-equiv = on_equiv str_to_ascii_lowercase nat_list_eq_equiv
 
+-- the same of the path and the domain
 same_place-equiv : IsEquivalence same_place
 same_place-equiv =
     and_equiv (on_equiv (λ (r : Record). r.path) (options_equiv same_ignoring_case-equiv)) (on_equiv (λ (r : Record). r.domain) (options_equiv same_ignoring_case-equiv))
 
+-- the same of expiries
 same_expiration-equiv : IsEquivalence same_expiration
 same_expiration-equiv = on_equiv datetime_of (options_equiv (on_equiv civil_nanos int_eq_equiv))
 
+-- the same of the age and the expiry
 same_lifetime-equiv : IsEquivalence same_lifetime
 same_lifetime-equiv =
     and_equiv (on_equiv (λ (r : Record). r.max_age) (options_equiv int_eq_equiv)) (on_equiv (λ (r : Record). r.expires) (options_equiv same_expiration-equiv))
 
+-- equality is an equivalence
 pub same-equiv : IsEquivalence same
 same-equiv = and_equiv same_pair-equiv (and_equiv same_flags-equiv (and_equiv same_place-equiv same_lifetime-equiv))
 
+-- equality is reflexive, symmetric and transitive
 pub same-is_equality : IsEquality same
 same-is_equality =
     record { reflexive = same-equiv.refl; symmetric = same-equiv.symm; transitive = (partial_equiv_from_equiv same-equiv).trans }
 
+-- the law that `==` has to give
 pub same_cookie-laws : IsPartialEquivalence same_cookie
 same_cookie-laws = partial_equiv_from_equiv (on_equiv (λ (c : CookieView). c.fields) same-equiv)

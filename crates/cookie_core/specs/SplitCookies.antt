@@ -1,21 +1,57 @@
--- What the items of a header are; `texts_left` and `IsLent` are inner words.
-use Rattle.std.specs.Prelude.{◌≡◌, ℕ, false, List, [], ◌∷◌, Option, Some, None, Result, IfOk}
+-- What the items of a header are; `texts_left`, `ReadsItem` and `LendsItem` are inner words.
+use Rattle.std.specs.Prelude.{◌≡◌, ℕ, Bool, true, false, List, [], ◌∷◌, Option, Some, None, Result, IfOk, IfErr}
 use Rattle.std.specs.Result.{result_map_both}
+use Rattle.cookie_core.specs.Decoding.{ReadsInMemory, LendsDecoded, NamesFault}
 use Rattle.cookie_core.specs.Header.{header_texts}
 use Rattle.cookie_core.specs.Reads.{Reads}
-use Rattle.cookie_core.specs.Record.{CookieView, all_lent}
+use Rattle.cookie_core.specs.Record.{Record, CookieView, all_lent, no_raw_forms}
 use Rattle.cookie_core.specs.declared.parse_error.ParseError.{ParseError}
+
+-- a splitter: the texts that are left, whether they are decoded, and whether the cookies have texts of their own; it can want memory where either is so
+pub record SplitView : Type 0 where
+  pub texts : List (List ℕ)
+  pub is_decoded : Bool
+  pub is_owned : Bool
+
+-- the four splitters of these texts
+abbrev pub plain_texts : List (List ℕ) → SplitView
+plain_texts texts = record { texts = texts; is_decoded = false; is_owned = false }
+
+abbrev pub encoded_texts : List (List ℕ) → SplitView
+encoded_texts texts = record { texts = texts; is_decoded = true; is_owned = false }
+
+abbrev pub owned_texts : List (List ℕ) → SplitView
+owned_texts texts = record { texts = texts; is_decoded = false; is_owned = true }
+
+abbrev pub encoded_owned_texts : List (List ℕ) → SplitView
+encoded_owned_texts texts = record { texts = texts; is_decoded = true; is_owned = true }
 
 -- the texts of the rest of a header, none where there is no rest
 abbrev pub texts_left : Option (List ℕ) → List (List ℕ)
 texts_left None = []
 texts_left (Some t) = header_texts t
 
--- a cookie that was read lends all its parts
-abbrev pub IsLent : Result CookieView ParseError → Type 0
-IsLent o = IfOk o (λ c. c.raw ≡ all_lent c.fields)
+-- what the text is read as, decoded or not, where the cookie gets texts of its own or not
+abbrev pub ReadsItem : Bool → Bool → List ℕ → Result Record ParseError → Type 0
+ReadsItem false false t o = Reads false t o
+ReadsItem true false t o = ReadsInMemory true t o
+ReadsItem false true t o = ReadsInMemory false t o
+ReadsItem true true t o = ReadsInMemory true t o
+
+-- what its cookie lends
+abbrev pub LendsItem : Bool → Bool → List ℕ → CookieView → Type 0
+LendsItem false false t c = c.raw ≡ all_lent c.fields
+LendsItem true false t c = LendsDecoded t c.raw
+LendsItem false true t c = c.raw ≡ no_raw_forms
+LendsItem true true t c = c.raw ≡ no_raw_forms
+
+-- both splitters read their texts alike
+pub record IsAlike (s s' : SplitView) : Type 0 where
+  pub is_decoded : s'.is_decoded ≡ s.is_decoded
+  pub is_owned : s'.is_owned ≡ s.is_owned
 
 -- the next item is what the first text is read as, whether it is read or refused; with no text there is none, and none is left
-abbrev pub NextCookie : List (List ℕ) → Option (Result CookieView ParseError) → List (List ℕ) → Type 0
-NextCookie texts None texts' = (texts ≡ []) × (texts' ≡ [])
-NextCookie texts (Some o) texts' = (t : List ℕ) × (texts ≡ t ∷ texts') × Reads false t (result_map_both (λ c. c.fields) (λ e. e) o) × IsLent o
+abbrev pub NextCookie : SplitView → Option (Result CookieView ParseError) → SplitView → Type 0
+NextCookie s None s' = (s.texts ≡ []) × (s'.texts ≡ [])
+NextCookie s (Some o) s' =
+    (t : List ℕ) × (s.texts ≡ t ∷ s'.texts) × ReadsItem s.is_decoded s.is_owned t (result_map_both (λ c. c.fields) (λ e. e) o) × IfOk o (LendsItem s.is_decoded s.is_owned t) × IsAlike s s' × IfErr o (NamesFault t)

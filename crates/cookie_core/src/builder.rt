@@ -19,6 +19,7 @@ use std::fmt;
 use std::marker::Model;
 
 /// Something in the making. Contracts see it as what is made.
+// It is generic so that `inner_mut` lends a value whose type names no lifetime.
 #[derive(Drop)]
 pub struct Builder<C> {
     inner: C,

@@ -12,6 +12,8 @@ ghost use Rattle.cookie_core.specs.Quotes.{trimmed_value};
 ghost use Rattle.cookie_core.specs.Record.{Record, IsCookie, no_raw_forms, all_lent, plain, without_leading_dot};
 ghost use Rattle.cookie_core.specs.Same.{same, IsEquality};
 
+pub(crate) mod owned;
+mod raw;
 mod setters;
 
 use crate::cookie_str::{self, CookieStr};

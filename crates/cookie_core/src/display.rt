@@ -1,12 +1,16 @@
 //! The text of a cookie (RFC 6265 4.1.1).
 ghost use Rattle.std.specs.Prelude.{◌≡◌, Some, None, option_map, true, false, List, ℕ};
+ghost use Rattle.cookie_core.specs.Display.{DisplayView};
+ghost use Rattle.cookie_core.specs.Escapes.{written};
 ghost use Rattle.cookie_core.specs.Text.{is_true, prints_secure, is_same_site_none, cookie_text, flag_text, attributes_text, seconds_text, expiry_text};
-ghost use Rattle.cookie_core.specs.Printers.{labelled_output, date_text_of, scope_text, place_text, lifetime_text};
+ghost use Rattle.cookie_core.specs.Printers.{labelled_output, printed_attributes, date_text_of, scope_text, place_text, lifetime_text};
 
 use crate::cookie::Cookie;
+use crate::encoding::encode;
 use crate::same_site::SameSite;
 use cookie_date::DateText;
 use std::fmt;
+use std::marker::Model;
 
 /// A flag's text, where it is shown.
 #[derive(Clone, Copy)]
@@ -24,6 +28,27 @@ impl<'a> fmt::Display for Flag<'a> {
             write!(f, "{text}")
         } else {
             Ok(())
+        }
+    }
+}
+
+/// A name or a value, escaped where asked for.
+#[derive(Clone, Copy)]
+struct Written<'a> {
+    text: &'a str,
+    is_encoded: bool,
+}
+
+impl<'a> fmt::Display for Written<'a> {
+    ghost output = { λ p. Some (written p.is_encoded p.text.now) };
+
+    fn fmt<W: fmt::Write>(&self, f: &mut fmt::Formatter<W>) -> fmt::Result {
+        let text = self.text;
+        if self.is_encoded {
+            let text = encode(text);
+            write!(f, "{text}")
+        } else {
+            write!(f, "{text}")
         }
     }
 }
@@ -164,21 +189,114 @@ impl<'a, 'c> fmt::Display for LifetimeOf<'a, 'c> {
     }
 }
 
-/// The attributes of a cookie.
+/// The attributes of a cookie, unless they are stripped.
 #[derive(Clone, Copy)]
 struct AttributesOf<'a, 'c> {
     cookie: &'a Cookie<'c>,
+    is_stripped: bool,
 }
 
 impl<'a, 'c> fmt::Display for AttributesOf<'a, 'c> {
-    ghost output = { λ p. Some (attributes_text p.cookie.now.fields) };
+    ghost output = { λ p. Some (printed_attributes p.is_stripped p.cookie.now.fields) };
 
     fn fmt<W: fmt::Write>(&self, f: &mut fmt::Formatter<W>) -> fmt::Result {
+        if self.is_stripped {
+            return Ok(());
+        }
         let cookie = self.cookie;
         let scope = ScopeOf { cookie };
         let place = PlaceOf { cookie };
         let lifetime = LifetimeOf { cookie };
         write!(f, "{scope}{place}{lifetime}")
+    }
+}
+
+/// A cookie as it is printed: its name and value escaped or as they are, and with its attributes or without.
+#[derive(Drop)]
+pub struct Display<'a, 'c> {
+    cookie: &'a Cookie<'c>,
+    is_encoded: bool,
+    is_stripped: bool,
+}
+
+// Contracts see it as the cookie's record, beside what was asked for.
+impl<'a, 'c> Model for Display<'a, 'c> {
+    ghost use Rattle.cookie_core.specs.Display.{DisplayView};
+
+    ghost Value = { DisplayView };
+
+    ghost view = { λ d. record { fields = d.cookie.now.fields; is_encoded = d.is_encoded; is_stripped = d.is_stripped } };
+}
+
+impl<'a, 'c> Display<'a, 'c> {
+    /// The same, its name and value escaped.
+    pub fn encoded(self) -> Display<'a, 'c>
+        ensures { result ≡ record self.entry { is_encoded = true } }
+    {
+        Display {
+            cookie: self.cookie,
+            is_encoded: true,
+            is_stripped: self.is_stripped,
+        }
+    }
+
+    /// The same, without its attributes.
+    pub fn stripped(self) -> Display<'a, 'c>
+        ensures { result ≡ record self.entry { is_stripped = true } }
+    {
+        Display {
+            cookie: self.cookie,
+            is_encoded: self.is_encoded,
+            is_stripped: true,
+        }
+    }
+}
+
+impl<'c> Cookie<'c> {
+    /// The cookie as a `Set-Cookie` header has it, its name and value escaped.
+    pub fn encoded(&self) -> Display<'_, 'c>
+        ensures { result ≡ record { fields = self.now.fields; is_encoded = true; is_stripped = false } }
+    {
+        Display {
+            cookie: self,
+            is_encoded: true,
+            is_stripped: false,
+        }
+    }
+
+    /// The cookie as a `Cookie` header has it: its name and value as they are, without its attributes.
+    pub fn stripped(&self) -> Display<'_, 'c>
+        ensures { result ≡ record { fields = self.now.fields; is_encoded = false; is_stripped = true } }
+    {
+        Display {
+            cookie: self,
+            is_encoded: false,
+            is_stripped: true,
+        }
+    }
+}
+
+/// Prints the name and the value, escaped where that was asked for, and the attributes unless they are stripped.
+impl<'a, 'c> fmt::Display for Display<'a, 'c> {
+    ghost output = { λ d. Some (cookie_text d.is_encoded d.is_stripped d.fields) };
+
+    fn fmt<W: fmt::Write>(&self, f: &mut fmt::Formatter<W>) -> fmt::Result {
+        let cookie = self.cookie;
+        let is_encoded = self.is_encoded;
+        let is_stripped = self.is_stripped;
+        let name = Written {
+            text: cookie.name(),
+            is_encoded,
+        };
+        let value = Written {
+            text: cookie.value(),
+            is_encoded,
+        };
+        let attributes = AttributesOf {
+            cookie,
+            is_stripped,
+        };
+        write!(f, "{name}={value}{attributes}")
     }
 }
 
@@ -189,7 +307,10 @@ impl<'c> fmt::Display for Cookie<'c> {
     fn fmt<W: fmt::Write>(&self, f: &mut fmt::Formatter<W>) -> fmt::Result {
         let name = self.name();
         let value = self.value();
-        let attributes = AttributesOf { cookie: self };
+        let attributes = AttributesOf {
+            cookie: self,
+            is_stripped: false,
+        };
         write!(f, "{name}={value}{attributes}")
     }
 }

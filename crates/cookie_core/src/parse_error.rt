@@ -47,3 +47,14 @@ impl fmt::Display for ParseError {
 }
 
 impl Error for ParseError {}
+
+impl From<Utf8Error> for ParseError {
+    ghost use Rattle.std.specs.Prelude.{◌≡◌};
+    ghost use Rattle.cookie_core.specs.declared.parse_error.ParseError.TheVariants as refusals;
+
+    ghost from_gives = { λ error refusal. refusal ≡ refusals.Utf8Error error };
+
+    fn from(error: Utf8Error) -> ParseError {
+        ParseError::Utf8Error(error)
+    }
+}

@@ -1,6 +1,7 @@
 //! Rows whose answers come from the crate `cookie` and from RFC 6265.
 
 mod carried;
+mod encoding;
 mod fields;
 
 use crate::{Cookie, Expiration, ParseError, SameSite, read_date};

@@ -1,4 +1,4 @@
-use Rattle.std.proofs.Common.{◌≡◌, ◌++◌, false, map, sym, ap, ◌∙◌}
+use Rattle.std.proofs.Common.{◌≡◌, ◌++◌, true, false, map, sym, ap, ◌∙◌}
 use Rattle.std.proofs.lemmas.List.{append-nil}
 use Rattle.std.specs.FinMap.{entries}
 use Rattle.std.specs.Prelude.{codes}
@@ -14,7 +14,7 @@ pub loop-text-init : goal.loop-text-init
 loop-text-init c =
     let all : map (λ e. e.1) c.into_iter-text-iterator.result ≡ delta_texts c.args.jar.now =
     ap (map (λ e. e.1)) (c.into_iter-text-iterator.ensures.into_iter_gives ∙ c.pairs-text-items.ensures ∙ c.in_ok-texts.ensures)
-    ∙ map_map (λ (e : Name × Marked). (e.0, cookie_text false false e.1.cookie)) (λ e. e.1) (entries c.args.jar.now.delta) in
+    ∙ map_map (λ (e : Name × Marked). (e.0, cookie_text true false e.1.cookie)) (λ e. e.1) (entries c.args.jar.now.delta) in
     record {
       lines = ap (λ b. b ++ set_cookie_lines (map (λ e. e.1) c.into_iter-text-iterator.result)) c.new-written.ensures.bytes ∙ ap set_cookie_lines all;
       client = ap (λ texts. after_texts c.args.now texts c.args.client) all;

@@ -1,6 +1,7 @@
 use Rattle.std.proofs.Common.{◌≡◌, ◌++◌, map}
 use Rattle.std.specs.String.{string_bytes}
-use Rattle.cookie_client.specs.Client.{more_joined, header_text, pair_text}
+use Rattle.cookie.specs.Header.{more_joined}
+use Rattle.cookie_client.specs.Client.{header_text, pair_text}
 use Rattle.cookie_client.proofs.client.Client.header.Given as goal
 
 -- what is written, with what the rest adds, is the whole

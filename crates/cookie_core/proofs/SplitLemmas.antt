@@ -1,0 +1,33 @@
+-- What a loop over a splitter learns of an item.
+use Rattle.std.proofs.Common.{◌≡◌, ℕ, List, ◌∷◌, Bool, true, false, Some, Result, IfOk}
+use Rattle.cookie_core.specs.Decoding.{ReadsInMemory, ReadsDecoded, AgreesInMemory, LendsDecoded}
+use Rattle.cookie_core.specs.Reads.{Reads}
+use Rattle.cookie_core.specs.Record.{Record, CookieView, all_lent}
+use Rattle.cookie_core.specs.SplitCookies.{SplitView, ReadsItem, LendsItem, NextCookie}
+use Rattle.cookie_core.specs.declared.parse_error.ParseError.{ParseError}
+use Rattle.cookie_core.proofs.DecodeLemmas.{fields_of, AgreesInMemory-reads, ReadsInMemory-reads}
+
+ReadsInMemory-item : (decode own : Bool) (t : List ℕ) (o : Result Record ParseError) → ReadsItem decode own t o → ReadsInMemory decode t o
+ReadsInMemory-item false false t o h = ReadsInMemory-reads false t o h
+ReadsInMemory-item true false t o h = h
+ReadsInMemory-item false true t o h = h
+ReadsInMemory-item true true t o h = h
+
+-- each item of each splitter: the answer is that of `cookie_of`, unless memory was wanting
+pub NextCookie-agrees : (s s' : SplitView) (o : Result CookieView ParseError) → NextCookie s (Some o) s' → (t : List ℕ) × (s.texts ≡ t ∷ s'.texts) × AgreesInMemory s.is_decoded t (fields_of o)
+NextCookie-agrees s s' o (t, e, h, _, _, _) =
+    (t, e, AgreesInMemory-reads s.is_decoded t (fields_of o) (ReadsInMemory-item s.is_decoded s.is_owned t (fields_of o) h))
+
+-- an item of the plain splitter
+pub NextCookie-plain : (s s' : SplitView) (o : Result CookieView ParseError) → s.is_decoded ≡ false → s.is_owned ≡ false → NextCookie s (Some o) s' → (t : List ℕ) × (s.texts ≡ t ∷ s'.texts) × Reads false t (fields_of o) × IfOk o (λ c. c.raw ≡ all_lent c.fields)
+NextCookie-plain s s' o d w (t, e, h, l, _, _) =
+    let h' : ReadsItem false false t (fields_of o) = rw (d, w) at h in
+    let l' : IfOk o (LendsItem false false t) = rw (d, w) at l in
+    (t, e, h', l')
+
+-- an item of the decoding splitter of a borrowed text
+pub NextCookie-encoded : (s s' : SplitView) (o : Result CookieView ParseError) → s.is_decoded ≡ true → s.is_owned ≡ false → NextCookie s (Some o) s' → (t : List ℕ) × (s.texts ≡ t ∷ s'.texts) × ReadsDecoded t (fields_of o) × IfOk o (λ c. LendsDecoded t c.raw)
+NextCookie-encoded s s' o d w (t, e, h, l, _, _) =
+    let h' : ReadsItem true false t (fields_of o) = rw (d, w) at h in
+    let l' : IfOk o (LendsItem true false t) = rw (d, w) at l in
+    (t, e, h', l')

@@ -1,0 +1,80 @@
+-- What a cookie is after it was printed and read (RFC 6265 4.1.1, 5.2).
+use Rattle.std.specs.Prelude.{◌≡◌, ◌≢◌, ℕ, ℤ, pos, ◌*ℤ◌, ◌<ℤ◌, ◌≤ℤ◌, ◌⊎◌, int_div, int_lt, Bool, true, false, List, [], ◌∷◌, Option, Some, None, IfSome, option_map, if◌then◌else◌}
+use Rattle.std.specs.Str.{trim}
+use Rattle.cookie_date.specs.Forms.{IsReadBack}
+use Rattle.cookie_core.specs.Expiration.{whole_second}
+use Rattle.cookie_core.specs.Pieces.{Lacks}
+use Rattle.cookie_core.specs.Record.{Record, IsCookie}
+use Rattle.cookie_core.specs.Text.{is_true, prints_secure}
+use Rattle.cookie_core.specs.declared.same_site.SameSite.TheVariants as same_site
+use Rattle.cookie_core.specs.declared.expiration.Expiration.{Expiration}
+use Rattle.cookie_core.specs.declared.expiration.Expiration.TheVariants as expiration
+
+-- true, or unset
+abbrev pub shown : Bool → Option Bool
+shown true = Some true
+shown false = None
+
+-- whole seconds, a negative age zero, in nanoseconds (RFC 6265 5.2.2)
+abbrev pub whole_age : ℤ → ℤ
+whole_age n = if int_lt n (pos 0) then pos 0 else int_div n (pos 1000000000) *ℤ pos 1000000000
+
+-- a date-time without its fraction of a second, or unset
+abbrev pub whole_expiry : Option Expiration → Option Expiration
+whole_expiry (Some (expiration.DateTime m)) = Some (expiration.DateTime (whole_second m))
+whole_expiry _ = None
+
+-- the record that is read from a cookie's text
+abbrev pub normal : Record → Record
+normal r =
+    record r {
+      http_only = shown (is_true r.http_only);
+      partitioned = shown (is_true r.partitioned);
+      secure = shown (prints_secure r);
+      max_age = option_map whole_age r.max_age;
+      expires = whole_expiry r.expires;
+    }
+
+-- a text that a printed attribute can hold: no `;`, and no white space at either end (RFC 6265 4.1.1, 5.2)
+pub record IsPlainText (t : List ℕ) : Type 0 where
+  pub whole : Lacks 59 t
+  pub trimmed : trim t ≡ t
+
+-- a domain that is read as it is printed (RFC 6265 5.2.3)
+pub record IsPlainDomain (t : List ℕ) : Type 0 where
+  pub text : IsPlainText t
+  pub some : t ≢ []
+  pub no_dot : (rest : List ℕ) → t ≢ 46 ∷ rest
+
+-- a year that the year rule keeps: one of more than two digits, or a negative one (RFC 6265 5.1.1)
+abbrev pub IsLongYear : Option Expiration → Type 0
+IsLongYear (Some (expiration.DateTime m)) = (m.date.year <ℤ pos 0) ⊎ (pos 100 ≤ℤ m.date.year)
+IsLongYear _ = Unit {0}
+
+-- its printed text is read as its normal form
+pub record CanBeRead (r : Record) : Type 0 where
+  pub name : r.name ≢ []
+  pub path : IfSome r.path IsPlainText
+  pub domain : IfSome r.domain IsPlainDomain
+  pub expires : IsLongYear r.expires
+
+-- a cookie with a name
+pub record IsNamed (r : Record) : Type 0 where
+  pub cookie : IsCookie r
+  pub name : r.name ≢ []
+
+-- its path and its domain, where they are set, hold no `;`, so what is printed of them sets no other field
+pub record IsUncut (r : Record) : Type 0 where
+  pub path : IfSome r.path (Lacks 59)
+  pub domain : IfSome r.domain (Lacks 59)
+
+-- what a printed expiry is read as: the date-time of the year rule, in whole seconds (RFC 6265 5.1.1), and nothing where it is no date-time
+abbrev pub IsExpiryReadBack : Option Expiration → Option Expiration → Type 0
+IsExpiryReadBack (Some (expiration.DateTime m)) (Some (expiration.DateTime back)) = IsReadBack m back
+IsExpiryReadBack (Some (expiration.DateTime m)) _ = ⊥
+IsExpiryReadBack _ None = Unit {0}
+IsExpiryReadBack _ (Some x) = ⊥
+
+-- same_site is `None`, secure is false, and partitioned is not true: `Secure` is printed the second time, and not the first
+abbrev pub GainsSecure : Record → Type 0
+GainsSecure r = (r.same_site ≡ Some same_site.None) × (r.secure ≡ Some false) × (r.partitioned ≢ Some true)

@@ -1,0 +1,44 @@
+//! The parts of a borrowed text that a cookie still is.
+ghost use Rattle.std.specs.Prelude.{◌≡◌, option_map};
+
+use super::{Cookie, after_dot};
+
+impl<'c> Cookie<'c> {
+    /// The name as it stands in the borrowed text that the cookie was read from. `None` where it was decoded or set.
+    pub fn name_raw(&self) -> Option<&'c str>
+        ensures { option_map (λ n. n.now) result ≡ self.now.raw.name }
+    {
+        self.name.raw(&self.source)
+    }
+
+    /// The value as it stands in the borrowed text that the cookie was read from. `None` where it was decoded or set.
+    pub fn value_raw(&self) -> Option<&'c str>
+        ensures { option_map (λ v. v.now) result ≡ self.now.raw.value }
+    {
+        self.value.raw(&self.source)
+    }
+
+    /// The path as it stands in the borrowed text that the cookie was read from. `None` where it was set or unset.
+    pub fn path_raw(&self) -> Option<&'c str>
+        ensures { option_map (λ p. p.now) result ≡ self.now.raw.path }
+    {
+        match &self.path {
+            Some(path) => path.raw(&self.source),
+            None => None,
+        }
+    }
+
+    /// The domain as it stands in the borrowed text that the cookie was read from, without one leading dot.
+    /// `None` where it was set or unset.
+    pub fn domain_raw(&self) -> Option<&'c str>
+        ensures { option_map (λ d. d.now) result ≡ self.now.raw.domain }
+    {
+        match &self.domain {
+            Some(domain) => match domain.raw(&self.source) {
+                Some(raw) => Some(after_dot(raw)),
+                None => None,
+            },
+            None => None,
+        }
+    }
+}

@@ -1,0 +1,91 @@
+//! The escapes of names and values (RFC 3986 2.1).
+ghost use Rattle.std.specs.Prelude.{◌≡◌, Some};
+ghost use Rattle.cookie_core.specs.EscapeTest.{starts_with_escape, has_escape};
+ghost use Rattle.cookie_core.specs.Escapes.{escape};
+
+use percent_encoding::{AsciiSet, CONTROLS, ascii_set, utf8_percent_encode};
+use std::fmt;
+use std::marker::Model;
+
+/// The ASCII bytes that are escaped in names and values.
+const ESCAPED: AsciiSet = ascii_set!(
+    CONTROLS
+        .add(b' ')
+        .add(b'"')
+        .add(b'#')
+        .add(b'%')
+        .add(b'(')
+        .add(b')')
+        .add(b',')
+        .add(b'/')
+        .add(b':')
+        .add(b';')
+        .add(b'<')
+        .add(b'=')
+        .add(b'>')
+        .add(b'?')
+        .add(b'@')
+        .add(b'[')
+        .add(b'\\')
+        .add(b']')
+        .add(b'^')
+        .add(b'`')
+        .add(b'{')
+        .add(b'|')
+        .add(b'}')
+);
+
+/// A text that is printed with its escapes.
+#[derive(Drop)]
+pub struct EncodedText<'a> {
+    text: &'a str,
+}
+
+// Contracts see it as the text before its escapes.
+impl<'a> Model for EncodedText<'a> {
+    ghost use Rattle.std.specs.Prelude.{ℕ, List};
+
+    ghost Value = { List ℕ };
+
+    ghost view = { λ e. e.text.now };
+}
+
+/// The text, escaped where it is printed. It takes no memory.
+pub fn encode(text: &str) -> EncodedText<'_>
+    ensures { result ≡ text.now }
+{
+    EncodedText { text }
+}
+
+/// Prints each byte that a name or a value can't hold as `%` and two upper-case hexadecimal digits.
+impl<'a> fmt::Display for EncodedText<'a> {
+    ghost output = { λ text. Some (escape text) };
+
+    fn fmt<W: fmt::Write>(&self, f: &mut fmt::Formatter<W>) -> fmt::Result {
+        let encoded = utf8_percent_encode(self.text, ESCAPED);
+        write!(f, "{encoded}")
+    }
+}
+
+/// Whether a `%` with two hexadecimal digits stands in the text.
+pub(crate) fn has_escape(text: &str) -> bool
+    ensures { result ≡ has_escape text.now }
+{
+    let mut rest = text.as_bytes();
+    while let [_, after @ ..] = rest {
+        if starts_with_escape(rest) {
+            return true;
+        }
+        rest = after;
+    }
+    false
+}
+
+fn starts_with_escape(text: &[u8]) -> bool
+    ensures { result ≡ starts_with_escape text.now }
+{
+    match text {
+        [b'%', high, low, ..] => high.is_ascii_hexdigit() && low.is_ascii_hexdigit(),
+        _ => false,
+    }
+}
