@@ -1,5 +1,6 @@
 -- Reading with decoding, and with memory that can be wanting.
 use Rattle.std.proofs.Common.{◌≡◌, ℕ, List, Bool, cond, true, false, Option, Some, None, Ok, Err, Result, refl, sym, ap, ◌∙◌, inl, inr, option_map, IfOk, Bor, if◌then◌else◌}
+use Rattle.std.proofs.lemmas.Option.{none-some}
 use Rattle.std.proofs.lemmas.Str.{is_utf8-from_IsUtf8, IsUtf8-from_is_utf8}
 use Rattle.std.specs.Option.{option_and_then}
 use Rattle.std.specs.Result.{result_map_both}
@@ -22,7 +23,7 @@ use Rattle.cookie_core.specs.declared.parse_error.ParseError.{ParseError}
 use Rattle.cookie_core.specs.declared.parse_error.ParseError.TheVariants.{MissingPair, EmptyName, Utf8Error, OutOfMemory}
 use Rattle.cookie_core.specs.declared.source.Source.{Source}
 use Rattle.cookie_core.specs.declared.source.Source.TheVariants as source
-use Rattle.cookie_core.proofs.CookieOfLemmas.{cookie_of-Reads, cookie_of-result}
+use Rattle.cookie_core.proofs.CookieOfLemmas.{cookie_of-Reads, cookie_of-refused, cookie_of-result}
 use Rattle.cookie_core.proofs.EscapeLemmas.{unescape-same}
 use Rattle.cookie_core.proofs.ReadingLemmas.{SetsAttributes-named, Reads-plain}
 use Rattle.cookie_core.proofs.SpanLemmas.{inside, optional_raw, lent_undotted}
@@ -39,6 +40,10 @@ IsDecodedIn-span own s i t u o e p h =
 -- the record that a text has as it stands
 pub cookie_of-parts : (t : List ℕ) (r : Record) → ReadsParts t (Ok r) → cookie_of false t ≡ Some r
 cookie_of-parts t r h = (cookie_of-Reads false t r).1 (Reads-plain t r h)
+
+-- a text that is a record as it stands is not refused
+pub not_refused : (t : List ℕ) (r : Record) (e : ParseError) → ReadsParts t (Err e) → ¬ (cookie_of false t ≡ Some r)
+not_refused t r e h s = none-some r (sym (cookie_of-refused false t e (h false)) ∙ s)
 
 -- the bytes that are blamed are those of the name or of the value
 if_false : (b : Bool) → ¬ (b ≡ true) → b ≡ false

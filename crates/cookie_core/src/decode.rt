@@ -1,5 +1,5 @@
 //! Names and values without their escapes (RFC 3986 2.1).
-ghost use Rattle.std.specs.Prelude.{◌≡◌, true, IfOk, IfErr, IsUtf8, List, ℕ, string_bytes};
+ghost use Rattle.std.specs.Prelude.{◌≡◌, true, false, IsOk, IfOk, IfErr, IsUtf8, List, ℕ, string_bytes};
 ghost use Rattle.cookie_core.specs.DecodingCode.{IsRefusedFor, IsRefusedForPair, IsDecodedIn, is_own};
 ghost use Rattle.cookie_core.specs.Escapes.{unescape};
 ghost use Rattle.cookie_core.specs.Fit.{Fit};
@@ -23,6 +23,7 @@ pub(crate) fn decode_pair<'c>(
     ensures name { (s : List ℕ) → IsPartAt s name.entry.start name.entry.text.now → IfOk result (λ r. IsDecodedIn (is_own name.entry.text.now value.entry.text.now) s name.entry.text.now r.0) }
     ensures value { (s : List ℕ) → IsPartAt s value.entry.start value.entry.text.now → IfOk result (λ r. IsDecodedIn (is_own name.entry.text.now value.entry.text.now) s value.entry.text.now r.1) }
     ensures refused { IfErr result (IsRefusedForPair name.entry.text.now value.entry.text.now) }
+    ensures certain { is_own name.entry.text.now value.entry.text.now ≡ false → IsOk result }
 {
     if has_escape(name.text) {
         return decode_both(alloc, name.text, value.text);

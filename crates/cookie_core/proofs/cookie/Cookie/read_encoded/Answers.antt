@@ -1,9 +1,10 @@
-use Rattle.std.proofs.Common.{Ok, refl, sym, subst}
+use Rattle.std.proofs.Common.{Ok, refl, sym, ap, subst, ◌∙◌}
+use Rattle.std.proofs.lemmas.Option.{same_Some}
 use Rattle.cookie_core.specs.CookieStr.{source_bytes}
-use Rattle.cookie_core.specs.Decoding.{ReadsDecoded}
+use Rattle.cookie_core.specs.Decoding.{ReadsDecoded, are_decoded}
 use Rattle.cookie_core.specs.Record.{Record}
 use Rattle.cookie_core.specs.Settings.{layout_record}
-use Rattle.cookie_core.proofs.DecodeLemmas.{NamesFault-error, NamesFault-refused, ReadsDecoded-error, ReadsDecoded-refused, ReadsDecoded-record, cookie_of-parts, raw-inside}
+use Rattle.cookie_core.proofs.DecodeLemmas.{NamesFault-error, NamesFault-refused, ReadsDecoded-error, ReadsDecoded-refused, ReadsDecoded-record, cookie_of-parts, not_refused, raw-inside}
 use Rattle.cookie_core.proofs.SpanLemmas.{fields-inside}
 use Rattle.cookie_core.proofs.cookie.Cookie.read_encoded.Goals as goal
 
@@ -35,3 +36,12 @@ returns-in-Err-clause-fault c = NamesFault-error _ _ (rw c.as_str.ensures at c.i
 pub returns-in-Err-decode_pair-clause-fault : goal.returns-in-Err-decode_pair-clause-fault
 returns-in-Err-decode_pair-clause-fault c =
     NamesFault-refused _ (layout_record c.in-Ok.layout) c.in-Err-decode_pair.error (rw c.as_str.ensures at c.in-Ok.ensures.reads) c.in-Err-decode_pair.ensures.refused
+
+pub returns-in-Err-clause-certain : goal.returns-in-Err-clause-certain
+returns-in-Err-clause-certain c r s d =
+    absurd (not_refused _ r c.in-Err.error (rw c.as_str.ensures at c.in-Err.ensures.reads) s)
+
+pub returns-in-Err-decode_pair-clause-certain : goal.returns-in-Err-decode_pair-clause-certain
+returns-in-Err-decode_pair-clause-certain c r s d =
+    let parts = cookie_of-parts _ _ (rw c.as_str.ensures at c.in-Ok.ensures.reads) in
+    c.in-Err-decode_pair.ensures.certain (ap are_decoded (same_Some _ _ (sym parts ∙ s)) ∙ d)
