@@ -15,6 +15,7 @@ pub use Rattle.cookie_core.proofs.ExpiryLemmas
 pub use Rattle.cookie_core.proofs.ExpiryTextLemmas
 pub use Rattle.cookie_core.proofs.GraphicLemmas
 pub use Rattle.cookie_core.proofs.HeaderLemmas
+pub use Rattle.cookie_core.proofs.LawLemmas
 pub use Rattle.cookie_core.proofs.NormalFormLemmas
 pub use Rattle.cookie_core.proofs.NormalLemmas
 pub use Rattle.cookie_core.proofs.OutcomeLemmas
@@ -24,4 +25,5 @@ pub use Rattle.cookie_core.proofs.PieceWalkLemmas
 pub use Rattle.cookie_core.proofs.PlaceLemmas
 pub use Rattle.cookie_core.proofs.ReadingLemmas
 pub use Rattle.cookie_core.proofs.SpanLemmas
+pub use Rattle.cookie_core.proofs.SplitLemmas
 pub use Rattle.cookie_core.proofs.TrimLemmas

@@ -1,3 +1,4 @@
+pub mod HeaderLemmas
 pub mod LineLemmas
 pub mod LiveLemmas
 pub mod TextMapLemmas

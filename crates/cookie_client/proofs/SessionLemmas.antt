@@ -15,22 +15,13 @@ use Rattle.std.specs.Ordering.{is_lt, eq_by_cmp}
 use Rattle.std.specs.Str.{bytes_eq}
 use Rattle.jiff.specs.Types.{DateTime}
 use Rattle.cookie.specs.Jar.{JarState, Marked, Name, name_cmp}
-use Rattle.cookie.specs.Decoding.{AgreesInMemory}
 use Rattle.cookie.specs.Record.{Record}
-use Rattle.cookie.specs.SplitCookies.{ReadsItem}
-use Rattle.cookie.specs.Types.{ParseError}
-use Rattle.cookie.proofs.DecodeLemmas.{AgreesInMemory-reads}
 use Rattle.cookie_client.specs.Client.{Values}
 use Rattle.cookie_client.specs.Lines.{lines_of, without_return}
 use Rattle.cookie_client.specs.Session.{Fault, BadLine, followed, jar_after, with_originals, holding}
 use Rattle.cookie_client.specs.Steps.{cookies_of}
 
 -- ---- the originals
-
--- the item of a decoding splitter is what its text is read as
-pub item_agrees : (d own : Bool) (t : List ℕ) (o : Result Record ParseError) → d ≡ true → own ≡ false → ReadsItem d own t o → AgreesInMemory true t o
-item_agrees d own t o e e' h =
-    AgreesInMemory-reads true t o (subst (λ x. ReadsItem x false t o) e (subst (λ y. ReadsItem d y t o) e' h))
 
 module _ (reading : List ℕ → Option Record) where
   -- one text's cookie first, and then the others'

@@ -1,10 +1,12 @@
 //! A client that keeps cookies by name (RFC 6265 5.3, 5.4).
-ghost use Rattle.std.specs.Prelude.{◌≡◌, ◌++◌, true, Some, OnOk, OnErr, is_some, string_bytes};
-ghost use Rattle.std.specs.FinMap.{empty, get, insert};
+ghost use Rattle.std.specs.Prelude.{◌≡◌, ◌++◌, true, All, map, Some, IfOk, OnOk, OnErr, is_some, string_bytes};
+ghost use Rattle.std.specs.FinMap.{empty, entries, get, insert};
 ghost use Rattle.std.specs.Option.{option_copied};
 ghost use Rattle.cookie.specs.CookieOf.{cookie_of};
+ghost use Rattle.cookie.specs.Header.{header_texts};
 ghost use Rattle.cookie.specs.Memory.{Gives};
-ghost use Rattle.cookie_client.specs.Client.{after_cookie, after_text, header_text, pair_text};
+ghost use Rattle.cookie.specs.Record.{IsCookie, plain};
+ghost use Rattle.cookie_client.specs.Client.{HasName, after_cookie, after_text, header_text, pair_text};
 ghost use Rattle.cookie_client.specs.declared.client_error.ClientError.TheVariants.{OutOfMemory};
 
 use crate::client_error::ClientError;
@@ -93,9 +95,12 @@ impl Client {
         }
     }
 
-    /// The value of its `Cookie` header (RFC 6265 5.4): each name and value, in byte order of the names.
+    /// The value of its `Cookie` header (RFC 6265 5.4): each name and value, escaped, in byte order of the names.
+    ///
+    /// Where no name is empty, the header's cookies, decoded, are those names and values, and none is refused.
     pub fn header(&self) -> Result<String, ClientError>
-        ensures { Gives OutOfMemory result (λ header. string_bytes header ≡ header_text self.now) }
+        ensures text { Gives OutOfMemory result (λ header. string_bytes header ≡ header_text self.now) }
+        ensures reads_back { All HasName (entries self.now) → IfOk result (λ header. map (cookie_of true) (header_texts (string_bytes header)) ≡ map (λ pair. Some (plain pair.0 pair.1)) (entries self.now)) }
     {
         let mut header = String::new(self.alloc);
         let mut pairs = self.values.pairs();
@@ -113,9 +118,11 @@ impl Client {
 
 /// Writes the name and the value as a cookie without attributes, escaped.
 fn push_pair(alloc: Global, header: &mut String, name: &str, value: &str) -> Result<(), AllocError>
-    ensures { OnOk result (string_bytes header.new ≡ string_bytes header.old ++ pair_text (name.now, value.now)) }
+    ensures written { OnOk result (string_bytes header.new ≡ string_bytes header.old ++ pair_text (name.now, value.now)) }
+    ensures cookie { IsCookie (plain name.now value.now) }
 {
     let cookie = Cookie::new(name, value);
+    cookie.known();
     let pair = cookie.encoded().stripped().to_string(alloc)?;
     header.push_str(pair.as_str())
 }

@@ -223,3 +223,19 @@ fn a_client_follows_what_it_reads(rt: HostRuntime) -> Result<(), Fail> {
     assert_eq!(rt; client.header()?.as_str(), "c=3");
     Ok(())
 }
+
+#[test]
+fn a_client_undoes_and_writes_escapes(rt: HostRuntime) -> Result<(), Fail> {
+    let now = read_date(MOMENT).ok_or("a date")?;
+    let mut client = Client::new(rt.alloc());
+    assert_eq!(rt;
+        client.read("foo%20!%25%3F%3D=bar%3B%3B%2C%20a; Path=/", now)?,
+        true
+    );
+    assert_eq!(rt; client.get("foo !%?="), Some("bar;;, a"));
+    assert_eq!(rt;
+        client.header()?.as_str(),
+        "foo%20!%25%3F%3D=bar%3B%3B%2C%20a"
+    );
+    Ok(())
+}

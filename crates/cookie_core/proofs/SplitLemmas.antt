@@ -1,5 +1,5 @@
 -- What a loop over a splitter learns of an item.
-use Rattle.std.proofs.Common.{◌≡◌, ℕ, List, ◌∷◌, Bool, true, false, Some, Result, IfOk}
+use Rattle.std.proofs.Common.{◌≡◌, ℕ, List, ◌∷◌, Bool, true, false, Some, Result, IfOk, subst}
 use Rattle.cookie_core.specs.Decoding.{ReadsInMemory, ReadsDecoded, AgreesInMemory, LendsDecoded}
 use Rattle.cookie_core.specs.Reads.{Reads}
 use Rattle.cookie_core.specs.Record.{Record, CookieView, all_lent}
@@ -17,6 +17,12 @@ ReadsInMemory-item true true t o h = h
 pub NextCookie-agrees : (s s' : SplitView) (o : Result CookieView ParseError) → NextCookie s (Some o) s' → (t : List ℕ) × (s.texts ≡ t ∷ s'.texts) × AgreesInMemory s.is_decoded t (fields_of o)
 NextCookie-agrees s s' o (t, e, h, _, _, _) =
     (t, e, AgreesInMemory-reads s.is_decoded t (fields_of o) (ReadsInMemory-item s.is_decoded s.is_owned t (fields_of o) h))
+
+-- an item of a decoding splitter
+pub NextCookie-decodes : (s s' : SplitView) (o : Result CookieView ParseError) → s.is_decoded ≡ true → NextCookie s (Some o) s' → (t : List ℕ) × (s.texts ≡ t ∷ s'.texts) × AgreesInMemory true t (fields_of o)
+NextCookie-decodes s s' o d h =
+    let all = NextCookie-agrees s s' o h in
+    (all.0, all.1, subst (λ b. AgreesInMemory b all.0 (fields_of o)) d all.2)
 
 -- an item of the plain splitter
 pub NextCookie-plain : (s s' : SplitView) (o : Result CookieView ParseError) → s.is_decoded ≡ false → s.is_owned ≡ false → NextCookie s (Some o) s' → (t : List ℕ) × (s.texts ≡ t ∷ s'.texts) × Reads false t (fields_of o) × IfOk o (λ c. c.raw ≡ all_lent c.fields)

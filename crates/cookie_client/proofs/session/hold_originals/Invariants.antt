@@ -1,4 +1,4 @@
-use Rattle.std.proofs.Common.{◌≡◌, true, false}
+use Rattle.std.proofs.Common.{◌≡◌, true}
 use Rattle.std.specs.List.{filter_map}
 use Rattle.cookie.specs.CookieOf.{cookie_of, header_cookies}
 use Rattle.cookie_client.specs.Session.{with_originals, holding}
@@ -8,7 +8,6 @@ use Rattle.cookie_client.proofs.session.hold_originals.Given as goal
 abbrev pub invariant-loop-outcome : goal.invariant-loop-outcome
 invariant-loop-outcome l = record {
   is_decoded : l.outcome-iterator.is_decoded ≡ true;
-  is_owned : l.outcome-iterator.is_owned ≡ false;
   jar : with_originals (filter_map (cookie_of true) l.outcome-iterator.texts) l.jar ≡ with_originals (header_cookies true l.header) l.fn.jar;
   client : holding (filter_map (cookie_of true) l.outcome-iterator.texts) l.client ≡ holding (header_cookies true l.header) l.fn.client;
 }

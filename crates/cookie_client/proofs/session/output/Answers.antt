@@ -42,7 +42,7 @@ returns c =
     ∙ ap (λ es. string_bytes c.loop-text.written ++ set_cookie_lines (map (λ e. e.1) es)) (sym none) ∙ c.loop-text.invariant.lines in
     let client : c.loop-text.client ≡ after_texts c.args.now (delta_texts c.args.jar.now) c.args.client =
     ap (λ es. after_texts c.args.now (map (λ e. e.1) es) c.loop-text.client) (sym none) ∙ c.loop-text.invariant.client in
-    let header = c.as_str.ensures.value ∙ c.in_ok-header.ensures in
+    let header = c.as_str.ensures.value ∙ c.in_ok-header.ensures.text in
     c.in_ok-push_line-2.ensures
     ∙ ap (λ h. string_bytes c.loop-text.written ++ (codes "Cookie: " ++ (h ++ codes "\n"))) header
     ∙ (λ i. lines i ++ cookie_line (client i))
