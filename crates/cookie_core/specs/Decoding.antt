@@ -1,4 +1,4 @@
--- What a text is read as where memory can be wanting, and what a decoded cookie lends.
+-- What a text is read as where memory can be wanting, and what a decoded cookie lends (RFC 6265 5.2, RFC 3986 2.1).
 use Rattle.std.specs.Prelude.{◌≡◌, ◌≢◌, ℕ, ◌||◌, Bool, true, false, List, [], Option, Some, None, option_map, Result, Err, IsUtf8, drop, if◌then◌else◌}
 use Rattle.std.specs.Result.{result_ok}
 use Rattle.std.specs.Str.{is_utf8, valid_up_to, error_len}

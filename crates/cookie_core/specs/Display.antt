@@ -1,4 +1,4 @@
--- How a cookie is to be printed.
+-- How a cookie is to be printed (RFC 6265 4.1.1).
 use Rattle.std.specs.Prelude.{Bool}
 use Rattle.cookie_core.specs.Record.{Record}
 

@@ -1,4 +1,4 @@
--- What an expiry says.
+-- What an expiry says (RFC 6265 4.1.2.1).
 use Rattle.std.specs.Prelude.{pos, int_lt, Option, Some, None, unwrap_or, if◌then◌else◌}
 use Rattle.std.proofs.Common.{lit<}
 use Rattle.jiff.specs.Types.{DateTime}

@@ -1,4 +1,4 @@
--- The cookie that a client keeps for twenty years.
+-- The cookie that a client keeps for twenty years (RFC 6265 4.1.2.1, 4.1.2.2).
 use Rattle.std.specs.Prelude.{Some, pos}
 use Rattle.jiff.specs.Types.{DateTime as CivilDateTime}
 use Rattle.cookie_date.specs.Moments.{days_later}

@@ -1,4 +1,4 @@
--- A value without the quotes around it.
+-- A value without the quotes around it (RFC 6265 4.1.1).
 use Rattle.std.specs.Prelude.{ℕ, ◌-◌, ◌==◌, Bool, ◌&&◌, List, length, slice_index, slice_range, ltb, if◌then◌else◌}
 
 -- the text has at least two bytes, and its first and its last one are `"`

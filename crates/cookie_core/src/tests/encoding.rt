@@ -1,6 +1,8 @@
 //! Escapes, owned texts and raw forms.
 
-use crate::{Cookie, ParseError, encode};
+use crate::{Cookie, CookieBuilder, Expiration, ParseError, SameSite, encode};
+use jiff::SignedDuration;
+use jiff::civil::DateTime;
 use std::test::Fail;
 
 const SUBDIR: &str = "bar=baz; Path=/subdir; HttpOnly; Domain=crates.io";
@@ -54,6 +56,13 @@ fn the_raw_value_alone_is_gone_where_the_value_was_set(rt: HostRuntime) -> Resul
     let text = " bar = baz ; Path=/subdir; HttpOnly; Domain=.crates.io";
     let mut cookie = Cookie::parse(text)?;
     assert_eq!(rt; cookie.value_raw(), Some("baz"));
+    cookie.set_value("x");
+    assert_eq!(rt; cookie.name_value(), ("bar", "x"));
+    assert_eq!(rt; cookie.name_raw(), Some("bar"));
+    assert_eq!(rt; cookie.value_raw(), None);
+    assert_eq!(rt; cookie.path_raw(), Some("/subdir"));
+    assert_eq!(rt; cookie.domain_raw(), Some("crates.io"));
+    let mut cookie = Cookie::parse(text)?;
     cookie.set_value_owned(String::from_str(rt.alloc(), "x")?);
     assert_eq!(rt; cookie.name_value(), ("bar", "x"));
     assert_eq!(rt; cookie.name_raw(), Some("bar"));
@@ -78,9 +87,15 @@ fn format_encoded(rt: HostRuntime) -> Result<(), Fail> {
 
 #[test]
 fn a_long_cookie_is_printed_in_each_way(rt: HostRuntime) -> Result<(), Fail> {
-    let cookie = Cookie::parse(
-        "id=x y; HttpOnly; SameSite=Lax; Partitioned; Path=/; Domain=.a.example; Max-Age=90; Expires=Sun, 06 Nov 1994 08:49:37 GMT",
-    )?;
+    let cookie = CookieBuilder::new("id", "x y")
+        .http_only(true)
+        .same_site(SameSite::Lax)
+        .partitioned(true)
+        .path("/")
+        .domain(".a.example")
+        .max_age(SignedDuration::from_millis(90_700))
+        .expires(Expiration::DateTime(DateTime::new(1994, 11, 6, 8, 49, 37, 500_000_000)?))
+        .build();
     let encoded = cookie.encoded().to_string(rt.alloc())?;
     assert_eq!(rt;
         encoded.as_str(),
