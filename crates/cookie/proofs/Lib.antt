@@ -1,5 +1,9 @@
+pub mod HistoryLemmas
 pub mod JarLemmas
+pub mod MetLemmas
 pub mod NameLemmas
+pub mod ShownLemmas
+pub mod TableCopyLemmas
 pub mod WalkLemmas
 pub use Rattle.cookie_core.proofs.AgeLemmas
 pub use Rattle.cookie_core.proofs.AgeTextLemmas

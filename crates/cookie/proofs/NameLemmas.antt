@@ -14,7 +14,7 @@ use Rattle.std.specs.String.{string_bytes, string_eq}
 use Rattle.cookie.specs.Jar.{name_cmp}
 use Rattle.cookie.specs.Table.{by_name, IsNamed}
 
-names_apart : IsAntisymmetric name_cmp
+pub names_apart : IsAntisymmetric name_cmp
 names_apart = slice_cmp-IsAntisymmetric nat_cmp-IsAntisymmetric
 
 module _ {X Z : Type 0} (shows : X → Z) where
@@ -70,6 +70,14 @@ module _ {X Z : Type 0} (shows : X → Z) where
       remove_shows k u = same_map nat_list_cmp_total names_apart _ _ (λ q.
           changed k q None (hash_map_updates_text k m n None u q)
           ∙ sym (get-remove nat_list_cmp_total (by_name shows m.entries) k q))
+
+-- look-ups behind an insertion and behind a removal, with the test of names that `==` has
+module _ {Z : Type 0} (m : FinMap name_cmp Z) where
+  pub get_inserted : (key : List ℕ) (z : Z) (name : List ℕ) → get (insert m key z) name ≡ cond (bytes_eq name key) (Some z) (get m name)
+  get_inserted key z name = get-insert nat_list_cmp_total m key z name ∙ ap (λ b. cond b (Some z) (get m name)) (is_eq-slice_cmp name key)
+
+  pub get_removed : (key name : List ℕ) → get (remove m key) name ≡ cond (bytes_eq name key) None (get m name)
+  get_removed key name = get-remove nat_list_cmp_total m key name ∙ ap (λ b. cond b None (get m name)) (is_eq-slice_cmp name key)
 
 module _ {Z : Type 0} (name_of : Z → List ℕ) where
   pub IsNamed-empty : IsNamed name_of empty

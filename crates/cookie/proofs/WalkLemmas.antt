@@ -13,49 +13,59 @@ use Rattle.cookie.specs.Table.{by_name, IsNamed}
 use Rattle.cookie.specs.Walk.{Walks}
 use Rattle.cookie.proofs.NameLemmas.{at_text, get-by_name, option_map-cond}
 
-module _ {X Z : Type 0} (shows : X → Z) (cookie_of : Z → Record) where
-  abbrev cookie : X → Record
-  cookie x = cookie_of (shows x)
+-- of what an entry shows, a part that has the entry's name
+module _ {X Z W : Type 0} (shows : X → Z) (part_of : Z → W) (name_of : W → List ℕ) where
+  abbrev part : X → W
+  part x = part_of (shows x)
+
+  twice : (o : Option X) → option_map part o ≡ option_map part_of (option_map shows o)
+  twice (Some x) = refl
+  twice None = refl
 
   module _ {Y : Type 0} where
-    -- each entry's key is its cookie's name
+    -- each entry's key is its part's name
     abbrev AreOwnNames : List (String Y × X) → Type 0
-    AreOwnNames es = AllByRecursion (λ e. (cookie e.1).name ≡ string_bytes e.0) es
+    AreOwnNames es = AllByRecursion (λ e. name_of (part e.1) ≡ string_bytes e.0) es
 
-    own_names : (es : List (String Y × X)) → IsDistinct string_eq (keys_of es) → IsNamed (λ z. (cookie_of z).name) (by_name shows es) → AreOwnNames es
-    own_names es distinct named = recursion_from_All (λ e. (cookie e.1).name ≡ string_bytes e.0) es (λ k d inside.
+    own_names : (es : List (String Y × X)) → IsDistinct string_eq (keys_of es) → IsNamed (λ z. name_of (part_of z)) (by_name shows es) → AreOwnNames es
+    own_names es distinct named = recursion_from_All (λ e. name_of (part e.1) ≡ string_bytes e.0) es (λ k d inside.
         let e = slice_index_or es k d in
         let found = lookup-from_Contains string_eq_equiv e.0 e.1 es distinct (All-contains_itself es k d inside) in
-        subst (λ o. IfSome o (λ z. (cookie_of z).name ≡ string_bytes e.0)) (get-by_name shows es (string_bytes e.0) ∙ ap (option_map shows) found) (named (string_bytes e.0)))
+        subst (λ o. IfSome o (λ z. name_of (part_of z) ≡ string_bytes e.0)) (get-by_name shows es (string_bytes e.0) ∙ ap (option_map shows) found) (named (string_bytes e.0)))
 
     apart_from : (k : String Y) (es : List (String Y × X)) → AreOwnNames es → (n : List ℕ) → n ≡ string_bytes k
-        → AllByRecursion (λ y. string_eq k y ≡ false) (keys_of es) → AllByRecursion (λ m. bytes_eq n m ≡ false) (map (λ c. c.name) (map cookie (values_of es)))
+        → AllByRecursion (λ y. string_eq k y ≡ false) (keys_of es) → AllByRecursion (λ m. bytes_eq n m ≡ false) (map name_of (map part (values_of es)))
     apart_from k [] own n same apart = tt
     apart_from k (e ∷ es) own n same apart = (rw (same, own.0) apart.0, apart_from k es own.1 n same apart.1)
 
-    once_each : (es : List (String Y × X)) → AreOwnNames es → IsDistinct string_eq (keys_of es) → IsDistinct bytes_eq (map (λ c. c.name) (map cookie (values_of es)))
+    once_each : (es : List (String Y × X)) → AreOwnNames es → IsDistinct string_eq (keys_of es) → IsDistinct bytes_eq (map name_of (map part (values_of es)))
     unfolding IsDistinct
     once_each [] own distinct = tt
-    once_each (e ∷ es) own distinct = (apart_from e.0 es own.1 (cookie e.1).name own.0 distinct.0, once_each es own.1 distinct.1)
+    once_each (e ∷ es) own distinct = (apart_from e.0 es own.1 (name_of (part e.1)) own.0 distinct.0, once_each es own.1 distinct.1)
 
     found_in : (es : List (String Y × X)) → AreOwnNames es → (n : List ℕ)
-        → find (λ c. bytes_eq n c.name) (map cookie (values_of es)) ≡ option_map cookie (at_text shows es n)
+        → find (λ w. bytes_eq n (name_of w)) (map part (values_of es)) ≡ option_map part (at_text shows es n)
     found_in [] own n = refl
     found_in (e ∷ es) own n =
-        ap (λ m. cond (bytes_eq n m) (Some (cookie e.1)) (find (λ c. bytes_eq n c.name) (map cookie (values_of es)))) own.0
-        ∙ ap (cond (bytes_eq n (string_bytes e.0)) (Some (cookie e.1))) (found_in es own.1 n)
-        ∙ sym (option_map-cond cookie (bytes_eq n (string_bytes e.0)) (Some e.1) (at_text shows es n))
+        ap (λ m. cond (bytes_eq n m) (Some (part e.1)) (find (λ w. bytes_eq n (name_of w)) (map part (values_of es)))) own.0
+        ∙ ap (cond (bytes_eq n (string_bytes e.0)) (Some (part e.1))) (found_in es own.1 n)
+        ∙ sym (option_map-cond part (bytes_eq n (string_bytes e.0)) (Some e.1) (at_text shows es n))
 
-    -- the cookies of a table are those that its finite map has, each name once
-    pub walks_values : (es : List (String Y × X)) → IsDistinct string_eq (keys_of es) → IsNamed (λ z. (cookie_of z).name) (by_name shows es)
-        → Walks (λ n. option_map cookie_of (get (by_name shows es) n)) (map cookie (values_of es))
-    walks_values es distinct named =
-        let own = own_names es distinct named in
-        record {
-          found = λ n. found_in es own n ∙ twice (at_text shows es n) ∙ ap (option_map cookie_of) (sym (get-by_name shows es n));
-          once = once_each es own distinct;
-        }
-      where
-        twice : (o : Option X) → option_map cookie o ≡ option_map cookie_of (option_map shows o)
-        twice (Some x) = refl
-        twice None = refl
+    module _ (es : List (String Y × X)) (distinct : IsDistinct string_eq (keys_of es)) (named : IsNamed (λ z. name_of (part_of z)) (by_name shows es)) where
+      -- the parts have each name once
+      pub values_once : IsDistinct bytes_eq (map name_of (map part (values_of es)))
+      values_once = once_each es (own_names es distinct named) distinct
+
+      -- the part of that name is of what the finite map has there
+      pub values_found : (n : List ℕ) → find (λ w. bytes_eq n (name_of w)) (map part (values_of es)) ≡ option_map part_of (get (by_name shows es) n)
+      values_found n =
+          found_in es (own_names es distinct named) n ∙ twice (at_text shows es n) ∙ ap (option_map part_of) (sym (get-by_name shows es n))
+
+-- the cookies of a table are those that its finite map has, each name once
+pub walks_values : {X Y Z : Type 0} (shows : X → Z) (cookie_of : Z → Record) (es : List (String Y × X)) → IsDistinct string_eq (keys_of es)
+    → IsNamed (λ z. (cookie_of z).name) (by_name shows es) → Walks (λ n. option_map cookie_of (get (by_name shows es) n)) (map (λ x. cookie_of (shows x)) (values_of es))
+walks_values shows cookie_of es distinct named =
+    record {
+      found = values_found shows cookie_of (λ c. c.name) es distinct named;
+      once = values_once shows cookie_of (λ c. c.name) es distinct named;
+    }

@@ -45,8 +45,11 @@ pub data Change : Type 0 where
   AddOriginal : Record → Change
   Add : Record → Change
   Remove : Record → DateTime → Change
+  ForceRemove : Name → Change
+  ResetDelta : Change
 
--- the jar after a call. Of a name without an original, a removal drops the delta's entry alone.
+-- The jar after a call. Of a name without an original, a removal drops the delta's entry alone; a forced one drops
+-- the name from both maps and leaves nothing to tell the client. A reset forgets all changes.
 abbrev pub after : Change → JarState → JarState
 after (AddOriginal cookie) jar = record jar { originals = insert jar.originals cookie.name cookie }
 after (Add cookie) jar = record jar { delta = insert jar.delta cookie.name (added cookie) }
@@ -56,6 +59,8 @@ after (Remove cookie now) jar =
           then insert jar.delta cookie.name (dropped (removal now cookie))
           else remove jar.delta cookie.name;
     }
+after (ForceRemove name) jar = record { originals = remove jar.originals name; delta = remove jar.delta name }
+after ResetDelta jar = record jar { delta = empty }
 
 -- what an entry of the delta shows, over what the originals show
 abbrev pub overlay : Option Marked → Option Record → Option Record

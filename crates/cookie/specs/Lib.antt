@@ -1,5 +1,7 @@
+pub mod History
 pub mod Jar
 pub mod JarError
+pub mod Shown
 pub mod Table
 pub mod Types
 pub mod Walk

@@ -1,7 +1,8 @@
 //! What stands at a name of a table, and the calls that a jar makes of its two tables.
-ghost use Rattle.std.specs.Prelude.{◌≡◌, ℕ, List, OnOk, OnErr};
+ghost use Rattle.std.specs.Prelude.{◌≡◌, ℕ, List, OnOk, OnErr, IfOk};
 ghost use Rattle.std.specs.FinMap as map;
 ghost use Rattle.std.specs.Option.{option_map};
+ghost use Rattle.std.specs.String.{string_bytes};
 ghost use Rattle.cookie.specs.Table.{by_name, marked, unmarked, IsNamed};
 ghost use Rattle.cookie_core.specs.Record.{Record};
 ghost use Rattle.cookie.specs.Jar.{Marked};
@@ -9,7 +10,7 @@ ghost use Rattle.cookie.specs.Jar.{Marked};
 use crate::delta::DeltaCookie;
 use crate::original::Original;
 use indexmap::IndexMap;
-use std::alloc::AllocError;
+use std::alloc::{AllocError, Global};
 
 // What stands at a cookie's name.
 pub(crate) trait Entry: Drop {
@@ -23,6 +24,10 @@ pub(crate) trait Entry: Drop {
 
     fn own_name(&self) -> &str
         ensures { result.now ≡ name_of (shows self.now) };
+
+    // A copy that shows the same.
+    fn copied(&self, alloc: Global) -> Result<Self, AllocError>
+        ensures { IfOk result (λ copy. shows copy ≡ shows self.now) };
 }
 
 impl Entry for Original {
@@ -35,6 +40,11 @@ impl Entry for Original {
     fn own_name(&self) -> &str {
         self.cookie.name()
     }
+
+    fn copied(&self, alloc: Global) -> Result<Original, AllocError> {
+        let cookie = self.cookie.clone(alloc)?;
+        Ok(Original { cookie })
+    }
 }
 
 impl Entry for DeltaCookie {
@@ -46,6 +56,14 @@ impl Entry for DeltaCookie {
 
     fn own_name(&self) -> &str {
         self.cookie.name()
+    }
+
+    fn copied(&self, alloc: Global) -> Result<DeltaCookie, AllocError> {
+        let cookie = self.cookie.clone(alloc)?;
+        Ok(DeltaCookie {
+            cookie,
+            removed: self.removed,
+        })
     }
 }
 
@@ -63,6 +81,15 @@ pub(crate) fn put<X: Entry>(table: &mut IndexMap<String, X>, entry: X) -> Result
     ensures named { IsNamed X.name_of (by_name X.shows table.old.entries) → IsNamed X.name_of (by_name X.shows table.new.entries) }
 {
     let key = String::from_str(*table.allocator(), entry.own_name())?;
+    set(table, key, entry)?;
+    Ok(())
+}
+
+// Puts an entry at a key. On an error the table stays as it was.
+fn set<X: Entry>(table: &mut IndexMap<String, X>, key: String, entry: X) -> Result<(), AllocError>
+    ensures ok { OnOk result (by_name X.shows table.new.entries ≡ map.insert (by_name X.shows table.old.entries) (string_bytes key) (X.shows entry)) }
+    ensures err { OnErr result (by_name X.shows table.new.entries ≡ by_name X.shows table.old.entries) }
+{
     table.insert(key, entry)?;
     Ok(())
 }
@@ -72,5 +99,20 @@ pub(crate) fn discard<X: Entry>(table: &mut IndexMap<String, X>, name: &str)
     ensures removed { by_name X.shows table.new.entries ≡ map.remove (by_name X.shows table.old.entries) name.now }
     ensures named { IsNamed X.name_of (by_name X.shows table.old.entries) → IsNamed X.name_of (by_name X.shows table.new.entries) }
 {
-    table.shift_remove(name);
+    table.swap_remove(name);
+}
+
+// A table that shows the same.
+pub(crate) fn copy<X: Entry>(
+    table: &IndexMap<String, X>,
+    alloc: Global,
+) -> Result<IndexMap<String, X>, AllocError>
+    ensures { IfOk result (λ made. by_name X.shows made.entries ≡ by_name X.shows table.now.entries) }
+{
+    let mut made = IndexMap::new(alloc);
+    for (key, entry) in table {
+        let key = String::from_str(alloc, key.as_str())?;
+        set(&mut made, key, entry.copied(alloc)?)?;
+    }
+    Ok(made)
 }

@@ -1,8 +1,15 @@
 //! The walks over a jar's cookies.
-ghost use Rattle.std.specs.Prelude.{◌≡◌, map};
+ghost use Rattle.std.specs.Prelude.{◌≡◌, ◌++◌, map};
+ghost use Rattle.std.specs.Map.{values_of};
+ghost use Rattle.std.specs.Map.Iter.{TakesFirst};
+ghost use Rattle.cookie.specs.Shown.{additions, uncovered};
+ghost use Rattle.cookie.specs.Table.{by_name, marked, unmarked};
 
 use crate::delta::DeltaCookie;
+use crate::entry::find;
+use crate::original::Original;
 use cookie_core::Cookie;
+use indexmap::IndexMap;
 use indexmap::map::Values;
 use std::marker::Model;
 
@@ -46,4 +53,85 @@ impl<'a> Iterator for Delta<'a> {
             None => None,
         }
     }
+}
+
+/// The cookies that a jar shows, seen as the list of the records of those that are left.
+#[derive(Drop)]
+pub struct Iter<'a> {
+    delta: &'a IndexMap<String, DeltaCookie>,
+    changes: Values<'a, String, DeltaCookie>,
+    originals: Values<'a, String, Original>,
+}
+
+impl<'a> Model for Iter<'a> {
+    ghost use Rattle.std.specs.Prelude.{List, ◌++◌, map};
+    ghost use Rattle.cookie.specs.Shown.{additions, uncovered};
+    ghost use Rattle.cookie.specs.Table.{by_name, marked, unmarked};
+    ghost use Rattle.cookie_core.specs.Record.{Record};
+
+    ghost Value = { List Record };
+
+    ghost view = { λ a. additions (map marked a.changes) ++ uncovered (by_name marked a.delta.now.entries) (map unmarked a.originals) };
+}
+
+impl<'a> Iter<'a> {
+    // The cookies that were added, and then the originals whose names were left alone.
+    pub(crate) fn new(
+        delta: &'a IndexMap<String, DeltaCookie>,
+        originals: &'a IndexMap<String, Original>,
+    ) -> Iter<'a>
+        ensures { result ≡ additions (map marked (values_of delta.now.entries)) ++ uncovered (by_name marked delta.now.entries) (map unmarked (values_of originals.now.entries)) }
+    {
+        Iter {
+            delta,
+            changes: delta.values(),
+            originals: originals.values(),
+        }
+    }
+}
+
+impl<'a> Iterator for Iter<'a> {
+    ghost use Rattle.std.specs.Prelude.{length};
+    ghost use Rattle.std.specs.Iterator.{at_most};
+    ghost use Rattle.std.specs.Map.Iter.{TakesFirst};
+
+    type Item = &'a Cookie<'static>;
+
+    ghost next_gives = { TakesFirst (λ c. c.now.fields) };
+
+    ghost remaining = { λ s. at_most (length s) };
+
+    fn next(&mut self) -> Option<&'a Cookie<'static>> {
+        match next_added(&mut self.changes) {
+            Some(cookie) => Some(cookie),
+            None => next_uncovered(self.delta, &mut self.originals),
+        }
+    }
+}
+
+// The next cookie that was added.
+fn next_added<'a>(changes: &mut Values<'a, String, DeltaCookie>) -> Option<&'a Cookie<'static>>
+    ensures { TakesFirst (λ c. c.now.fields) (additions (map marked changes.old)) result (additions (map marked changes.new)) }
+{
+    while let Some(entry) = changes.next() {
+        if !entry.removed {
+            return Some(&entry.cookie);
+        }
+    }
+    None
+}
+
+// The next original under whose name the delta has nothing.
+fn next_uncovered<'a>(
+    delta: &IndexMap<String, DeltaCookie>,
+    originals: &mut Values<'a, String, Original>,
+) -> Option<&'a Cookie<'static>>
+    ensures { TakesFirst (λ c. c.now.fields) (uncovered (by_name marked delta.now.entries) (map unmarked originals.old)) result (uncovered (by_name marked delta.now.entries) (map unmarked originals.new)) }
+{
+    while let Some(original) = originals.next() {
+        if find(delta, original.cookie.name()).is_none() {
+            return Some(&original.cookie);
+        }
+    }
+    None
 }

@@ -1,15 +1,16 @@
 //! The jar: original cookies, and the changes since.
-ghost use Rattle.std.specs.Prelude.{◌≡◌, None, OnErr, IsOk};
+ghost use Rattle.std.specs.Prelude.{◌≡◌, List, None, OnErr, IsOk, reverse};
 ghost use Rattle.std.specs.FinMap.{get};
 ghost use Rattle.std.specs.Option.{option_map};
 ghost use Rattle.cookie_core.specs.Memory.{Gives};
-ghost use Rattle.cookie.specs.Jar.{Add, AddOriginal, Remove, after, empty_jar, view};
+ghost use Rattle.cookie.specs.History.{LooksBack, after_all};
+ghost use Rattle.cookie.specs.Jar.{Add, AddOriginal, Change, ForceRemove, Name, Remove, ResetDelta, after, empty_jar, view};
 ghost use Rattle.cookie.specs.Walk.{Walks};
 ghost use Rattle.cookie.specs.declared.jar_error.JarError.TheVariants as refusal;
 
 use crate::delta::DeltaCookie;
-use crate::entry::{discard, find, put};
-use crate::iter::Delta;
+use crate::entry::{copy, discard, find, put};
+use crate::iter::{Delta, Iter};
 use crate::jar_error::JarError;
 use crate::original::Original;
 use cookie_core::Cookie;
@@ -42,8 +43,11 @@ impl Model for CookieJar {
 
 impl CookieJar {
     /// A jar with no cookie. It takes no memory.
+    ///
+    /// After any changes of it, each map has at each name what looking back through the changes finds.
     pub fn new(alloc: Global) -> CookieJar
-        ensures { result ≡ empty_jar }
+        ensures empty { result ≡ empty_jar }
+        ensures history { (changes : List Change) → LooksBack (reverse changes) (after_all changes result) }
     {
         CookieJar {
             originals: IndexMap::new(alloc),
@@ -102,6 +106,48 @@ impl CookieJar {
             discard(&mut self.delta, cookie.name());
         }
         Ok(())
+    }
+
+    /// Removes what the jar has under that name, an original and a change alike. The delta gets no cookie that
+    /// would tell the client to drop it. It takes no memory.
+    pub fn force_remove(&mut self, name: &str)
+        ensures { self.new ≡ after (ForceRemove name.now) self.old }
+    {
+        discard(&mut self.originals, name);
+        discard(&mut self.delta, name);
+    }
+
+    /// Forgets all changes: the delta is empty, and the jar shows its originals again. It takes no memory.
+    pub fn reset_delta(&mut self)
+        ensures change { self.new ≡ after ResetDelta self.old }
+        ensures originals { (name : Name) → view self.new name ≡ get self.old.originals name }
+    {
+        self.delta.clear();
+    }
+
+    /// A jar with copies of this one's originals and changes.
+    ///
+    /// Fails for want of memory alone.
+    pub fn clone(&self) -> Result<CookieJar, JarError>
+        ensures { Gives refusal.OutOfMemory result (λ made. made ≡ self.now) }
+    {
+        let alloc = *self.delta.allocator();
+        let made = CookieJar {
+            originals: copy(&self.originals, alloc)?,
+            delta: copy(&self.delta, alloc)?,
+        };
+        Ok(made)
+    }
+
+    /// The cookies that the jar shows, each name once: those that were added, and the originals under whose
+    /// names nothing was added or removed. It takes no memory.
+    pub fn iter(&self) -> Iter<'_>
+        ensures { Walks (view self.now) result }
+    {
+        // `len` is called for its clause that the keys differ, which the proof cites.
+        let _changes = self.delta.len();
+        let _originals = self.originals.len();
+        Iter::new(&self.delta, &self.originals)
     }
 
     /// The cookies that were changed, each name once: those that were added, and those that tell the client to

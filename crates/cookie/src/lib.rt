@@ -12,7 +12,7 @@ pub use cookie_core::{
     Builder, Cookie, CookieBuilder, DateText, Display, EncodedText, Expiration, ParseError,
     SameSite, SplitCookies, days_after, encode, read_date,
 };
-pub use iter::Delta;
+pub use iter::{Delta, Iter};
 pub use jar::CookieJar;
 pub use jar_error::JarError;
 

@@ -2,7 +2,7 @@ use Rattle.cookie.proofs.NameLemmas.{remove_shows, IsNamed-remove}
 use Rattle.cookie.proofs.entry.discard.Goals as goal
 
 pub returns-clause-removed : goal.returns-clause-removed
-returns-clause-removed g c = remove_shows g.X.Entry.shows c.args.table.now c.shift_remove.new.self c.args.name.now c.shift_remove.ensures.updates
+returns-clause-removed g c = remove_shows g.X.Entry.shows c.args.table.now c.swap_remove.new.self c.args.name.now c.swap_remove.ensures.updates
 
 pub returns-clause-named : goal.returns-clause-named
 returns-clause-named g c = λ named.

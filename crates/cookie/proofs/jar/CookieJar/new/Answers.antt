@@ -1,3 +1,4 @@
+use Rattle.cookie.proofs.HistoryLemmas.{looks_back}
 use Rattle.cookie.proofs.NameLemmas.{IsNamed-empty}
 use Rattle.cookie.proofs.jar.CookieJar.new.Goals as goal
 
@@ -6,3 +7,6 @@ invariant_of-result c = record {
   originals = rw c.new.ensures.empty (IsNamed-empty _);
   delta = rw c.new-2.ensures.empty (IsNamed-empty _);
 }
+
+pub returns-clause-history : goal.returns-clause-history
+returns-clause-history c = λ changes. rw (c.new.ensures.empty, c.new-2.ensures.empty) (looks_back changes)
