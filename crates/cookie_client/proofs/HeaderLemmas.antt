@@ -1,16 +1,20 @@
 -- The client's header is read back as its names and values.
-use Rattle.std.proofs.Common.{◌≡◌, ℕ, List, [], ◌∷◌, ◌++◌, true, map, All, Some, sym, ap, subst, ◌∙◌, append_assoc}
+use Rattle.std.proofs.Common.{◌≡◌, ℕ, Bool, false, cond, None, List, [], ◌∷◌, ◌++◌, true, map, All, Some, refl, sym, ap, subst, ◌∙◌, append_assoc}
 use Rattle.std.proofs.lemmas.List.{append-nil}
 use Rattle.std.proofs.lemmas.List.Elements.{All-nil, All-cons, All-head, All-tail}
+use Rattle.std.proofs.lemmas.Option.{none-some}
+use Rattle.std.specs.FinMap.{get, entries, find, get-entries}
+use Rattle.std.specs.Ordering.{eq_by_cmp}
 use Rattle.std.specs.Prelude.{codes}
+use mathlib.Core.Logic.{◌≢◌}
 use Rattle.cookie.specs.CookieOf.{cookie_of}
 use Rattle.cookie.specs.Header.{header_texts, joined_texts, more_joined}
-use Rattle.cookie.specs.Jar.{Name}
+use Rattle.cookie.specs.Jar.{Name, name_cmp}
 use Rattle.cookie.specs.Normal.{IsNamed}
 use Rattle.cookie.specs.Record.{Record, IsCookie, plain}
 use Rattle.cookie.specs.Text.{cookie_text}
 use Rattle.cookie.proofs.LawLemmas.{joined-read}
-use Rattle.cookie_client.specs.Client.{HasName, pair_text}
+use Rattle.cookie_client.specs.Client.{Values, pair_text}
 use Rattle.cookie_client.proofs.SessionLemmas.{map_map}
 
 -- a name and a value
@@ -20,6 +24,23 @@ Pair = Name × List ℕ
 -- the cookie of a name and a value
 abbrev pub plain_of : Pair → Record
 plain_of pair = plain pair.0 pair.1
+
+-- the name isn't empty
+abbrev pub HasName : Pair → Type 0
+HasName pair = pair.0 ≢ []
+
+named_by : (es : List Pair) → find name_cmp [] es ≡ None → All HasName es
+named_by [] e = All-nil HasName
+named_by (pair ∷ es) e = by (named_by es) (eq_by_cmp name_cmp [] pair.0) refl e
+  where
+    by : (find name_cmp [] es ≡ None → All HasName es) → (b : Bool) → eq_by_cmp name_cmp [] pair.0 ≡ b → cond b (Some pair.1) (find name_cmp [] es) ≡ None → All HasName (pair ∷ es)
+    by more true is never = absurd (none-some pair.1 (sym never))
+    by more false is rest =
+        All-cons HasName pair es (λ empty. let never : false ≡ true = sym is ∙ ap (λ n. eq_by_cmp name_cmp [] n) empty in cc) (more rest)
+
+-- where nothing stands under the empty name, each name has a byte
+pub all_named : (values : Values) → get values [] ≡ None → All HasName (entries values)
+all_named values e = named_by (entries values) (sym (get-entries values []) ∙ e)
 
 -- the name and the value are a cookie's
 abbrev pub IsKnown : Pair → Type 0

@@ -1,6 +1,12 @@
+pub mod AgreementLemmas
+pub mod CallLemmas
+pub mod DeltaTextLemmas
+pub mod EntryLemmas
+pub mod FitLemmas
 pub mod HeaderLemmas
 pub mod LineLemmas
 pub mod LiveLemmas
+pub mod ReadTextLemmas
 pub mod TextMapLemmas
 pub mod SessionLemmas
 pub mod RunLemmas

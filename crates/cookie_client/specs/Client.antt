@@ -1,5 +1,5 @@
 -- A client as one finite map from names to values, and what it makes of a cookie's text (RFC 6265 5.3, 5.4).
-use Rattle.std.specs.Prelude.{◌≢◌, ℕ, true, List, [], ◌∷◌, map, Option, Some, None, if◌then◌else◌}
+use Rattle.std.specs.Prelude.{ℕ, true, List, [], ◌∷◌, map, Option, Some, None, if◌then◌else◌}
 use Rattle.std.specs.FinMap.{FinMap, insert, remove, entries}
 use Rattle.jiff.specs.Types.{DateTime}
 use Rattle.cookie.specs.Jar.{Name, name_cmp}
@@ -27,10 +27,6 @@ after_text now text values = after_cookie now (cookie_of true text) values
 abbrev pub after_texts : DateTime → List (List ℕ) → Values → Values
 after_texts now [] values = values
 after_texts now (text ∷ texts) values = after_texts now texts (after_text now text values)
-
--- the name is not empty
-abbrev pub HasName : Name × List ℕ → Type 0
-HasName pair = pair.0 ≢ []
 
 -- a name and a value, as a cookie without attributes is printed, escaped
 abbrev pub pair_text : Name × List ℕ → List ℕ

@@ -1,4 +1,7 @@
+pub mod Agreement
+pub mod Calls
 pub mod Client
+pub mod KnownCalls
 pub mod Lines
 pub mod Live
 pub mod Run

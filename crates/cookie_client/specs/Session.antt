@@ -2,14 +2,14 @@
 --
 -- Line 1 of the input is the value of a `Cookie` header: its cookies are the jar's originals, and what the
 -- client holds at first. Each later line that isn't empty is a call: `add`, one space and the text of a
--- `Set-Cookie` header, or `remove`, one space and a name.
+-- `Set-Cookie` header; `remove` or `force`, one space and a name; or `reset`.
 use Rattle.std.specs.Prelude.{ℕ, ◌+◌, pos, int_lt, true, false, List, [], ◌∷◌, ◌++◌, map, drop, option_and_then, option_map, Option, Some, None, Result, Ok, Err, codes, eqb, if◌then◌else◌}
 use Rattle.std.specs.FinMap.{empty, insert, entries}
 use Rattle.std.specs.List.{starts_with}
-use Rattle.std.specs.Str.{trim, is_utf8}
+use Rattle.std.specs.Str.{trim, is_utf8, bytes_eq}
 use Rattle.jiff.specs.Types.{DateTime}
 use Rattle.cookie.specs.CookieOf.{cookie_of, header_cookies}
-use Rattle.cookie.specs.Jar.{JarState, Change, AddOriginal, Add, Remove, after, empty_jar}
+use Rattle.cookie.specs.Jar.{JarState, Change, AddOriginal, Add, Remove, ForceRemove, ResetDelta, after, empty_jar}
 use Rattle.cookie.specs.Moments.{date_of}
 use Rattle.cookie.specs.Record.{Record, plain}
 use Rattle.cookie.specs.Text.{cookie_text}
@@ -27,12 +27,24 @@ abbrev pub removal_of : DateTime → List ℕ → Option Change
 removal_of now [] = None
 removal_of now (c ∷ cs) = Some (Remove (plain (c ∷ cs) []) now)
 
--- the call that a line asks for: `add` of a text that is read as a cookie, or `remove` of a name
+-- the forced removal of a name that isn't empty
+abbrev pub forced_removal_of : List ℕ → Option Change
+forced_removal_of [] = None
+forced_removal_of (c ∷ cs) = Some (ForceRemove (c ∷ cs))
+
+-- the call that discards cookies without telling the client: `force` of a name, or `reset`
+abbrev pub discarding_of : List ℕ → Option Change
+discarding_of line =
+    if starts_with eqb line (codes "force ") then forced_removal_of (trim (drop 6 line))
+    else if bytes_eq line (codes "reset") then Some ResetDelta
+    else None
+
+-- the call that a line asks for: `add` of a text that is read as a cookie, `remove` or `force` of a name, or `reset`
 abbrev pub call_of : DateTime → List ℕ → Option Change
 call_of now line =
     if starts_with eqb line (codes "add ") then option_map Add (cookie_of true (drop 4 line))
     else if starts_with eqb line (codes "remove ") then removal_of now (trim (drop 7 line))
-    else None
+    else discarding_of line
 
 -- the jar after a line: an empty line changes nothing, and another that asks for no call is bad
 abbrev pub followed : DateTime → List ℕ → JarState → Option JarState

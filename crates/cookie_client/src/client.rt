@@ -1,12 +1,12 @@
 //! A client that keeps cookies by name (RFC 6265 5.3, 5.4).
-ghost use Rattle.std.specs.Prelude.{◌≡◌, ◌++◌, true, All, map, Some, IfOk, OnOk, OnErr, is_some, string_bytes};
+ghost use Rattle.std.specs.Prelude.{◌≡◌, ◌++◌, true, [], map, None, Some, IfOk, OnOk, OnErr, is_some, string_bytes};
 ghost use Rattle.std.specs.FinMap.{empty, entries, get, insert};
 ghost use Rattle.std.specs.Option.{option_copied};
 ghost use Rattle.cookie.specs.CookieOf.{cookie_of};
 ghost use Rattle.cookie.specs.Header.{header_texts};
 ghost use Rattle.cookie.specs.Memory.{Gives};
 ghost use Rattle.cookie.specs.Record.{IsCookie, plain};
-ghost use Rattle.cookie_client.specs.Client.{HasName, after_cookie, after_text, header_text, pair_text};
+ghost use Rattle.cookie_client.specs.Client.{after_cookie, after_text, header_text, pair_text};
 ghost use Rattle.cookie_client.specs.declared.client_error.ClientError.TheVariants.{OutOfMemory};
 
 use crate::client_error::ClientError;
@@ -65,6 +65,16 @@ impl Client {
         Ok(())
     }
 
+    /// A client that holds the same values.
+    pub fn clone(&self) -> Result<Client, ClientError>
+        ensures { Gives OutOfMemory result (λ made. made ≡ self.now) }
+    {
+        Ok(Client {
+            alloc: self.alloc,
+            values: self.values.clone()?,
+        })
+    }
+
     /// Takes a cookie that was read: one that is live sets its name to its value, and another drops its name.
     fn take(&mut self, cookie: &Cookie<'_>, now: DateTime) -> Result<(), ClientError>
         ensures gives { Gives OutOfMemory result (λ _. self.new ≡ after_cookie now (Some cookie.now.fields) self.old) }
@@ -97,10 +107,10 @@ impl Client {
 
     /// The value of its `Cookie` header (RFC 6265 5.4): each name and value, escaped, in byte order of the names.
     ///
-    /// Where no name is empty, the header's cookies, decoded, are those names and values, and none is refused.
+    /// Where it holds nothing under the empty name, the header's cookies, decoded, are those names and values, and none is refused.
     pub fn header(&self) -> Result<String, ClientError>
         ensures text { Gives OutOfMemory result (λ header. string_bytes header ≡ header_text self.now) }
-        ensures reads_back { All HasName (entries self.now) → IfOk result (λ header. map (cookie_of true) (header_texts (string_bytes header)) ≡ map (λ pair. Some (plain pair.0 pair.1)) (entries self.now)) }
+        ensures reads_back { get self.now [] ≡ None → IfOk result (λ header. map (cookie_of true) (header_texts (string_bytes header)) ≡ map (λ pair. Some (plain pair.0 pair.1)) (entries self.now)) }
     {
         let mut header = String::new(self.alloc);
         let mut pairs = self.values.pairs();

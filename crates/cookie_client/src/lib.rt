@@ -1,8 +1,11 @@
 //! A client that reads cookies, and the engine of the program `cookiejar`.
 #![tactic(auto)]
 
+mod call;
 mod client;
 mod client_error;
+mod exchange;
+mod history;
 mod lines;
 mod live;
 mod run_error;
@@ -10,8 +13,11 @@ mod session;
 mod streams;
 mod text_map;
 
+pub use call::JarCall;
 pub use client::Client;
 pub use client_error::ClientError;
+pub use exchange::{Played, mirror};
+pub use history::replay;
 pub use run_error::RunError;
 pub use session::run;
 

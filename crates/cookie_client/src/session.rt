@@ -10,7 +10,7 @@ ghost use Rattle.cookie.specs.Jar.{Add, Remove, after};
 ghost use Rattle.cookie.specs.Text.{cookie_text};
 ghost use Rattle.cookie_client.specs.Lines.{lines_of};
 ghost use Rattle.cookie_client.specs.Run.{IsPlayed, IsRead, Refuses};
-ghost use Rattle.cookie_client.specs.Session.{BadMoment, moment_of, call_of, removal_of, followed, jar_after, with_originals, holding, written, played, played_bytes, session};
+ghost use Rattle.cookie_client.specs.Session.{BadMoment, moment_of, call_of, removal_of, forced_removal_of, discarding_of, followed, jar_after, with_originals, holding, written, played, played_bytes, session};
 ghost use Rattle.cookie_client.specs.Steps.{cookies_of};
 ghost use Rattle.cookie_client.specs.declared.run_error.RunError.TheVariants as errors;
 
@@ -101,6 +101,31 @@ fn remove(alloc: Global, name: &str, now: DateTime, jar: &mut CookieJar) -> Resu
     Ok(true)
 }
 
+/// Removes the name by force, or answers false where it is empty.
+fn force(name: &str, jar: &mut CookieJar) -> bool
+    ensures { option_map (λ c. after c jar.old) (forced_removal_of name.now) ≡ (if result then Some jar.new else None) }
+{
+    if name.is_empty() {
+        return false;
+    }
+    jar.force_remove(name);
+    true
+}
+
+/// Discards what a line asks for, or answers false where it asks for no such call.
+fn discard(line: &str, jar: &mut CookieJar) -> bool
+    ensures { option_map (λ c. after c jar.old) (discarding_of line.now) ≡ (if result then Some jar.new else None) }
+{
+    if let Some(name) = line.strip_prefix("force ") {
+        return force(name.trim(), jar);
+    }
+    if line == "reset" {
+        jar.reset_delta();
+        return true;
+    }
+    false
+}
+
 /// Does what a line asks for, or answers false where it is bad.
 fn follow(alloc: Global, line: &str, now: DateTime, jar: &mut CookieJar) -> Result<bool, RunError>
     ensures { Gives errors.OutOfMemory result (λ good. followed now line.now jar.old ≡ (if good then Some jar.new else None)) }
@@ -114,7 +139,7 @@ fn follow(alloc: Global, line: &str, now: DateTime, jar: &mut CookieJar) -> Resu
     if let Some(name) = line.strip_prefix("remove ") {
         return remove(alloc, name.trim(), now, jar);
     }
-    Ok(false)
+    Ok(discard(line, jar))
 }
 
 /// Does what the lines ask for, up to the first bad one. The first line is number 2.

@@ -38,6 +38,11 @@ fn sessions_have_their_texts(rt: HostRuntime) -> Result<(), Fail> {
             "\nadd b=2; Max-Age=0",
             "Set-Cookie: b=2; Max-Age=0\nCookie: \n",
         ),
+        (
+            "n=1\nadd n=2\nforce n\nadd a=1\n",
+            "Set-Cookie: a=1\nCookie: a=1; n=1\n",
+        ),
+        ("x=1\nadd y=2\nremove x\nreset\n", "Cookie: x=1\n"),
     ];
     for (input, wanted) in rows {
         let text = text_of(rt.alloc(), MOMENT, input.as_bytes())?;
@@ -61,8 +66,9 @@ fn the_first_bad_line_is_told(rt: HostRuntime) -> Result<(), Fail> {
     for input in [
         "x=1\nadd=1",
         "\nremove  \n",
-        "\nforce x",
-        "\nreset",
+        "\nforce  ",
+        "\nforce",
+        "\nreset ",
         "\n ",
         "\nadd ",
     ] {

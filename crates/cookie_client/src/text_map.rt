@@ -1,5 +1,5 @@
 //! Texts by name, in byte order of the names.
-ghost use Rattle.std.specs.Prelude.{◌≡◌, OnOk, OnErr};
+ghost use Rattle.std.specs.Prelude.{◌≡◌, IfOk, OnOk, OnErr};
 ghost use Rattle.std.specs.FinMap.{empty, entries, get, insert, remove};
 ghost use Rattle.std.specs.Option.{option_copied};
 
@@ -59,6 +59,16 @@ impl TextMap {
         let value = String::from_str(self.alloc, text)?;
         self.texts.insert(key, value)?;
         Ok(())
+    }
+
+    /// A map of the same texts.
+    pub(crate) fn clone(&self) -> Result<TextMap, AllocError>
+        ensures { IfOk result (λ made. made ≡ self.now) }
+    {
+        Ok(TextMap {
+            alloc: self.alloc,
+            texts: self.texts.clone()?,
+        })
     }
 
     /// Drops the text at `name`.

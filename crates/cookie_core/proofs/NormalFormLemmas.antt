@@ -38,7 +38,7 @@ pub escaped_pair-apart : (r : Record) → Lacks 59 (escaped_pair r)
 escaped_pair-apart r =
     Lacks-append 59 (escape r.name) (61 ∷ escape r.value) (escape_lacks_semicolon r.name) (Lacks-more 59 61 (escape r.value) (λ e. omega arith) (escape_lacks_semicolon r.value))
 
-escaped_pair-pair : (r : Record) → IsPair (escaped_pair r) (escape r.name) (escape r.value)
+pub escaped_pair-pair : (r : Record) → IsPair (escaped_pair r) (escape r.name) (escape r.value)
 escaped_pair-pair r =
     (escape r.name, escape r.value, refl, escape_lacks_equals r.name, sym (trim-escape r.name), sym (trim-escape r.value))
 
@@ -52,7 +52,7 @@ Reads-escaped r n u h en ev w =
     let value : IsDecoded true (escape r.value) n.value = rw ev (decodes r.value h.cookie.value) in
     Reads-walk true (escaped_pair r) (escape r.name) (escape r.value) u n (escaped_pair-apart r) (escaped_pair-pair r) (escape_some r.name h.name) name value w
 
-cookie_text-pair : (r : Record) → escaped_pair r ++ attributes_text r ≡ cookie_text true false r
+pub cookie_text-pair : (r : Record) → escaped_pair r ++ attributes_text r ≡ cookie_text true false r
 cookie_text-pair r = append_assoc (escape r.name) (61 ∷ escape r.value) (attributes_text r)
 
 -- the printed text of a cookie, where its attributes are pieces that set those of the record n

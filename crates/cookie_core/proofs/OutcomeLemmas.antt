@@ -1,16 +1,20 @@
 -- What a printed cookie is read as, whatever its path, its domain and its expiry hold (RFC 6265 5.2).
-use Rattle.std.proofs.Common.{◌≡◌, true, false, codes, ℕ, ℤ, pos, List, ◌++◌, Some, None, option_map, refl, subst}
-use Rattle.cookie_core.specs.Attributes.{max_age, IsLastSet, SetsAttributes}
+use Rattle.std.proofs.Common.{◌≡◌, true, false, codes, ℕ, ℤ, pos, List, [], ◌∷◌, ◌++◌, Some, None, option_map, refl, sym, ap, subst, ◌∙◌}
+use Rattle.std.proofs.lemmas.Option.{none-some, same_Some}
+use Rattle.cookie_core.specs.Attributes.{max_age, IsPair, IsLastSet, SetsAttributes}
 use Rattle.cookie_core.specs.CookieOf.{max_age_in, record_in, cookie_of}
 use Rattle.cookie_core.specs.Normal.{whole_age, IsNamed, IsUncut, IsExpiryReadBack}
-use Rattle.cookie_core.specs.Record.{Record}
+use Rattle.cookie_core.specs.Escapes.{escape}
+use Rattle.cookie_core.specs.Record.{Record, IsCookie}
 use Rattle.cookie_core.specs.SameSite.{same_site_text}
 use Rattle.cookie_core.specs.Text.{is_true, prints_secure, flag_text, attribute_text, seconds_text, expiry_text, attributes_text, cookie_text}
-use Rattle.cookie_core.proofs.CookieOfLemmas.{cookie_of-Reads, last_set-IsLastSet, max_age_in-is, SetsAttributes-record_in}
+use Rattle.cookie_core.specs.Walk.{before_rest}
+use Rattle.cookie_core.specs.declared.parse_error.ParseError.TheVariants.{EmptyName}
+use Rattle.cookie_core.proofs.CookieOfLemmas.{cookie_of-Reads, cookie_of-refused, last_set-IsLastSet, max_age_in-is, SetsAttributes-record_in}
 use Rattle.cookie_core.proofs.ExpiryTextLemmas.{read_expiry-is}
-use Rattle.cookie_core.proofs.NormalFormLemmas.{Reads-printed, uncut_form}
+use Rattle.cookie_core.proofs.NormalFormLemmas.{escaped_pair, escaped_pair-apart, escaped_pair-pair, cookie_text-pair, Reads-printed, uncut_form}
 use Rattle.cookie_core.proofs.PartLemmas.{max_age_part, expires_part, read_record}
-use Rattle.cookie_core.proofs.ReadingLemmas.{IsLastSet-behind, IsLastSet-or}
+use Rattle.cookie_core.proofs.ReadingLemmas.{IsLastSet-behind, IsLastSet-or, Reads-empty_name}
 use Rattle.cookie_core.proofs.PieceWalkLemmas.{HasPieces, HasPieces-append, HasPieces-flag, HasPieces-attribute, Any}
 
 -- the attributes before the age, and then any text of pieces
@@ -36,13 +40,38 @@ by_pieces P r named h =
     let n : Record = record_in r.name r.value h.pieces in
     (cookie_of-Reads true (cookie_text true false r) n).1 (Reads-printed r n named refl refl (record { pieces = h.pieces; text = h.text; apart = h.apart; holds = SetsAttributes-record_in r.name r.value h.pieces }))
 
+-- the attributes of any cookie are pieces
+any_pieces : (r : Record) → HasPieces Any (attributes_text r)
+any_pieces r =
+    let age = HasPieces-attribute (codes " Max-Age=") (option_map seconds_text r.max_age) in
+    let expiry = HasPieces-attribute (codes " Expires=") (expiry_text r.expires) in
+    HasPieces-behind Any (λ ps qs q. tt) r _ (HasPieces-append Any Any Any (λ ps qs p q. tt) _ _ age expiry)
+
 -- the name and the value are kept, whatever the path, the domain and the expiry hold
 pub text_outcome : (r : Record) → IsNamed r → (n : Record) × (cookie_of true (cookie_text true false r) ≡ Some n) × (n.name ≡ r.name) × (n.value ≡ r.value)
 text_outcome r named =
-    let age = HasPieces-attribute (codes " Max-Age=") (option_map seconds_text r.max_age) in
-    let expiry = HasPieces-attribute (codes " Expires=") (expiry_text r.expires) in
-    let h : HasPieces Any (attributes_text r) = HasPieces-behind Any (λ ps qs q. tt) r _ (HasPieces-append Any Any Any (λ ps qs p q. tt) _ _ age expiry) in
+    let h = any_pieces r in
     (record_in r.name r.value h.pieces, by_pieces Any r named h, refl, refl)
+
+-- and a cookie without a name is refused
+pub nameless_outcome : (r : Record) → r.name ≡ [] → cookie_of true (cookie_text true false r) ≡ None
+unfolding escape
+nameless_outcome r none =
+    let h = any_pieces r in
+    let pair : IsPair (escaped_pair r) [] (escape r.value) = subst (λ n. IsPair (escaped_pair r) n (escape r.value)) (ap escape none) (escaped_pair-pair r) in
+    cookie_of-refused true (cookie_text true false r) EmptyName
+    (Reads-empty_name (cookie_text true false r) (escaped_pair r) (escape r.value) (before_rest h.pieces None)
+    (sym (cookie_text-pair r) ∙ ap (λ t. escaped_pair r ++ t) h.text) (escaped_pair-apart r) pair true)
+
+-- a text of a cookie that is read has the cookie's name
+pub same_name : (c r : Record) → IsCookie c → cookie_of true (cookie_text true false c) ≡ Some r → r.name ≡ c.name
+same_name c r is e = by c.name refl
+  where
+    by : (n : List ℕ) → c.name ≡ n → r.name ≡ c.name
+    by [] f = absurd (none-some r (sym (nameless_outcome c f) ∙ e))
+    by (b ∷ bs) f =
+        let outcome = text_outcome c (record { cookie = is; name = λ empty. let never : b ∷ bs ≡ [] = sym f ∙ empty in cc }) in
+        ap (λ (x : Record). x.name) (same_Some _ _ (sym e ∙ outcome.1)) ∙ outcome.2
 
 -- and so is the age, in whole seconds, where it is set: the printed age comes behind the path and the domain, and the last one counts
 pub age_outcome : (r : Record) (age : ℤ) → IsNamed r → r.max_age ≡ Some age → (n : Record) × (cookie_of true (cookie_text true false r) ≡ Some n) × (n.name ≡ r.name) × (n.value ≡ r.value) × (n.max_age ≡ Some (whole_age age))

@@ -3,11 +3,12 @@ use Rattle.std.proofs.lemmas.List.Elements.{All-nil}
 use Rattle.std.specs.FinMap.{entries}
 use Rattle.cookie.specs.Header.{joined_texts}
 use Rattle.cookie_client.specs.Client.{pair_text}
-use Rattle.cookie_client.proofs.HeaderLemmas.{Pair, IsKnown, header-first, header-last, header-next, header-read, known-first}
+use Rattle.cookie_client.proofs.HeaderLemmas.{Pair, IsKnown, all_named, header-first, header-last, header-next, header-read, known-first}
 use Rattle.cookie_client.proofs.client.Client.header.Goals as goal
 
 pub returns-in_default-clause-reads_back : goal.returns-in_default-clause-reads_back
-returns-in_default-clause-reads_back c named =
+returns-in_default-clause-reads_back c unnamed =
+    let named = all_named c.args.self.now unnamed in
     let none : entries c.args.self.now ≡ [] =
     ap entries (sym c.self.view_is) ∙ sym c.pairs-pairs.ensures ∙ c.in_default.ensures.steps.0 in
     header-read _ (entries c.args.self.now) (subst (All IsKnown) (sym none) (All-nil IsKnown)) named
@@ -36,7 +37,8 @@ loop-name-preserved c =
     }
 
 pub returns-clause-reads_back : goal.returns-clause-reads_back
-returns-clause-reads_back c named =
+returns-clause-reads_back c unnamed =
+    let named = all_named c.args.self.now unnamed in
     let none = c.in-None.ensures.steps.0 in
     header-read _ (entries c.args.self.now) (c.loop-name.invariant.known (subst (All IsKnown) (sym none) (All-nil IsKnown))) named
     (header-last _ _ none ∙ c.loop-name.invariant.text)

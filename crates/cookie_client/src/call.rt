@@ -1,0 +1,92 @@
+//! Calls on a jar, as values.
+ghost use Rattle.std.specs.Prelude.{◌≡◌, ◌≢◌, ◌↔◌, [], All, IsTrue, IfSome, option_map};
+ghost use Rattle.cookie.specs.Pieces.{Lacks};
+ghost use Rattle.cookie_client.specs.Calls.{IsFitAddition, IsFitCall, is_change};
+ghost use Rattle.cookie_client.specs.KnownCalls.{IsKnownCall};
+
+use crate::live::is_live;
+use cookie::Cookie;
+use jiff::civil::DateTime;
+
+/// A call on a jar.
+#[derive(Drop)]
+pub enum JarCall {
+    /// Adds an original cookie.
+    AddOriginal(Cookie<'static>),
+    /// Adds a cookie.
+    Add(Cookie<'static>),
+    /// Removes the cookie's name at a moment in UTC.
+    Remove(Cookie<'static>, DateTime),
+    /// Removes a name from originals and changes alike.
+    ForceRemove(String),
+    /// Forgets all changes.
+    ResetDelta,
+}
+
+impl JarCall {
+    /// Whether a client can follow the call at the moment `now` in UTC. A cookie in it must have a name; one that is
+    /// added, and is no original, must be live at the moment, and its path and its domain must hold no semicolon. The
+    /// cookie is looked at as it was handed in.
+    pub fn is_fit(&self, now: DateTime) -> bool
+        ensures { IsTrue result ↔ IsFitCall now self.now }
+    {
+        match self {
+            JarCall::AddOriginal(cookie) => has_name(cookie),
+            JarCall::Add(cookie) => is_fit_addition(cookie, now),
+            JarCall::Remove(cookie, _) => has_name(cookie),
+            JarCall::ForceRemove(_) => true,
+            JarCall::ResetDelta => true,
+        }
+    }
+
+    /// Whether the call is an addition that isn't an original, or a removal.
+    pub fn is_change(&self) -> bool
+        ensures { result ≡ is_change self.now }
+    {
+        matches!(self, JarCall::Add(_) | JarCall::Remove(_, _))
+    }
+
+    /// What holds of the cookie in the call. It does nothing.
+    pub(crate) fn known(&self)
+        ensures { IsKnownCall self.now }
+    {
+        match self {
+            JarCall::AddOriginal(cookie) => cookie.known(),
+            JarCall::Add(cookie) => cookie.known(),
+            JarCall::Remove(cookie, _) => cookie.known(),
+            JarCall::ForceRemove(_) => (),
+            JarCall::ResetDelta => (),
+        }
+    }
+}
+
+/// What holds of the cookies in the calls. It does nothing.
+pub(crate) fn known_calls(calls: &[JarCall])
+    ensures { All IsKnownCall calls.now }
+{
+    for call in calls {
+        call.known();
+    }
+}
+
+fn has_name(cookie: &Cookie<'_>) -> bool
+    ensures { IsTrue result ↔ (cookie.now.fields.name ≢ []) }
+{
+    !cookie.name().is_empty()
+}
+
+fn is_fit_addition(cookie: &Cookie<'_>, now: DateTime) -> bool
+    ensures { IsTrue result ↔ IsFitAddition now cookie.now.fields }
+{
+    has_name(cookie) && is_live(cookie, now) && is_uncut(cookie.path()) && is_uncut(cookie.domain())
+}
+
+/// Whether the text, if there is one, holds no semicolon.
+fn is_uncut(text: Option<&str>) -> bool
+    ensures { IsTrue result ↔ IfSome (option_map (λ t. t.now) text.entry) (Lacks 59) }
+{
+    match text {
+        Some(text) => !text.contains(';'),
+        None => true,
+    }
+}

@@ -1,0 +1,137 @@
+//! A jar, and a client that follows it.
+ghost use Rattle.std.specs.Prelude.{◌≡◌, ◌<◌, ◌∷◌, [], length, map, reverse, IfOk, OnOk, IsPermutation, string_bytes};
+ghost use Rattle.cookie.specs.History.{after_all, LooksBack};
+ghost use Rattle.cookie.specs.Jar.{empty_jar};
+ghost use Rattle.cookie_client.specs.Agreement.{Agrees, AreDeltaTexts, originals_of};
+ghost use Rattle.cookie_client.specs.Calls.{AreTaken, changes_of};
+ghost use Rattle.cookie_client.specs.Client.{after_texts};
+ghost use Rattle.cookie_client.specs.Session.{holding};
+
+use crate::call::{JarCall, known_calls};
+use crate::client::Client;
+use crate::client_error::ClientError;
+use crate::history::replay;
+use cookie::CookieJar;
+use jiff::civil::DateTime;
+use std::alloc::{AllocError, Global};
+
+/// What came of calls: the jar, the client that followed it, and which calls were accepted.
+#[derive(Drop)]
+pub struct Played {
+    pub jar: CookieJar,
+    pub client: Client,
+    pub outcomes: Vec<bool>,
+}
+
+/// Makes the calls on a new jar, and has a client follow it: one that holds the value of each name's last accepted
+/// original, and then reads the encoded text of each cookie of the delta at the moment `now` in UTC.
+///
+/// The texts stand in the order of the delta's walk. The text that is read as the i-th is number `pick[i]` of those
+/// that are left, modulo their count, or number 0 where `pick` has ended. It fails for want of memory alone, where that
+/// is wanted outside the calls.
+pub fn mirror(
+    alloc: Global,
+    calls: &[JarCall],
+    pick: &[usize],
+    now: DateTime,
+) -> Result<Played, ClientError>
+    ensures count { IfOk result (λ p. length p.outcomes.items ≡ length calls.now) }
+    ensures certain { IfOk result (λ p. AreTaken calls.now p.outcomes.items) }
+    ensures jar { IfOk result (λ p. p.jar ≡ after_all (changes_of p.outcomes.items calls.now) empty_jar) }
+    ensures looks_back { IfOk result (λ p. LooksBack (reverse (changes_of p.outcomes.items calls.now)) p.jar) }
+    ensures agreement { IfOk result (λ p. Agrees now calls.now p.outcomes.items p.jar p.client) }
+{
+    known_calls(calls);
+    let mut jar = CookieJar::new(alloc);
+    let outcomes = replay(alloc, &mut jar, calls)?;
+    let mut client = Client::new(alloc);
+    hold_originals(&mut client, calls, &outcomes)?;
+    let texts = delta_texts(alloc, &jar)?;
+    let texts = reordered(alloc, texts, pick)?;
+    read_texts(&mut client, &texts, now)?;
+    Ok(Played {
+        jar,
+        client,
+        outcomes,
+    })
+}
+
+/// Has a client hold what the call adds as an original, if it was accepted.
+fn hold_one(client: &mut Client, call: &JarCall, is_accepted: bool) -> Result<(), ClientError>
+    ensures { OnOk result (client.new ≡ holding (originals_of (changes_of (is_accepted ∷ []) (call.now ∷ []))) client.old) }
+{
+    if !is_accepted {
+        return Ok(());
+    }
+    match call {
+        JarCall::AddOriginal(cookie) => client.hold(cookie.name(), cookie.value()),
+        _ => Ok(()),
+    }
+}
+
+/// Has a client hold each name's last accepted original.
+fn hold_originals(
+    client: &mut Client,
+    calls: &[JarCall],
+    outcomes: &[bool],
+) -> Result<(), ClientError>
+    requires { length outcomes.now ≡ length calls.now }
+    ensures { OnOk result (client.new ≡ holding (originals_of (changes_of outcomes.now calls.now)) client.old) }
+{
+    for index in 0..calls.len() {
+        hold_one(client, &calls[index], outcomes[index])?;
+    }
+    Ok(())
+}
+
+/// The encoded texts of the delta's cookies.
+fn delta_texts(alloc: Global, jar: &CookieJar) -> Result<Vec<String>, AllocError>
+    ensures { IfOk result (λ texts. AreDeltaTexts jar.now.delta (map string_bytes texts.items)) }
+{
+    let mut texts = Vec::new(alloc);
+    for cookie in jar.delta() {
+        let text = cookie.encoded().to_string(alloc)?;
+        texts.push(text)?;
+    }
+    Ok(texts)
+}
+
+/// The place, among so many texts that are left, of the one that a turn takes.
+fn place_of(pick: &[usize], turn: usize, left: usize) -> usize
+    requires { 0 < left }
+    ensures { result < left }
+{
+    match pick.get(turn) {
+        Some(number) => *number % left,
+        None => 0,
+    }
+}
+
+/// The texts in the order that `pick` asks for.
+fn reordered(
+    alloc: Global,
+    mut texts: Vec<String>,
+    pick: &[usize],
+) -> Result<Vec<String>, AllocError>
+    ensures { IfOk result (λ ordered. IsPermutation texts.items ordered.items) }
+{
+    let mut ordered = Vec::new(alloc);
+    let mut turn = 0usize;
+    while texts.len() > 0 {
+        let place = place_of(pick, turn, texts.len());
+        let text = texts.remove(place);
+        ordered.push(text)?;
+        turn = turn.saturating_add(1);
+    }
+    Ok(ordered)
+}
+
+/// Has a client read texts in order.
+fn read_texts(client: &mut Client, texts: &[String], now: DateTime) -> Result<(), ClientError>
+    ensures { OnOk result (client.new ≡ after_texts now (map string_bytes texts.now) client.old) }
+{
+    for text in texts {
+        client.read(text.as_str(), now)?;
+    }
+    Ok(())
+}

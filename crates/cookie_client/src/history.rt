@@ -1,0 +1,54 @@
+//! Calls made on a jar in order.
+ghost use Rattle.std.specs.Prelude.{◌≡◌, Bool, true, length, IsOk, IfOk, OnOk, OnErr};
+ghost use Rattle.cookie.specs.History.{after_all};
+ghost use Rattle.cookie.specs.Jar.{after};
+ghost use Rattle.cookie_client.specs.Calls.{AreTaken, change_of, changes_of, is_certain};
+
+use crate::call::JarCall;
+use crate::client_error::ClientError;
+use cookie::{CookieJar, JarError};
+use std::alloc::Global;
+
+/// Makes one call.
+fn play(alloc: Global, jar: &mut CookieJar, call: &JarCall) -> Result<(), JarError>
+    ensures ok { OnOk result (jar.new ≡ after (change_of call.now) jar.old) }
+    ensures err { OnErr result (jar.new ≡ jar.old) }
+    ensures certain { is_certain call.now ≡ true → IsOk result }
+{
+    match call {
+        JarCall::AddOriginal(cookie) => jar.add_original(cookie.clone(alloc)?),
+        JarCall::Add(cookie) => jar.add(cookie.clone(alloc)?),
+        JarCall::Remove(cookie, now) => jar.remove(cookie.clone(alloc)?, *now),
+        JarCall::ForceRemove(name) => {
+            jar.force_remove(name.as_str());
+            Ok(())
+        }
+        JarCall::ResetDelta => {
+            jar.reset_delta();
+            Ok(())
+        }
+    }
+}
+
+/// Makes the calls in order, and answers which were accepted.
+///
+/// A call that is refused, or whose cookie finds no memory to be copied, has the outcome false and changes nothing.
+/// Forced removals and resets are always accepted. It fails only where the list of outcomes finds no memory, before
+/// any call is made, and then the jar is as before.
+pub fn replay(
+    alloc: Global,
+    jar: &mut CookieJar,
+    calls: &[JarCall],
+) -> Result<Vec<bool>, ClientError>
+    ensures count { IfOk result (λ outcomes. length outcomes.items ≡ length calls.now) }
+    ensures jar { IfOk result (λ outcomes. jar.new ≡ after_all (changes_of outcomes.items calls.now) jar.old) }
+    ensures certain { IfOk result (λ outcomes. AreTaken calls.now outcomes.items) }
+    ensures err { OnErr result (jar.new ≡ jar.old) }
+{
+    let mut outcomes = Vec::with_capacity(alloc, calls.len())?;
+    for call in calls {
+        let is_accepted = play(alloc, jar, call).is_ok();
+        outcomes.push(is_accepted).unwrap();
+    }
+    Ok(outcomes)
+}
