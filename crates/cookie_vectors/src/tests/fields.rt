@@ -1,6 +1,5 @@
 //! The calls that show and change a cookie's fields, and those of its builder.
-
-use crate::{Cookie, CookieBuilder, Expiration, SameSite, days_after, read_date};
+use cookie::{Cookie, CookieBuilder, Expiration, SameSite, days_after, read_date};
 use jiff::SignedDuration;
 use jiff::civil::DateTime;
 use std::hash::{FoldHasher, Hash, Hasher};
@@ -178,5 +177,22 @@ fn same_site_has_three_values(rt: HostRuntime) -> Result<(), Fail> {
         assert_eq!(rt; hash_of(value), hash_of(value));
     }
     assert!(rt; hash_of(SameSite::Lax) != hash_of(SameSite::Strict));
+    Ok(())
+}
+
+#[test]
+fn own_texts_are_set(rt: HostRuntime) -> Result<(), Fail> {
+    let alloc = rt.alloc();
+    let name = String::from_str(alloc, "a")?;
+    let mut cookie = Cookie::new_owned(name, String::from_str(alloc, "1")?);
+    assert_eq!(rt; cookie.name_value(), ("a", "1"));
+    cookie.set_name_owned(String::from_str(alloc, "b")?);
+    cookie.set_value_owned(String::from_str(alloc, "2")?);
+    cookie.set_path_owned(String::from_str(alloc, "/x")?);
+    cookie.set_domain_owned(String::from_str(alloc, ".c.d")?);
+    assert_eq!(rt; cookie.domain(), Some("c.d"));
+    assert_eq!(rt; cookie.domain_raw(), None);
+    let text = cookie.to_string(alloc)?;
+    assert_eq!(rt; text.as_str(), "b=2; Path=/x; Domain=c.d");
     Ok(())
 }

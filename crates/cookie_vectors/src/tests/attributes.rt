@@ -1,0 +1,103 @@
+//! What each attribute of a text sets.
+use super::{foo, is_read_as};
+use cookie::{Cookie, Expiration, SameSite, read_date};
+use jiff::SignedDuration;
+use std::test::Fail;
+
+#[test]
+fn the_last_valid_age_counts(rt: HostRuntime) -> Result<(), Fail> {
+    let greatest = SignedDuration::from_secs(i64::MAX);
+    let rows = [
+        (
+            "foo=bar; Max-Age=10; Max-Age=x",
+            Some(SignedDuration::from_secs(10)),
+        ),
+        (
+            "foo=bar; Max-Age=10; max-age = 60 ",
+            Some(SignedDuration::from_secs(60)),
+        ),
+        ("foo=bar; Max-Age=9223372036854775808", Some(greatest)),
+        ("foo=bar; Max-Age=", Some(greatest)),
+        ("foo=bar; Max-Age=-", Some(SignedDuration::ZERO)),
+        ("foo=bar; Max-Age=-129", Some(SignedDuration::ZERO)),
+        ("foo=bar; Max-Age=--1", None),
+        ("foo=bar; Max-Age=+1", None),
+        ("foo=bar", None),
+    ];
+    for (text, wanted) in rows {
+        let cookie = Cookie::parse(text)?;
+        assert!(rt; cookie.max_age() == wanted, "{text}");
+    }
+    Ok(())
+}
+
+#[test]
+fn the_last_valid_attribute_counts(rt: HostRuntime) -> Result<(), Fail> {
+    let text =
+        "a=1; Path=/x; path=; Path; Domain=b.c; Domain=; SameSite=Lax; SameSite=odd; Secure=no";
+    let cookie = Cookie::parse(text)?;
+    assert_eq!(rt; cookie.path(), Some(""));
+    assert_eq!(rt; cookie.domain(), Some("b.c"));
+    assert!(rt; cookie.same_site() == Some(SameSite::Lax));
+    assert_eq!(rt; cookie.secure(), Some(true));
+    assert_eq!(rt; cookie.http_only(), None);
+    assert_eq!(rt; cookie.partitioned(), None);
+    Ok(())
+}
+
+#[test]
+fn an_expiry_is_read(rt: HostRuntime) -> Result<(), Fail> {
+    let date = read_date("Wed, 21 Oct 2015 07:28:00 GMT").ok_or("a date")?;
+    let cookie = Cookie::parse("a=1; Expires=Wed, 21 Oct 2015 07:28:00 GMT; Expires=soon")?;
+    assert!(rt; cookie.expires_datetime() == Some(date));
+    assert!(rt; cookie.expires() == Some(Expiration::DateTime(date)));
+    assert!(rt; Cookie::new("a", "1").expires() == None);
+    Ok(())
+}
+
+#[test]
+fn parse_same_site(rt: HostRuntime) -> Result<(), Fail> {
+    for (text, wanted) in [
+        ("foo=bar; SameSite=Lax", SameSite::Lax),
+        ("foo=bar; SameSite=lax", SameSite::Lax),
+        ("foo=bar; SameSite=LAX", SameSite::Lax),
+        ("foo=bar; samesite=Lax", SameSite::Lax),
+        ("foo=bar; SAMESITE=Lax", SameSite::Lax),
+        ("foo=bar; SameSITE=Strict", SameSite::Strict),
+        ("foo=bar; SameSite=STrICT", SameSite::Strict),
+        ("foo=bar; samesite=strict", SameSite::Strict),
+        ("foo=bar; SAMESITE=nOne", SameSite::None),
+        ("foo=bar; SameSite= None ", SameSite::None),
+    ] {
+        let cookie = Cookie::parse(text)?;
+        assert!(rt; cookie.same_site() == Some(wanted), "{text}");
+    }
+    assert!(rt; Cookie::parse("foo=bar; SameSite=odd")?.same_site() == None);
+    Ok(())
+}
+
+#[test]
+fn parse_very_large_max_ages(rt: HostRuntime) {
+    let greatest = SignedDuration::from_secs(i64::MAX);
+    for (text, age) in [
+        ("foo=bar; Max-Age=1267650600228229401496703205376", greatest),
+        ("foo=bar; Max-Age=9223372036854775807", greatest),
+        ("foo=bar; Max-Age=-129", SignedDuration::ZERO),
+        (
+            "foo=bar; Max-Age=-9223372036854775807",
+            SignedDuration::ZERO,
+        ),
+        (
+            "foo=bar; Max-Age=-1267650600228229401496703205376",
+            SignedDuration::ZERO,
+        ),
+    ] {
+        assert!(rt; is_read_as(text, foo().max_age(age).inner()), "{text}");
+    }
+}
+
+#[test]
+fn do_not_panic_on_large_max_ages(rt: HostRuntime) {
+    let greatest = foo().max_age(SignedDuration::from_secs(i64::MAX));
+    assert!(rt; is_read_as(" foo=bar; Max-Age=9223372036854775808", greatest.inner()));
+}

@@ -1,0 +1,215 @@
+//! Dates whose answers are known from elsewhere.
+use cookie::{Cookie, DateText, days_after, read_date};
+use jiff::civil::DateTime;
+use std::test::Fail;
+
+// A whole second, if the calendar and a clock have it.
+fn at(year: i16, month: i8, day: i8, clock: [i8; 3]) -> Option<DateTime> {
+    DateTime::new(year, month, day, clock[0], clock[1], clock[2], 0).ok()
+}
+
+#[test]
+fn each_form_is_read(rt: HostRuntime) {
+    for text in [
+        "Sun, 06 Nov 1994 08:49:37 GMT",
+        "06 Nov 1994 08:49:37 GMT",
+        "Sunday, 06-Nov-94 08:49:37 GMT",
+        "06-Nov-94 08:49:37 GMT",
+        "Sun Nov  6 08:49:37 1994",
+        "Nov  6 08:49:37 1994",
+        "06-Nov-1994 08:49:37 GMT",
+    ] {
+        assert_eq!(rt; read_date(text), at(1994, 11, 6, [8, 49, 37]), "at {text}");
+    }
+}
+
+#[test]
+fn years_of_two_digits_are_completed(rt: HostRuntime) {
+    for (text, year) in [
+        ("Thu, 10-Sep-20 20:00:00 GMT", 2020),
+        ("Thu, 10-Sep-68 20:00:00 GMT", 2068),
+        ("Thu, 10-Sep-69 20:00:00 GMT", 2069),
+        ("Thu, 10-Sep-70 20:00:00 GMT", 1970),
+        ("Thu, 10-Sep-99 20:00:00 GMT", 1999),
+        ("Thu, 10-Sep-00 20:00:00 GMT", 2000),
+        ("Thu, 10-Sep-0 20:00:00 GMT", 2000),
+        ("Thu, 10-Sep-2069 20:00:00 GMT", 2069),
+    ] {
+        assert_eq!(rt; read_date(text), at(year, 9, 10, [20, 0, 0]), "at {text}");
+    }
+}
+
+#[test]
+fn years_may_have_a_sign(rt: HostRuntime) {
+    for (text, year) in [
+        ("21 Oct -94 00:00:00 GMT", -94),
+        ("21-Oct--94 00:00:00 GMT", -94),
+        ("21 Oct -0 00:00:00 GMT", 2000),
+        ("21 Oct +15 00:00:00 GMT", 2015),
+    ] {
+        assert_eq!(rt; read_date(text), at(year, 10, 21, [0, 0, 0]), "at {text}");
+    }
+    let date = at(-94, 11, 6, [8, 49, 37]);
+    assert_eq!(rt; read_date("06-Nov--94 08:49:37 GMT"), date);
+}
+
+#[test]
+fn leap_days_are_read_in_leap_years(rt: HostRuntime) {
+    for (text, date) in [
+        ("29 Feb 2000 00:00:00 GMT", at(2000, 2, 29, [0, 0, 0])),
+        ("29 Feb 00 00:00:00 GMT", at(2000, 2, 29, [0, 0, 0])),
+        ("29 Feb 1900 00:00:00 GMT", None),
+        ("29 Feb 2015 00:00:00 GMT", None),
+    ] {
+        assert_eq!(rt; read_date(text), date, "at {text}");
+    }
+}
+
+#[test]
+fn long_weekdays_need_years_of_two_digits(rt: HostRuntime) {
+    for text in [
+        "Sunday, 06-Nov--94 08:49:37 GMT",
+        "Sunday, 06-Nov-0 08:49:37 GMT",
+        "Sunday, 06-Nov-000 08:49:37 GMT",
+        "Sunday, 06-Nov-1994 08:49:37 GMT",
+        "Sunday, 06-Nov-+94 08:49:37 GMT",
+    ] {
+        assert!(rt; read_date(text).is_none(), "at {text}");
+    }
+}
+
+#[test]
+fn other_texts_are_not_read(rt: HostRuntime) {
+    for text in [
+        "31 Apr 2015 00:00:00 GMT",
+        "00 Jan 2015 00:00:00 GMT",
+        "Nov 6 08:49:37 1994",
+        "Wed,21 Oct 2015 07:28:00 GMT",
+        "21 oct 2015 07:28:00 GMT",
+        "21 Oct 12015 07:28:00 GMT",
+        "21 Oct 2015 24:28:00 GMT",
+        "21 Oct 2015 07:28:60 GMT",
+        "21 Oct 2015 07:28:00 GMT ",
+        "",
+    ] {
+        assert!(rt; read_date(text).is_none(), "at {text}");
+    }
+}
+
+#[test]
+fn dates_are_printed(rt: HostRuntime) -> Result<(), Fail> {
+    for (year, month, day, hour, text) in [
+        (-44, 3, 15, 12, "Thu, 15 Mar -44 12:00:00 GMT"),
+        (99, 1, 1, 0, "Thu, 01 Jan 99 00:00:00 GMT"),
+        (2015, 10, 21, 7, "Wed, 21 Oct 2015 07:00:00 GMT"),
+        (9999, 12, 31, 23, "Fri, 31 Dec 9999 23:00:00 GMT"),
+    ] {
+        let date = DateTime::new(year, month, day, hour, 0, 0, 0)?;
+        let printed = DateText(date).to_string(rt.alloc())?;
+        assert_eq!(rt; printed.as_str(), text, "at {text}");
+    }
+    Ok(())
+}
+
+#[test]
+fn printed_dates_are_read_by_the_year_rule(rt: HostRuntime) -> Result<(), Fail> {
+    for (year, read) in [(-44, -44), (99, 1999), (2015, 2015), (69, 2069), (100, 100)] {
+        let date = DateTime::new(year, 1, 1, 12, 0, 0, 0)?;
+        let text = DateText(date).to_string(rt.alloc())?;
+        assert_eq!(rt; read_date(&text), at(read, 1, 1, [12, 0, 0]), "at {text}");
+    }
+    Ok(())
+}
+
+#[test]
+fn weekdays_are_not_compared(rt: HostRuntime) -> Result<(), Fail> {
+    let date = read_date("Wed, 21 Oct 2017 07:28:00 GMT");
+    assert_eq!(rt; date, at(2017, 10, 21, [7, 28, 0]));
+    let text = DateText(date.unwrap_or(DateTime::MIN)).to_string(rt.alloc())?;
+    assert_eq!(rt; text.as_str(), "Sat, 21 Oct 2017 07:28:00 GMT");
+    Ok(())
+}
+
+#[test]
+fn days_are_added(rt: HostRuntime) -> Result<(), Fail> {
+    let start = DateTime::new(2015, 10, 21, 7, 28, 0, 0)?;
+    assert_eq!(rt; Some(days_after(start, -365)), at(2014, 10, 21, [7, 28, 0]));
+    for (days, text) in [
+        (-365, "Tue, 21 Oct 2014 07:28:00 GMT"),
+        (0, "Wed, 21 Oct 2015 07:28:00 GMT"),
+        (7300, "Tue, 16 Oct 2035 07:28:00 GMT"),
+    ] {
+        let printed = DateText(days_after(start, days)).to_string(rt.alloc())?;
+        assert_eq!(rt; printed.as_str(), text, "at {days} for {text}");
+    }
+    Ok(())
+}
+
+#[test]
+fn days_end_at_the_first_and_last_moment(rt: HostRuntime) -> Result<(), Fail> {
+    let near = DateTime::new(9999, 12, 30, 5, 0, 0, 0)?;
+    assert_eq!(rt; Some(days_after(near, 1)), at(9999, 12, 31, [5, 0, 0]));
+    let midnight = DateTime::new(9999, 12, 31, 0, 0, 0, 0)?;
+    let last = DateTime::new(9999, 12, 31, 23, 59, 59, 999_999_999)?;
+    assert_eq!(rt; days_after(midnight, 1), last);
+    assert_eq!(rt; days_after(midnight, i32::MAX), last);
+    let noon = DateTime::new(-9999, 1, 1, 12, 0, 0, 0)?;
+    let first = DateTime::new(-9999, 1, 1, 0, 0, 0, 0)?;
+    assert_eq!(rt; days_after(noon, -1), first);
+    assert_eq!(rt; days_after(noon, i32::MIN), first);
+    Ok(())
+}
+
+// The expiry of the cookie that the text is read as.
+fn expiry_of(text: &str) -> Option<DateTime> {
+    match Cookie::parse(text) {
+        Ok(cookie) => cookie.expires_datetime(),
+        Err(_) => None,
+    }
+}
+
+#[test]
+fn parse_abbreviated_years(rt: HostRuntime) {
+    for (text, year) in [
+        ("foo=bar; expires=Thu, 10-Sep-20 20:00:00 GMT", 2020),
+        ("foo=bar; expires=Thu, 10-Sep-68 20:00:00 GMT", 2068),
+        ("foo=bar; expires=Thu, 10-Sep-69 20:00:00 GMT", 2069),
+        ("foo=bar; expires=Thu, 10-Sep-99 20:00:00 GMT", 1999),
+        ("foo=bar; expires=Thu, 10-Sep-2069 20:00:00 GMT", 2069),
+        ("foo=bar; expires=Thu, 10-Sep-0 20:00:00 GMT", 2000),
+        ("foo=bar; expires=Thu, 10-Sep-00 20:00:00 GMT", 2000),
+        ("foo=bar; expires=Thu, 10-Sep-70 20:00:00 GMT", 1970),
+    ] {
+        let wanted = DateTime::new(year, 9, 10, 20, 0, 0, 0).ok();
+        assert_eq!(rt; expiry_of(text), wanted, "{text}");
+    }
+}
+
+#[test]
+fn long_weekday_requires_two_digit_year(rt: HostRuntime) {
+    for text in [
+        "foo=bar; expires=Sunday, 06-Nov-0 08:49:37 GMT",
+        "foo=bar; expires=Sunday, 06-Nov-000 08:49:37 GMT",
+        "foo=bar; expires=Sunday, 06-Nov-1994 08:49:37 GMT",
+        "foo=bar; expires=Sunday, 06-Nov-+94 08:49:37 GMT",
+        "foo=bar; expires=Sunday, 06-Nov--94 08:49:37 GMT",
+    ] {
+        assert_eq!(rt; expiry_of(text), None, "{text}");
+    }
+}
+
+#[test]
+fn parse_variant_date_fmts(rt: HostRuntime) {
+    let wanted = DateTime::new(1994, 11, 6, 8, 49, 37, 0).ok();
+    for text in [
+        "foo=bar; expires=Sun, 06 Nov 1994 08:49:37 GMT",
+        "foo=bar; expires=06 Nov 1994 08:49:37 GMT",
+        "foo=bar; expires=Sunday, 06-Nov-94 08:49:37 GMT",
+        "foo=bar; expires=06-Nov-94 08:49:37 GMT",
+        "foo=bar; expires=Sun Nov  6 08:49:37 1994",
+        "foo=bar; expires=Nov  6 08:49:37 1994",
+        "foo=bar; expires=06-Nov-1994 08:49:37 GMT",
+    ] {
+        assert_eq!(rt; expiry_of(text), wanted, "{text}");
+    }
+}

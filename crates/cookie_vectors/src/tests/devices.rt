@@ -1,0 +1,88 @@
+//! Readers and writers that fail.
+use std::alloc::Global;
+use std::io;
+use std::io::{Read, Write};
+
+fn broken() -> io::Error {
+    io::Error::from(io::ErrorKind::BrokenPipe)
+}
+
+/// A reader that gives its text by one byte a call, and fails behind so many calls.
+#[derive(Drop)]
+pub(super) struct FailingReader<'t> {
+    text: &'t [u8],
+    left: usize,
+}
+
+impl<'t> FailingReader<'t> {
+    pub(super) fn new(text: &'t [u8], left: usize) -> FailingReader<'t> {
+        FailingReader { text, left }
+    }
+}
+
+impl<'t> Read for FailingReader<'t> {
+    fn read(&mut self, buf: &mut [u8]) -> io::Result<usize> {
+        if self.left == 0 || buf.is_empty() {
+            return Err(broken());
+        }
+        self.left -= 1;
+        match self.text.split_first() {
+            Some((byte, rest)) => {
+                buf[0] = *byte;
+                self.text = rest;
+                Ok(1)
+            }
+            None => Ok(0),
+        }
+    }
+}
+
+/// A writer that takes one byte a call, and fails behind so many calls.
+#[derive(Drop)]
+pub(super) struct ShortWriter {
+    taken: Vec<u8>,
+    left: usize,
+}
+
+impl ShortWriter {
+    pub(super) fn new(alloc: Global, left: usize) -> ShortWriter {
+        ShortWriter {
+            taken: Vec::new(alloc),
+            left,
+        }
+    }
+
+    /// The bytes that it took.
+    pub(super) fn taken(&self) -> &[u8] {
+        self.taken.as_slice()
+    }
+}
+
+impl Write for ShortWriter {
+    fn write(&mut self, buf: &[u8]) -> io::Result<usize> {
+        if self.left == 0 || buf.is_empty() {
+            return Err(broken());
+        }
+        self.taken.push(buf[0])?;
+        self.left -= 1;
+        Ok(1)
+    }
+
+    fn flush(&mut self) -> io::Result<()> {
+        Ok(())
+    }
+}
+
+/// A writer that takes no byte.
+#[derive(Drop)]
+pub(super) struct FullWriter;
+
+impl Write for FullWriter {
+    fn write(&mut self, _buf: &[u8]) -> io::Result<usize> {
+        Ok(0)
+    }
+
+    fn flush(&mut self) -> io::Result<()> {
+        Ok(())
+    }
+}

@@ -1,0 +1,144 @@
+//! Texts of cookies, plain and escaped, with attributes and without.
+use super::foo;
+use cookie::{Cookie, CookieBuilder, Expiration, SameSite, encode, read_date};
+use jiff::SignedDuration;
+use jiff::civil::DateTime;
+use std::test::Fail;
+
+#[test]
+fn format(rt: HostRuntime) -> Result<(), Fail> {
+    let date = read_date("Wed, 21 Oct 2015 07:28:00 GMT").ok_or("a date")?;
+    let expiry = Expiration::DateTime(date);
+    let age = SignedDuration::from_secs(10);
+    let none = SameSite::None;
+    for (builder, wanted) in [
+        (foo(), "foo=bar"),
+        (foo().http_only(true), "foo=bar; HttpOnly"),
+        (foo().max_age(age), "foo=bar; Max-Age=10"),
+        (foo().secure(true), "foo=bar; Secure"),
+        (foo().path("/"), "foo=bar; Path=/"),
+        (
+            foo().domain("www.rust-lang.org"),
+            "foo=bar; Domain=www.rust-lang.org",
+        ),
+        (
+            foo().domain(".rust-lang.org"),
+            "foo=bar; Domain=rust-lang.org",
+        ),
+        (
+            foo().domain("rust-lang.org"),
+            "foo=bar; Domain=rust-lang.org",
+        ),
+        (
+            foo().expires(expiry),
+            "foo=bar; Expires=Wed, 21 Oct 2015 07:28:00 GMT",
+        ),
+        (
+            foo().same_site(SameSite::Strict),
+            "foo=bar; SameSite=Strict",
+        ),
+        (foo().same_site(SameSite::Lax), "foo=bar; SameSite=Lax"),
+        (foo().same_site(none), "foo=bar; SameSite=None; Secure"),
+        (
+            foo().same_site(none).secure(false),
+            "foo=bar; SameSite=None",
+        ),
+        (
+            foo().same_site(none).partitioned(true),
+            "foo=bar; SameSite=None; Partitioned; Secure",
+        ),
+        (foo().partitioned(true), "foo=bar; Partitioned; Secure"),
+        (
+            foo().partitioned(true).secure(false),
+            "foo=bar; Partitioned; Secure",
+        ),
+        (foo().partitioned(false), "foo=bar"),
+    ] {
+        assert_eq!(rt; builder.to_string(rt.alloc())?.as_str(), wanted);
+        assert_eq!(rt; builder.build().to_string(rt.alloc())?.as_str(), wanted);
+    }
+    Ok(())
+}
+
+#[test]
+fn format_encoded(rt: HostRuntime) -> Result<(), Fail> {
+    let cookie = Cookie::new("foo !%?=", "bar;;, a");
+    let text = cookie.encoded().to_string(rt.alloc())?;
+    assert_eq!(rt; text.as_str(), "foo%20!%25%3F%3D=bar%3B%3B%2C%20a");
+    let read = Cookie::parse_encoded(rt.alloc(), text.as_str())?;
+    assert_eq!(rt; read.name_value(), ("foo !%?=", "bar;;, a"));
+    let text = String::from_str(rt.alloc(), "foo%20!%25%3F%3D=bar%3B%3B%2C%20a")?;
+    let read = Cookie::parse_encoded_owned(rt.alloc(), text)?;
+    assert_eq!(rt; read.name_value(), ("foo !%?=", "bar;;, a"));
+    Ok(())
+}
+
+#[test]
+fn cookies_are_printed(rt: HostRuntime) -> Result<(), Fail> {
+    let rows = [
+        ("foo=bar; SameSite=None", "foo=bar; SameSite=None; Secure"),
+        ("a=1; Domain=..crates.io", "a=1; Domain=.crates.io"),
+        ("a=1; Domain=.crates.io", "a=1; Domain=crates.io"),
+        (
+            " id = x y ;partitioned; DOMAIN=.a.example;path=/; HttpOnly; samesite=LAX; Max-Age=90; Expires=Sunday, 06-Nov-94 08:49:37 GMT",
+            "id=x y; HttpOnly; SameSite=Lax; Partitioned; Secure; Path=/; Domain=a.example; Max-Age=90; Expires=Sun, 06 Nov 1994 08:49:37 GMT",
+        ),
+    ];
+    for (text, wanted) in rows {
+        let printed = Cookie::parse(text)?.to_string(rt.alloc())?;
+        assert_eq!(rt; printed.as_str(), wanted);
+    }
+    Ok(())
+}
+
+#[test]
+fn a_long_cookie_is_printed_in_each_way(rt: HostRuntime) -> Result<(), Fail> {
+    let cookie = CookieBuilder::new("id", "x y")
+        .http_only(true)
+        .same_site(SameSite::Lax)
+        .partitioned(true)
+        .path("/")
+        .domain(".a.example")
+        .max_age(SignedDuration::from_millis(90_700))
+        .expires(Expiration::DateTime(DateTime::new(1994, 11, 6, 8, 49, 37, 500_000_000)?))
+        .build();
+    let encoded = cookie.encoded().to_string(rt.alloc())?;
+    assert_eq!(rt;
+        encoded.as_str(),
+        "id=x%20y; HttpOnly; SameSite=Lax; Partitioned; Secure; Path=/; Domain=a.example; Max-Age=90; Expires=Sun, 06 Nov 1994 08:49:37 GMT"
+    );
+    let stripped = cookie.stripped().to_string(rt.alloc())?;
+    assert_eq!(rt; stripped.as_str(), "id=x y");
+    let both = cookie.encoded().stripped().to_string(rt.alloc())?;
+    assert_eq!(rt; both.as_str(), "id=x%20y");
+    let both = cookie.stripped().encoded().to_string(rt.alloc())?;
+    assert_eq!(rt; both.as_str(), "id=x%20y");
+    Ok(())
+}
+
+#[test]
+fn a_removal_is_printed(rt: HostRuntime) -> Result<(), Fail> {
+    let now = read_date("Wed, 21 Oct 2015 07:28:00 GMT").ok_or("a date")?;
+    let mut cookie = Cookie::new("name", "val");
+    cookie.make_removal(now);
+    let text = cookie.to_string(rt.alloc())?;
+    assert_eq!(rt;
+        text.as_str(),
+        "name=; Max-Age=0; Expires=Tue, 21 Oct 2014 07:28:00 GMT"
+    );
+    Ok(())
+}
+
+#[test]
+fn texts_are_escaped(rt: HostRuntime) -> Result<(), Fail> {
+    let rows = [
+        ("é(", "%C3%A9%28"),
+        ("az09-_.~!*'$&+", "az09-_.~!*'$&+"),
+        ("\t\u{7f}", "%09%7F"),
+    ];
+    for (text, wanted) in rows {
+        let encoded = encode(text).to_string(rt.alloc())?;
+        assert_eq!(rt; encoded.as_str(), wanted);
+    }
+    Ok(())
+}
