@@ -1,0 +1,11 @@
+mod AesLemmas
+pub mod BytesLemmas
+pub mod GcmLemmas
+pub mod HornerLemmas
+pub mod MacLemmas
+mod Made
+mod MixingLemmas
+pub mod ProductLemmas
+mod SboxLemmas
+mod StandardFacts
+mod StepLemmas

@@ -1,0 +1,11 @@
+pub mod Hmac
+pub mod Expand
+pub mod ByteField
+pub mod Sbox
+pub mod Aes
+pub mod BlockField
+pub mod Ghash
+pub mod Gcm
+pub mod Steps
+pub mod Bytes
+pub mod Code

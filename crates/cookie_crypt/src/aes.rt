@@ -1,0 +1,177 @@
+//! AES-256, forward (FIPS 197).
+ghost use Rattle.std.specs.Prelude.{◌≡◌, ◌<◌, ◌≤◌, List, ℕ, take};
+ghost use Rattle.cookie_crypt.specs.Aes.{sub_bytes, shift_rows, mix_columns, word, word_sum, sub_word, added_word, key_expansion, add_round_key, cipher, encrypt_block};
+ghost use Rattle.cookie_crypt.specs.Code.{doubled};
+ghost use Rattle.cookie_crypt.specs.ByteField.{IsInverse, inverse};
+
+use crate::byte_field::times_x;
+use crate::sbox::substitute;
+use std::marker::Model;
+
+const ROUND_CONSTANTS: [u8; 7] = [0x01, 0x02, 0x04, 0x08, 0x10, 0x20, 0x40];
+
+fn sub_bytes(state: [u8; 16]) -> [u8; 16]
+    ensures { result ≡ sub_bytes state }
+{
+    let mut bytes = [0; 16];
+    for i in 0..16usize {
+        bytes[i] = substitute(state[i]);
+    }
+    bytes
+}
+
+fn shift_rows(state: [u8; 16]) -> [u8; 16]
+    ensures { result ≡ shift_rows state }
+{
+    let mut bytes = [0; 16];
+    for i in 0..16usize {
+        bytes[i] = state[4 * ((i / 4 + i % 4) % 4) + i % 4];
+    }
+    bytes
+}
+
+// `x` times each byte.
+fn doubled(state: &[u8; 16]) -> [u8; 16]
+    ensures { result ≡ doubled state.now }
+{
+    let mut bytes = [0; 16];
+    for i in 0..16usize {
+        bytes[i] = times_x(state[i]);
+    }
+    bytes
+}
+
+// A row takes its own byte twice, the next row's three times, which is 2 + 1, and the others once. As a function of its
+// own this is compiled to a few instructions on all sixteen bytes.
+#[inline(never)]
+fn mix_columns(state: &[u8; 16]) -> [u8; 16]
+    ensures { result ≡ mix_columns state.now }
+{
+    let doubled = doubled(state);
+    let mut bytes = [0; 16];
+    for i in 0..16usize {
+        let column = 4 * (i / 4);
+        let (second, third, fourth) = ((i + 1) % 4, (i + 2) % 4, (i + 3) % 4);
+        bytes[i] = doubled[i]
+            ^ doubled[column + second]
+            ^ state[column + second]
+            ^ state[column + third]
+            ^ state[column + fourth];
+    }
+    bytes
+}
+
+fn add_round_key(words: &[u8; 240], round: usize, state: [u8; 16]) -> [u8; 16]
+    requires { round ≤ 14 }
+    ensures { result ≡ add_round_key words.now round state }
+{
+    let mut bytes = [0; 16];
+    for i in 0..16usize {
+        bytes[i] = state[i] ^ words[16 * round + i];
+    }
+    bytes
+}
+
+fn word(words: &[u8; 240], i: usize) -> [u8; 4]
+    requires { i < 60 }
+    ensures { result ≡ word words.now i }
+{
+    [
+        words[4 * i],
+        words[4 * i + 1],
+        words[4 * i + 2],
+        words[4 * i + 3],
+    ]
+}
+
+fn word_sum(x: [u8; 4], y: [u8; 4]) -> [u8; 4]
+    ensures { result ≡ word_sum x y }
+{
+    [x[0] ^ y[0], x[1] ^ y[1], x[2] ^ y[2], x[3] ^ y[3]]
+}
+
+fn sub_word(x: [u8; 4]) -> [u8; 4]
+    ensures { result ≡ sub_word x }
+{
+    [
+        substitute(x[0]),
+        substitute(x[1]),
+        substitute(x[2]),
+        substitute(x[3]),
+    ]
+}
+
+fn added_word(x: [u8; 4], i: usize) -> [u8; 4]
+    requires first { 8 ≤ i }
+    requires last { i < 60 }
+    ensures { result ≡ added_word x i }
+{
+    if i % 8 == 0 {
+        let rotated = [x[1], x[2], x[3], x[0]];
+        word_sum(sub_word(rotated), [ROUND_CONSTANTS[i / 8 - 1], 0, 0, 0])
+    } else if i % 8 == 4 {
+        sub_word(x)
+    } else {
+        x
+    }
+}
+
+fn key_expansion(key: &[u8; 32]) -> [u8; 240]
+    ensures { result ≡ key_expansion key.now }
+{
+    let mut words = [0; 240];
+    'key: for i in 0..32usize {
+        words[i] = key[i];
+    }
+    'words: for i in 8..60usize {
+        let next = word_sum(word(&words, i - 8), added_word(word(&words, i - 1), i));
+        words[4 * i] = next[0];
+        words[4 * i + 1] = next[1];
+        words[4 * i + 2] = next[2];
+        words[4 * i + 3] = next[3];
+    }
+    words
+}
+
+fn cipher(words: &[u8; 240], block: [u8; 16]) -> [u8; 16]
+    ensures { result ≡ cipher words.now block }
+{
+    let mut state = add_round_key(words, 0, block);
+    for round in 1..14usize {
+        state = add_round_key(words, round, mix_columns(&shift_rows(sub_bytes(state))));
+    }
+    add_round_key(words, 14, shift_rows(sub_bytes(state)))
+}
+
+/// AES-256 under a key, which is what a clause sees.
+#[derive(Drop)]
+pub struct Aes256 {
+    words: [u8; 240],
+}
+
+impl Model for Aes256 {
+    ghost Value = { List ℕ };
+
+    ghost view = { λ a. take 32 a.words };
+
+    ghost invariant = { λ a. a.words ≡ key_expansion (take 32 a.words) };
+}
+
+impl Aes256 {
+    /// AES-256 under `key`.
+    pub fn new(key: &[u8; 32]) -> Aes256
+        ensures { result ≡ key.now }
+    {
+        Aes256 {
+            words: key_expansion(key),
+        }
+    }
+
+    /// The block, encrypted (FIPS 197, 5.1).
+    pub fn encrypt_block(&self, block: [u8; 16]) -> [u8; 16]
+        ensures value { result ≡ encrypt_block self.now block }
+        ensures inverses { (b : ℕ) → b < 256 → IsInverse b (inverse b) }
+    {
+        cipher(&self.words, block)
+    }
+}

@@ -1,0 +1,44 @@
+//! Blocks of sixteen bytes: as numbers, as counters (SP 800-38D, 6.2), and of padded data.
+ghost use Rattle.std.specs.Prelude.{◌≡◌, ◌<◌, ◌*◌, length};
+ghost use Rattle.cookie_crypt.specs.Gcm.{number_of, bytes_of, counter_block, block_at};
+
+/// The number that a block's bytes write, the first byte highest.
+pub fn number_of(block: [u8; 16]) -> u128
+    ensures { result ≡ number_of block }
+{
+    u128::from_be_bytes(block)
+}
+
+/// The block that a number is written as.
+pub fn bytes_of(number: u128) -> [u8; 16]
+    ensures { result ≡ bytes_of number }
+{
+    number.to_be_bytes()
+}
+
+/// The nonce and a counter.
+pub fn counter_block(nonce: &[u8; 12], counter: u32) -> [u8; 16]
+    ensures { result ≡ counter_block nonce.now counter }
+{
+    let [a, b, c, d] = counter.to_be_bytes();
+    [
+        nonce[0], nonce[1], nonce[2], nonce[3], nonce[4], nonce[5], nonce[6], nonce[7], nonce[8],
+        nonce[9], nonce[10], nonce[11], a, b, c, d,
+    ]
+}
+
+/// Block `i` of the data, padded with zeros.
+pub fn block_at(bytes: &[u8], i: usize) -> u128
+    requires { 16 * i < length bytes.now }
+    ensures { result ≡ block_at bytes.now i }
+{
+    let mut block = [0; 16];
+    for j in 0..16usize {
+        block[j] = if j < bytes.len() - 16 * i {
+            bytes[16 * i + j]
+        } else {
+            0
+        };
+    }
+    number_of(block)
+}

@@ -1,0 +1,151 @@
+//! AES-256-GCM with a nonce of twelve bytes (SP 800-38D).
+ghost use Rattle.std.specs.Prelude.{◌≡◌, ◌<◌, ◌≤◌, ◌+◌, ◌-◌, ◌^◌, ◌↔◌, ℕ, List, length, IsSome, IfSome, IfNone, OnSome};
+ghost use Rattle.std.specs.Bool.{OnTrue, OnFalse};
+ghost use Rattle.cookie_crypt.specs.Bytes.{IsBytes};
+ghost use Rattle.cookie_crypt.specs.Gcm.{gctr, tag_of, tag_by_steps, hash_subkey, IsWithin, IsSealing, SealsToBytes};
+ghost use Rattle.cookie_crypt.specs.Ghash.{HasSum, HasPowersFirst};
+ghost use Rattle.cookie_crypt.specs.Steps.{block_count, with_blocks, no_steps, tag_steps, sealing_steps};
+
+use crate::aes::Aes256;
+use crate::block::{bytes_of, counter_block, number_of};
+use crate::block_field::multiples;
+use crate::ghash::hash_from;
+use crate::steps::Steps;
+use std::marker::Model;
+
+// The most bytes of a text, and of associated data (SP 800-38D, 5.2.1.1).
+const LONGEST_TEXT: usize = (1 << 36) - 32;
+
+const LONGEST_DATA: usize = (1 << 61) - 1;
+
+// Adds the stream under the nonce to the text (SP 800-38D, 6.5).
+fn add_key_stream(cipher: &Aes256, nonce: &[u8; 12], text: &mut [u8], steps: &mut Steps)
+    requires within { length text.old ≤ 2 ^ 36 - 32 }
+    requires room { steps.old.blocks + block_count (length text.old) < 2 ^ 64 }
+    ensures made { text.new ≡ gctr cipher.now nonce.now text.old }
+    ensures counted { steps.new ≡ with_blocks (block_count (length text.old)) steps.old }
+{
+    let mut stream = [0; 16];
+    for k in 0..text.len() {
+        if k % 16 == 0 {
+            let counter = (k / 16) as u32 + 2;
+            stream = steps.encrypt_block(cipher, counter_block(nonce, counter));
+        }
+        text[k] ^= stream[k % 16];
+    }
+}
+
+// The tag of an encrypted text (SP 800-38D, 7.1, steps 4 to 6).
+fn tag_of(cipher: &Aes256, nonce: &[u8; 12], aad: &[u8], text: &[u8], steps: &mut Steps) -> [u8; 16]
+    requires within { IsWithin (length aad.now) (length text.now) }
+    requires room { steps.old.blocks < 2 ^ 40 }
+    requires no_products { steps.old.products ≡ 0 }
+    requires no_table_steps { steps.old.table_steps ≡ 0 }
+    ensures made { result ≡ tag_of cipher.now nonce.now aad.now text.now }
+    ensures by_steps { result ≡ tag_by_steps cipher.now nonce.now aad.now text.now }
+    ensures powers_first { HasPowersFirst (hash_subkey cipher.now) }
+    ensures counted { steps.new ≡ with_blocks steps.old.blocks (tag_steps (length aad.now) (length text.now)) }
+{
+    let subkey = number_of(steps.encrypt_block(cipher, [0; 16]));
+    let multiples = multiples(subkey);
+    let hash = hash_from(0, &multiples, aad, steps);
+    let hash = hash_from(hash, &multiples, text, steps);
+    let lengths = ((8 * aad.len() as u128) << 64) + 8 * text.len() as u128;
+    let hash = steps.product(&multiples, hash ^ lengths);
+    let mask = number_of(steps.encrypt_block(cipher, counter_block(nonce, 1)));
+    bytes_of(hash ^ mask)
+}
+
+/// AES-256-GCM under a key, which is what a clause sees.
+#[derive(Drop)]
+pub struct Gcm {
+    cipher: Aes256,
+}
+
+impl Model for Gcm {
+    ghost Value = { List ℕ };
+
+    ghost view = { λ g. g.cipher };
+
+    ghost invariant = { λ g. IsBytes g.cipher };
+}
+
+impl Gcm {
+    /// AES-256-GCM under `key`.
+    pub fn new(key: &[u8; 32]) -> Gcm
+        ensures value { result ≡ key.now }
+        ensures bytes { SealsToBytes key.now }
+    {
+        Gcm {
+            cipher: Aes256::new(key),
+        }
+    }
+
+    /// Encrypts the text in place, and gives the tag of it and of the associated data `aad`
+    /// (SP 800-38D, 7.1). No two texts may be sealed under one key and one nonce.
+    ///
+    /// `None` where the text has more than 2^36 - 32 bytes or the data more than 2^61 - 1. `steps` is
+    /// set to what was done, whatever it held.
+    pub fn seal_in_place(
+        &self,
+        nonce: &[u8; 12],
+        aad: &[u8],
+        text: &mut [u8],
+        steps: &mut Steps,
+    ) -> Option<[u8; 16]>
+        ensures limits { IsSome result ↔ IsWithin (length aad.now) (length text.old) }
+        ensures sealed { IfSome result (λ tag. IsSealing self.now nonce.now aad.now text.old text.new tag) }
+        ensures counted { OnSome result (steps.new ≡ sealing_steps (length aad.now) (length text.old)) }
+        ensures unchanged { IfNone result (text.new ≡ text.old) }
+        ensures uncounted { IfNone result (steps.new ≡ no_steps) }
+
+        // The hash in the tag is a sum of blocks times powers. The standard's steps give it too, over all blocks, and a
+        // block times a power is one product.
+        ensures by_steps { IfSome result (λ tag. tag ≡ tag_by_steps self.now nonce.now aad.now text.new) }
+        ensures steps_are_the_sum { HasSum (hash_subkey self.now) }
+        ensures powers_first { OnSome result (HasPowersFirst (hash_subkey self.now)) }
+
+        ensures bytes { SealsToBytes self.now }
+    {
+        let cipher = &self.cipher;
+        *steps = Steps::new();
+        if text.len() > LONGEST_TEXT || aad.len() > LONGEST_DATA {
+            return None;
+        }
+        add_key_stream(cipher, nonce, text, steps);
+        Some(tag_of(cipher, nonce, aad, text, steps))
+    }
+
+    /// Decrypts the text in place and answers true where text and tag are a sealing (SP 800-38D, 7.2).
+    /// Else it leaves the text as it was.
+    ///
+    /// `steps` is set to what was done, whatever it held.
+    pub fn open_in_place(
+        &self,
+        nonce: &[u8; 12],
+        aad: &[u8],
+        text: &mut [u8],
+        tag: &[u8; 16],
+        steps: &mut Steps,
+    ) -> bool
+        ensures opened { OnTrue result (IsSealing self.now nonce.now aad.now text.new text.old tag.now) }
+        ensures only { OnTrue result ((plain : List ℕ) → IsSealing self.now nonce.now aad.now plain text.old tag.now → text.new ≡ plain) }
+        ensures refused { OnFalse result ((plain : List ℕ) → ¬ IsSealing self.now nonce.now aad.now plain text.old tag.now) }
+        ensures unchanged { OnFalse result (text.new ≡ text.old) }
+        ensures counted { OnTrue result (steps.new ≡ sealing_steps (length aad.now) (length text.old)) }
+        ensures counted_if_refused { OnFalse result (IsWithin (length aad.now) (length text.old) → steps.new ≡ tag_steps (length aad.now) (length text.old)) }
+        ensures uncounted { ¬ IsWithin (length aad.now) (length text.old) → steps.new ≡ no_steps }
+        ensures bytes { SealsToBytes self.now }
+    {
+        let cipher = &self.cipher;
+        *steps = Steps::new();
+        if text.len() > LONGEST_TEXT || aad.len() > LONGEST_DATA {
+            return false;
+        }
+        if tag_of(cipher, nonce, aad, text, steps) != *tag {
+            return false;
+        }
+        add_key_stream(cipher, nonce, text, steps);
+        true
+    }
+}

@@ -1,0 +1,22 @@
+//! HMAC-SHA256, its expansion, and AES-256-GCM, for the signed and private values of cookies.
+#![tactic(auto)]
+
+mod aes;
+mod block;
+mod block_field;
+mod byte_field;
+mod expand;
+mod gcm;
+mod ghash;
+mod mac;
+mod sbox;
+mod steps;
+
+pub use aes::Aes256;
+pub use expand::expand64;
+pub use gcm::Gcm;
+pub use mac::hmac;
+pub use steps::Steps;
+
+#[cfg(test)]
+mod tests;

@@ -1,0 +1,6 @@
+//! Each public function at answers of the standards.
+mod blocks;
+mod hex;
+mod macs;
+mod sealings;
+mod standards;

@@ -1,0 +1,445 @@
+//! Texts that the standards' files seal, and texts that must not open.
+use super::hex::{block_of, fill, key_of, nonce_of};
+use crate::{Gcm, Steps};
+
+const LONGEST: usize = 144;
+
+// Key, nonce, associated data, plain text, encrypted text and tag: gcmEncryptExtIV256 and gcmDecrypt256 of NIST's CAVP,
+// and at the end one of ring's.
+const SEALED: [(&str, &str, &str, &str, &str, &str); 28] = [
+    (
+        "b52c505a37d78eda5dd34f20c22540ea1b58963cf8e5bf8ffa85f9f2492505b4",
+        "516c33929df5a3284ff463d7",
+        "",
+        "",
+        "",
+        "bdc1ac884d332457a1d2664f168c76f0",
+    ),
+    (
+        "4457ff33683cca6ca493878bdc00373893a9763412eef8cddb54f91318e0da88",
+        "699d1f29d7b8c55300bb1fd2",
+        "6749daeea367d0e9809e2dc2f309e6e3",
+        "",
+        "",
+        "d60c74d2517fde4a74e0cd4709ed43a9",
+    ),
+    (
+        "e65a331776c9dcdf5eba6c59e05ec079d97473bcdce84daf836be323456263a0",
+        "ca731f768da01d02eb8e727e",
+        "d7274586517bf1d8da866f4a47ad0bcf2948a862",
+        "",
+        "",
+        "a8abe7a8085f25130a7206d37a8aaf6d",
+    ),
+    (
+        "4be09b408ad68b890f94be5efa7fe9c917362712a3480c57cd3844935f35acb7",
+        "8f350bd3b8eea173fc7370bc",
+        "2819d65aec942198ca97d4435efd9dd4d4393b96cf5ba44f09bce4ba135fc8636e8275dcb515414b8befd32f91fc4822",
+        "",
+        "",
+        "a133cb7a7d0471dbac61fb41589a2efe",
+    ),
+    (
+        "15276fc64438578e0ec53366b90a0e23d93910fec10dc3003d9b3f3fa72db702",
+        "c5e931946d5caebc227656d2",
+        "3f967c83ba02e77c14e9d41185eb87f172250e93edb0f82b6742c124298ab69418358eddefa39fedc3cade9d80f036d864a59ead37c87727c56c701a8cd9634469ff31c704f5ee39354157e6558467b92824da36b1c071bedfe9",
+        "",
+        "",
+        "a0ffa19adcf31d061cd0dd46d24015ef",
+    ),
+    (
+        "130ae450c18efb851057aaa79575a0a090194be8b2c95469a0e8e380a8f48f42",
+        "b269115396f81b39e0c38f47",
+        "",
+        "036cf36280dee8355c82abc4c1fdb778",
+        "09f7568fd8181652e556f0dda5a49ed5",
+        "d10b61947cae275b7034f5259ba6fc28",
+    ),
+    (
+        "2775d3e7a8fc665bb9a59edc22eb136add194824ed8f2adb449177404c739716",
+        "73f16c054e166696df679a2e",
+        "23199a1c9b7244913952ca4f7e7444f4",
+        "c9f3bce40310b6c0a3fd62742e4f3617",
+        "72c85c10756266d00a9a4340b2cb3137",
+        "5881e4565b42394e62d5daf0d1ebc593",
+    ),
+    (
+        "7b720d31cd62966dd4d002c9ea41bcfc419e6d285dfab0023ba21b34e754cb2f",
+        "e1fb1f9229b451b72f89c333",
+        "7fdae42d0cf6a13873d3092c41dd3a19a9ea90f9",
+        "1aa2948ed804f24e5d783b1bc959e086",
+        "8631d3c6b6647866b868421b6a3a548a",
+        "a31febbe169d8d6f391a5e60ef6243a0",
+    ),
+    (
+        "e4fed339c7b0cd267305d11ab0d5c3273632e8872d35bdc367a1363438239a35",
+        "0365882cf75432cfd23cbd42",
+        "8a97d2af5d41160ac2ff7dd8ba098e7aa4d618f0f455957d6a6d0801796747ba57c32dfbaaaf15176528fe3a0e4550c9",
+        "fff39a087de39a03919fbd2f2fa5f513",
+        "8d9e68f03f7e5f4a0ffaa7650d026d08",
+        "3554542c478c0635285a61d1b51f6afa",
+    ),
+    (
+        "dda7977efa1be95a0e41ed8bcd2aa648621945c95a9e28b63919e1d92d269fc3",
+        "053f6e1be42af8894a6e86a0",
+        "cb5114a001989339657427eb88329d6ce9c69694dc91a69b7557d62184e57832ec76d162fc9c47490bb3d78e5899445cecf85d36cb1f07fed5a3d82aaf7e9590f3ed74ad13b13c8adbfc7f29d7b151448d6f29d11d0bd3d03b76",
+        "6fa9b08176e9963927afba1e5f969a42",
+        "d4adbff3ec8edade29b9a1b748c31b54",
+        "3b331733c753858c22d309ceb0f9488c",
+    ),
+    (
+        "acad4a3588a7c5ec67832baee242b007c8f42ed7425d5a7e57b1070b7be2677e",
+        "b11704ba368abadf8b0c2b98",
+        "",
+        "2656b5fbec8a3666cad5f460b7",
+        "35c7114cabe39203df19413a99",
+        "16f4c7e5becf00db1223476a14c43ebc",
+    ),
+    (
+        "9484b7ce3c118a8a2d556c2f7ba41fca34f60c9ea1070171459c9e7487c9537e",
+        "87bc033522ae84d2abe863c5",
+        "07ee18737b9bf8223979a01c59a90eb4",
+        "14d8004793190563825e273dda",
+        "43034a2c57ccacc367796d766a",
+        "4c981ca8b6e9e52092f5435e7ef55fbb",
+    ),
+    (
+        "18ca572da055a2ebb479be6d6d7164e78f592b159cdea76e9fe208062d7b3fa1",
+        "1b041e534ae20748262f3929",
+        "e8a925d7ce18dd456b071cb4c46655940efbe991",
+        "cda2fa0015361ecf684c6ba7d1",
+        "740d8d578e2e7522c31019f471",
+        "f2eeb5af1bfedd10570a137fe2566c3f",
+    ),
+    (
+        "56552f0cef34673a4c958ff55ad0b32c6ababa06cb3ae90178ab1c9a1f29c0e5",
+        "b34d24935407e8592247ffff",
+        "b199437da189486a8fd1c2fa1fe3ebbb116f0ef41415bb7c8065272fb0b2fe8edca9cd0d4255d467e77f2834be557474",
+        "dbd6cc358b28ab66a69f5238d4",
+        "76dc8d035e5ca4001e4e3fcb18",
+        "49c01f735da1131cd42b01b746fd38de",
+    ),
+    (
+        "2aad7db82df4a0d2ec85218da9d61ade98f65feeb8532d8eb728ef8aac220da6",
+        "029ac2e9f5dc3d76b0d1f9df",
+        "d6f4b6232d17b1bc307912a15f39ccd185a465ee860279e98eb9551498d7b078271ebabdda7211e6b4ab187043171bc5e4bf9ffcf89a778430e735df29410a45ca354b0003433c6bc8593ee82e7c096a32eac76d11daa7d64150",
+        "ba363912f6207c54aecd26b627",
+        "bfcad32611da275a0f0821517c",
+        "9ea37bdcaafad69caf06d67fb18dd001",
+    ),
+    (
+        "a2ef619054164073c06a191b6431c4c0bc2690508dcb6e88a8396a1391291483",
+        "16c6d20224b556a8ad7e6007",
+        "",
+        "949a9f85966f4a317cf592e70c5fb59c4cacbd08140c8169ba10b2e8791ae57b",
+        "b5054a392e5f0672e7922ac243b93b432e8c58274ff4a6d3aa8cb654e494e2f2",
+        "cf2bbdb740369c140e93e251e6f5c875",
+    ),
+    (
+        "37ccdba1d929d6436c16bba5b5ff34deec88ed7df3d15d0f4ddf80c0c731ee1f",
+        "5c1b21c8998ed6299006d3f9",
+        "22ed235946235a85a45bc5fad7140bfa",
+        "ad4260e3cdc76bcc10c7b2c06b80b3be948258e5ef20c508a81f51e96a518388",
+        "3b335f8b08d33ccdcad228a74700f1007542a4d1e7fc1ebe3f447fe71af29816",
+        "1fbf49cc46f458bf6e88f6370975e6d4",
+    ),
+    (
+        "5019ac0617fea10517a2a2714e6cd369c681be340c2a24611306edcd9d5c3928",
+        "fd1fa6b5cab9aa8d56418abb",
+        "953bcbd731a139c5de3a2b75e9ffa4f48018266a",
+        "4349221f6647a906a47e64b5a7a1deb2f7caf5c3fef16f0b968d625bca363dca",
+        "dbce650508dab5f499767651ee734692f7b157341977692d2ca879799e8f54aa",
+        "20239e97e2db4985f07e271ba545bbbf",
+    ),
+    (
+        "0219f14b9ca6506c1388177c4ae6ee64ad2ac0256ebbf8c219b40df6e8571d70",
+        "3420a87c4b9b23ba81eb221e",
+        "54dc2277b8d1aae660ffcc326e2c5d9e16b8ca17288601aacd02b3eea8bc5cc60718639aa189506b7b333b87da86e940",
+        "348f7a4ca944f252e4562c66dacf01fb10d70a3c8f5b280a2829567a2a94e47e",
+        "58c92119bfb6ad53e387cac6728ce73b82e18f6e5bfbfca5f5acc370cd8c76a4",
+        "e7f9e3e3dae6d0a3470d8f597291180c",
+    ),
+    (
+        "a23296632913051e438114deb782fb955b75acc35e86e7e9fdaf4e9025b87f12",
+        "ad50db40f80f15214e43ffd7",
+        "a6f96f5a89bfd8c8f34cd07045270d80e58ea62f1f0b10f2506a954f272af0bc71df96ad3fa8eed52c45e0b868091dc4f75d9e0eaf15a0a858a71bf7036c5607110cbfe47ad9b6d02e942fcfae88d4c792a1f824e60e3cf98a37",
+        "b71116cc27b5a5844d9b51a4a720cb3f06d55d6aaeaeaf921236424db8617204",
+        "8e9e4b0ac93ab8e73688d6b4723d8c5ef399ead72246c7aa7a0783a8bfe29936",
+        "b7dea91e4b357ce805edeea3f91392d2",
+    ),
+    (
+        "1c7690d5d845fceabba227b11ca221f4d6d302233641016d9cd3a158c3e36017",
+        "93bca8de6b11a4830c5f5f64",
+        "",
+        "3c79a39878a605f3ac63a256f68c8a66369cc3cd7af680d19692b485a7ba58ce1d536707c55eda5b256c8b29bbf0b4cbeb4fc4",
+        "c9e48684df13afccdb1d9ceaa483759022e59c3111188c1eceb02eaf308035b0428db826de862d925a3c55af0b61fd8f09a74d",
+        "8f577e8730c19858cad8e0124f311dd9",
+    ),
+    (
+        "8e7a8e7b129326e5410c8ae67fbd318de1909caba1d2b79210793c6b2c6e61c7",
+        "8e48513fdd971861ef7b5dc3",
+        "80bb66a4727095b6c201fb3d82b0fcf5",
+        "ef6b4145910139293631db87a0d7782a1d95db568e857598128582e8914b4fa7c03c1b83e5624a2eb4c340c8ad7e6736a3e700",
+        "e302687c0548973897a27c31911fc87ee93d8758c4ded68d6bd6415eaaf86bcc45fa6a1ef8a6ae068820549b170405b3fc0925",
+        "ff5c193952558e5a120e672f566be411",
+    ),
+    (
+        "8e82a85466ee024eb1ae10c4982d6a95e6dbe5582299ab37fe89a9db80ab51a6",
+        "04cfd489e18eeb7a4a8ab36b",
+        "7bb54b1a6ed0ca387268a146430c0bfa2602a8fd",
+        "3aa2e4eaed18c4602715ae77379e9083708af9f9b49031324d41abca61440319c8c8e6dbcc20006a825b12ced00b2286848a94",
+        "674b1391937074642408eeae9b748ca629da9fd00281824f5a108f6078ee78f98749392bb6e29b53e53e4b11739ac53a8e653b",
+        "e320a873a9c2e8ef455698c37ea59a6d",
+    ),
+    (
+        "e6cdcf497a6e119009bf43ac183d2dd4d4e967964ef92811f69eb18d92923305",
+        "3e88459a76e1dcc890788297",
+        "a359f86ec918537d80a84da7b66bca700c1ff9ec7f8695a30808d484da218d15ae89c5f943e71778445130191f779001",
+        "72a3dfb555ba0029fc3d1c85b836f76135bd1858189efdde2db29045f2c26e6a65627d81a0b85ca42e8269d432a41154e929ac",
+        "9ae3f8ccae0bb5789b1105118760c406e41175a76612435cb0c8be225ea6b368c9d08c9d9a24b512d1458e94af79e3060ab69e",
+        "ac3bbc8fd6a7097df6f298411c23e385",
+    ),
+    (
+        "148579a3cbca86d5520d66c0ec71ca5f7e41ba78e56dc6eebd566fed547fe691",
+        "b08a5ea1927499c6ecbfd4e0",
+        "e4f963f015ffbb99ee3349bbaf7e8e8e6c2a71c230a48f9d59860a29091d2747e01a5ca572347e247d25f56ba7ae8e05cde2be3c97931292c02370208ecd097ef692687fecf2f419d3200162a6480a57dad408a0dfeb492e2c5d",
+        "9d0b15fdf1bd595f91f8b3abc0f7dec927dfd4799935a1795d9ce00c9b879434420fe42c275a7cd7b39d638fb81ca52b49dc41",
+        "2097e372950a5e9383c675e89eea1c314f999159f5611344b298cda45e62843716f215f82ee663919c64002a5c198d7878fd3f",
+        "adbecdb0d5c2224d804d2886ff9a5760",
+    ),
+    (
+        "80e2e561886eb2a953cf923aaac1653ed2db0111ee62e09cb20d9e2652bd3476",
+        "5daf201589654da8884c3c68",
+        "e51e5bce7cbceb660399",
+        "96669d2d3542a4d49c7c",
+        "4521953e7d39497e4563",
+        "2083e3c0d84d663066bbe2961b08dcf7",
+    ),
+    (
+        "5033338bf7526cca0425f4a620424662ebc58364c8d985d130e525fd1f598f3f",
+        "b40842b30758aa3eef7cda62",
+        "3efe0ed6fbafa61070388abc59c0d06589309736b02418df5534c8c594d61a2afefbee17af8283d01634b6ca3e8e2aeadff8",
+        "69a62b8c5f9b81cebee3a9345f4e49ea089b0d9c1cc57b4ef707956d0287de83fcca6d8f5270a9393e00693075028189bda7",
+        "d6184677a21978b6443d99d7de1fd01c6b6334cf01b7e7d58456267453f4de96708b62301172c8c87e970f91c5301e0ff61e",
+        "f8ac7aef208712845d137b8b176c89f1",
+    ),
+    (
+        "4f2edc967b11983f05ef5ee2a4364039ac02dbcccef3f3719913ae2719c8217c",
+        "255f8209b0c67a6277bdb42e",
+        "1dc7065f1585384b88be47598ca484782716c78f49b3b6bf5d24a5b0d24fbd7831f18d77d80951d2c4fafb6f939d46362a69b558afadb3bb4d8aa27f7fcf3dd9624e1e075fce9bb239926d51ea9dff03619d64d5828103a414e360adcda8fd864fca55c21df86c76972c3765ab1d68ce89f708e7e5a3e06cd4de08573cf750c6f5f9",
+        "f8217163bcaf77c1383089e396b271e22c517e8ccda244256cc39315fab7d0c291078d90e9b6e336992f015282caa1ec0ea858a179c9735b7a2f0d50f6f1eecaf3b9308772279ebb95f8aa53826e9dd60fb354de0c50c10001c98812b59d7c0f36daa1aecda6782ca36130fbb559363fe07704b0b91ea85be319ada027e47840c764",
+        "6719849b7cea3f7f2a8e4de13d7a864d581b7c638f49fb06378a768d2034548179963c33f0ad099254c2edda9ef771daf5d299f58850033e2e449d7bc21ca3f7d3b7408429b596da615c8582886a6d8c1a9ba81fec4a41a38b7cbf1a80ee0ec8bd71451e727051fbf2a1d1e3c6ca98ee113e47650ba4fe80451e79b04abc8bb99a2a",
+        "2ac7f962553a8007de3369c7795bc876",
+    ),
+];
+
+// Key, nonce, associated data, text and a tag that is not its own: gcmDecrypt256 of NIST's CAVP.
+const REFUSED: [(&str, &str, &str, &str, &str); 24] = [
+    (
+        "e5a8123f2e2e007d4e379ba114a2fb66e6613f57c72d4e4f024964053028a831",
+        "51e43385bf533e168427e1ad",
+        "",
+        "",
+        "38fe845c66e66bdd884c2aecafd280e6",
+    ),
+    (
+        "577cd9f1a9f0f4b61455db0d5183536c2e5d000df5c812e140ca746ea9d05cbd",
+        "7d6a93560b53453681028e45",
+        "7b4114eb668366fc26bc2078f04cac9a",
+        "",
+        "294409118a4ac46ee9444464ac352cd6",
+    ),
+    (
+        "ef785e34ea523c87619d8591239de3423fd1c7a9ee203fc74477aa48ed7e3c67",
+        "de7f230450a033556951adfc",
+        "ab00dd4c8f1cc65ccd5121233aecbaed9a30bb38",
+        "",
+        "00846778ff579c8986f3a37055c15208",
+    ),
+    (
+        "1ed34057d646ef8865139b7513ea1bc63e548210a44a842318a0408abb20365b",
+        "bb8f8fd33bb70610de13df35",
+        "4a40fb6e7af950103c577b77b5196e51189f80548253360b67f140dbaee565ef77c4f890e231d3843d3787e1e3507251",
+        "",
+        "4140622c6ac161e93cc582b062cedb4b",
+    ),
+    (
+        "4c145bf50f973e87aa184b030b89637ef74233109bb4bf7767f39056d3087d0c",
+        "4f6a3ab44988a38158e9e0f0",
+        "a73c18bd94182282834d7d777cc26129874febd66286e9c857fc8448762ca27c84e45160850eb42afb5c3551ffd8b401f37b043d66f1ff148321559c2e0a3d63597514bc62bdf172da070f69c8b85edfbaf22810fa0370326075",
+        "",
+        "27dfd0da66cfa8bc4d72318523059561",
+    ),
+    (
+        "1759cac2024a3ddd5e561ca5a9b91c3c4e64c722381bd30f3f26851faf16c7e8",
+        "656ca7bd2cb82ab7a3d6b268",
+        "",
+        "8d9530d3ac659240ddd8b77155cfc2f7",
+        "6000924fb29f7d2588866371b131ef5d",
+    ),
+    (
+        "121886f942c0f48e858138280ccb07c15b437c66c544de027f5ac4a4df1fe9b3",
+        "31fa465f8541c1f176f56c85",
+        "7eaf362e5a491706f235653f92a1a52a",
+        "1a3cc971b4435a3bc44ca04197503a7d",
+        "7eb29d6ce4325f10e7e0b4682299b737",
+    ),
+    (
+        "cb53e826d290adf31e56cc0a01b38380300aacec5c6901d2d80a07543f1fa37b",
+        "c86d97f84bc1f5d5d2f81151",
+        "67b4771058a6b22ba0cc69caf32d6b03b3dbdd78",
+        "444641566b31528356d8e73719c0485a",
+        "f3547c547a11dde74a33232ea322ca4f",
+    ),
+    (
+        "0fc8ae600fd3396716c3e88327545b5e4308eda1c25e076d1098fabb74a9f0a0",
+        "c529787b4c756a2343f36280",
+        "2c6ac22d787b70bf516f4bf72deb8f9514a588e5e53cb26980becd0d500bb23453d8ed874ec2514b813aa45d2dc36e6a",
+        "7dc464c2735f446f9a3f92873688e6c3",
+        "fd6d32ff9a090bb880371a678f37ecaa",
+    ),
+    (
+        "f6cdf582f0f20b303a600c8bb54573499df817b079d57deab462132fb0231f6c",
+        "ef6f1194478e790065b8b9db",
+        "ed590c5864a3bd81911585662f8cc6e185f51455fc6908bd6e8d7add92a4d96c5ac40c0578893f09ba0c2b01c8f463b7d4dc18eba427ad54bbadd41c88ad1ea1f24cfc035e31027d28559d11bd58d7c3cb1a3cff671225cf1db2",
+        "05ea21d83b89a1b816a898ed16c2de3b",
+        "a286b11b89c6cbc39b3e4d0962100054",
+    ),
+    (
+        "0d59185a349c144898a17b6f297921f00c8fb91a6b57a5cc9ae426ae856ae595",
+        "a35e7741dd7650a91330cc51",
+        "",
+        "e80b6e94fd726de703166115aa",
+        "8ea5c6f198c774543e7cd542869c2556",
+    ),
+    (
+        "3a996bc48e844e77d3f7968d6ae66375fc4d160f03a3aa4f13249f1511258884",
+        "7cfd5ff2c07864d4458a2a1f",
+        "ab3b736c21d298ae0e8e618c3a36005d",
+        "6c5573777b0b9b3c751df83518",
+        "da1bca39b1c84c28d63a9d78f8cba55a",
+    ),
+    (
+        "a8418413d26dd3a30776ab3ee31d82d889ce7ebd33d2755d678a7eeba0c309e5",
+        "f480199bd592060e85a43251",
+        "5d3d909c8e930466500accb6a36e03e705420843",
+        "379e142d028ee82e3bafe326ea",
+        "c558681d449259b8b969764c9e639b6a",
+    ),
+    (
+        "532807e0d65ebf83bc8c05e6ce062f4b246b3650e128cc531ffd6b5f5e83d5b9",
+        "0175a6d4672459eaa0f357d5",
+        "42a6888dcb901d73264a869c84ffaf712d8cf9d1e9d55375c7ac8d532db787955a83318f9b515088c4d9920ebea3c322",
+        "77963e5b3b8fac60e48b93a506",
+        "eb4828f753833ad20e475d2b07e46a99",
+    ),
+    (
+        "ae2a66292ac594b205943bba7f4179d75832b30577e2fd302d0d7bc874ef40dc",
+        "d30fe51408514f64a9ed0bb0",
+        "",
+        "8e39d50373af8423280c0f1387281a60a190f3366e26b808f359d1c73b0f99c8",
+        "5ee2c108da323529fc5c7ce4ad58b89a",
+    ),
+    (
+        "166ea427bc90dbdc318a56d61480f9dd0552337207754bea6a3cd107ce2b560f",
+        "6f14958b2d69fea5b357446d",
+        "19a53f575ee61934fbb75f31d406c23e",
+        "344bfeee0a19c73816481921365dd2df0f512561425451a0a2cea062786b34ce",
+        "6b55ee046423c87bfd9a9da137d0bb18",
+    ),
+    (
+        "c018a816d3eb4902a4b542b159dc74a25a2241a26bb3a8c6eed0600b08b02586",
+        "39b14469f1bfa030e229cb3b",
+        "147fd7f5dfe6937ba9d36e305dc718243d9a5d74",
+        "9628e93fa9140d031f48a42913869ebda3dddc6d56f71e922ef6a0393d3ac794",
+        "4ea6ba8994445a77db95212b2c4e07e4",
+    ),
+    (
+        "a74c8c852c5b82945f8bd7dff9ac04956d45627486ef1fa3585c13c85150cff9",
+        "b32dde8ee819b2387ce24e8e",
+        "99f9951951b1529e7ad1e2f8ec93380e12c81e5daea6b9b50c7e6d4c9b315df032d3d89e06ff1304be607025c6e5c361",
+        "228c6cf2b689bf9e912142232eaa8f2b3f2ad0cf65b0d264829422071c46016d",
+        "8b24d79ab2b134964a153b65ca25d30e",
+    ),
+    (
+        "1ed494b8d1eb695f4857ac77031838da42f00d0ae28b811fbf57a4c9e413c314",
+        "17363e51a38d99bfc27b404b",
+        "e8d34fe3f833920285d826c753b5270b713f3f3c55532f4d4eabf6f021c2c5bb8574f29b5da80ad8fdb1a0f10916d4b9c7c773723536dc625239b78fa942d63099d6cec52a4b81fc126df50abe9bb1f8407223081788d3fd7a4c",
+        "2b8833067ad193a4db0621e40b642447dbad0ee8824d47a89c7ef6c32f5b268d",
+        "a515fb6ab63b9b52f79cb1794226641b",
+    ),
+    (
+        "f491aa3ecf50b92adb928c764c98213c282839c298cb87686340d8a9ad2f6c3b",
+        "41ce75c8160be3e35be9c3fc",
+        "",
+        "0ef8a738639d7f5c6a7c19823354a5b5566e4c64da73ffe56f282b49e002b03846567bbb1e259435fb35c68440b44681d4aa20",
+        "4e50d33249005686b3b8d7e260095072",
+    ),
+    (
+        "b52ef964164f84607d57ef8a428ae2446ca7a5e62db16344ce16d55127de00ac",
+        "8b8733e13356659217b29dab",
+        "bef3689a4c4cf0e976367cbf3bae3934",
+        "5429cf34da85fa7b0a68330b53feb07829fe0d95e86474e22dbdd94d1ee8d6314ff096b418f56afeea18d9dd0e509617482bde",
+        "3e85e617bb0416f690f7723aa0eb2072",
+    ),
+    (
+        "bfb348738b190879894e42b5b76c88eac54a50a76fe3b85ee1e09828da1ea314",
+        "8ba1d6adb61ca5dcea06ff96",
+        "bcacb62238a0bf13a4b074d84e1eb5992007161c",
+        "e9579d82327be4c7958b08723b4d1d658dafcbaa2184f8a3838c645056588e3984d8e87bb599fcdb12f3b0f5605d62614692ed",
+        "7e652eb509f990f2c733322990a81ee9",
+    ),
+    (
+        "ae02edd322afbf5002a22f6d745f6b93c946d34089a9943fcf9114060b942b74",
+        "f345788b7cf2a0f5e1e6fdcf",
+        "d08ecc2575a5cce9190815e0ac2874aae09c11c606963c365d8bde182b6a7ccdaa2489a1e1f82e8bd1bdc890f842ecd2",
+        "403946a53b57fd644d2033e9feb5e70ee0d7760c2d4136033b26edf22d1eb430a22b5641fe11cbff9ea704630465eaede5fa5b",
+        "154a3811c02b635a0400577e82a486dd",
+    ),
+    (
+        "8ce43539dc92ac0cae5333d1a672fdc15cff4e5b82c7571c9ae57d90b5f10bd3",
+        "4db5773306c66e2be6c2e689",
+        "944c4ac629c39e4ec21e497f46477cdcb092952cd9f7a86b499962a8aa1a246007a9f1d4cf7bdf9f477bccc226a2056b63785f397b74e8b816beb86fda7bf5a354c6caca4c97d606d463fb5cc486792069a625bdefa065b430e9",
+        "83751e2ad6cc0c6ffb9cd5a09b2c4985cc8c29def9c51708d4b008b25719ee3db38ed8c775e0a58ec6611355520a55b6379ca8",
+        "c1cffde06139c4b356ec35b563bfd7b7",
+    ),
+];
+
+#[test]
+fn texts_are_sealed_and_opened(rt: HostRuntime) {
+    for (i, (key, nonce, data, plain, sealed, tag)) in SEALED.into_iter().enumerate() {
+        let gcm = Gcm::new(&key_of(key));
+        let nonce = nonce_of(nonce);
+        let (mut aad, mut text, mut expected) = ([0; LONGEST], [0; LONGEST], [0; LONGEST]);
+        let aad = fill(data, &mut aad);
+        let text = fill(plain, &mut text);
+        let mut steps = Steps::new();
+        let answer = gcm.seal_in_place(&nonce, aad, text, &mut steps);
+        assert_eq!(rt; answer, Some(block_of(tag)), "row {i}");
+        assert_eq!(rt; *text, *fill(sealed, &mut expected), "row {i}");
+        assert!(rt;
+            gcm.open_in_place(&nonce, aad, text, &block_of(tag), &mut steps),
+            "row {i}"
+        );
+        assert_eq!(rt; *text, *fill(plain, &mut expected), "row {i}");
+    }
+}
+
+#[test]
+fn texts_of_another_tag_are_refused(rt: HostRuntime) {
+    for (i, (key, nonce, data, sealed, tag)) in REFUSED.into_iter().enumerate() {
+        let gcm = Gcm::new(&key_of(key));
+        let (mut aad, mut text, mut expected) = ([0; LONGEST], [0; LONGEST], [0; LONGEST]);
+        let aad = fill(data, &mut aad);
+        let text = fill(sealed, &mut text);
+        let opened = gcm.open_in_place(
+            &nonce_of(nonce),
+            aad,
+            text,
+            &block_of(tag),
+            &mut Steps::new(),
+        );
+        assert!(rt; !opened, "row {i}");
+        assert_eq!(rt; *text, *fill(sealed, &mut expected), "row {i}");
+    }
+}
