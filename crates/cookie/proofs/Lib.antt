@@ -2,6 +2,7 @@ pub mod HistoryLemmas
 pub mod JarLemmas
 pub mod MetLemmas
 pub mod NameLemmas
+pub mod PrefixLemmas
 pub mod ShownLemmas
 pub mod TableCopyLemmas
 pub mod WalkLemmas

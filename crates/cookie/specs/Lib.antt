@@ -1,6 +1,9 @@
+pub mod Clipped
 pub mod History
 pub mod Jar
 pub mod JarError
+pub mod PrefixedJars
+pub mod Prefixes
 pub mod Shown
 pub mod Table
 pub mod Types

@@ -125,13 +125,18 @@ impl CookieJar {
         self.delta.clear();
     }
 
+    // What the jar and its child jars ask for memory.
+    pub(crate) fn allocator(&self) -> Global {
+        *self.delta.allocator()
+    }
+
     /// A jar with copies of this one's originals and changes.
     ///
     /// Fails for want of memory alone.
     pub fn clone(&self) -> Result<CookieJar, JarError>
         ensures { Gives refusal.OutOfMemory result (λ made. made ≡ self.now) }
     {
-        let alloc = *self.delta.allocator();
+        let alloc = self.allocator();
         let made = CookieJar {
             originals: copy(&self.originals, alloc)?,
             delta: copy(&self.delta, alloc)?,

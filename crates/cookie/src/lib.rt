@@ -7,6 +7,7 @@ mod iter;
 mod jar;
 mod jar_error;
 mod original;
+pub mod prefix;
 
 pub use cookie_core::{
     Builder, Cookie, CookieBuilder, DateText, Display, EncodedText, Expiration, ParseError,

@@ -2,12 +2,37 @@
 use Rattle.std.specs.Prelude.{◌≡◌, ◌≢◌, Bool, true, false, List, [], ◌∷◌, map, string_bytes}
 use Rattle.jiff.specs.Types.{DateTime}
 use Rattle.cookie.specs.History.{accepted}
-use Rattle.cookie.specs.Jar.{Change, AddOriginal, Add, Remove, ForceRemove, ResetDelta}
+use Rattle.cookie.specs.Jar.{Name, Change, AddOriginal, Add, Remove, ForceRemove, ResetDelta}
 use Rattle.cookie.specs.Normal.{IsUncut}
+use Rattle.cookie.specs.Prefixes.{applied, host_prefix, host_bound, secure_prefix, secured}
 use Rattle.cookie.specs.Record.{Record}
 use Rattle.cookie_client.specs.Live.{is_live}
 use Rattle.cookie_client.specs.declared.call.JarCall.{JarCall}
 use Rattle.cookie_client.specs.declared.call.JarCall.TheVariants as calls
+use Rattle.cookie_client.specs.declared.child_call.ChildCall.{ChildCall}
+use Rattle.cookie_client.specs.declared.child_call.ChildCall.TheVariants as child
+use Rattle.cookie_client.specs.declared.prefix_kind.PrefixKind.{PrefixKind}
+use Rattle.cookie_client.specs.declared.prefix_kind.PrefixKind.TheVariants as kinds
+
+-- what stands before the names of a kind of prefix
+abbrev pub prefix_of : PrefixKind → Name
+prefix_of kinds.Host = host_prefix
+prefix_of kinds.Secure = secure_prefix
+
+-- what conforming to it makes of a cookie
+abbrev pub conformed_to : PrefixKind → Record → Record
+conformed_to kinds.Host = host_bound
+conformed_to kinds.Secure = secured
+
+-- the cookie as a child jar of this prefix stores it
+abbrev pub stored_with : PrefixKind → Record → Record
+stored_with kind cookie = applied (prefix_of kind) (conformed_to kind) cookie
+
+-- the change of the jar that a call on a child jar asks for, which stores cookies so
+abbrev pub child_change : (Record → Record) → ChildCall → Change
+child_change stored (child.AddOriginal cookie) = AddOriginal (stored cookie.fields)
+child_change stored (child.Add cookie) = Add (stored cookie.fields)
+child_change stored (child.Remove cookie now) = Remove (stored cookie.fields) now
 
 -- the change of the jar that a call asks for
 abbrev pub change_of : JarCall → Change
@@ -16,6 +41,7 @@ change_of (calls.Add cookie) = Add cookie.fields
 change_of (calls.Remove cookie now) = Remove cookie.fields now
 change_of (calls.ForceRemove name) = ForceRemove (string_bytes name)
 change_of calls.ResetDelta = ResetDelta
+change_of (calls.Prefixed kind call) = child_change (stored_with kind) call
 
 -- the changes of the calls whose outcome is true
 abbrev pub changes_of : List Bool → List JarCall → List Change
@@ -28,12 +54,19 @@ is_certain (calls.Add cookie) = false
 is_certain (calls.Remove cookie now) = false
 is_certain (calls.ForceRemove name) = true
 is_certain calls.ResetDelta = true
+is_certain (calls.Prefixed kind call) = false
 
 -- each call that is never refused has the outcome true
 abbrev pub AreTaken : List JarCall → List Bool → Type 0
 AreTaken [] outcomes = Unit {0}
 AreTaken (call ∷ calls) [] = Unit {0}
 AreTaken (call ∷ calls) (outcome ∷ outcomes) = (is_certain call ≡ true → outcome ≡ true) × AreTaken calls outcomes
+
+-- the same of a child jar
+abbrev pub is_child_change : ChildCall → Bool
+is_child_change (child.AddOriginal cookie) = false
+is_child_change (child.Add cookie) = true
+is_child_change (child.Remove cookie now) = true
 
 -- an addition that isn't an original, or a removal
 abbrev pub is_change : JarCall → Bool
@@ -42,12 +75,19 @@ is_change (calls.Add cookie) = true
 is_change (calls.Remove cookie now) = true
 is_change (calls.ForceRemove name) = false
 is_change calls.ResetDelta = false
+is_change (calls.Prefixed kind call) = is_child_change call
 
 -- an added cookie that a client can follow: it has a name, it is live at the moment, and its path and its domain, where they are set, hold no `;`
 pub record IsFitAddition (now : DateTime) (cookie : Record) : Type 0 where
   pub name : cookie.name ≢ []
   pub live : is_live cookie now ≡ true
   pub uncut : IsUncut cookie
+
+-- the same of a child jar
+abbrev pub IsFitChild : DateTime → ChildCall → Type 0
+IsFitChild now (child.AddOriginal cookie) = cookie.fields.name ≢ []
+IsFitChild now (child.Add cookie) = IsFitAddition now cookie.fields
+IsFitChild now (child.Remove cookie moment) = cookie.fields.name ≢ []
 
 -- a call that a client can follow at the moment; the cookie is looked at as it was handed in
 abbrev pub IsFitCall : DateTime → JarCall → Type 0
@@ -56,3 +96,4 @@ IsFitCall now (calls.Add cookie) = IsFitAddition now cookie.fields
 IsFitCall now (calls.Remove cookie moment) = cookie.fields.name ≢ []
 IsFitCall now (calls.ForceRemove name) = Unit {0}
 IsFitCall now calls.ResetDelta = Unit {0}
+IsFitCall now (calls.Prefixed kind call) = IsFitChild now call

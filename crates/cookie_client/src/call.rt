@@ -1,10 +1,12 @@
 //! Calls on a jar, as values.
 ghost use Rattle.std.specs.Prelude.{◌≡◌, ◌≢◌, ◌↔◌, [], All, IsTrue, IfSome, option_map};
 ghost use Rattle.cookie.specs.Pieces.{Lacks};
-ghost use Rattle.cookie_client.specs.Calls.{IsFitAddition, IsFitCall, is_change};
-ghost use Rattle.cookie_client.specs.KnownCalls.{IsKnownCall};
+ghost use Rattle.cookie_client.specs.Calls.{IsFitAddition, IsFitCall, IsFitChild, is_change, is_child_change};
+ghost use Rattle.cookie_client.specs.KnownCalls.{IsKnownCall, IsKnownChild};
 
+use crate::child_call::ChildCall;
 use crate::live::is_live;
+use crate::prefix_kind::PrefixKind;
 use cookie::Cookie;
 use jiff::civil::DateTime;
 
@@ -21,6 +23,8 @@ pub enum JarCall {
     ForceRemove(String),
     /// Forgets all changes.
     ResetDelta,
+    /// A call through the child jar of a prefix.
+    Prefixed(PrefixKind, ChildCall),
 }
 
 impl JarCall {
@@ -36,6 +40,7 @@ impl JarCall {
             JarCall::Remove(cookie, _) => has_name(cookie),
             JarCall::ForceRemove(_) => true,
             JarCall::ResetDelta => true,
+            JarCall::Prefixed(_, call) => call.is_fit(now),
         }
     }
 
@@ -43,7 +48,11 @@ impl JarCall {
     pub fn is_change(&self) -> bool
         ensures { result ≡ is_change self.now }
     {
-        matches!(self, JarCall::Add(_) | JarCall::Remove(_, _))
+        match self {
+            JarCall::AddOriginal(_) | JarCall::ForceRemove(_) | JarCall::ResetDelta => false,
+            JarCall::Add(_) | JarCall::Remove(_, _) => true,
+            JarCall::Prefixed(_, call) => call.is_change(),
+        }
     }
 
     /// What holds of the cookie in the call. It does nothing.
@@ -56,6 +65,35 @@ impl JarCall {
             JarCall::Remove(cookie, _) => cookie.known(),
             JarCall::ForceRemove(_) => (),
             JarCall::ResetDelta => (),
+            JarCall::Prefixed(_, call) => call.known(),
+        }
+    }
+}
+
+impl ChildCall {
+    fn is_fit(&self, now: DateTime) -> bool
+        ensures { IsTrue result ↔ IsFitChild now self.now }
+    {
+        match self {
+            ChildCall::AddOriginal(cookie) => has_name(cookie),
+            ChildCall::Add(cookie) => is_fit_addition(cookie, now),
+            ChildCall::Remove(cookie, _) => has_name(cookie),
+        }
+    }
+
+    fn is_change(&self) -> bool
+        ensures { result ≡ is_child_change self.now }
+    {
+        matches!(self, ChildCall::Add(_) | ChildCall::Remove(_, _))
+    }
+
+    fn known(&self)
+        ensures { IsKnownChild self.now }
+    {
+        match self {
+            ChildCall::AddOriginal(cookie) => cookie.known(),
+            ChildCall::Add(cookie) => cookie.known(),
+            ChildCall::Remove(cookie, _) => cookie.known(),
         }
     }
 }

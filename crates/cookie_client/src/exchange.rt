@@ -1,5 +1,6 @@
 //! A jar, and a client that follows it.
-ghost use Rattle.std.specs.Prelude.{◌≡◌, ◌<◌, ◌∷◌, [], length, map, reverse, IfOk, OnOk, IsPermutation, string_bytes};
+ghost use Rattle.std.specs.Prelude.{◌≡◌, ◌<◌, ◌∷◌, ◌++◌, [], length, map, reverse, IfOk, OnOk, IsPermutation, string_bytes};
+ghost use Rattle.std.specs.FinMap.{insert};
 ghost use Rattle.cookie.specs.History.{after_all, LooksBack};
 ghost use Rattle.cookie.specs.Jar.{empty_jar};
 ghost use Rattle.cookie_client.specs.Agreement.{Agrees, AreDeltaTexts, originals_of};
@@ -8,10 +9,13 @@ ghost use Rattle.cookie_client.specs.Client.{after_texts};
 ghost use Rattle.cookie_client.specs.Session.{holding};
 
 use crate::call::{JarCall, known_calls};
+use crate::child_call::ChildCall;
 use crate::client::Client;
 use crate::client_error::ClientError;
 use crate::history::replay;
-use cookie::CookieJar;
+use crate::prefix_kind::PrefixKind;
+use cookie::prefix::{Host, Prefix, Prefixing, Secure};
+use cookie::{Cookie, CookieJar};
 use jiff::civil::DateTime;
 use std::alloc::{AllocError, Global};
 
@@ -45,7 +49,7 @@ pub fn mirror(
     let mut jar = CookieJar::new(alloc);
     let outcomes = replay(alloc, &mut jar, calls)?;
     let mut client = Client::new(alloc);
-    hold_originals(&mut client, calls, &outcomes)?;
+    hold_originals(alloc, &mut client, calls, &outcomes)?;
     let texts = delta_texts(alloc, &jar)?;
     let texts = reordered(alloc, texts, pick)?;
     read_texts(&mut client, &texts, now)?;
@@ -57,7 +61,12 @@ pub fn mirror(
 }
 
 /// Has a client hold what the call adds as an original, if it was accepted.
-fn hold_one(client: &mut Client, call: &JarCall, is_accepted: bool) -> Result<(), ClientError>
+fn hold_one(
+    alloc: Global,
+    client: &mut Client,
+    call: &JarCall,
+    is_accepted: bool,
+) -> Result<(), ClientError>
     ensures { OnOk result (client.new ≡ holding (originals_of (changes_of (is_accepted ∷ []) (call.now ∷ []))) client.old) }
 {
     if !is_accepted {
@@ -65,12 +74,31 @@ fn hold_one(client: &mut Client, call: &JarCall, is_accepted: bool) -> Result<()
     }
     match call {
         JarCall::AddOriginal(cookie) => client.hold(cookie.name(), cookie.value()),
+        JarCall::Prefixed(PrefixKind::Host, ChildCall::AddOriginal(cookie)) => {
+            hold_prefixed::<Host>(alloc, client, cookie)
+        }
+        JarCall::Prefixed(PrefixKind::Secure, ChildCall::AddOriginal(cookie)) => {
+            hold_prefixed::<Secure>(alloc, client, cookie)
+        }
         _ => Ok(()),
     }
 }
 
+/// Has a client hold the cookie's value under its name with the prefix.
+fn hold_prefixed<P: Prefix>(
+    alloc: Global,
+    client: &mut Client,
+    cookie: &Cookie<'_>,
+) -> Result<(), ClientError>
+    ensures { OnOk result (client.new ≡ insert client.old (P.PREFIX ++ cookie.now.fields.name) cookie.now.fields.value) }
+{
+    let name = P::prefixed_name(alloc, cookie.name())?;
+    client.hold(name.as_str(), cookie.value())
+}
+
 /// Has a client hold each name's last accepted original.
 fn hold_originals(
+    alloc: Global,
     client: &mut Client,
     calls: &[JarCall],
     outcomes: &[bool],
@@ -79,7 +107,7 @@ fn hold_originals(
     ensures { OnOk result (client.new ≡ holding (originals_of (changes_of outcomes.now calls.now)) client.old) }
 {
     for index in 0..calls.len() {
-        hold_one(client, &calls[index], outcomes[index])?;
+        hold_one(alloc, client, &calls[index], outcomes[index])?;
     }
     Ok(())
 }

@@ -2,10 +2,14 @@
 ghost use Rattle.std.specs.Prelude.{◌≡◌, Bool, true, length, IsOk, IfOk, OnOk, OnErr};
 ghost use Rattle.cookie.specs.History.{after_all};
 ghost use Rattle.cookie.specs.Jar.{after};
-ghost use Rattle.cookie_client.specs.Calls.{AreTaken, change_of, changes_of, is_certain};
+ghost use Rattle.cookie.specs.Prefixes.{applied};
+ghost use Rattle.cookie_client.specs.Calls.{AreTaken, change_of, child_change, changes_of, is_certain};
 
 use crate::call::JarCall;
+use crate::child_call::ChildCall;
 use crate::client_error::ClientError;
+use crate::prefix_kind::PrefixKind;
+use cookie::prefix::{Host, Prefix, Secure};
 use cookie::{CookieJar, JarError};
 use std::alloc::Global;
 
@@ -27,6 +31,26 @@ fn play(alloc: Global, jar: &mut CookieJar, call: &JarCall) -> Result<(), JarErr
             jar.reset_delta();
             Ok(())
         }
+        JarCall::Prefixed(PrefixKind::Host, call) => play_prefixed(alloc, jar, Host, call),
+        JarCall::Prefixed(PrefixKind::Secure, call) => play_prefixed(alloc, jar, Secure, call),
+    }
+}
+
+/// Makes one call on the child jar of a prefix.
+fn play_prefixed<P: Prefix>(
+    alloc: Global,
+    jar: &mut CookieJar,
+    prefix: P,
+    call: &ChildCall,
+) -> Result<(), JarError>
+    ensures ok { OnOk result (jar.new ≡ after (child_change (applied P.PREFIX P.conformed) call.now) jar.old) }
+    ensures err { OnErr result (jar.new ≡ jar.old) }
+{
+    let mut child = jar.prefixed_mut(prefix);
+    match call {
+        ChildCall::AddOriginal(cookie) => child.add_original(cookie.clone(alloc)?),
+        ChildCall::Add(cookie) => child.add(cookie.clone(alloc)?),
+        ChildCall::Remove(cookie, now) => child.remove(cookie.clone(alloc)?, *now),
     }
 }
 

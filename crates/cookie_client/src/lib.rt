@@ -2,22 +2,26 @@
 #![tactic(auto)]
 
 mod call;
+mod child_call;
 mod client;
 mod client_error;
 mod exchange;
 mod history;
 mod lines;
 mod live;
+mod prefix_kind;
 mod run_error;
 mod session;
 mod streams;
 mod text_map;
 
 pub use call::JarCall;
+pub use child_call::ChildCall;
 pub use client::Client;
 pub use client_error::ClientError;
 pub use exchange::{Played, mirror};
 pub use history::replay;
+pub use prefix_kind::PrefixKind;
 pub use run_error::RunError;
 pub use session::run;
 

@@ -10,6 +10,7 @@ mod exchanges;
 mod fields;
 mod flat_jar;
 mod jars;
+mod prefixes;
 mod printing;
 mod raw_forms;
 mod reading;

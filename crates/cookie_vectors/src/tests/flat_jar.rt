@@ -59,6 +59,8 @@ impl FlatJar {
                 self.changes.clear();
                 Ok(())
             }
+            // The lists that are compared have no calls of child jars.
+            JarCall::Prefixed(_, _) => Ok(()),
         }
     }
 

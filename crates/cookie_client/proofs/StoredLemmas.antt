@@ -1,0 +1,52 @@
+-- A cookie as a child jar stores it is a cookie, and fit where it was fit as it was handed in.
+use Rattle.std.proofs.Common.{◌≡◌, ℕ, zero, suc, nat_lt, true, List, [], ◌∷◌, IsAscii, IsUtf8, codes, refl, arith}
+use Rattle.std.proofs.lemmas.Bool.{and_parts}
+use Rattle.std.specs.List.{list_all}
+use mathlib.Core.Logic.{◌≢◌}
+use Rattle.std.proofs.lemmas.Str.{IsUtf8-append, IsUtf8-from_ascii}
+use Rattle.jiff.specs.Types.{DateTime}
+use Rattle.cookie.specs.Pieces.{Lacks}
+use Rattle.cookie.specs.Prefixes.{host_prefix, secure_prefix}
+use Rattle.cookie.specs.Record.{Record, IsCookie}
+use Rattle.cookie.proofs.ByteLemmas.{Lacks-from_test}
+use Rattle.cookie_client.specs.Calls.{IsFitAddition, stored_with}
+use Rattle.cookie_client.specs.declared.prefix_kind.PrefixKind.{PrefixKind}
+use Rattle.cookie_client.specs.declared.prefix_kind.PrefixKind.TheVariants as kinds
+
+-- a text whose bytes are all below 128 is UTF-8
+below_128 : (bs : List ℕ) → list_all (λ b. nat_lt b 128) bs ≡ true → IsAscii bs
+below_128 [] h i = omega arith
+below_128 (b ∷ bs) h zero = grind (arith, and_parts (nat_lt b 128) (list_all (λ b. nat_lt b 128) bs) h)
+below_128 (b ∷ bs) h (suc i) = below_128 bs (and_parts (nat_lt b 128) (list_all (λ b. nat_lt b 128) bs) h).1 i
+
+ascii : (bs : List ℕ) → list_all (λ b. nat_lt b 128) bs ≡ true → IsUtf8 bs
+ascii bs h = IsUtf8-from_ascii bs (below_128 bs h)
+
+pub IsCookie-stored : (kind : PrefixKind) (c : Record) → IsCookie c → IsCookie (stored_with kind c)
+IsCookie-stored kinds.Host c is =
+    record {
+      name = IsUtf8-append host_prefix c.name (ascii host_prefix refl) is.name;
+      value = is.value;
+      path = ascii (codes "/") refl;
+      domain = tt;
+      max_age = is.max_age;
+    }
+IsCookie-stored kinds.Secure c is =
+    record {
+      name = IsUtf8-append secure_prefix c.name (ascii secure_prefix refl) is.name;
+      value = is.value;
+      path = is.path;
+      domain = is.domain;
+      max_age = is.max_age;
+    }
+
+pub stored-named : (kind : PrefixKind) (c : Record) → (stored_with kind c).name ≢ []
+stored-named kinds.Host c e = cc
+stored-named kinds.Secure c e = cc
+
+slash_lacks : Lacks 59 (codes "/")
+slash_lacks = Lacks-from_test 59 (codes "/") refl
+
+pub IsFitAddition-stored : (now : DateTime) (kind : PrefixKind) (c : Record) → IsFitAddition now c → IsFitAddition now (stored_with kind c)
+IsFitAddition-stored now kinds.Host c fit = record { name = stored-named kinds.Host c; live = fit.live; uncut = record { path = slash_lacks; domain = tt } }
+IsFitAddition-stored now kinds.Secure c fit = record { name = stored-named kinds.Secure c; live = fit.live; uncut = record { path = fit.uncut.path; domain = fit.uncut.domain } }
