@@ -1,5 +1,6 @@
 pub mod HistoryLemmas
 pub mod JarLemmas
+pub mod KeyLemmas
 pub mod MetLemmas
 pub mod NameLemmas
 pub mod PrefixLemmas
@@ -32,3 +33,5 @@ pub use Rattle.cookie_core.proofs.ReadingLemmas
 pub use Rattle.cookie_core.proofs.SpanLemmas
 pub use Rattle.cookie_core.proofs.SplitLemmas
 pub use Rattle.cookie_core.proofs.TrimLemmas
+pub use Rattle.cookie_crypt.proofs.GcmLemmas
+pub use Rattle.cookie_crypt.proofs.MacLemmas

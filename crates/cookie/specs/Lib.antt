@@ -2,6 +2,8 @@ pub mod Clipped
 pub mod History
 pub mod Jar
 pub mod JarError
+pub mod KeyError
+pub mod Keys
 pub mod PrefixedJars
 pub mod Prefixes
 pub mod Shown
@@ -37,3 +39,7 @@ pub use Rattle.cookie_core.specs.DateText
 pub use Rattle.cookie_core.specs.Days
 pub use Rattle.cookie_core.specs.Forms
 pub use Rattle.cookie_core.specs.Moments
+pub use Rattle.cookie_crypt.specs.Bytes
+pub use Rattle.cookie_crypt.specs.Expand
+pub use Rattle.cookie_crypt.specs.Gcm
+pub use Rattle.cookie_crypt.specs.Hmac

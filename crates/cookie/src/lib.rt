@@ -8,6 +8,7 @@ mod jar;
 mod jar_error;
 mod original;
 pub mod prefix;
+mod secure;
 
 pub use cookie_core::{
     Builder, Cookie, CookieBuilder, DateText, Display, EncodedText, Expiration, ParseError,
@@ -16,6 +17,8 @@ pub use cookie_core::{
 pub use iter::{Delta, Iter};
 pub use jar::CookieJar;
 pub use jar_error::JarError;
+pub use secure::key::Key;
+pub use secure::key_error::KeyError;
 
 #[cfg(test)]
 mod tests;

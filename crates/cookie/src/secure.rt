@@ -1,0 +1,3 @@
+//! Keys, and the jars that need one.
+pub(crate) mod key;
+pub(crate) mod key_error;

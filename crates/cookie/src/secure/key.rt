@@ -1,0 +1,184 @@
+//! The key of signed and private jars.
+ghost use Rattle.std.specs.Prelude.{◌≡◌, ◌≤◌, ◌<◌, ℕ, List, Ok, Err, IfSome, ⊤, length, codes, All};
+ghost use Rattle.std.specs.Str.{bytes_eq};
+ghost use Rattle.std.specs.Cmp.{partial_equiv_from_equiv};
+ghost use Rattle.std.specs.Cmp.Lexicographic.{nat_list_eq_equiv};
+ghost use Rattle.cookie_crypt.specs.Bytes.{IsBytes};
+ghost use Rattle.rand_core.specs.Stream.{fill_bytes};
+ghost use Rattle.cookie.specs.Keys.{derived, encryption_half, key_length, key_of, master_length, signing_half};
+ghost use Rattle.cookie.specs.declared.secure.key_error.KeyError.TheVariants as refusal;
+
+use crate::secure::key_error::KeyError;
+use cookie_crypt::expand64;
+use rand_core::{Rng, TryRng};
+use std::alloc::AllocError;
+use std::fmt;
+use std::marker::Model;
+
+const KEY_LENGTH: usize = 64;
+
+const SIGNING_LENGTH: usize = 32;
+
+const MASTER_LENGTH: usize = 32;
+
+// What the expansion of a master key is for (RFC 5869, 3.2).
+const KEY_INFO: &[u8] = b"COOKIE;SIGNED:HMAC-SHA256;PRIVATE:AEAD-AES-256-GCM";
+
+// Each byte of an array is below 256.
+fn are_bytes(bytes: &[u8])
+    ensures { All (λ b. b < 256) bytes.now }
+{}
+
+/// Sixty-four secret bytes: the first half signs, the second half encrypts. Contracts see them as a list.
+#[derive(Drop)]
+pub struct Key {
+    bytes: [u8; KEY_LENGTH],
+}
+
+impl Model for Key {
+    ghost Value = { List ℕ };
+
+    ghost view = { λ k. k.bytes };
+}
+
+impl Key {
+    /// The key of the first 64 bytes. There must be as many; `try_from` takes any number.
+    pub fn from(key: &[u8]) -> Key
+        requires { key_length ≤ length key.now }
+        ensures { result ≡ key_of key.now }
+    {
+        let mut bytes = [0; KEY_LENGTH];
+        bytes.copy_from_slice(&key[..KEY_LENGTH]);
+        Key { bytes }
+    }
+
+    /// The key of the first 64 bytes. Fails exactly where there are fewer.
+    pub fn try_from(key: &[u8]) -> Result<Key, KeyError>
+        ensures ok { key_length ≤ length key.now → result ≡ Ok (key_of key.now) }
+        ensures too_short { length key.now < key_length → result ≡ Err (refusal.TooShort (length key.now)) }
+    {
+        if key.len() < KEY_LENGTH {
+            return Err(KeyError::TooShort(key.len()));
+        }
+        Ok(Key::from(key))
+    }
+
+    /// The key derived from a master key, by the whole of it (RFC 5869, 2.3). The master key must have at least 32
+    /// bytes; `try_derive_from` takes any number.
+    pub fn derive_from(master_key: &[u8]) -> Key
+        requires { master_length ≤ length master_key.now }
+        ensures { result ≡ derived master_key.now }
+    {
+        Key {
+            bytes: expand64(master_key, KEY_INFO),
+        }
+    }
+
+    /// The key derived from a master key, by the whole of it (RFC 5869, 2.3). Fails exactly where the master key
+    /// has fewer than 32 bytes.
+    pub fn try_derive_from(master_key: &[u8]) -> Result<Key, KeyError>
+        ensures ok { master_length ≤ length master_key.now → result ≡ Ok (derived master_key.now) }
+        ensures too_short { length master_key.now < master_length → result ≡ Err (refusal.MasterTooShort (length master_key.now)) }
+    {
+        if master_key.len() < MASTER_LENGTH {
+            return Err(KeyError::MasterTooShort(master_key.len()));
+        }
+        Ok(Key::derive_from(master_key))
+    }
+
+    /// The key of the next 64 bytes of a generator, by one draw.
+    pub fn generate<R: Rng>(rng: &mut R) -> Key
+        ensures { (result, R.stream rng.new) ≡ fill_bytes key_length (R.stream rng.old) }
+    {
+        let mut bytes = [0; KEY_LENGTH];
+        rng.fill_bytes(&mut bytes);
+        Key { bytes }
+    }
+
+    /// The key of 64 bytes that one draw from a generator gave, or `None` where it failed.
+    pub fn try_generate<R: TryRng>(rng: &mut R) -> Option<Key>
+        ensures { IfSome result (λ key. R.may_fill rng.old key rng.new) }
+    {
+        let mut bytes = [0; KEY_LENGTH];
+        rng.try_fill_bytes(&mut bytes).ok()?;
+        Some(Key { bytes })
+    }
+
+    /// The half that signs.
+    pub fn signing(&self) -> &[u8]
+        ensures { result.now ≡ signing_half self.now }
+    {
+        &self.bytes[..SIGNING_LENGTH]
+    }
+
+    /// The half that encrypts.
+    pub fn encryption(&self) -> &[u8]
+        ensures { result.now ≡ encryption_half self.now }
+    {
+        &self.bytes[SIGNING_LENGTH..]
+    }
+
+    /// The whole key.
+    pub fn master(&self) -> &[u8]
+        ensures { result.now ≡ self.now }
+    {
+        &self.bytes
+    }
+
+    // The half that signs, as an array.
+    pub(crate) fn signing_key(&self) -> [u8; 32]
+        ensures { result ≡ signing_half self.now }
+    {
+        let mut half = [0; 32];
+        half.copy_from_slice(&self.bytes[..SIGNING_LENGTH]);
+        half
+    }
+
+    // The half that encrypts, as an array.
+    pub(crate) fn encryption_key(&self) -> [u8; 32]
+        ensures value { result ≡ encryption_half self.now }
+        ensures bytes { IsBytes result }
+    {
+        let mut half = [0; 32];
+        half.copy_from_slice(&self.bytes[SIGNING_LENGTH..]);
+        are_bytes(&half);
+        half
+    }
+}
+
+/// It takes no memory, so it never fails.
+impl Clone for Key {
+    ghost is_clone = { λ key copy. copy ≡ key };
+
+    ghost is_infallible = { λ _. ⊤ };
+
+    fn clone(&self) -> Result<Key, AllocError> {
+        Ok(Key { bytes: self.bytes })
+    }
+}
+
+/// Equal where all 64 bytes are.
+impl PartialEq for Key {
+    ghost eq = { bytes_eq };
+
+    ghost laws = { partial_equiv_from_equiv nat_list_eq_equiv };
+
+    fn eq(&self, other: &Key) -> bool {
+        self.bytes == other.bytes
+    }
+}
+
+impl Eq for Key {
+    ghost laws = { nat_list_eq_equiv };
+}
+
+/// Shows nothing of the key.
+impl fmt::Debug for Key {
+    ghost use Rattle.std.specs.Prelude.{Some};
+
+    ghost debug_output = { λ _. Some (codes "Key") };
+
+    fn fmt<W: fmt::Write>(&self, f: &mut fmt::Formatter<W>) -> fmt::Result {
+        f.write_str("Key")
+    }
+}
