@@ -1,3 +1,4 @@
+pub mod AnswerLemmas
 pub mod HistoryLemmas
 pub mod JarLemmas
 pub mod KeyLemmas
@@ -5,6 +6,7 @@ pub mod MetLemmas
 pub mod NameLemmas
 pub mod PrefixLemmas
 pub mod ShownLemmas
+pub mod SigningLemmas
 pub mod TableCopyLemmas
 pub mod WalkLemmas
 pub use Rattle.cookie_core.proofs.AgeLemmas

@@ -1,12 +1,16 @@
+pub mod AnswersExactly
 pub mod Clipped
 pub mod History
 pub mod Jar
 pub mod JarError
 pub mod KeyError
+pub mod KeyedJars
 pub mod Keys
 pub mod PrefixedJars
 pub mod Prefixes
 pub mod Shown
+pub mod SignedJars
+pub mod Signing
 pub mod Table
 pub mod Types
 pub mod Walk

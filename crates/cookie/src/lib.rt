@@ -17,8 +17,7 @@ pub use cookie_core::{
 pub use iter::{Delta, Iter};
 pub use jar::CookieJar;
 pub use jar_error::JarError;
-pub use secure::key::Key;
-pub use secure::key_error::KeyError;
+pub use secure::{Key, KeyError, SignedJar, SignedJarMut};
 
 #[cfg(test)]
 mod tests;

@@ -1,3 +1,10 @@
 //! Keys, and the jars that need one.
-pub(crate) mod key;
-pub(crate) mod key_error;
+
+mod key;
+mod key_error;
+mod signed;
+mod signing;
+
+pub use key::Key;
+pub use key_error::KeyError;
+pub use signed::{SignedJar, SignedJarMut};

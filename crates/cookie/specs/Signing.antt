@@ -1,0 +1,28 @@
+-- Signed values: HMAC-SHA256 (RFC 2104), as padded base64 (RFC 4648 4), before the value. A key here is the half of a
+-- key that signs.
+use Rattle.std.specs.Prelude.{◌≡◌, ℕ, List, ◌++◌}
+use Rattle.base64.specs.Engines.{standard}
+use Rattle.base64.specs.GeneralPurpose.{encode_of}
+use Rattle.cookie_core.specs.Record.{Record}
+use Rattle.cookie_crypt.specs.Hmac.{hmac}
+use Rattle.cookie.specs.Jar.{Name}
+
+-- what the signature of a value covers, for a cookie of that name: the value alone
+abbrev pub covered : Name → List ℕ → List ℕ
+covered name value = value
+
+-- the signature of a value, of 44 characters
+unfoldable pub signature : List ℕ → Name → List ℕ → List ℕ
+signature key name value = encode_of standard (hmac key (covered name value))
+
+-- the signature, and then the value
+unfoldable pub signing : List ℕ → Name → List ℕ → List ℕ
+signing key name value = signature key name value ++ value
+
+-- the cookie as a signed jar stores it
+abbrev pub signed : List ℕ → Record → Record
+signed key cookie = record cookie { value = signing key cookie.name cookie.value }
+
+-- the cookie's value is the signing of v
+abbrev pub IsSigningOf : List ℕ → Record → List ℕ → Type 0
+IsSigningOf key cookie v = cookie.value ≡ signing key cookie.name v

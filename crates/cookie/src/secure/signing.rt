@@ -1,0 +1,70 @@
+//! The signing of values with HMAC-SHA256 (RFC 2104).
+ghost use Rattle.std.specs.Prelude.{◌≡◌, ◌↔◌, List, ℕ, Some, alloc_error, option_map};
+ghost use Rattle.std.specs.Option.{option_copied};
+ghost use Rattle.cookie_core.specs.Memory.{Gives};
+ghost use Rattle.cookie.specs.AnswersExactly.{AnswersExactly};
+ghost use Rattle.cookie.specs.Signing.{IsSigningOf, signature, signed, signing};
+
+use base64::engine::general_purpose::STANDARD;
+use cookie_core::Cookie;
+use cookie_crypt::hmac;
+use std::alloc::{AllocError, Global};
+
+const SIGNATURE_LEN: usize = 44;
+
+// The signature of a value, for a cookie of that name.
+fn signature(key: &[u8], _name: &str, value: &str) -> [u8; 44]
+    ensures { result ≡ signature key.now _name.now value.now }
+{
+    let mut text = [0; SIGNATURE_LEN];
+    let _ = STANDARD.encode_slice(&hmac(key, &[value.as_bytes()]), &mut text);
+    text
+}
+
+// The cookie with its value signed.
+pub(crate) fn sign<'c>(
+    alloc: Global,
+    key: &[u8],
+    mut cookie: Cookie<'c>,
+) -> Result<Cookie<'c>, AllocError>
+    ensures { Gives alloc_error result (λ c. c.fields ≡ signed key.now cookie.entry.fields) }
+{
+    let signature = signature(key, cookie.name(), cookie.value());
+    let Ok(signature) = str::from_utf8(&signature) else {
+        unreachable!();
+    };
+    let mut value = String::from_str(alloc, signature)?;
+    value.push_str(cookie.value())?;
+    cookie.set_value_owned(value);
+    Ok(cookie)
+}
+
+// What stands behind the signature in a value, where it is signed.
+fn verified<'v>(key: &[u8], name: &str, value: &'v str) -> Option<&'v str>
+    ensures { (v : List ℕ) → (option_copied result ≡ Some v) ↔ (value.now ≡ signing key.now name.now v) }
+{
+    let Some((front, rest)) = value.split_at_checked(SIGNATURE_LEN) else {
+        return None;
+    };
+    if front.as_bytes() == signature(key, name, rest).as_slice() {
+        Some(rest)
+    } else {
+        None
+    }
+}
+
+// The cookie with the value that its own is the signing of, where it is one.
+pub(crate) fn verify<'c>(
+    alloc: Global,
+    key: &[u8],
+    mut cookie: Cookie<'c>,
+) -> Result<Option<Cookie<'c>>, AllocError>
+    ensures { Gives alloc_error result (λ answer. AnswersExactly (IsSigningOf key.now) (Some cookie.entry.fields) (option_map (λ c. c.fields) answer)) }
+{
+    let Some(value) = verified(key, cookie.name(), cookie.value()) else {
+        return Ok(None);
+    };
+    let value = String::from_str(alloc, value)?;
+    cookie.set_value_owned(value);
+    Ok(Some(cookie))
+}
