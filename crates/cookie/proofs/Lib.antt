@@ -5,6 +5,7 @@ pub mod KeyLemmas
 pub mod MetLemmas
 pub mod NameLemmas
 pub mod PrefixLemmas
+pub mod SealingLemmas
 pub mod ShownLemmas
 pub mod SigningLemmas
 pub mod TableCopyLemmas

@@ -6,8 +6,11 @@ pub mod JarError
 pub mod KeyError
 pub mod KeyedJars
 pub mod Keys
+pub mod Opening
 pub mod PrefixedJars
 pub mod Prefixes
+pub mod PrivateJars
+pub mod Sealing
 pub mod Shown
 pub mod SignedJars
 pub mod Signing

@@ -17,7 +17,7 @@ pub use cookie_core::{
 pub use iter::{Delta, Iter};
 pub use jar::CookieJar;
 pub use jar_error::JarError;
-pub use secure::{Key, KeyError, SignedJar, SignedJarMut};
+pub use secure::{Key, KeyError, PrivateJar, PrivateJarMut, SignedJar, SignedJarMut};
 
 #[cfg(test)]
 mod tests;

@@ -2,9 +2,12 @@
 
 mod key;
 mod key_error;
+mod private;
+mod sealing;
 mod signed;
 mod signing;
 
 pub use key::Key;
 pub use key_error::KeyError;
+pub use private::{PrivateJar, PrivateJarMut};
 pub use signed::{SignedJar, SignedJarMut};

@@ -25,7 +25,7 @@ const MASTER_LENGTH: usize = 32;
 const KEY_INFO: &[u8] = b"COOKIE;SIGNED:HMAC-SHA256;PRIVATE:AEAD-AES-256-GCM";
 
 // Each byte of an array is below 256.
-fn are_bytes(bytes: &[u8])
+pub(crate) fn are_bytes(bytes: &[u8])
     ensures { All (λ b. b < 256) bytes.now }
 {}
 

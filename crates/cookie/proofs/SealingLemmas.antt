@@ -1,0 +1,315 @@
+-- Sealed values: what is sealed opens, and nothing else does.
+use Rattle.std.proofs.Common.{◌≡◌, ◌↔◌, ℕ, zero, suc, ◌+◌, ◌-◌, ◌/◌, ◌<◌, ◌≤◌, Bool, true, false, cond, ltb, List, [], ◌∷◌, ◌++◌, length, take, drop, get_or, slice_index, Option, None, Some, Result, Ok, Err, IfOk, IsUtf8, refl, sym, ap, subst, ◌∙◌, arith, ⊎_elim}
+use Rattle.std.proofs.lemmas.Bool.{cases_lt, and_parts, ltb-true}
+use Rattle.std.proofs.lemmas.List.{append_assoc, length-append, length-drop, append-nil, take_all, drop_all, take_at, drop_at, take-append-drop, length-take-le, get_or_append_left, get_or-append_right}
+use Rattle.std.proofs.lemmas.Str.{IsUtf8-from_ascii}
+use borrow.Rule.Slice.PartMut.{mid_of, post_of, put_mid}
+use lib.Utf8.{scalar, scalars, scalar_cases, encode, encodes, next}
+use Rattle.base64.specs.Engines.{standard}
+use Rattle.base64.specs.GeneralPurpose.{encode_of}
+use Rattle.base64.proofs.EngineFacts.{IsAscii-encode_of, front_bytes}
+use Rattle.cookie_crypt.specs.Bytes.{IsBytes}
+use Rattle.cookie_crypt.specs.Gcm.{IsSealing, SealsToBytes, gctr, tag_of}
+use Rattle.cookie_crypt.proofs.GcmLemmas.{length-gctr, length-sealed, length-tag_of, sealing_of}
+use Rattle.cookie_core.specs.Memory.{Gives}
+use Rattle.cookie_core.specs.Record.{Record, IsCookie}
+use Rattle.cookie.specs.AnswersExactly.{AnswersExactly, AnswersPair}
+use Rattle.cookie.specs.Jar.{JarState, Add, after, view}
+use Rattle.cookie.specs.Opening.{IsSealedBytes}
+use Rattle.cookie.specs.Sealing.{CanSeal, IsNonce, IsSealable, IsSealed, IsSealingOf, sealed, sealed_bytes, sealing}
+use Rattle.cookie.specs.declared.jar_error.JarError.{JarError}
+use Rattle.cookie.specs.declared.jar_error.JarError.TheVariants as refusal
+use Rattle.cookie.proofs.AnswerLemmas.{answered_pair, view-stored}
+
+-- ---- bytes
+
+bytes_none : IsBytes []
+bytes_none = λ i. omega arith
+
+bytes_first : (x : ℕ) (xs : List ℕ) → x < 256 → IsBytes xs → IsBytes (x ∷ xs)
+bytes_first x xs h p = at
+  where
+    at : (i : ℕ) → slice_index (x ∷ xs) i < 256
+    at zero = h
+    at (suc i) = p i
+
+bytes_joined : (xs ys : List ℕ) → IsBytes xs → IsBytes ys → IsBytes (xs ++ ys)
+bytes_joined xs ys p q = λ i.
+    ⊎_elim
+    (λ inside. let e : get_or (xs ++ ys) i 0 ≡ get_or xs i 0 = get_or_append_left xs ys 0 i inside in omega (arith, e, p i))
+    (λ past. let e : get_or (xs ++ ys) i 0 ≡ get_or ys (i - length xs) 0 = get_or-append_right xs ys (length xs) i 0 refl past in omega (arith, e, q (i - length xs)))
+    (cases_lt i (length xs))
+
+bytes_either : (t : Bool) (xs ys : List ℕ) → (t ≡ true → IsBytes xs) → IsBytes ys → IsBytes (cond t xs ys)
+bytes_either true xs ys p q = p refl
+bytes_either false xs ys p q = q
+
+-- a byte that goes on with a character
+bytes_next : (c : ℕ) (xs : List ℕ) → IsBytes xs → IsBytes (next c ∷ xs)
+bytes_next c xs p = bytes_first (next c) xs (omega arith) p
+
+bytes_encoded : (c : ℕ) → scalar c ≡ true → IsBytes (encode c)
+unfolding encode
+bytes_encoded c is =
+    let small : c < 1114112 = ⊎_elim (λ low. omega (arith, low)) (λ high. high.1) (scalar_cases c is) in
+    let one : List ℕ = next c ∷ [] in
+    let two : List ℕ = next (c / 64) ∷ one in
+    let three : List ℕ = next (c / 4096) ∷ two in
+    let bytes_one : IsBytes one = bytes_next c [] bytes_none in
+    let bytes_two : IsBytes two = bytes_next (c / 64) one bytes_one in
+    let bytes_three : IsBytes three = bytes_next (c / 4096) two bytes_two in
+    bytes_either (ltb c 128) (c ∷ []) _ (λ e. let h = ltb-true c 128 e in bytes_first c [] (omega (arith, h)) bytes_none)
+    (bytes_either (ltb c 2048) ((192 + c / 64) ∷ one) _ (λ e. let h = ltb-true c 2048 e in bytes_first (192 + c / 64) one (omega (arith, h)) bytes_one)
+    (bytes_either (ltb c 65536) ((224 + c / 4096) ∷ two) ((240 + c / 262144) ∷ three)
+    (λ e. let h = ltb-true c 65536 e in bytes_first (224 + c / 4096) two (omega (arith, h)) bytes_two)
+    (bytes_first (240 + c / 262144) three (omega (arith, small)) bytes_three)))
+
+bytes_encodes : (cs : List ℕ) → scalars cs ≡ true → IsBytes (encodes cs)
+bytes_encodes [] are = bytes_none
+bytes_encodes (c ∷ cs) are =
+    let both = and_parts (scalar c) (scalars cs) are in
+    bytes_joined (encode c) (encodes cs) (bytes_encoded c both.0) (bytes_encodes cs both.1)
+
+-- a text is bytes
+bytes_text : (text : List ℕ) → IsUtf8 text → IsBytes text
+bytes_text text is = subst IsBytes is.1.1 (bytes_encodes is.0 is.1.0)
+
+-- ---- the bytes of a sealing
+
+-- what a sealing in place leaves, with its tag behind it
+pub sealed_bytes-from : (key name nonce value text tag : List ℕ) → IsSealing key nonce name value text tag → nonce ++ text ++ tag ≡ sealed_bytes key name nonce value
+unfolding sealed_bytes
+sealed_bytes-from key name nonce value text tag is =
+    ap (λ t. nonce ++ text ++ t) is.tag_is ∙ ap (λ t. nonce ++ t ++ tag_of key nonce name t) is.text_is
+
+-- a sealing of parts that are these
+pub sealing-turned : (cipher key nonce aad name old value text tag : List ℕ) → cipher ≡ key → aad ≡ name → old ≡ value
+    → IsSealing cipher nonce aad old text tag → IsSealing key nonce name value text tag
+sealing-turned cipher key nonce aad name old value text tag same_key same_name same_text is =
+    subst (λ k. IsSealing k nonce name value text tag) same_key (subst (λ a. IsSealing cipher nonce a value text tag) same_name (subst (λ t. IsSealing cipher nonce aad t text tag) same_text is))
+
+-- a buffer of the nonce and the value: what stands behind the nonce
+pub buffer-value : (nonce value items whole : List ℕ) → length nonce ≡ 12 → whole ≡ items → items ≡ nonce ++ value → mid_of 12 (length whole - 12) whole ≡ value
+buffer-value nonce value items whole long same are =
+    let back : drop 12 whole ≡ value = ap (drop 12) (same ∙ are) ∙ drop_at nonce value 12 long in
+    take_all (length whole - 12) (drop 12 whole) (omega (arith, length-drop 12 whole)) ∙ back
+
+-- and the buffer once a text of that length was put there
+pub buffer-put : (nonce value text items whole : List ℕ) (n : ℕ) → length nonce ≡ 12 → whole ≡ items → items ≡ nonce ++ value → length text ≡ length value → length whole ≡ n
+    → take n (put_mid 12 (length whole - 12) whole text ++ drop (length (put_mid 12 (length whole - 12) whole text)) items) ≡ nonce ++ text
+buffer-put nonce value text items whole n long same are even size =
+    let put : List ℕ = put_mid 12 (length whole - 12) whole text in
+    let front : take 12 whole ≡ nonce = ap (take 12) (same ∙ are) ∙ take_at nonce value 12 long in
+    let none : post_of 12 (length whole - 12) whole ≡ [] = drop_all (length whole - 12) (drop 12 whole) (omega (arith, length-drop 12 whole)) in
+    let put_is : put ≡ nonce ++ text = ap (λ xs. xs ++ (text ++ post_of 12 (length whole - 12) whole)) front ∙ ap (λ xs. nonce ++ (text ++ xs)) none ∙ ap (λ xs. nonce ++ xs) (append-nil text) in
+    let put_long : length put ≡ n =
+    omega (arith, ap length put_is, length-append nonce text, length-append nonce value, ap length (same ∙ are), even, size) in
+    take_at put (drop (length put) items) n put_long ∙ put_is
+
+-- what an encoding of these bytes gives
+pub sealing-encoded : {X E : Type 0} (bytes_of : X → List ℕ) (key name nonce value bytes slice : List ℕ) (r : Result X E) → slice ≡ bytes
+    → bytes ≡ sealed_bytes key name nonce value → IfOk r (λ t. bytes_of t ≡ encode_of standard slice) → IfOk r (λ t. bytes_of t ≡ sealing key name nonce value)
+unfolding sealing
+sealing-encoded bytes_of key name nonce value bytes slice (Ok t) same are encoded = encoded ∙ ap (encode_of standard) (same ∙ are)
+sealing-encoded bytes_of key name nonce value bytes slice (Err e) same are encoded = tt
+
+bytes_sealed : (key name nonce value : List ℕ) → SealsToBytes key → IsNonce nonce → IsUtf8 value → IsSealable name value → IsBytes (sealed_bytes key name nonce value)
+unfolding sealed_bytes
+bytes_sealed key name nonce value seals is text within =
+    let cipher : List ℕ = gctr key nonce value in
+    let tag : List ℕ = tag_of key nonce name cipher in
+    let both : IsBytes cipher × IsBytes tag = seals nonce name value cipher tag (bytes_text value text) (sealing_of key nonce name value within) in
+    bytes_joined (nonce ++ cipher) tag (bytes_joined nonce cipher is.bytes both.0) both.1
+
+length-sealed_bytes : (key name nonce value : List ℕ) → length (sealed_bytes key name nonce value) ≡ length nonce + length value + 16
+unfolding sealed_bytes
+length-sealed_bytes key name nonce value =
+    let cipher : List ℕ = gctr key nonce value in
+    let tag : List ℕ = tag_of key nonce name cipher in
+    omega (arith, length-append (nonce ++ cipher) tag, length-append nonce cipher, length-gctr key nonce value, length-tag_of key nonce name cipher)
+
+-- ---- the parts of a sealing
+
+long_enough : (key name bytes value : List ℕ) → IsSealedBytes key name bytes value → 28 ≤ length bytes
+long_enough key name bytes value is =
+    let nonce : List ℕ = is.sealed.0 in
+    omega (arith, is.sealed.1, ap length is.sealed.2, length-sealed_bytes key name nonce value)
+
+module _ (key name bytes : List ℕ) where
+  -- the answer where there is no whole nonce
+  pub opened_without_nonce : length bytes < 12 → (v : List ℕ) → (◌≡◌ {A = Option (List ℕ)} None (Some v)) ↔ IsSealedBytes key name bytes v
+  opened_without_nonce short v = (λ none. cc, λ is. absurd (omega (arith, short, long_enough key name bytes v is)))
+
+  -- the answer where there is no whole tag
+  pub opened_without_tag : (rest : List ℕ) → rest ≡ drop 12 bytes → length rest < 16 → (v : List ℕ) → (◌≡◌ {A = Option (List ℕ)} None (Some v)) ↔ IsSealedBytes key name bytes v
+  opened_without_tag rest back short v =
+      (λ none. cc, λ is. absurd (omega (arith, short, long_enough key name bytes v is, ap length back, length-drop 12 bytes)))
+
+  module _ (nonce rest text tag : List ℕ) (first : nonce ≡ take 12 bytes) (back : rest ≡ drop 12 bytes) (middle : text ≡ take (length rest - 16) rest) (last : tag ≡ drop (length rest - 16) rest) where
+    -- the parts of a sealing are the nonce, the encrypted value and the tag
+    parts_sealing : (v : List ℕ) → IsSealedBytes key name bytes v → IsSealing key nonce name v text tag
+    unfolding sealed_bytes
+    parts_sealing v is =
+        let n : List ℕ = is.sealed.0 in
+        let g : List ℕ = gctr key n v in
+        let t : List ℕ = tag_of key n name g in
+        let whole : bytes ≡ n ++ (g ++ t) = is.sealed.2 ∙ append_assoc n g t in
+        let nonce_is : nonce ≡ n = first ∙ ap (take 12) whole ∙ take_at n (g ++ t) 12 is.sealed.1 in
+        let rest_is : rest ≡ g ++ t = back ∙ ap (drop 12) whole ∙ drop_at n (g ++ t) 12 is.sealed.1 in
+        let seam : length g ≡ length rest - 16 = omega (arith, ap length rest_is, length-append g t, length-tag_of key n name g) in
+        let text_is : text ≡ g = middle ∙ ap (take (length rest - 16)) rest_is ∙ take_at g t (length rest - 16) seam in
+        let tag_is : tag ≡ t = last ∙ ap (drop (length rest - 16)) rest_is ∙ drop_at g t (length rest - 16) seam in
+        record {
+          within = is.sealable;
+          text_is = text_is ∙ ap (λ k. gctr key k v) (sym nonce_is);
+          tag_is = tag_is ∙ ap (tag_of key n name) (sym text_is) ∙ ap (λ k. tag_of key k name text) (sym nonce_is);
+        }
+
+    -- what opens, with its parts joined again
+    sealing_parts : 12 ≤ length bytes → (v : List ℕ) → IsSealing key nonce name v text tag → IsSealedBytes key name bytes v
+    sealing_parts long v is =
+        let joined : text ++ tag ≡ rest = ap (λ t. t ++ tag) middle ∙ ap (λ t. take (length rest - 16) rest ++ t) last ∙ take-append-drop (length rest - 16) rest in
+        let whole : nonce ++ rest ≡ bytes = ap (λ t. t ++ rest) first ∙ ap (λ t. take 12 bytes ++ t) back ∙ take-append-drop 12 bytes in
+        record {
+          sealable = is.within;
+          sealed = (nonce, ap length first ∙ length-take-le 12 bytes long, sym whole ∙ ap (λ t. nonce ++ t) (sym joined) ∙ sym (append_assoc nonce text tag) ∙ sealed_bytes-from key name nonce v text tag is);
+        }
+
+    module _ (aad old : List ℕ) (same_name : aad ≡ name) (same_text : old ≡ text) where
+      -- the same sealing, of these parts
+      turned_sealing : (p : List ℕ) → (IsSealing key nonce aad p old tag → IsSealing key nonce name p text tag) × (IsSealing key nonce name p text tag → IsSealing key nonce aad p old tag)
+      turned_sealing p = (
+        λ is. subst (λ a. IsSealing key nonce a p text tag) same_name (subst (λ t. IsSealing key nonce aad p t tag) same_text is),
+        λ is. subst (λ a. IsSealing key nonce a p old tag) (sym same_name) (subst (λ t. IsSealing key nonce name p t tag) (sym same_text) is),
+      )
+
+      -- the answer where the cipher opens them
+      pub opened_right : (plain end : List ℕ) → end ≡ plain → 12 ≤ length bytes → IsSealing key nonce aad plain old tag
+          → ((p : List ℕ) → IsSealing key nonce aad p old tag → plain ≡ p) → (v : List ℕ) → (Some end ≡ Some v) ↔ IsSealedBytes key name bytes v
+      opened_right plain end ends long is only v = (
+        λ e. let same : end ≡ v = cc in subst (IsSealedBytes key name bytes) (sym ends ∙ same) (sealing_parts long plain ((turned_sealing plain).0 is)),
+        λ sealed. ap Some (ends ∙ only v ((turned_sealing v).1 (parts_sealing v sealed))),
+      )
+
+      -- the answer where it does not
+      pub opened_wrong : ((p : List ℕ) → IsSealing key nonce aad p old tag → ⊥) → (v : List ℕ) → (◌≡◌ {A = Option (List ℕ)} None (Some v)) ↔ IsSealedBytes key name bytes v
+      opened_wrong refused v = (λ none. cc, λ sealed. absurd (refused v ((turned_sealing v).1 (parts_sealing v sealed))))
+
+-- what a whole buffer holds after it was opened in place
+pub opened_whole : (key nonce aad plain old tag items : List ℕ) (n : ℕ) → IsSealing key nonce aad plain old tag → length old ≡ n → take n (plain ++ drop (length plain) items) ≡ plain
+opened_whole key nonce aad plain old tag items n is long =
+    take_at plain (drop (length plain) items) n (sym (length-sealed key nonce aad plain old tag is) ∙ long)
+
+-- ---- from the text
+
+module _ (key name text : List ℕ) (seals : SealsToBytes key) (answer : Option (List ℕ)) (decodes : (b : List ℕ) → IsBytes b → (answer ≡ Some b) ↔ (text ≡ encode_of standard b)) where
+  -- what a sealing decodes to
+  sealed_decodes : (v : List ℕ) → IsSealed key name text v → (b : List ℕ) × (answer ≡ Some b) × IsSealedBytes key name b v
+  unfolding sealing
+  sealed_decodes v is =
+      let nonce : List ℕ = is.sealed.0 in
+      let b : List ℕ = sealed_bytes key name nonce v in (
+        b,
+        (decodes b (bytes_sealed key name nonce v seals is.sealed.1 is.is_text is.sealable)).1 is.sealed.2,
+        record { sealable = is.sealable; sealed = (nonce, is.sealed.1.long, refl) },
+      )
+
+  -- the answer where the text is no base64
+  pub unsealed_undecoded : answer ≡ None → (v : List ℕ) → (◌≡◌ {A = Option (List ℕ)} None (Some v)) ↔ IsSealed key name text v
+  unsealed_undecoded none v = (λ e. cc, λ is. let d = sealed_decodes v is in let clash : None ≡ Some d.0 = sym none ∙ d.1 in cc)
+
+  module _ (bytes : List ℕ) (some : answer ≡ Some bytes) where
+    -- the bytes are a sealing where the text is
+    bytes_of_sealed : (v : List ℕ) → IsSealed key name text v → IsSealedBytes key name bytes v
+    bytes_of_sealed v is =
+        let d = sealed_decodes v is in
+        let clash : Some bytes ≡ Some d.0 = sym some ∙ d.1 in
+        let same : bytes ≡ d.0 = cc in
+        subst (λ b. IsSealedBytes key name b v) (sym same) d.2
+
+    -- the text is a sealing where the bytes are one, of a text
+    sealed_of_bytes : IsBytes bytes → (v : List ℕ) → IsUtf8 v → IsSealedBytes key name bytes v → IsSealed key name text v
+    unfolding sealed_bytes sealing
+    sealed_of_bytes are v is_text is =
+        let nonce : List ℕ = is.sealed.0 in
+        let g : List ℕ = gctr key nonce v in
+        let t : List ℕ = tag_of key nonce name g in
+        let nonce_bytes : IsBytes nonce = front_bytes nonce (g ++ t) (subst IsBytes (is.sealed.2 ∙ append_assoc nonce g t) are) in
+        record {
+          is_text = is_text;
+          sealable = is.sealable;
+          sealed = (nonce, record { long = is.sealed.1; bytes = nonce_bytes }, (decodes bytes are).0 some ∙ ap (encode_of standard) is.sealed.2);
+        }
+
+    module _ (cipher slice : List ℕ) (opened : Option (List ℕ)) (same_key : cipher ≡ key) (same_bytes : slice ≡ bytes) (opens : (v : List ℕ) → (opened ≡ Some v) ↔ IsSealedBytes cipher name slice v) where
+      -- the same of the key and the bytes
+      turned_opens : (v : List ℕ) → (opened ≡ Some v) ↔ IsSealedBytes key name bytes v
+      turned_opens v =
+          subst (λ k. (opened ≡ Some v) ↔ IsSealedBytes k name bytes v) same_key (subst (λ b. (opened ≡ Some v) ↔ IsSealedBytes cipher name b v) same_bytes (opens v))
+
+      -- the answer where the bytes are no sealing
+      pub unsealed_unopened : opened ≡ None → (v : List ℕ) → (◌≡◌ {A = Option (List ℕ)} None (Some v)) ↔ IsSealed key name text v
+      unsealed_unopened none v = (λ e. cc, λ is. let clash : None ≡ Some v = sym none ∙ (turned_opens v).1 (bytes_of_sealed v is) in clash)
+
+      module _ (plain : List ℕ) (opened_is : opened ≡ Some plain) where
+        -- what they hold, where the text is a sealing
+        plain_of_sealed : (v : List ℕ) → IsSealed key name text v → plain ≡ v
+        plain_of_sealed v is = let both : Some plain ≡ Some v = sym opened_is ∙ (turned_opens v).1 (bytes_of_sealed v is) in cc
+
+        -- the answer where what they hold is no text
+        pub unsealed_not_text : (IsUtf8 plain → ⊥) → (v : List ℕ) → (◌≡◌ {A = Option (List ℕ)} None (Some v)) ↔ IsSealed key name text v
+        unsealed_not_text bad v = (λ e. cc, λ is. absurd (bad (subst IsUtf8 (sym (plain_of_sealed v is)) is.is_text)))
+
+        -- the answer where it is one
+        pub unsealed_right : (value : List ℕ) → value ≡ plain → IsBytes bytes → IsUtf8 value → (v : List ℕ) → (Some value ≡ Some v) ↔ IsSealed key name text v
+        unsealed_right value value_is are is_text v = (
+          λ e.
+              let same : value ≡ v = cc in
+              subst (IsSealed key name text) (sym value_is ∙ same) (sealed_of_bytes are plain (subst IsUtf8 value_is is_text) ((turned_opens plain).0 opened_is)),
+          λ is. ap Some (value_is ∙ plain_of_sealed v is),
+        )
+
+-- ---- private jars
+
+-- a sealed cookie is a cookie
+pub IsCookie-sealed : (key nonce : List ℕ) (cookie : Record) → IsCookie cookie → IsCookie (sealed key nonce cookie)
+unfolding sealing
+IsCookie-sealed key nonce cookie is =
+    record {
+      name = is.name;
+      value = IsUtf8-from_ascii (sealing key cookie.name nonce cookie.value) (IsAscii-encode_of standard (sealed_bytes key cookie.name nonce cookie.value));
+      path = is.path;
+      domain = is.domain;
+      max_age = is.max_age;
+    }
+
+-- what stands for a value that was sealed
+pub sealed_stands : (key nonce name text : List ℕ) (cookie stored : Record) → name ≡ cookie.name → text ≡ cookie.value → IsUtf8 text → CanSeal cookie → IsNonce nonce
+    → stored ≡ sealed key nonce cookie → IsSealingOf key stored cookie.value
+sealed_stands key nonce name text cookie stored same_name same_text is_text within is_nonce is =
+    subst (λ c. IsSealingOf key c cookie.value) (sym is) (record { is_text = subst IsUtf8 same_text is_text; sealable = within; sealed = (nonce, is_nonce, refl) })
+
+-- the answer to a stored cookie whose value is a sealing
+pub decrypted : (key name text : List ℕ) (cookie made : Record) (opened : Option (List ℕ)) (value : List ℕ) → name ≡ cookie.name → text ≡ cookie.value
+    → opened ≡ Some value → made ≡ record cookie { value = value }
+    → ((v : List ℕ) → (opened ≡ Some v) ↔ IsSealed key name text v) → AnswersExactly (IsSealingOf key) (Some cookie) (Some made)
+decrypted key name text cookie made opened value same_name same_text is_value is opens =
+    subst (λ c. AnswersExactly (IsSealingOf key) (Some cookie) (Some c)) (sym is) (
+    record {
+      exact = λ v.
+          subst (λ n. (Some value ≡ Some v) ↔ IsSealed key n cookie.value v) same_name (
+          subst (λ t. (Some value ≡ Some v) ↔ IsSealed key name t v) same_text (
+          subst (λ o. (o ≡ Some v) ↔ IsSealed key name text v) is_value (opens v)));
+      kept = refl;
+    })
+
+-- a sealed cookie that was added is answered with the name and the value that it was added with
+pub sealed_shown : (key nonce : List ℕ) (cookie stored : Record) (old new : JarState) (r : Result (Unit {0}) JarError)
+    → stored ≡ sealed key nonce cookie → IsSealingOf key stored cookie.value → Gives refusal.OutOfMemory r (λ _. new ≡ after (Add stored) old)
+    → IfOk r (λ _. AnswersPair (IsSealingOf key) (view new cookie.name) cookie)
+sealed_shown key nonce cookie stored old new (Err _) is stands refused = tt
+sealed_shown key nonce cookie stored old new (Ok _) is stands added =
+    let named : stored.name ≡ cookie.name = ap (λ (c : Record). c.name) is in
+    let shown : view new cookie.name ≡ Some stored =
+    ap (view new) (sym named) ∙ ap (λ jar. view jar stored.name) added ∙ view-stored old stored in
+    subst (λ o. AnswersPair (IsSealingOf key) o cookie) (sym shown) (answered_pair (IsSealingOf key) stored cookie named stands)

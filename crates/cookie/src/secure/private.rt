@@ -1,0 +1,244 @@
+//! Child jars whose cookies have sealed values.
+ghost use Rattle.std.specs.Prelude.{◌≡◌, ◌↔◌, ℕ, List, None, Some, Err, IfOk, IsOk, OnOk, OnErr, option_map};
+ghost use Rattle.std.specs.FinMap.{get};
+ghost use Rattle.cookie_core.specs.Memory.{Gives};
+ghost use Rattle.cookie.specs.AnswersExactly.{AnswersExactly, AnswersPair};
+ghost use Rattle.cookie.specs.Jar.{Add, AddOriginal, Remove, after, view};
+ghost use Rattle.cookie.specs.Keys.{encryption_half};
+ghost use Rattle.cookie.specs.PrivateJars.{Changes, ChangesSame, jar_of, key_of};
+ghost use Rattle.cookie.specs.Sealing.{CanSeal, IsNonce, IsSealingOf, sealed};
+ghost use Rattle.cookie.specs.declared.jar_error.JarError.TheVariants as refusal;
+
+use crate::jar::CookieJar;
+use crate::jar_error::JarError;
+use crate::secure::key::Key;
+use crate::secure::sealing::{can_seal, decrypt, is_nonce, seal};
+use cookie_core::Cookie;
+use jiff::civil::DateTime;
+use rand_core::TryRng;
+use std::marker::Model;
+
+/// A jar, seen through a key that encrypts. Contracts see it as that jar and the key's second half.
+#[derive(Drop)]
+pub struct PrivateJar<'a> {
+    jar: &'a CookieJar,
+    key: [u8; 32],
+}
+
+impl<'a> Model for PrivateJar<'a> {
+    ghost use Rattle.cookie.specs.KeyedJars.{KeyedJar, keyed_code};
+
+    ghost Value = { KeyedJar };
+
+    ghost coded = { keyed_code };
+
+    ghost view = { λ a. record { jar = a.jar.now; key = a.key } };
+}
+
+/// A jar, seen and changed through a key that encrypts.
+#[derive(Drop)]
+pub struct PrivateJarMut<'a> {
+    jar: &'a mut CookieJar,
+    key: [u8; 32],
+}
+
+impl CookieJar {
+    /// The jar through a key that encrypts, to look cookies up. It takes no memory.
+    pub fn private<'a>(&'a self, key: &Key) -> PrivateJar<'a>
+        ensures { result ≡ record { jar = self.now; key = encryption_half key.now } }
+    {
+        PrivateJar {
+            jar: self,
+            key: key.encryption_key(),
+        }
+    }
+
+    /// The jar through a key that encrypts, to look cookies up and to change it. It takes no memory.
+    pub fn private_mut<'a>(&'a mut self, key: &Key) -> PrivateJarMut<'a>
+        ensures same { Changes result self.entry }
+        ensures value { jar_of result ≡ self.old }
+        ensures key { key_of result ≡ encryption_half key.now }
+    {
+        PrivateJarMut {
+            jar: self,
+            key: key.encryption_key(),
+        }
+    }
+
+    // The cookie that the jar shows under the name, with the value that its own is a sealing of.
+    fn get_decrypted(&self, key: &[u8; 32], name: &str) -> Result<Option<Cookie<'static>>, JarError>
+        ensures { Gives refusal.OutOfMemory result (λ answer. AnswersExactly (IsSealingOf key.now) (view self.now name.now) (option_map (λ c. c.fields) answer)) }
+    {
+        let alloc = self.allocator();
+        match self.get(name) {
+            Some(cookie) => Ok(decrypt(alloc, key, cookie.clone(alloc)?)?),
+            None => Ok(None),
+        }
+    }
+}
+
+impl<'a> PrivateJar<'a> {
+    /// A copy of the cookie that the jar shows under `name`, with the value that was sealed. There is no answer
+    /// where the jar's value isn't sealed under the key and the name.
+    ///
+    /// Fails for want of memory alone.
+    pub fn get(&self, name: &str) -> Result<Option<Cookie<'static>>, JarError>
+        ensures { Gives refusal.OutOfMemory result (λ answer. AnswersExactly (IsSealingOf self.now.key) (view self.now.jar name.now) (option_map (λ c. c.fields) answer)) }
+    {
+        self.jar.get_decrypted(&self.key, name)
+    }
+
+    /// The cookie with the value that was sealed. There is no answer where its value isn't sealed under the key and
+    /// its name.
+    ///
+    /// Fails for want of memory alone.
+    pub fn decrypt(&self, cookie: Cookie<'static>) -> Result<Option<Cookie<'static>>, JarError>
+        ensures { Gives refusal.OutOfMemory result (λ answer. AnswersExactly (IsSealingOf self.now.key) (Some cookie.entry.fields) (option_map (λ c. c.fields) answer)) }
+    {
+        Ok(decrypt(self.jar.allocator(), &self.key, cookie)?)
+    }
+}
+
+impl<'a> PrivateJarMut<'a> {
+    /// A copy of the cookie that the jar shows under `name`, with the value that was sealed. There is no answer
+    /// where the jar's value isn't sealed under the key and the name.
+    ///
+    /// Fails for want of memory alone.
+    pub fn get(&self, name: &str) -> Result<Option<Cookie<'static>>, JarError>
+        ensures { Gives refusal.OutOfMemory result (λ answer. AnswersExactly (IsSealingOf (key_of self.now)) (view (jar_of self.now) name.now) (option_map (λ c. c.fields) answer)) }
+    {
+        self.jar.get_decrypted(&self.key, name)
+    }
+
+    /// The cookie with the value that was sealed. There is no answer where its value isn't sealed under the key and
+    /// its name.
+    ///
+    /// Fails for want of memory alone.
+    pub fn decrypt(&self, cookie: Cookie<'static>) -> Result<Option<Cookie<'static>>, JarError>
+        ensures { Gives refusal.OutOfMemory result (λ answer. AnswersExactly (IsSealingOf (key_of self.now)) (Some cookie.entry.fields) (option_map (λ c. c.fields) answer)) }
+    {
+        Ok(decrypt(self.jar.allocator(), &self.key, cookie)?)
+    }
+
+    /// Adds an original cookie, with its value sealed under its name and a nonce that one draw of twelve bytes from
+    /// `rng` gives.
+    ///
+    /// Fails with `TooLong` where the name has more than 2^61 - 1 bytes or the value more than 2^36 - 32, and then
+    /// draws nothing; else with `Generator` where the draw failed; else for want of memory. It then leaves the jar
+    /// as it was.
+    pub fn add_original<R: TryRng>(
+        &mut self,
+        cookie: Cookie<'static>,
+        rng: &mut R,
+    ) -> Result<(), JarError>
+        ensures ok { OnOk result ((nonce : List ℕ) × IsNonce nonce × R.may_fill rng.old nonce rng.new × (jar_of self.new ≡ after (AddOriginal (sealed (key_of self.old) nonce cookie.entry.fields)) (jar_of self.old))) }
+        ensures within { OnOk result (CanSeal cookie.entry.fields) }
+        ensures drawn { result ≡ Err refusal.OutOfMemory → (nonce : List ℕ) × IsNonce nonce × R.may_fill rng.old nonce rng.new }
+        ensures too_long { (¬ CanSeal cookie.entry.fields) ↔ (result ≡ Err refusal.TooLong) }
+        ensures undrawn { ¬ CanSeal cookie.entry.fields → rng.new ≡ rng.old }
+        ensures err { OnErr result (jar_of self.new ≡ jar_of self.old) }
+        ensures same { ChangesSame self.new self.old }
+    {
+        let nonce = nonce_for(&cookie, rng)?;
+        self.add_original_with_nonce(cookie, nonce)
+    }
+
+    /// Adds a cookie, with its value sealed under its name and a nonce that one draw of twelve bytes from `rng`
+    /// gives. A `get` of its name then gives its name and value.
+    ///
+    /// Fails with `TooLong` where the name has more than 2^61 - 1 bytes or the value more than 2^36 - 32, and then
+    /// draws nothing; else with `Generator` where the draw failed; else for want of memory. It then leaves the jar
+    /// as it was.
+    pub fn add<R: TryRng>(&mut self, cookie: Cookie<'static>, rng: &mut R) -> Result<(), JarError>
+        ensures ok { OnOk result ((nonce : List ℕ) × IsNonce nonce × R.may_fill rng.old nonce rng.new × (jar_of self.new ≡ after (Add (sealed (key_of self.old) nonce cookie.entry.fields)) (jar_of self.old))) }
+        ensures within { OnOk result (CanSeal cookie.entry.fields) }
+        ensures drawn { result ≡ Err refusal.OutOfMemory → (nonce : List ℕ) × IsNonce nonce × R.may_fill rng.old nonce rng.new }
+        ensures too_long { (¬ CanSeal cookie.entry.fields) ↔ (result ≡ Err refusal.TooLong) }
+        ensures undrawn { ¬ CanSeal cookie.entry.fields → rng.new ≡ rng.old }
+        ensures err { OnErr result (jar_of self.new ≡ jar_of self.old) }
+        ensures shown { IfOk result (λ _. AnswersPair (IsSealingOf (key_of self.new)) (view (jar_of self.new) cookie.entry.fields.name) cookie.entry.fields) }
+        ensures same { ChangesSame self.new self.old }
+    {
+        let nonce = nonce_for(&cookie, rng)?;
+        self.add_with_nonce(cookie, nonce)
+    }
+
+    /// Adds an original cookie, with its value sealed under its name and the nonce. No two values may be sealed
+    /// under one key and one nonce.
+    ///
+    /// Fails with `TooLong` where the name has more than 2^61 - 1 bytes or the value more than 2^36 - 32, else for
+    /// want of memory alone. It then leaves the jar as it was.
+    pub fn add_original_with_nonce(
+        &mut self,
+        cookie: Cookie<'static>,
+        nonce: [u8; 12],
+    ) -> Result<(), JarError>
+        ensures gives { CanSeal cookie.entry.fields → Gives refusal.OutOfMemory result (λ _. jar_of self.new ≡ after (AddOriginal (sealed (key_of self.old) nonce cookie.entry.fields)) (jar_of self.old)) }
+        ensures within { OnOk result (CanSeal cookie.entry.fields) }
+        ensures too_long { (¬ CanSeal cookie.entry.fields) ↔ (result ≡ Err refusal.TooLong) }
+        ensures err { OnErr result (jar_of self.new ≡ jar_of self.old) }
+        ensures same { ChangesSame self.new self.old }
+    {
+        if !can_seal(&cookie) {
+            return Err(JarError::TooLong);
+        }
+        let original = seal(self.jar.allocator(), &self.key, &nonce, cookie)?;
+        self.jar.add_original(original)
+    }
+
+    /// Adds a cookie, with its value sealed under its name and the nonce. A `get` of its name then gives its name
+    /// and value. No two values may be sealed under one key and one nonce.
+    ///
+    /// Fails with `TooLong` where the name has more than 2^61 - 1 bytes or the value more than 2^36 - 32, else for
+    /// want of memory alone. It then leaves the jar as it was.
+    pub fn add_with_nonce(
+        &mut self,
+        cookie: Cookie<'static>,
+        nonce: [u8; 12],
+    ) -> Result<(), JarError>
+        ensures gives { CanSeal cookie.entry.fields → Gives refusal.OutOfMemory result (λ _. jar_of self.new ≡ after (Add (sealed (key_of self.old) nonce cookie.entry.fields)) (jar_of self.old)) }
+        ensures within { OnOk result (CanSeal cookie.entry.fields) }
+        ensures too_long { (¬ CanSeal cookie.entry.fields) ↔ (result ≡ Err refusal.TooLong) }
+        ensures err { OnErr result (jar_of self.new ≡ jar_of self.old) }
+        ensures shown { IfOk result (λ _. AnswersPair (IsSealingOf (key_of self.new)) (view (jar_of self.new) cookie.entry.fields.name) cookie.entry.fields) }
+        ensures same { ChangesSame self.new self.old }
+    {
+        if !can_seal(&cookie) {
+            return Err(JarError::TooLong);
+        }
+        let added = seal(self.jar.allocator(), &self.key, &nonce, cookie)?;
+        self.jar.add(added)
+    }
+
+    /// Removes the cookie of that name, at the date and time `now` in UTC. Where there is an original of that
+    /// name, the delta gets a cookie that tells the client to drop it, with this cookie's path and domain.
+    ///
+    /// Fails for want of memory alone, where there is such an original, and then leaves the jar as it was.
+    pub fn remove(&mut self, cookie: Cookie<'static>, now: DateTime) -> Result<(), JarError>
+        ensures gives { Gives refusal.OutOfMemory result (λ _. jar_of self.new ≡ after (Remove cookie.entry.fields now) (jar_of self.old)) }
+        ensures err { OnErr result (jar_of self.new ≡ jar_of self.old) }
+        ensures certain { get (jar_of self.old).originals cookie.entry.fields.name ≡ None → IsOk result }
+        ensures same { ChangesSame self.new self.old }
+    {
+        self.jar.remove(cookie, now)
+    }
+}
+
+// Twelve bytes that one draw gives, to seal the cookie with.
+fn nonce_for<R: TryRng>(cookie: &Cookie<'_>, rng: &mut R) -> Result<[u8; 12], JarError>
+    ensures drawn { IfOk result (λ nonce. IsNonce nonce × R.may_fill rng.old nonce rng.new) }
+    ensures within { OnOk result (CanSeal cookie.now.fields) }
+    ensures too_long { (¬ CanSeal cookie.now.fields) ↔ (result ≡ Err refusal.TooLong) }
+    ensures undrawn { ¬ CanSeal cookie.now.fields → rng.new ≡ rng.old }
+    ensures no_memory { ¬ (result ≡ Err refusal.OutOfMemory) }
+{
+    if !can_seal(cookie) {
+        return Err(JarError::TooLong);
+    }
+    let mut nonce = [0; 12];
+    if rng.try_fill_bytes(&mut nonce).is_err() {
+        return Err(JarError::Generator);
+    }
+    is_nonce(&nonce);
+    Ok(nonce)
+}
