@@ -10,7 +10,9 @@ use Rattle.std.specs.Str.{bytes_eq}
 use Rattle.jiff.specs.Types.{DateTime}
 use Rattle.cookie.specs.History.{after_all, accepted, original_by, last_original, is_forced}
 use Rattle.cookie.specs.Jar.{Name, name_cmp, Marked, JarState, empty_jar, Change, AddOriginal, Add, Remove, ForceRemove, ResetDelta, overlay, view}
+use Rattle.cookie.specs.Keys.{signing_half}
 use Rattle.cookie.specs.Record.{Record}
+use Rattle.cookie.specs.Signing.{signed}
 use Rattle.cookie.proofs.HistoryLemmas.{looks_back}
 use Rattle.cookie.proofs.NameLemmas.{get_inserted}
 use Rattle.cookie.proofs.OutcomeLemmas.{nameless_outcome}
@@ -23,19 +25,46 @@ use Rattle.cookie_client.specs.declared.call.JarCall.{JarCall}
 use Rattle.cookie_client.specs.declared.call.JarCall.TheVariants as calls
 use Rattle.cookie_client.specs.declared.child_call.ChildCall.{ChildCall}
 use Rattle.cookie_client.specs.declared.child_call.ChildCall.TheVariants as child
-use Rattle.cookie_client.specs.declared.prefix_kind.PrefixKind.{PrefixKind}
 use Rattle.cookie_client.proofs.EntryLemmas.{AreEntries, Puts, AreEntries-empty, AreEntries-after_all, chosen}
 use Rattle.cookie_client.proofs.FitLemmas.{IsCookie-removal, IsFitEntry, decided_fit}
-use Rattle.cookie_client.proofs.StoredLemmas.{IsCookie-stored, IsFitAddition-stored, stored-named}
+use Rattle.cookie_client.proofs.StoredLemmas.{IsStoring, IsStoring-same, IsStoring-prefixed, IsStoring-signed}
 use Rattle.cookie_client.proofs.ReadTextLemmas.{IsKept, effect, decided, read_at, same_client}
 
 -- ---- what the calls put into the delta
 
-puts_kept_child : (kind : PrefixKind) (call : ChildCall) → IsKnownChild call → Puts IsKept (child_change (stored_with kind) call)
-puts_kept_child kind (child.AddOriginal cookie) known = tt
-puts_kept_child kind (child.Add cookie) known = record { cookie = IsCookie-stored kind cookie.fields known; name = refl }
-puts_kept_child kind (child.Remove cookie moment) known =
-    record { cookie = IsCookie-removal moment (stored_with kind cookie.fields) (IsCookie-stored kind cookie.fields known); name = refl }
+-- an original that the change adds has a name
+abbrev IsNamedChange : Change → Type 0
+IsNamedChange (AddOriginal cookie) = cookie.name ≢ []
+IsNamedChange (Add cookie) = Unit {0}
+IsNamedChange (Remove cookie now) = Unit {0}
+IsNamedChange (ForceRemove name) = Unit {0}
+IsNamedChange ResetDelta = Unit {0}
+
+-- what a call on a child jar puts there, and whether its original has a name
+module _ (stored dropped : Record → Record) (storing : IsStoring stored) (dropping : IsStoring dropped) where
+  puts_kept_child : (call : ChildCall) → IsKnownChild call → Puts IsKept (child_change stored dropped call)
+  puts_kept_child (child.AddOriginal cookie) known = tt
+  puts_kept_child (child.Add cookie) known = record { cookie = storing.cookie cookie.fields known; name = refl }
+  puts_kept_child (child.Remove cookie moment) known =
+      record { cookie = IsCookie-removal moment (dropped cookie.fields) (dropping.cookie cookie.fields known); name = refl }
+
+  puts_fit_child : (now : DateTime) (call : ChildCall) → IsKnownChild call → IsFitChild now call → Puts (IsFitEntry now) (child_change stored dropped call)
+  puts_fit_child now (child.AddOriginal cookie) known fit = tt
+  puts_fit_child now (child.Add cookie) known fit =
+      inl (record { kept = refl; cookie = storing.cookie cookie.fields known; fit = storing.fit now cookie.fields fit })
+  puts_fit_child now (child.Remove cookie moment) known fit =
+      inr (record {
+        removed = refl;
+        cookie = dropped cookie.fields;
+        moment = moment;
+        named = record { cookie = dropping.cookie cookie.fields known; name = dropping.named cookie.fields fit };
+        is = refl;
+      })
+
+  named_child : (now : DateTime) (call : ChildCall) → IsFitChild now call → IsNamedChange (child_change stored dropped call)
+  named_child now (child.AddOriginal cookie) fit = storing.named cookie.fields fit
+  named_child now (child.Add cookie) fit = tt
+  named_child now (child.Remove cookie moment) fit = tt
 
 puts_kept : (call : JarCall) → IsKnownCall call → Puts IsKept (change_of call)
 puts_kept (calls.AddOriginal cookie) known = tt
@@ -43,20 +72,8 @@ puts_kept (calls.Add cookie) known = record { cookie = known; name = refl }
 puts_kept (calls.Remove cookie moment) known = record { cookie = IsCookie-removal moment cookie.fields known; name = refl }
 puts_kept (calls.ForceRemove name) known = tt
 puts_kept calls.ResetDelta known = tt
-puts_kept (calls.Prefixed kind call) known = puts_kept_child kind call known
-
-puts_fit_child : (now : DateTime) (kind : PrefixKind) (call : ChildCall) → IsKnownChild call → IsFitChild now call → Puts (IsFitEntry now) (child_change (stored_with kind) call)
-puts_fit_child now kind (child.AddOriginal cookie) known fit = tt
-puts_fit_child now kind (child.Add cookie) known fit =
-    inl (record { kept = refl; cookie = IsCookie-stored kind cookie.fields known; fit = IsFitAddition-stored now kind cookie.fields fit })
-puts_fit_child now kind (child.Remove cookie moment) known fit =
-    inr (record {
-      removed = refl;
-      cookie = stored_with kind cookie.fields;
-      moment = moment;
-      named = record { cookie = IsCookie-stored kind cookie.fields known; name = stored-named kind cookie.fields };
-      is = refl;
-    })
+puts_kept (calls.Prefixed kind call) known = puts_kept_child (stored_with kind) (stored_with kind) (IsStoring-prefixed kind) (IsStoring-prefixed kind) call known
+puts_kept (calls.Signed key call) known = puts_kept_child (signed (signing_half key.now)) (λ c. c) (IsStoring-signed (signing_half key.now)) IsStoring-same call known
 
 puts_fit : (now : DateTime) (call : JarCall) → IsKnownCall call × IsFitCall now call → Puts (IsFitEntry now) (change_of call)
 puts_fit now (calls.AddOriginal cookie) h = tt
@@ -65,7 +82,8 @@ puts_fit now (calls.Remove cookie moment) h =
     inr (record { removed = refl; cookie = cookie.fields; moment = moment; named = record { cookie = h.0; name = h.1 }; is = refl })
 puts_fit now (calls.ForceRemove name) h = tt
 puts_fit now calls.ResetDelta h = tt
-puts_fit now (calls.Prefixed kind call) h = puts_fit_child now kind call h.0 h.1
+puts_fit now (calls.Prefixed kind call) h = puts_fit_child (stored_with kind) (stored_with kind) (IsStoring-prefixed kind) (IsStoring-prefixed kind) now call h.0 h.1
+puts_fit now (calls.Signed key call) h = puts_fit_child (signed (signing_half key.now)) (λ c. c) (IsStoring-signed (signing_half key.now)) IsStoring-same now call h.0 h.1
 
 All-accepted : {X : Type 0} (P : X → Type 0) (outcomes : List Bool) (xs : List X) → All P xs → All P (accepted outcomes xs)
 All-accepted P [] xs all = All-nil P
@@ -129,26 +147,14 @@ last_unforced name (ResetDelta ∷ earlier) unforced = last_unforced name earlie
 
 -- ---- the empty name
 
--- an original that the change adds has a name
-abbrev IsNamedChange : Change → Type 0
-IsNamedChange (AddOriginal cookie) = cookie.name ≢ []
-IsNamedChange (Add cookie) = Unit {0}
-IsNamedChange (Remove cookie now) = Unit {0}
-IsNamedChange (ForceRemove name) = Unit {0}
-IsNamedChange ResetDelta = Unit {0}
-
-named_child : (kind : PrefixKind) (call : ChildCall) → IsNamedChange (child_change (stored_with kind) call)
-named_child kind (child.AddOriginal cookie) = stored-named kind cookie.fields
-named_child kind (child.Add cookie) = tt
-named_child kind (child.Remove cookie moment) = tt
-
 named_change : (now : DateTime) (call : JarCall) → IsFitCall now call → IsNamedChange (change_of call)
 named_change now (calls.AddOriginal cookie) fit = fit
 named_change now (calls.Add cookie) fit = tt
 named_change now (calls.Remove cookie moment) fit = tt
 named_change now (calls.ForceRemove name) fit = tt
 named_change now calls.ResetDelta fit = tt
-named_change now (calls.Prefixed kind call) fit = named_child kind call
+named_change now (calls.Prefixed kind call) fit = named_child (stored_with kind) (stored_with kind) (IsStoring-prefixed kind) (IsStoring-prefixed kind) now call fit
+named_change now (calls.Signed key call) fit = named_child (signed (signing_half key.now)) (λ c. c) (IsStoring-signed (signing_half key.now)) IsStoring-same now call fit
 
 another_name : (name : Name) → name ≢ [] → bytes_eq [] name ≡ false
 another_name [] some = absurd (some refl)

@@ -6,6 +6,7 @@ pub mod FitLemmas
 pub mod HeaderLemmas
 pub mod LineLemmas
 pub mod LiveLemmas
+pub mod OriginalLemmas
 pub mod ReadTextLemmas
 pub mod StoredLemmas
 pub mod TextMapLemmas

@@ -8,10 +8,22 @@ use Rattle.jiff.specs.Types.{DateTime}
 use Rattle.cookie.specs.Pieces.{Lacks}
 use Rattle.cookie.specs.Prefixes.{host_prefix, secure_prefix}
 use Rattle.cookie.specs.Record.{Record, IsCookie}
+use Rattle.cookie.specs.Signing.{signed}
 use Rattle.cookie.proofs.ByteLemmas.{Lacks-from_test}
+use Rattle.cookie.proofs.SigningLemmas.{IsCookie-signed}
 use Rattle.cookie_client.specs.Calls.{IsFitAddition, stored_with}
 use Rattle.cookie_client.specs.declared.prefix_kind.PrefixKind.{PrefixKind}
 use Rattle.cookie_client.specs.declared.prefix_kind.PrefixKind.TheVariants as kinds
+
+-- it makes cookies of cookies, and keeps them named and fit
+pub record IsStoring (stored : Record → Record) : Type 0 where
+  pub cookie : (c : Record) → IsCookie c → IsCookie (stored c)
+  pub named : (c : Record) → c.name ≢ [] → (stored c).name ≢ []
+  pub fit : (now : DateTime) (c : Record) → IsFitAddition now c → IsFitAddition now (stored c)
+
+-- a cookie that is stored as it is
+pub IsStoring-same : IsStoring (λ c. c)
+IsStoring-same = record { cookie = λ c is. is; named = λ c some. some; fit = λ now c fit. fit }
 
 -- a text whose bytes are all below 128 is UTF-8
 below_128 : (bs : List ℕ) → list_all (λ b. nat_lt b 128) bs ≡ true → IsAscii bs
@@ -22,7 +34,7 @@ below_128 (b ∷ bs) h (suc i) = below_128 bs (and_parts (nat_lt b 128) (list_al
 ascii : (bs : List ℕ) → list_all (λ b. nat_lt b 128) bs ≡ true → IsUtf8 bs
 ascii bs h = IsUtf8-from_ascii bs (below_128 bs h)
 
-pub IsCookie-stored : (kind : PrefixKind) (c : Record) → IsCookie c → IsCookie (stored_with kind c)
+IsCookie-stored : (kind : PrefixKind) (c : Record) → IsCookie c → IsCookie (stored_with kind c)
 IsCookie-stored kinds.Host c is =
     record {
       name = IsUtf8-append host_prefix c.name (ascii host_prefix refl) is.name;
@@ -40,13 +52,34 @@ IsCookie-stored kinds.Secure c is =
       max_age = is.max_age;
     }
 
-pub stored-named : (kind : PrefixKind) (c : Record) → (stored_with kind c).name ≢ []
+stored-named : (kind : PrefixKind) (c : Record) → (stored_with kind c).name ≢ []
 stored-named kinds.Host c e = cc
 stored-named kinds.Secure c e = cc
 
 slash_lacks : Lacks 59 (codes "/")
 slash_lacks = Lacks-from_test 59 (codes "/") refl
 
-pub IsFitAddition-stored : (now : DateTime) (kind : PrefixKind) (c : Record) → IsFitAddition now c → IsFitAddition now (stored_with kind c)
+IsFitAddition-stored : (now : DateTime) (kind : PrefixKind) (c : Record) → IsFitAddition now c → IsFitAddition now (stored_with kind c)
 IsFitAddition-stored now kinds.Host c fit = record { name = stored-named kinds.Host c; live = fit.live; uncut = record { path = slash_lacks; domain = tt } }
 IsFitAddition-stored now kinds.Secure c fit = record { name = stored-named kinds.Secure c; live = fit.live; uncut = record { path = fit.uncut.path; domain = fit.uncut.domain } }
+
+pub IsStoring-prefixed : (kind : PrefixKind) → IsStoring (stored_with kind)
+IsStoring-prefixed kind =
+    record {
+      cookie = IsCookie-stored kind;
+      named = λ c _. stored-named kind c;
+      fit = λ now. IsFitAddition-stored now kind;
+    }
+
+-- ---- signed
+
+IsFitAddition-signed : (key : List ℕ) (now : DateTime) (c : Record) → IsFitAddition now c → IsFitAddition now (signed key c)
+IsFitAddition-signed key now c fit = record { name = fit.name; live = fit.live; uncut = record { path = fit.uncut.path; domain = fit.uncut.domain } }
+
+pub IsStoring-signed : (key : List ℕ) → IsStoring (signed key)
+IsStoring-signed key =
+    record {
+      cookie = IsCookie-signed key;
+      named = λ c some. some;
+      fit = IsFitAddition-signed key;
+    }

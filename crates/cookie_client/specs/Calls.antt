@@ -3,9 +3,11 @@ use Rattle.std.specs.Prelude.{◌≡◌, ◌≢◌, Bool, true, false, List, [],
 use Rattle.jiff.specs.Types.{DateTime}
 use Rattle.cookie.specs.History.{accepted}
 use Rattle.cookie.specs.Jar.{Name, Change, AddOriginal, Add, Remove, ForceRemove, ResetDelta}
+use Rattle.cookie.specs.Keys.{signing_half}
 use Rattle.cookie.specs.Normal.{IsUncut}
 use Rattle.cookie.specs.Prefixes.{applied, host_prefix, host_bound, secure_prefix, secured}
 use Rattle.cookie.specs.Record.{Record}
+use Rattle.cookie.specs.Signing.{signed}
 use Rattle.cookie_client.specs.Live.{is_live}
 use Rattle.cookie_client.specs.declared.call.JarCall.{JarCall}
 use Rattle.cookie_client.specs.declared.call.JarCall.TheVariants as calls
@@ -28,11 +30,11 @@ conformed_to kinds.Secure = secured
 abbrev pub stored_with : PrefixKind → Record → Record
 stored_with kind cookie = applied (prefix_of kind) (conformed_to kind) cookie
 
--- the change of the jar that a call on a child jar asks for, which stores cookies so
-abbrev pub child_change : (Record → Record) → ChildCall → Change
-child_change stored (child.AddOriginal cookie) = AddOriginal (stored cookie.fields)
-child_change stored (child.Add cookie) = Add (stored cookie.fields)
-child_change stored (child.Remove cookie now) = Remove (stored cookie.fields) now
+-- the change of the jar that a call on a child jar asks for, which stores the cookies that are added, and the one that is removed, so
+abbrev pub child_change : (Record → Record) → (Record → Record) → ChildCall → Change
+child_change stored dropped (child.AddOriginal cookie) = AddOriginal (stored cookie.fields)
+child_change stored dropped (child.Add cookie) = Add (stored cookie.fields)
+child_change stored dropped (child.Remove cookie now) = Remove (dropped cookie.fields) now
 
 -- the change of the jar that a call asks for
 abbrev pub change_of : JarCall → Change
@@ -41,7 +43,8 @@ change_of (calls.Add cookie) = Add cookie.fields
 change_of (calls.Remove cookie now) = Remove cookie.fields now
 change_of (calls.ForceRemove name) = ForceRemove (string_bytes name)
 change_of calls.ResetDelta = ResetDelta
-change_of (calls.Prefixed kind call) = child_change (stored_with kind) call
+change_of (calls.Prefixed kind call) = child_change (stored_with kind) (stored_with kind) call
+change_of (calls.Signed key call) = child_change (signed (signing_half key.now)) (λ c. c) call
 
 -- the changes of the calls whose outcome is true
 abbrev pub changes_of : List Bool → List JarCall → List Change
@@ -55,6 +58,7 @@ is_certain (calls.Remove cookie now) = false
 is_certain (calls.ForceRemove name) = true
 is_certain calls.ResetDelta = true
 is_certain (calls.Prefixed kind call) = false
+is_certain (calls.Signed key call) = false
 
 -- each call that is never refused has the outcome true
 abbrev pub AreTaken : List JarCall → List Bool → Type 0
@@ -76,6 +80,7 @@ is_change (calls.Remove cookie now) = true
 is_change (calls.ForceRemove name) = false
 is_change calls.ResetDelta = false
 is_change (calls.Prefixed kind call) = is_child_change call
+is_change (calls.Signed key call) = is_child_change call
 
 -- an added cookie that a client can follow: it has a name, it is live at the moment, and its path and its domain, where they are set, hold no `;`
 pub record IsFitAddition (now : DateTime) (cookie : Record) : Type 0 where
@@ -97,3 +102,4 @@ IsFitCall now (calls.Remove cookie moment) = cookie.fields.name ≢ []
 IsFitCall now (calls.ForceRemove name) = Unit {0}
 IsFitCall now calls.ResetDelta = Unit {0}
 IsFitCall now (calls.Prefixed kind call) = IsFitChild now call
+IsFitCall now (calls.Signed key call) = IsFitChild now call

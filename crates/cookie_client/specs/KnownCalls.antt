@@ -19,3 +19,4 @@ IsKnownCall (calls.Remove cookie now) = IsCookie cookie.fields
 IsKnownCall (calls.ForceRemove name) = Unit {0}
 IsKnownCall calls.ResetDelta = Unit {0}
 IsKnownCall (calls.Prefixed kind call) = IsKnownChild call
+IsKnownCall (calls.Signed key call) = IsKnownChild call

@@ -4,6 +4,7 @@ pub mod Client
 pub mod KnownCalls
 pub mod Lines
 pub mod Live
+pub mod Originals
 pub mod Run
 pub mod RunError
 pub mod Session

@@ -7,12 +7,12 @@ ghost use Rattle.cookie_client.specs.KnownCalls.{IsKnownCall, IsKnownChild};
 use crate::child_call::ChildCall;
 use crate::live::is_live;
 use crate::prefix_kind::PrefixKind;
-use cookie::Cookie;
+use cookie::{Cookie, Key};
 use jiff::civil::DateTime;
 
 /// A call on a jar.
 #[derive(Drop)]
-pub enum JarCall {
+pub enum JarCall<'k> {
     /// Adds an original cookie.
     AddOriginal(Cookie<'static>),
     /// Adds a cookie.
@@ -25,9 +25,11 @@ pub enum JarCall {
     ResetDelta,
     /// A call through the child jar of a prefix.
     Prefixed(PrefixKind, ChildCall),
+    /// A call through the signed child jar of the key.
+    Signed(&'k Key, ChildCall),
 }
 
-impl JarCall {
+impl<'k> JarCall<'k> {
     /// Whether a client can follow the call at the moment `now` in UTC. A cookie in it must have a name; one that is
     /// added, and is no original, must be live at the moment, and its path and its domain must hold no semicolon. The
     /// cookie is looked at as it was handed in.
@@ -41,6 +43,7 @@ impl JarCall {
             JarCall::ForceRemove(_) => true,
             JarCall::ResetDelta => true,
             JarCall::Prefixed(_, call) => call.is_fit(now),
+            JarCall::Signed(_, call) => call.is_fit(now),
         }
     }
 
@@ -52,6 +55,7 @@ impl JarCall {
             JarCall::AddOriginal(_) | JarCall::ForceRemove(_) | JarCall::ResetDelta => false,
             JarCall::Add(_) | JarCall::Remove(_, _) => true,
             JarCall::Prefixed(_, call) => call.is_change(),
+            JarCall::Signed(_, call) => call.is_change(),
         }
     }
 
@@ -66,6 +70,7 @@ impl JarCall {
             JarCall::ForceRemove(_) => (),
             JarCall::ResetDelta => (),
             JarCall::Prefixed(_, call) => call.known(),
+            JarCall::Signed(_, call) => call.known(),
         }
     }
 }
@@ -99,7 +104,7 @@ impl ChildCall {
 }
 
 /// What holds of the cookies in the calls. It does nothing.
-pub(crate) fn known_calls(calls: &[JarCall])
+pub(crate) fn known_calls(calls: &[JarCall<'_>])
     ensures { All IsKnownCall calls.now }
 {
     for call in calls {

@@ -13,6 +13,7 @@ use crate::child_call::ChildCall;
 use crate::client::Client;
 use crate::client_error::ClientError;
 use crate::history::replay;
+use crate::originals::hold_signed;
 use crate::prefix_kind::PrefixKind;
 use cookie::prefix::{Host, Prefix, Prefixing, Secure};
 use cookie::{Cookie, CookieJar};
@@ -35,7 +36,7 @@ pub struct Played {
 /// is wanted outside the calls.
 pub fn mirror(
     alloc: Global,
-    calls: &[JarCall],
+    calls: &[JarCall<'_>],
     pick: &[usize],
     now: DateTime,
 ) -> Result<Played, ClientError>
@@ -64,7 +65,7 @@ pub fn mirror(
 fn hold_one(
     alloc: Global,
     client: &mut Client,
-    call: &JarCall,
+    call: &JarCall<'_>,
     is_accepted: bool,
 ) -> Result<(), ClientError>
     ensures { OnOk result (client.new ≡ holding (originals_of (changes_of (is_accepted ∷ []) (call.now ∷ []))) client.old) }
@@ -79,6 +80,9 @@ fn hold_one(
         }
         JarCall::Prefixed(PrefixKind::Secure, ChildCall::AddOriginal(cookie)) => {
             hold_prefixed::<Secure>(alloc, client, cookie)
+        }
+        JarCall::Signed(key, ChildCall::AddOriginal(cookie)) => {
+            hold_signed(alloc, client, key, cookie)
         }
         _ => Ok(()),
     }
@@ -100,7 +104,7 @@ fn hold_prefixed<P: Prefix>(
 fn hold_originals(
     alloc: Global,
     client: &mut Client,
-    calls: &[JarCall],
+    calls: &[JarCall<'_>],
     outcomes: &[bool],
 ) -> Result<(), ClientError>
     requires { length outcomes.now ≡ length calls.now }

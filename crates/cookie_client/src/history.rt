@@ -2,7 +2,9 @@
 ghost use Rattle.std.specs.Prelude.{◌≡◌, Bool, true, length, IsOk, IfOk, OnOk, OnErr};
 ghost use Rattle.cookie.specs.History.{after_all};
 ghost use Rattle.cookie.specs.Jar.{after};
+ghost use Rattle.cookie.specs.Keys.{signing_half};
 ghost use Rattle.cookie.specs.Prefixes.{applied};
+ghost use Rattle.cookie.specs.Signing.{signed};
 ghost use Rattle.cookie_client.specs.Calls.{AreTaken, change_of, child_change, changes_of, is_certain};
 
 use crate::call::JarCall;
@@ -10,11 +12,11 @@ use crate::child_call::ChildCall;
 use crate::client_error::ClientError;
 use crate::prefix_kind::PrefixKind;
 use cookie::prefix::{Host, Prefix, Secure};
-use cookie::{CookieJar, JarError};
+use cookie::{CookieJar, JarError, Key};
 use std::alloc::Global;
 
 /// Makes one call.
-fn play(alloc: Global, jar: &mut CookieJar, call: &JarCall) -> Result<(), JarError>
+fn play(alloc: Global, jar: &mut CookieJar, call: &JarCall<'_>) -> Result<(), JarError>
     ensures ok { OnOk result (jar.new ≡ after (change_of call.now) jar.old) }
     ensures err { OnErr result (jar.new ≡ jar.old) }
     ensures certain { is_certain call.now ≡ true → IsOk result }
@@ -33,6 +35,7 @@ fn play(alloc: Global, jar: &mut CookieJar, call: &JarCall) -> Result<(), JarErr
         }
         JarCall::Prefixed(PrefixKind::Host, call) => play_prefixed(alloc, jar, Host, call),
         JarCall::Prefixed(PrefixKind::Secure, call) => play_prefixed(alloc, jar, Secure, call),
+        JarCall::Signed(key, call) => play_signed(alloc, jar, key, call),
     }
 }
 
@@ -43,7 +46,7 @@ fn play_prefixed<P: Prefix>(
     prefix: P,
     call: &ChildCall,
 ) -> Result<(), JarError>
-    ensures ok { OnOk result (jar.new ≡ after (child_change (applied P.PREFIX P.conformed) call.now) jar.old) }
+    ensures ok { OnOk result (jar.new ≡ after (child_change (applied P.PREFIX P.conformed) (applied P.PREFIX P.conformed) call.now) jar.old) }
     ensures err { OnErr result (jar.new ≡ jar.old) }
 {
     let mut child = jar.prefixed_mut(prefix);
@@ -51,6 +54,24 @@ fn play_prefixed<P: Prefix>(
         ChildCall::AddOriginal(cookie) => child.add_original(cookie.clone(alloc)?),
         ChildCall::Add(cookie) => child.add(cookie.clone(alloc)?),
         ChildCall::Remove(cookie, now) => child.remove(cookie.clone(alloc)?, *now),
+    }
+}
+
+/// Makes one call on the signed child jar of a key.
+fn play_signed(
+    alloc: Global,
+    jar: &mut CookieJar,
+    key: &Key,
+    call: &ChildCall,
+) -> Result<(), JarError>
+    ensures ok { OnOk result (jar.new ≡ after (child_change (signed (signing_half key.now)) (λ c. c) call.now) jar.old) }
+    ensures err { OnErr result (jar.new ≡ jar.old) }
+{
+    let mut signer = jar.signed_mut(key);
+    match call {
+        ChildCall::AddOriginal(cookie) => signer.add_original(cookie.clone(alloc)?),
+        ChildCall::Add(cookie) => signer.add(cookie.clone(alloc)?),
+        ChildCall::Remove(cookie, now) => signer.remove(cookie.clone(alloc)?, *now),
     }
 }
 
@@ -62,7 +83,7 @@ fn play_prefixed<P: Prefix>(
 pub fn replay(
     alloc: Global,
     jar: &mut CookieJar,
-    calls: &[JarCall],
+    calls: &[JarCall<'_>],
 ) -> Result<Vec<bool>, ClientError>
     ensures count { IfOk result (λ outcomes. length outcomes.items ≡ length calls.now) }
     ensures jar { IfOk result (λ outcomes. jar.new ≡ after_all (changes_of outcomes.items calls.now) jar.old) }

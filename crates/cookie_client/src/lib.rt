@@ -9,6 +9,7 @@ mod exchange;
 mod history;
 mod lines;
 mod live;
+mod originals;
 mod prefix_kind;
 mod run_error;
 mod session;

@@ -10,7 +10,7 @@ fn a() -> CookieBuilder<'static> {
     CookieBuilder::new("a", "1")
 }
 
-fn adds(builder: CookieBuilder<'static>) -> JarCall {
+fn adds(builder: CookieBuilder<'static>) -> JarCall<'static> {
     JarCall::Add(builder.build())
 }
 

@@ -32,7 +32,7 @@ impl Draws {
         VALUES[(self.next() % 4) as usize]
     }
 
-    fn call(&mut self, alloc: Global) -> Result<JarCall, Fail> {
+    fn call(&mut self, alloc: Global) -> Result<JarCall<'static>, Fail> {
         let name = self.name();
         Ok(match self.next() % 16 {
             0..=3 => JarCall::AddOriginal(Cookie::new(name, self.value())),
@@ -44,7 +44,7 @@ impl Draws {
     }
 
     // Up to 23 calls.
-    fn calls(&mut self, alloc: Global) -> Result<Vec<JarCall>, Fail> {
+    fn calls(&mut self, alloc: Global) -> Result<Vec<JarCall<'static>>, Fail> {
         let mut calls = Vec::new(alloc);
         for _ in 0..self.next() % 24 {
             calls.push(self.call(alloc)?)?;
@@ -95,7 +95,7 @@ fn is_alike(alloc: Global, jar: &CookieJar, flat: &FlatJar) -> Result<bool, Allo
 }
 
 // Whether the calls have the same outcomes on the two jars, and leave them, and a clone, alike.
-fn is_replayed_alike(alloc: Global, calls: &[JarCall]) -> Result<bool, Fail> {
+fn is_replayed_alike(alloc: Global, calls: &[JarCall<'_>]) -> Result<bool, Fail> {
     let mut jar = CookieJar::new(alloc);
     let mut flat = FlatJar::new(alloc);
     let outcomes = replay(alloc, &mut jar, calls)?;

@@ -7,24 +7,24 @@ use jiff::civil::DateTime;
 use std::alloc::Global;
 use std::test::Fail;
 
-fn original(name: &'static str, value: &'static str) -> JarCall {
+fn original(name: &'static str, value: &'static str) -> JarCall<'static> {
     JarCall::AddOriginal(Cookie::new(name, value))
 }
 
-fn adds(name: &'static str, value: &'static str) -> JarCall {
+fn adds(name: &'static str, value: &'static str) -> JarCall<'static> {
     JarCall::Add(Cookie::new(name, value))
 }
 
-fn removes(name: &'static str, now: DateTime) -> JarCall {
+fn removes(name: &'static str, now: DateTime) -> JarCall<'static> {
     JarCall::Remove(Cookie::named(name), now)
 }
 
-fn forces(alloc: Global, name: &str) -> Result<JarCall, Fail> {
+fn forces(alloc: Global, name: &str) -> Result<JarCall<'static>, Fail> {
     Ok(JarCall::ForceRemove(String::from_str(alloc, name)?))
 }
 
 // What comes of the calls at the moment of most rows, with the walk's order of the texts.
-fn played(alloc: Global, calls: &[JarCall]) -> Result<Played, Fail> {
+fn played(alloc: Global, calls: &[JarCall<'_>]) -> Result<Played, Fail> {
     Ok(mirror(alloc, calls, &[], moment()?)?)
 }
 
@@ -81,7 +81,7 @@ fn the_jar_and_the_outcomes_are_handed_out(rt: HostRuntime) -> Result<(), Fail> 
 // The header after the calls, if the delta has so many cookies.
 fn header_of(
     alloc: Global,
-    calls: &[JarCall],
+    calls: &[JarCall<'_>],
     pick: &[usize],
     count: usize,
 ) -> Result<String, Fail> {

@@ -38,7 +38,7 @@ impl FlatJar {
     }
 
     /// Makes the calls in order, and answers which were accepted.
-    pub(super) fn replay(&mut self, calls: &[JarCall]) -> Result<Vec<bool>, AllocError> {
+    pub(super) fn replay(&mut self, calls: &[JarCall<'_>]) -> Result<Vec<bool>, AllocError> {
         let mut outcomes = Vec::new(self.alloc);
         for call in calls {
             outcomes.push(self.play(call).is_ok())?;
@@ -46,7 +46,7 @@ impl FlatJar {
         Ok(outcomes)
     }
 
-    fn play(&mut self, call: &JarCall) -> Result<(), AllocError> {
+    fn play(&mut self, call: &JarCall<'_>) -> Result<(), AllocError> {
         match call {
             JarCall::AddOriginal(cookie) => self.add_original(cookie.clone(self.alloc)?),
             JarCall::Add(cookie) => self.change(cookie.clone(self.alloc)?, false),
@@ -61,6 +61,7 @@ impl FlatJar {
             }
             // The lists that are compared have no calls of child jars.
             JarCall::Prefixed(_, _) => Ok(()),
+            JarCall::Signed(_, _) => Ok(()),
         }
     }
 

@@ -191,7 +191,7 @@ fn an_empty_prefix_changes_nothing(rt: HostRuntime) -> Result<(), Fail> {
     Ok(())
 }
 
-fn host(call: ChildCall) -> JarCall {
+fn host(call: ChildCall) -> JarCall<'static> {
     JarCall::Prefixed(PrefixKind::Host, call)
 }
 
