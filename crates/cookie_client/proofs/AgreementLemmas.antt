@@ -10,8 +10,9 @@ use Rattle.std.specs.Str.{bytes_eq}
 use Rattle.jiff.specs.Types.{DateTime}
 use Rattle.cookie.specs.History.{after_all, accepted, original_by, last_original, is_forced}
 use Rattle.cookie.specs.Jar.{Name, name_cmp, Marked, JarState, empty_jar, Change, AddOriginal, Add, Remove, ForceRemove, ResetDelta, overlay, view}
-use Rattle.cookie.specs.Keys.{signing_half}
+use Rattle.cookie.specs.Keys.{encryption_half, signing_half}
 use Rattle.cookie.specs.Record.{Record}
+use Rattle.cookie.specs.Sealing.{sealed}
 use Rattle.cookie.specs.Signing.{signed}
 use Rattle.cookie.proofs.HistoryLemmas.{looks_back}
 use Rattle.cookie.proofs.NameLemmas.{get_inserted}
@@ -27,7 +28,7 @@ use Rattle.cookie_client.specs.declared.child_call.ChildCall.{ChildCall}
 use Rattle.cookie_client.specs.declared.child_call.ChildCall.TheVariants as child
 use Rattle.cookie_client.proofs.EntryLemmas.{AreEntries, Puts, AreEntries-empty, AreEntries-after_all, chosen}
 use Rattle.cookie_client.proofs.FitLemmas.{IsCookie-removal, IsFitEntry, decided_fit}
-use Rattle.cookie_client.proofs.StoredLemmas.{IsStoring, IsStoring-same, IsStoring-prefixed, IsStoring-signed}
+use Rattle.cookie_client.proofs.StoredLemmas.{IsStoring, IsStoring-same, IsStoring-prefixed, IsStoring-signed, IsStoring-sealed}
 use Rattle.cookie_client.proofs.ReadTextLemmas.{IsKept, effect, decided, read_at, same_client}
 
 -- ---- what the calls put into the delta
@@ -74,6 +75,7 @@ puts_kept (calls.ForceRemove name) known = tt
 puts_kept calls.ResetDelta known = tt
 puts_kept (calls.Prefixed kind call) known = puts_kept_child (stored_with kind) (stored_with kind) (IsStoring-prefixed kind) (IsStoring-prefixed kind) call known
 puts_kept (calls.Signed key call) known = puts_kept_child (signed (signing_half key.now)) (λ c. c) (IsStoring-signed (signing_half key.now)) IsStoring-same call known
+puts_kept (calls.Private key nonce call) known = puts_kept_child (sealed (encryption_half key.now) nonce) (λ c. c) (IsStoring-sealed (encryption_half key.now) nonce) IsStoring-same call known
 
 puts_fit : (now : DateTime) (call : JarCall) → IsKnownCall call × IsFitCall now call → Puts (IsFitEntry now) (change_of call)
 puts_fit now (calls.AddOriginal cookie) h = tt
@@ -84,6 +86,7 @@ puts_fit now (calls.ForceRemove name) h = tt
 puts_fit now calls.ResetDelta h = tt
 puts_fit now (calls.Prefixed kind call) h = puts_fit_child (stored_with kind) (stored_with kind) (IsStoring-prefixed kind) (IsStoring-prefixed kind) now call h.0 h.1
 puts_fit now (calls.Signed key call) h = puts_fit_child (signed (signing_half key.now)) (λ c. c) (IsStoring-signed (signing_half key.now)) IsStoring-same now call h.0 h.1
+puts_fit now (calls.Private key nonce call) h = puts_fit_child (sealed (encryption_half key.now) nonce) (λ c. c) (IsStoring-sealed (encryption_half key.now) nonce) IsStoring-same now call h.0 h.1
 
 All-accepted : {X : Type 0} (P : X → Type 0) (outcomes : List Bool) (xs : List X) → All P xs → All P (accepted outcomes xs)
 All-accepted P [] xs all = All-nil P
@@ -155,6 +158,7 @@ named_change now (calls.ForceRemove name) fit = tt
 named_change now calls.ResetDelta fit = tt
 named_change now (calls.Prefixed kind call) fit = named_child (stored_with kind) (stored_with kind) (IsStoring-prefixed kind) (IsStoring-prefixed kind) now call fit
 named_change now (calls.Signed key call) fit = named_child (signed (signing_half key.now)) (λ c. c) (IsStoring-signed (signing_half key.now)) IsStoring-same now call fit
+named_change now (calls.Private key nonce call) fit = named_child (sealed (encryption_half key.now) nonce) (λ c. c) (IsStoring-sealed (encryption_half key.now) nonce) IsStoring-same now call fit
 
 another_name : (name : Name) → name ≢ [] → bytes_eq [] name ≡ false
 another_name [] some = absurd (some refl)

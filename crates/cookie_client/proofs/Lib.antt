@@ -7,6 +7,7 @@ pub mod HeaderLemmas
 pub mod LineLemmas
 pub mod LiveLemmas
 pub mod OriginalLemmas
+pub mod OutcomeLemmas
 pub mod ReadTextLemmas
 pub mod StoredLemmas
 pub mod TextMapLemmas

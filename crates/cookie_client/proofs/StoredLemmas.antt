@@ -8,8 +8,10 @@ use Rattle.jiff.specs.Types.{DateTime}
 use Rattle.cookie.specs.Pieces.{Lacks}
 use Rattle.cookie.specs.Prefixes.{host_prefix, secure_prefix}
 use Rattle.cookie.specs.Record.{Record, IsCookie}
+use Rattle.cookie.specs.Sealing.{sealed}
 use Rattle.cookie.specs.Signing.{signed}
 use Rattle.cookie.proofs.ByteLemmas.{Lacks-from_test}
+use Rattle.cookie.proofs.SealingLemmas.{IsCookie-sealed}
 use Rattle.cookie.proofs.SigningLemmas.{IsCookie-signed}
 use Rattle.cookie_client.specs.Calls.{IsFitAddition, stored_with}
 use Rattle.cookie_client.specs.declared.prefix_kind.PrefixKind.{PrefixKind}
@@ -82,4 +84,17 @@ IsStoring-signed key =
       cookie = IsCookie-signed key;
       named = λ c some. some;
       fit = IsFitAddition-signed key;
+    }
+
+-- ---- sealed
+
+IsFitAddition-sealed : (key nonce : List ℕ) (now : DateTime) (c : Record) → IsFitAddition now c → IsFitAddition now (sealed key nonce c)
+IsFitAddition-sealed key nonce now c fit = record { name = fit.name; live = fit.live; uncut = record { path = fit.uncut.path; domain = fit.uncut.domain } }
+
+pub IsStoring-sealed : (key nonce : List ℕ) → IsStoring (sealed key nonce)
+IsStoring-sealed key nonce =
+    record {
+      cookie = IsCookie-sealed key nonce;
+      named = λ c some. some;
+      fit = IsFitAddition-sealed key nonce;
     }

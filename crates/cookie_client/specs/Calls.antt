@@ -3,10 +3,11 @@ use Rattle.std.specs.Prelude.{◌≡◌, ◌≢◌, Bool, true, false, List, [],
 use Rattle.jiff.specs.Types.{DateTime}
 use Rattle.cookie.specs.History.{accepted}
 use Rattle.cookie.specs.Jar.{Name, Change, AddOriginal, Add, Remove, ForceRemove, ResetDelta}
-use Rattle.cookie.specs.Keys.{signing_half}
+use Rattle.cookie.specs.Keys.{encryption_half, signing_half}
 use Rattle.cookie.specs.Normal.{IsUncut}
 use Rattle.cookie.specs.Prefixes.{applied, host_prefix, host_bound, secure_prefix, secured}
 use Rattle.cookie.specs.Record.{Record}
+use Rattle.cookie.specs.Sealing.{CanSeal, sealed}
 use Rattle.cookie.specs.Signing.{signed}
 use Rattle.cookie_client.specs.Live.{is_live}
 use Rattle.cookie_client.specs.declared.call.JarCall.{JarCall}
@@ -45,6 +46,7 @@ change_of (calls.ForceRemove name) = ForceRemove (string_bytes name)
 change_of calls.ResetDelta = ResetDelta
 change_of (calls.Prefixed kind call) = child_change (stored_with kind) (stored_with kind) call
 change_of (calls.Signed key call) = child_change (signed (signing_half key.now)) (λ c. c) call
+change_of (calls.Private key nonce call) = child_change (sealed (encryption_half key.now) nonce) (λ c. c) call
 
 -- the changes of the calls whose outcome is true
 abbrev pub changes_of : List Bool → List JarCall → List Change
@@ -59,12 +61,36 @@ is_certain (calls.ForceRemove name) = true
 is_certain calls.ResetDelta = true
 is_certain (calls.Prefixed kind call) = false
 is_certain (calls.Signed key call) = false
+is_certain (calls.Private key nonce call) = false
 
 -- each call that is never refused has the outcome true
 abbrev pub AreTaken : List JarCall → List Bool → Type 0
 AreTaken [] outcomes = Unit {0}
 AreTaken (call ∷ calls) [] = Unit {0}
 AreTaken (call ∷ calls) (outcome ∷ outcomes) = (is_certain call ≡ true → outcome ≡ true) × AreTaken calls outcomes
+
+-- an addition of a cookie that is past the limits of sealing (SP 800-38D, 5.2.1.1)
+abbrev pub IsTooLongChild : ChildCall → Type 0
+IsTooLongChild (child.AddOriginal cookie) = CanSeal cookie.fields → ⊥
+IsTooLongChild (child.Add cookie) = CanSeal cookie.fields → ⊥
+IsTooLongChild (child.Remove cookie now) = ⊥
+
+-- such an addition through a private jar, which is always refused
+abbrev pub IsTooLong : JarCall → Type 0
+IsTooLong (calls.AddOriginal cookie) = ⊥
+IsTooLong (calls.Add cookie) = ⊥
+IsTooLong (calls.Remove cookie now) = ⊥
+IsTooLong (calls.ForceRemove name) = ⊥
+IsTooLong calls.ResetDelta = ⊥
+IsTooLong (calls.Prefixed kind call) = ⊥
+IsTooLong (calls.Signed key call) = ⊥
+IsTooLong (calls.Private key nonce call) = IsTooLongChild call
+
+-- each call that is always refused has the outcome false
+abbrev pub AreRefused : List JarCall → List Bool → Type 0
+AreRefused [] outcomes = Unit {0}
+AreRefused (call ∷ calls) [] = Unit {0}
+AreRefused (call ∷ calls) (outcome ∷ outcomes) = (IsTooLong call → outcome ≡ false) × AreRefused calls outcomes
 
 -- the same of a child jar
 abbrev pub is_child_change : ChildCall → Bool
@@ -81,6 +107,7 @@ is_change (calls.ForceRemove name) = false
 is_change calls.ResetDelta = false
 is_change (calls.Prefixed kind call) = is_child_change call
 is_change (calls.Signed key call) = is_child_change call
+is_change (calls.Private key nonce call) = is_child_change call
 
 -- an added cookie that a client can follow: it has a name, it is live at the moment, and its path and its domain, where they are set, hold no `;`
 pub record IsFitAddition (now : DateTime) (cookie : Record) : Type 0 where
@@ -103,3 +130,4 @@ IsFitCall now (calls.ForceRemove name) = Unit {0}
 IsFitCall now calls.ResetDelta = Unit {0}
 IsFitCall now (calls.Prefixed kind call) = IsFitChild now call
 IsFitCall now (calls.Signed key call) = IsFitChild now call
+IsFitCall now (calls.Private key nonce call) = IsFitChild now call

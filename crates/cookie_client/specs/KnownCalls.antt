@@ -20,3 +20,4 @@ IsKnownCall (calls.ForceRemove name) = Unit {0}
 IsKnownCall calls.ResetDelta = Unit {0}
 IsKnownCall (calls.Prefixed kind call) = IsKnownChild call
 IsKnownCall (calls.Signed key call) = IsKnownChild call
+IsKnownCall (calls.Private key nonce call) = IsKnownChild call

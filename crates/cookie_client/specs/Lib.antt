@@ -5,6 +5,7 @@ pub mod KnownCalls
 pub mod Lines
 pub mod Live
 pub mod Originals
+pub mod Outcomes
 pub mod Run
 pub mod RunError
 pub mod Session

@@ -27,6 +27,9 @@ pub enum JarCall<'k> {
     Prefixed(PrefixKind, ChildCall),
     /// A call through the signed child jar of the key.
     Signed(&'k Key, ChildCall),
+    /// A call through the private child jar of the key. An addition is sealed under the nonce, under which nothing else
+    /// may be sealed with that key.
+    Private(&'k Key, [u8; 12], ChildCall),
 }
 
 impl<'k> JarCall<'k> {
@@ -44,6 +47,7 @@ impl<'k> JarCall<'k> {
             JarCall::ResetDelta => true,
             JarCall::Prefixed(_, call) => call.is_fit(now),
             JarCall::Signed(_, call) => call.is_fit(now),
+            JarCall::Private(_, _, call) => call.is_fit(now),
         }
     }
 
@@ -56,6 +60,7 @@ impl<'k> JarCall<'k> {
             JarCall::Add(_) | JarCall::Remove(_, _) => true,
             JarCall::Prefixed(_, call) => call.is_change(),
             JarCall::Signed(_, call) => call.is_change(),
+            JarCall::Private(_, _, call) => call.is_change(),
         }
     }
 
@@ -71,6 +76,7 @@ impl<'k> JarCall<'k> {
             JarCall::ResetDelta => (),
             JarCall::Prefixed(_, call) => call.known(),
             JarCall::Signed(_, call) => call.known(),
+            JarCall::Private(_, _, call) => call.known(),
         }
     }
 }

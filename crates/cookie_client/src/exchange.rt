@@ -4,7 +4,7 @@ ghost use Rattle.std.specs.FinMap.{insert};
 ghost use Rattle.cookie.specs.History.{after_all, LooksBack};
 ghost use Rattle.cookie.specs.Jar.{empty_jar};
 ghost use Rattle.cookie_client.specs.Agreement.{Agrees, AreDeltaTexts, originals_of};
-ghost use Rattle.cookie_client.specs.Calls.{AreTaken, changes_of};
+ghost use Rattle.cookie_client.specs.Calls.{AreRefused, AreTaken, changes_of};
 ghost use Rattle.cookie_client.specs.Client.{after_texts};
 ghost use Rattle.cookie_client.specs.Session.{holding};
 
@@ -13,7 +13,7 @@ use crate::child_call::ChildCall;
 use crate::client::Client;
 use crate::client_error::ClientError;
 use crate::history::replay;
-use crate::originals::hold_signed;
+use crate::originals::{hold_sealed, hold_signed};
 use crate::prefix_kind::PrefixKind;
 use cookie::prefix::{Host, Prefix, Prefixing, Secure};
 use cookie::{Cookie, CookieJar};
@@ -29,7 +29,7 @@ pub struct Played {
 }
 
 /// Makes the calls on a new jar, and has a client follow it: one that holds the value of each name's last accepted
-/// original, and then reads the encoded text of each cookie of the delta at the moment `now` in UTC.
+/// original as it was stored, and then reads the encoded text of each cookie of the delta at the moment `now` in UTC.
 ///
 /// The texts stand in the order of the delta's walk. The text that is read as the i-th is number `pick[i]` of those
 /// that are left, modulo their count, or number 0 where `pick` has ended. It fails for want of memory alone, where that
@@ -42,6 +42,7 @@ pub fn mirror(
 ) -> Result<Played, ClientError>
     ensures count { IfOk result (λ p. length p.outcomes.items ≡ length calls.now) }
     ensures certain { IfOk result (λ p. AreTaken calls.now p.outcomes.items) }
+    ensures refused { IfOk result (λ p. AreRefused calls.now p.outcomes.items) }
     ensures jar { IfOk result (λ p. p.jar ≡ after_all (changes_of p.outcomes.items calls.now) empty_jar) }
     ensures looks_back { IfOk result (λ p. LooksBack (reverse (changes_of p.outcomes.items calls.now)) p.jar) }
     ensures agreement { IfOk result (λ p. Agrees now calls.now p.outcomes.items p.jar p.client) }
@@ -83,6 +84,9 @@ fn hold_one(
         }
         JarCall::Signed(key, ChildCall::AddOriginal(cookie)) => {
             hold_signed(alloc, client, key, cookie)
+        }
+        JarCall::Private(key, nonce, ChildCall::AddOriginal(cookie)) => {
+            hold_sealed(alloc, client, key, *nonce, cookie)
         }
         _ => Ok(()),
     }

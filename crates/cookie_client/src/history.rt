@@ -1,11 +1,13 @@
 //! Calls made on a jar in order.
-ghost use Rattle.std.specs.Prelude.{◌≡◌, Bool, true, length, IsOk, IfOk, OnOk, OnErr};
+ghost use Rattle.std.specs.Prelude.{◌≡◌, ◌∷◌, [], Bool, true, length, IsOk, IfOk, OnOk, OnErr, IsErr};
 ghost use Rattle.cookie.specs.History.{after_all};
 ghost use Rattle.cookie.specs.Jar.{after};
-ghost use Rattle.cookie.specs.Keys.{signing_half};
+ghost use Rattle.cookie.specs.Keys.{encryption_half, signing_half};
 ghost use Rattle.cookie.specs.Prefixes.{applied};
+ghost use Rattle.cookie.specs.Sealing.{sealed};
 ghost use Rattle.cookie.specs.Signing.{signed};
-ghost use Rattle.cookie_client.specs.Calls.{AreTaken, change_of, child_change, changes_of, is_certain};
+ghost use Rattle.cookie_client.specs.Calls.{AreRefused, AreTaken, IsTooLong, IsTooLongChild, change_of, child_change, changes_of, is_certain};
+ghost use Rattle.cookie_client.specs.Outcomes.{IsOutcome};
 
 use crate::call::JarCall;
 use crate::child_call::ChildCall;
@@ -20,6 +22,7 @@ fn play(alloc: Global, jar: &mut CookieJar, call: &JarCall<'_>) -> Result<(), Ja
     ensures ok { OnOk result (jar.new ≡ after (change_of call.now) jar.old) }
     ensures err { OnErr result (jar.new ≡ jar.old) }
     ensures certain { is_certain call.now ≡ true → IsOk result }
+    ensures refused { IsTooLong call.now → IsErr result }
 {
     match call {
         JarCall::AddOriginal(cookie) => jar.add_original(cookie.clone(alloc)?),
@@ -36,6 +39,7 @@ fn play(alloc: Global, jar: &mut CookieJar, call: &JarCall<'_>) -> Result<(), Ja
         JarCall::Prefixed(PrefixKind::Host, call) => play_prefixed(alloc, jar, Host, call),
         JarCall::Prefixed(PrefixKind::Secure, call) => play_prefixed(alloc, jar, Secure, call),
         JarCall::Signed(key, call) => play_signed(alloc, jar, key, call),
+        JarCall::Private(key, nonce, call) => play_private(alloc, jar, key, *nonce, call),
     }
 }
 
@@ -75,11 +79,42 @@ fn play_signed(
     }
 }
 
+/// Makes one call on the private child jar of a key, and seals under this nonce.
+fn play_private(
+    alloc: Global,
+    jar: &mut CookieJar,
+    key: &Key,
+    nonce: [u8; 12],
+    call: &ChildCall,
+) -> Result<(), JarError>
+    ensures ok { OnOk result (jar.new ≡ after (child_change (sealed (encryption_half key.now) nonce) (λ c. c) call.now) jar.old) }
+    ensures err { OnErr result (jar.new ≡ jar.old) }
+    ensures refused { IsTooLongChild call.now → IsErr result }
+{
+    let mut sealer = jar.private_mut(key);
+    match call {
+        ChildCall::AddOriginal(cookie) => sealer.add_original_with_nonce(
+            cookie.clone(alloc)?,
+            nonce,
+        ),
+        ChildCall::Add(cookie) => sealer.add_with_nonce(cookie.clone(alloc)?, nonce),
+        ChildCall::Remove(cookie, now) => sealer.remove(cookie.clone(alloc)?, *now),
+    }
+}
+
+/// Makes one call, and answers whether it was accepted.
+fn is_accepted(alloc: Global, jar: &mut CookieJar, call: &JarCall<'_>) -> bool
+    ensures jar { jar.new ≡ after_all (changes_of (result ∷ []) (call.now ∷ [])) jar.old }
+    ensures outcome { IsOutcome call.now result }
+{
+    play(alloc, jar, call).is_ok()
+}
+
 /// Makes the calls in order, and answers which were accepted.
 ///
 /// A call that is refused, or whose cookie finds no memory to be copied, has the outcome false and changes nothing.
-/// Forced removals and resets are always accepted. It fails only where the list of outcomes finds no memory, before
-/// any call is made, and then the jar is as before.
+/// Forced removals and resets are always accepted; an addition through a private jar that is too long to be sealed never
+/// is. It fails only where the list of outcomes finds no memory, before any call is made, and then the jar is as before.
 pub fn replay(
     alloc: Global,
     jar: &mut CookieJar,
@@ -88,12 +123,13 @@ pub fn replay(
     ensures count { IfOk result (λ outcomes. length outcomes.items ≡ length calls.now) }
     ensures jar { IfOk result (λ outcomes. jar.new ≡ after_all (changes_of outcomes.items calls.now) jar.old) }
     ensures certain { IfOk result (λ outcomes. AreTaken calls.now outcomes.items) }
+    ensures refused { IfOk result (λ outcomes. AreRefused calls.now outcomes.items) }
     ensures err { OnErr result (jar.new ≡ jar.old) }
 {
     let mut outcomes = Vec::with_capacity(alloc, calls.len())?;
     for call in calls {
-        let is_accepted = play(alloc, jar, call).is_ok();
-        outcomes.push(is_accepted).unwrap();
+        let outcome = is_accepted(alloc, jar, call);
+        outcomes.push(outcome).unwrap();
     }
     Ok(outcomes)
 }

@@ -62,6 +62,7 @@ impl FlatJar {
             // The lists that are compared have no calls of child jars.
             JarCall::Prefixed(_, _) => Ok(()),
             JarCall::Signed(_, _) => Ok(()),
+            JarCall::Private(_, _, _) => Ok(()),
         }
     }
 
