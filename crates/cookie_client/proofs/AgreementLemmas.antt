@@ -67,7 +67,7 @@ module _ (stored dropped : Record → Record) (storing : IsStoring stored) (drop
   named_child now (child.Add cookie) fit = tt
   named_child now (child.Remove cookie moment) fit = tt
 
-puts_kept : (call : JarCall) → IsKnownCall call → Puts IsKept (change_of call)
+pub puts_kept : (call : JarCall) → IsKnownCall call → Puts IsKept (change_of call)
 puts_kept (calls.AddOriginal cookie) known = tt
 puts_kept (calls.Add cookie) known = record { cookie = known; name = refl }
 puts_kept (calls.Remove cookie moment) known = record { cookie = IsCookie-removal moment cookie.fields known; name = refl }
@@ -77,7 +77,7 @@ puts_kept (calls.Prefixed kind call) known = puts_kept_child (stored_with kind) 
 puts_kept (calls.Signed key call) known = puts_kept_child (signed (signing_half key.now)) (λ c. c) (IsStoring-signed (signing_half key.now)) IsStoring-same call known
 puts_kept (calls.Private key nonce call) known = puts_kept_child (sealed (encryption_half key.now) nonce) (λ c. c) (IsStoring-sealed (encryption_half key.now) nonce) IsStoring-same call known
 
-puts_fit : (now : DateTime) (call : JarCall) → IsKnownCall call × IsFitCall now call → Puts (IsFitEntry now) (change_of call)
+pub puts_fit : (now : DateTime) (call : JarCall) → IsKnownCall call × IsFitCall now call → Puts (IsFitEntry now) (change_of call)
 puts_fit now (calls.AddOriginal cookie) h = tt
 puts_fit now (calls.Add cookie) h = inl (record { kept = refl; cookie = h.0; fit = h.1 })
 puts_fit now (calls.Remove cookie moment) h =
@@ -88,13 +88,13 @@ puts_fit now (calls.Prefixed kind call) h = puts_fit_child (stored_with kind) (s
 puts_fit now (calls.Signed key call) h = puts_fit_child (signed (signing_half key.now)) (λ c. c) (IsStoring-signed (signing_half key.now)) IsStoring-same now call h.0 h.1
 puts_fit now (calls.Private key nonce call) h = puts_fit_child (sealed (encryption_half key.now) nonce) (λ c. c) (IsStoring-sealed (encryption_half key.now) nonce) IsStoring-same now call h.0 h.1
 
-All-accepted : {X : Type 0} (P : X → Type 0) (outcomes : List Bool) (xs : List X) → All P xs → All P (accepted outcomes xs)
+pub All-accepted : {X : Type 0} (P : X → Type 0) (outcomes : List Bool) (xs : List X) → All P xs → All P (accepted outcomes xs)
 All-accepted P [] xs all = All-nil P
 All-accepted P (b ∷ bs) [] all = All-nil P
 All-accepted P (true ∷ bs) (x ∷ xs) all = All-cons P x (accepted bs xs) (All-head P x xs all) (All-accepted P bs xs (All-tail P x xs all))
 All-accepted P (false ∷ bs) (x ∷ xs) all = All-accepted P bs xs (All-tail P x xs all)
 
-All-both : {X : Type 0} (P Q : X → Type 0) (xs : List X) → All P xs → All Q xs → All (λ x. P x × Q x) xs
+pub All-both : {X : Type 0} (P Q : X → Type 0) (xs : List X) → All P xs → All Q xs → All (λ x. P x × Q x) xs
 All-both P Q xs all also k d within = (all k d within, also k d within)
 
 put_by : (P : JarCall → Type 0) (R : Name → Marked → Type 0) → ((call : JarCall) → P call → Puts R (change_of call)) → (outcomes : List Bool) (cs : List JarCall) → All P cs
@@ -176,7 +176,7 @@ held_unnamed (ForceRemove name ∷ changes) values all = held_unnamed changes va
 held_unnamed (ResetDelta ∷ changes) values all = held_unnamed changes values (All-tail IsNamedChange ResetDelta changes all)
 
 -- a text of the delta leaves the empty name as it was
-decided_unnamed : (now : DateTime) (delta : FinMap name_cmp Marked) → AreEntries IsKept delta → (o : Option Marked) → get delta [] ≡ o → (before : Option (List ℕ)) → decided now o before ≡ before
+pub decided_unnamed : (now : DateTime) (delta : FinMap name_cmp Marked) → AreEntries IsKept delta → (o : Option Marked) → get delta [] ≡ o → (before : Option (List ℕ)) → decided now o before ≡ before
 decided_unnamed now delta kept None e before = refl
 decided_unnamed now delta kept (Some entry) e before = ap (λ o. effect now o before) (nameless_outcome entry.cookie (kept [] entry e).name)
 

@@ -12,4 +12,5 @@ pub mod ReadTextLemmas
 pub mod StoredLemmas
 pub mod TextMapLemmas
 pub mod SessionLemmas
+pub mod RoundLemmas
 pub mod RunLemmas

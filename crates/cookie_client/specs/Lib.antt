@@ -6,6 +6,7 @@ pub mod Lines
 pub mod Live
 pub mod Originals
 pub mod Outcomes
+pub mod Rounds
 pub mod Run
 pub mod RunError
 pub mod Session

@@ -1,5 +1,5 @@
 //! A jar, and a client that follows it.
-ghost use Rattle.std.specs.Prelude.{◌≡◌, ◌<◌, ◌∷◌, ◌++◌, [], length, map, reverse, IfOk, OnOk, IsPermutation, string_bytes};
+ghost use Rattle.std.specs.Prelude.{◌≡◌, ◌<◌, ◌∷◌, ◌++◌, ℕ, List, [], length, map, reverse, IfOk, OnOk, IsPermutation, string_bytes};
 ghost use Rattle.std.specs.FinMap.{insert};
 ghost use Rattle.cookie.specs.History.{after_all, LooksBack};
 ghost use Rattle.cookie.specs.Jar.{empty_jar};
@@ -52,9 +52,7 @@ pub fn mirror(
     let outcomes = replay(alloc, &mut jar, calls)?;
     let mut client = Client::new(alloc);
     hold_originals(alloc, &mut client, calls, &outcomes)?;
-    let texts = delta_texts(alloc, &jar)?;
-    let texts = reordered(alloc, texts, pick)?;
-    read_texts(&mut client, &texts, now)?;
+    read_delta(alloc, &mut client, &jar, pick, now)?;
     Ok(Played {
         jar,
         client,
@@ -117,6 +115,22 @@ fn hold_originals(
     for index in 0..calls.len() {
         hold_one(alloc, client, &calls[index], outcomes[index])?;
     }
+    Ok(())
+}
+
+/// Has a client read the delta's texts, in the order that `pick` asks for.
+pub(crate) fn read_delta(
+    alloc: Global,
+    client: &mut Client,
+    jar: &CookieJar,
+    pick: &[usize],
+    now: DateTime,
+) -> Result<(), ClientError>
+    ensures { OnOk result ((texts : List (List ℕ)) × AreDeltaTexts jar.now.delta texts × (client.new ≡ after_texts now texts client.old)) }
+{
+    let texts = delta_texts(alloc, jar)?;
+    let texts = reordered(alloc, texts, pick)?;
+    read_texts(client, &texts, now)?;
     Ok(())
 }
 

@@ -6,11 +6,14 @@ mod child_call;
 mod client;
 mod client_error;
 mod exchange;
+mod header;
 mod history;
 mod lines;
 mod live;
 mod originals;
 mod prefix_kind;
+mod request;
+mod requests;
 mod run_error;
 mod session;
 mod streams;
@@ -23,8 +26,7 @@ pub use client_error::ClientError;
 pub use exchange::{Played, mirror};
 pub use history::replay;
 pub use prefix_kind::PrefixKind;
+pub use request::Request;
+pub use requests::rounds;
 pub use run_error::RunError;
 pub use session::run;
-
-#[cfg(test)]
-mod tests;

@@ -15,6 +15,7 @@ ghost use Rattle.cookie_client.specs.Steps.{cookies_of};
 ghost use Rattle.cookie_client.specs.declared.run_error.RunError.TheVariants as errors;
 
 use crate::client::Client;
+use crate::header::hold_header;
 use crate::lines::Lines;
 use crate::run_error::RunError;
 use crate::streams::{read_all, write_text};
@@ -33,45 +34,6 @@ fn moment_of(text: &str) -> Option<DateTime>
         return None;
     }
     Some(moment)
-}
-
-/// Holds the cookie of one piece of the header, as an original and in the client, unless it is refused.
-fn hold_one(
-    alloc: Global,
-    outcome: Result<Cookie<'_>, ParseError>,
-    jar: &mut CookieJar,
-    client: &mut Client,
-) -> Result<(), RunError>
-    ensures refused { Gives errors.OutOfMemory result (λ _. Unit {0}) }
-    ensures held { (text : List ℕ) → AgreesInMemory true text (result_map_both (λ c. c.fields) (λ e. e) outcome.entry) → OnOk result (
-        (jar.new ≡ with_originals (cookies_of (cookie_of true text)) jar.old)
-        × (client.new ≡ holding (cookies_of (cookie_of true text)) client.old)) }
-{
-    match outcome {
-        Ok(cookie) => {
-            client.hold(cookie.name(), cookie.value())?;
-            jar.add_original(cookie.into_owned(alloc)?)?;
-            Ok(())
-        }
-        Err(ParseError::OutOfMemory) => Err(RunError::OutOfMemory),
-        Err(_) => Ok(()),
-    }
-}
-
-/// Holds the header's cookies, as originals and in the client.
-fn hold_originals(
-    alloc: Global,
-    header: &str,
-    jar: &mut CookieJar,
-    client: &mut Client,
-) -> Result<(), RunError>
-    ensures { Gives errors.OutOfMemory result (λ _. (jar.new ≡ with_originals (header_cookies true header.now) jar.old)
-        × (client.new ≡ holding (header_cookies true header.now) client.old)) }
-{
-    for outcome in Cookie::split_parse_encoded(alloc, header) {
-        hold_one(alloc, outcome, jar, client)?;
-    }
-    Ok(())
 }
 
 /// Adds the cookie that the text is, or answers false where it is none.
@@ -210,7 +172,7 @@ fn played(alloc: Global, now: DateTime, text: &str) -> Result<String, RunError>
     let header = lines.next().unwrap_or("");
     let mut jar = CookieJar::new(alloc);
     let mut client = Client::new(alloc);
-    hold_originals(alloc, header, &mut jar, &mut client)?;
+    hold_header(alloc, header, &mut jar, &mut client)?;
     follow_all(alloc, lines, now, &mut jar)?;
     output(alloc, now, client, &jar)
 }

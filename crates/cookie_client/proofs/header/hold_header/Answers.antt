@@ -5,7 +5,7 @@ use Rattle.cookie.proofs.SplitLemmas.{NextCookie-decodes}
 use Rattle.cookie.specs.CookieOf.{cookie_of, header_cookies}
 use Rattle.cookie_client.specs.Session.{with_originals, holding}
 use Rattle.cookie_client.proofs.SessionLemmas.{with_originals-next, holding-next}
-use Rattle.cookie_client.proofs.session.hold_originals.Goals as goal
+use Rattle.cookie_client.proofs.header.hold_header.Goals as goal
 
 pub loop-outcome-init : goal.loop-outcome-init
 loop-outcome-init c =

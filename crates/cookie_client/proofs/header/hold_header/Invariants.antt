@@ -2,7 +2,7 @@ use Rattle.std.proofs.Common.{◌≡◌, true}
 use Rattle.std.specs.List.{filter_map}
 use Rattle.cookie.specs.CookieOf.{cookie_of, header_cookies}
 use Rattle.cookie_client.specs.Session.{with_originals, holding}
-use Rattle.cookie_client.proofs.session.hold_originals.Given as goal
+use Rattle.cookie_client.proofs.header.hold_header.Given as goal
 
 -- what is held, with the cookies of the rest, is the whole
 abbrev pub invariant-loop-outcome : goal.invariant-loop-outcome

@@ -1,0 +1,66 @@
+//! Many requests, and one client.
+ghost use Rattle.std.specs.Prelude.{◌≡◌, length, IfOk};
+ghost use Rattle.std.specs.FinMap.{empty};
+ghost use Rattle.cookie_client.specs.Client.{Values};
+ghost use Rattle.cookie_client.specs.Rounds.{AreRounds, IsRound};
+ghost use Rattle.cookie_client.specs.Steps.{IsHeaderOf};
+
+use crate::call::{JarCall, known_calls};
+use crate::client::Client;
+use crate::client_error::ClientError;
+use crate::exchange::{Played, read_delta};
+use crate::header::hold_header;
+use crate::history::replay;
+use crate::request::Request;
+use cookie::CookieJar;
+use jiff::civil::DateTime;
+use std::alloc::Global;
+
+/// Makes the calls of each request on a jar of its own, and has one client follow them all.
+///
+/// The client holds nothing at first. The jar of a request is new: its originals are the cookies of the client's
+/// header, split and decoded, with a name and a value alone. The calls are made as by `replay`, and the client then
+/// reads the delta as in `mirror`, with `pick` from its start. It fails for want of memory alone, where that is wanted
+/// outside the calls.
+pub fn rounds(
+    alloc: Global,
+    requests: &[Request<'_, '_>],
+    pick: &[usize],
+    now: DateTime,
+) -> Result<Vec<Played>, ClientError>
+    ensures count { IfOk result (λ played. length played.items ≡ length requests.now) }
+    ensures rounds { IfOk result (λ played. AreRounds now empty requests.now played.items) }
+{
+    let mut header = Client::new(alloc).header()?;
+    let mut played = Vec::new(alloc);
+    for request in requests {
+        let one = round(alloc, header.as_str(), request.calls, pick, now)?;
+        header = one.client.header()?;
+        played.push(one)?;
+    }
+    Ok(played)
+}
+
+/// Plays one request of the client that has this header. The header tells all that the client holds, so a new client
+/// that holds its cookies is that client.
+fn round(
+    alloc: Global,
+    header: &str,
+    calls: &[JarCall<'_>],
+    pick: &[usize],
+    now: DateTime,
+) -> Result<Played, ClientError>
+    ensures { (before : Values) → IsHeaderOf before header.now → IfOk result (λ p. IsRound now before calls.now p) }
+{
+    known_calls(calls);
+    let mut jar = CookieJar::new(alloc);
+    let mut client = Client::new(alloc);
+    hold_header(alloc, header, &mut jar, &mut client)?;
+    let outcomes = replay(alloc, &mut jar, calls)?;
+    read_delta(alloc, &mut client, &jar, pick, now)?;
+    Ok(Played {
+        jar,
+        client,
+        outcomes,
+    })
+}
