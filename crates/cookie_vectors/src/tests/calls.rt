@@ -104,20 +104,65 @@ fn a_client_cannot_follow_these_calls(rt: HostRuntime) -> Result<(), Fail> {
     Ok(())
 }
 
+fn original(name: &'static str, value: &'static str) -> JarCall<'static> {
+    JarCall::AddOriginal(Cookie::new(name, value))
+}
+
+fn add(name: &'static str, value: &'static str) -> JarCall<'static> {
+    JarCall::Add(Cookie::new(name, value))
+}
+
+fn remove(name: &'static str, now: DateTime) -> JarCall<'static> {
+    JarCall::Remove(Cookie::named(name), now)
+}
+
+fn force(name: String) -> JarCall<'static> {
+    JarCall::ForceRemove(name)
+}
+
+fn reset() -> JarCall<'static> {
+    JarCall::ResetDelta
+}
+
 #[test]
 fn additions_and_removals_are_changes(rt: HostRuntime) -> Result<(), Fail> {
     let now = moment()?;
     let name = String::from_str(rt.alloc(), "a")?;
     for (call, wanted) in [
-        (JarCall::AddOriginal(Cookie::named("a")), false),
-        (JarCall::Add(Cookie::named("a")), true),
-        (JarCall::Remove(Cookie::named("a"), now), true),
-        (JarCall::ForceRemove(name), false),
-        (JarCall::ResetDelta, false),
+        (original("a", ""), false),
+        (add("a", ""), true),
+        (remove("a", now), true),
+        (force(name), false),
+        (reset(), false),
     ] {
         assert_eq!(rt; call.is_change(), wanted);
     }
     Ok(())
+}
+
+// Calls on a jar that shows `o` and `gone`.
+fn nine_calls(now: DateTime, forced: String) -> [JarCall<'static>; 9] {
+    [
+        add("gone", "2"),
+        reset(),
+        original("p", "1"),
+        original("f", "1"),
+        add("n", "1"),
+        add("n", "2"),
+        remove("o", now),
+        remove("absent", now),
+        force(forced),
+    ]
+}
+
+// Whether the jar shows nothing under these names.
+fn lacks(jar: &CookieJar, names: &[&str]) -> bool {
+    for name in names {
+        if shown(jar, name).is_some() {
+            return false;
+        }
+    }
+    true
 }
 
 #[test]
@@ -125,27 +170,13 @@ fn calls_are_made_in_order_on_the_jar_handed_in(rt: HostRuntime) -> Result<(), F
     let mut jar = CookieJar::new(rt.alloc());
     jar.add_original(Cookie::new("o", "1"))?;
     jar.add(Cookie::new("gone", "1"))?;
-    let now = moment()?;
     let forced = String::from_str(rt.alloc(), "f")?;
-    let calls = [
-        JarCall::Add(Cookie::new("gone", "2")),
-        JarCall::ResetDelta,
-        JarCall::AddOriginal(Cookie::new("p", "1")),
-        JarCall::AddOriginal(Cookie::new("f", "1")),
-        JarCall::Add(Cookie::new("n", "1")),
-        JarCall::Add(Cookie::new("n", "2")),
-        JarCall::Remove(Cookie::named("o"), now),
-        JarCall::Remove(Cookie::named("absent"), now),
-        JarCall::ForceRemove(forced),
-    ];
+    let calls = nine_calls(moment()?, forced);
     let outcomes = replay(rt.alloc(), &mut jar, &calls)?;
     assert!(rt; outcomes.as_slice() == [true; 9].as_slice());
     assert_eq!(rt; counts(&jar), (2, 2));
-    assert!(rt; shown(&jar, "n") == Some("2"));
-    assert!(rt; shown(&jar, "p") == Some("1"));
-    for name in ["o", "f", "gone", "absent"] {
-        assert!(rt; shown(&jar, name).is_none(), "{name}");
-    }
+    assert!(rt; shown(&jar, "n") == Some("2") && shown(&jar, "p") == Some("1"));
+    assert!(rt; lacks(&jar, &["o", "f", "gone", "absent"]));
     Ok(())
 }
 

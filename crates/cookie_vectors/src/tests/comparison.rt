@@ -6,18 +6,18 @@ use cookie_client::{JarCall, replay};
 use std::alloc::{AllocError, Global};
 use std::test::Fail;
 
-const NAMES: [&str; 8] = ["a", "b", "c", "id", "A", "", "\u{e9}", "a b"];
+pub(super) const NAMES: [&str; 8] = ["a", "b", "c", "id", "A", "", "\u{e9}", "a b"];
 
 const VALUES: [&str; 4] = ["", "1", "2; x", "\u{e9}"];
 
 // Numbers from a fixed seed, by the shifts of a xorshift generator (Marsaglia, 2003).
 #[derive(Drop)]
-struct Draws {
-    state: u64,
+pub(super) struct Draws {
+    pub(super) state: u64,
 }
 
 impl Draws {
-    fn next(&mut self) -> u64 {
+    pub(super) fn next(&mut self) -> u64 {
         self.state ^= self.state << 13;
         self.state ^= self.state >> 7;
         self.state ^= self.state << 17;
@@ -44,7 +44,7 @@ impl Draws {
     }
 
     // Up to 23 calls.
-    fn calls(&mut self, alloc: Global) -> Result<Vec<JarCall<'static>>, Fail> {
+    pub(super) fn calls(&mut self, alloc: Global) -> Result<Vec<JarCall<'static>>, Fail> {
         let mut calls = Vec::new(alloc);
         for _ in 0..self.next() % 24 {
             calls.push(self.call(alloc)?)?;
@@ -90,7 +90,7 @@ fn is_met_alike(alloc: Global, jar: &CookieJar, flat: &FlatJar) -> Result<bool, 
     Ok(delta_of(alloc, jar)? == delta && shown_by(alloc, jar)? == shown)
 }
 
-fn is_alike(alloc: Global, jar: &CookieJar, flat: &FlatJar) -> Result<bool, AllocError> {
+pub(super) fn is_alike(alloc: Global, jar: &CookieJar, flat: &FlatJar) -> Result<bool, AllocError> {
     Ok(is_answered_alike(jar, flat) && is_met_alike(alloc, jar, flat)?)
 }
 

@@ -66,7 +66,7 @@ impl FlatJar {
         }
     }
 
-    fn add_original(&mut self, cookie: Cookie<'static>) -> Result<(), AllocError> {
+    pub(super) fn add_original(&mut self, cookie: Cookie<'static>) -> Result<(), AllocError> {
         for held in self.originals.iter_mut() {
             if held.cookie.name() == cookie.name() {
                 held.cookie = cookie;

@@ -1,8 +1,9 @@
 //! Names with a prefix, and what a prefix asks of a cookie.
-use super::moment;
+use super::{counts, moment};
 use cookie::prefix::{Host, NamePrefix, Prefix, Prefixing, Secure};
 use cookie::{Cookie, CookieBuilder, CookieJar};
 use cookie_client::{ChildCall, JarCall, Played, PrefixKind, mirror};
+use jiff::civil::DateTime;
 use std::alloc::Global;
 use std::test::Fail;
 
@@ -31,10 +32,20 @@ impl Prefix for Team {
     ghost is_conforming = { λ _. refl };
 }
 
+// Each call stands in a function of its own, so that a test's proof needn't know what the call says of the jar.
+fn add<P: Prefix>(jar: &mut CookieJar, prefix: P, cookie: Cookie<'static>) -> Result<(), Fail> {
+    jar.prefixed_mut(prefix).add(cookie)?;
+    Ok(())
+}
+
+fn get<P: Prefix>(jar: &CookieJar, prefix: P, name: &str) -> Result<Option<Cookie<'static>>, Fail> {
+    Ok(jar.prefixed(prefix).get(name)?)
+}
+
 // A jar with one cookie, added through a prefix.
 fn with_added<P: Prefix>(alloc: Global, prefix: P) -> Result<CookieJar, Fail> {
     let mut jar = CookieJar::new(alloc);
-    jar.prefixed_mut(prefix).add(Cookie::new("a", "1"))?;
+    add(&mut jar, prefix, Cookie::new("a", "1"))?;
     Ok(jar)
 }
 
@@ -48,17 +59,21 @@ fn delta_text(alloc: Global, jar: &CookieJar, name: &str) -> Result<String, Fail
     Err(Fail::new("the delta lacks the name"))
 }
 
-#[test]
-fn a_host_cookie_conforms(rt: HostRuntime) -> Result<(), Fail> {
-    let mut jar = CookieJar::new(rt.alloc());
-    let cookie = Cookie::build(Cookie::new("name", "some-value"))
+// A cookie that asks for another path, for a domain, and for no secure connection.
+fn loose_cookie() -> Cookie<'static> {
+    Cookie::build(Cookie::new("name", "some-value"))
         .secure(false)
         .path("/foo/bar")
         .domain("rocket.rs")
         .http_only(true)
-        .build();
-    jar.prefixed_mut(Host).add(cookie)?;
-    let Some(cookie) = jar.prefixed(Host).get("name")? else {
+        .build()
+}
+
+#[test]
+fn a_host_cookie_conforms(rt: HostRuntime) -> Result<(), Fail> {
+    let mut jar = CookieJar::new(rt.alloc());
+    add(&mut jar, Host, loose_cookie())?;
+    let Some(cookie) = get(&jar, Host, "name")? else {
         return Err(Fail::new("it isn't shown"));
     };
     assert!(rt; cookie.name() == "name" && cookie.value() == "some-value");
@@ -68,26 +83,47 @@ fn a_host_cookie_conforms(rt: HostRuntime) -> Result<(), Fail> {
     Ok(())
 }
 
+// A jar with a change of each prefix of the standard, and an original.
+fn with_both(alloc: Global) -> Result<CookieJar, Fail> {
+    let mut jar = CookieJar::new(alloc);
+    add_original(&mut jar, Cookie::new("h", "1"))?;
+    add(&mut jar, Host, Cookie::new("h", "2"))?;
+    add(&mut jar, Secure, Cookie::new("s", "3"))?;
+    Ok(jar)
+}
+
+fn add_original(jar: &mut CookieJar, cookie: Cookie<'static>) -> Result<(), Fail> {
+    jar.prefixed_mut(Host).add_original(cookie)?;
+    Ok(())
+}
+
+fn remove(jar: &mut CookieJar, name: &'static str) -> Result<(), Fail> {
+    jar.prefixed_mut(Host)
+        .remove(Cookie::named(name), moment()?)?;
+    Ok(())
+}
+
 #[test]
 fn cookies_of_both_prefixes_are_printed(rt: HostRuntime) -> Result<(), Fail> {
-    let alloc = rt.alloc();
-    let mut jar = CookieJar::new(alloc);
-    jar.prefixed_mut(Host).add_original(Cookie::new("h", "1"))?;
-    jar.prefixed_mut(Host).add(Cookie::new("h", "2"))?;
-    jar.prefixed_mut(Secure).add(Cookie::new("s", "3"))?;
-    assert_eq!(rt; jar.delta().count(), 2);
-    let host = delta_text(alloc, &jar, "__Host-h")?;
+    let jar = with_both(rt.alloc())?;
+    assert_eq!(rt; counts(&jar), (2, 2));
+    let host = delta_text(rt.alloc(), &jar, "__Host-h")?;
     assert_eq!(rt; host.as_str(), "__Host-h=2; Secure; Path=/");
-    let secure = delta_text(alloc, &jar, "__Secure-s")?;
+    let secure = delta_text(rt.alloc(), &jar, "__Secure-s")?;
     assert_eq!(rt; secure.as_str(), "__Secure-s=3; Secure");
-    jar.prefixed_mut(Host)
-        .remove(Cookie::named("h"), moment()?)?;
-    let host = delta_text(alloc, &jar, "__Host-h")?;
+    Ok(())
+}
+
+#[test]
+fn a_removal_through_a_prefix_is_printed(rt: HostRuntime) -> Result<(), Fail> {
+    let mut jar = with_both(rt.alloc())?;
+    remove(&mut jar, "h")?;
+    let host = delta_text(rt.alloc(), &jar, "__Host-h")?;
     assert_eq!(rt;
         host.as_str(),
         "__Host-h=; Secure; Path=/; Max-Age=0; Expires=Tue, 21 Oct 2014 07:28:00 GMT"
     );
-    assert!(rt; jar.prefixed(Host).get("h")?.is_none());
+    assert!(rt; get(&jar, Host, "h")?.is_none());
     Ok(())
 }
 
@@ -131,11 +167,22 @@ fn the_calls_of_a_prefix(rt: HostRuntime) -> Result<(), Fail> {
     let prefixed = Team::prefix(alloc, Cookie::parse("a=1")?)?;
     assert!(rt; prefixed.name() == "team.a" && prefixed.http_only().is_none());
     assert!(rt; prefixed.name_raw().is_none() && prefixed.value_raw() == Some("1"));
+    Ok(())
+}
+
+#[test]
+fn a_name_that_changes_is_no_longer_lent(rt: HostRuntime) -> Result<(), Fail> {
+    let alloc = rt.alloc();
     let clipped = Team::clip(alloc, Cookie::parse("team.a=1")?)?;
     assert!(rt; clipped.name() == "a" && clipped.name_raw().is_none());
     let kept = Team::clip(alloc, Cookie::parse("a=1")?)?;
     assert!(rt; kept.name_raw() == Some("a"));
-    let applied = Secure::apply(alloc, Cookie::new("a", "1"))?;
+    Ok(())
+}
+
+#[test]
+fn an_applied_cookie_conforms(rt: HostRuntime) -> Result<(), Fail> {
+    let applied = Secure::apply(rt.alloc(), Cookie::new("a", "1"))?;
     assert!(rt; applied.name() == "__Secure-a" && applied.secure() == Some(true));
     let conforming = Host::conform(Cookie::parse("a=1; Path=/x; Domain=b.c")?);
     assert!(rt; conforming.name_raw() == Some("a") && conforming.path_raw().is_none());
@@ -143,17 +190,24 @@ fn the_calls_of_a_prefix(rt: HostRuntime) -> Result<(), Fail> {
     Ok(())
 }
 
+// Whether a child jar shows `a` once it has added it.
+fn is_looked_up(jar: &mut CookieJar) -> Result<bool, Fail> {
+    let mut child = jar.prefixed_mut(Team);
+    if child.get("a")?.is_some() {
+        return Ok(false);
+    }
+    child.add(Cookie::new("a", "1"))?;
+    match child.get("a")? {
+        Some(cookie) => Ok(cookie.name() == "a" && cookie.value() == "1"),
+        None => Ok(false),
+    }
+}
+
 #[test]
 fn a_child_jar_looks_up_what_it_changed(rt: HostRuntime) -> Result<(), Fail> {
     let mut jar = CookieJar::new(rt.alloc());
     jar.add(Cookie::new("a", "plain"))?;
-    let mut child = jar.prefixed_mut(Team);
-    assert!(rt; child.get("a")?.is_none());
-    child.add(Cookie::new("a", "1"))?;
-    let Some(cookie) = child.get("a")? else {
-        return Err(Fail::new("it isn't shown"));
-    };
-    assert!(rt; cookie.name() == "a" && cookie.value() == "1");
+    assert!(rt; is_looked_up(&mut jar)?);
     Ok(())
 }
 
@@ -206,27 +260,38 @@ fn has_text(alloc: Global, played: &Played, text: &str) -> Result<bool, Fail> {
     Ok(false)
 }
 
-#[test]
-fn a_client_follows_prefixed_calls(rt: HostRuntime) -> Result<(), Fail> {
-    let now = moment()?;
-    let calls = [
+fn prefixed_calls(now: DateTime) -> [JarCall<'static>; 4] {
+    [
         host(ChildCall::AddOriginal(Cookie::new("h", "1"))),
         host(ChildCall::Add(Cookie::new("h", "2"))),
         JarCall::Prefixed(PrefixKind::Secure, ChildCall::Add(Cookie::new("s", "3"))),
         host(ChildCall::Remove(Cookie::named("h"), now)),
-    ];
-    let before = mirror(rt.alloc(), &calls[..3], &[], now)?;
-    assert!(rt; before.outcomes.as_slice() == [true; 3].as_slice());
-    assert!(rt; has_text(rt.alloc(), &before, "__Host-h=2; Secure; Path=/")?);
-    assert!(rt; has_text(rt.alloc(), &before, "__Secure-s=3; Secure")?);
+    ]
+}
+
+#[test]
+fn a_client_follows_prefixed_calls(rt: HostRuntime) -> Result<(), Fail> {
+    let now = moment()?;
+    let calls = prefixed_calls(now);
+    let played = mirror(rt.alloc(), &calls[..3], &[], now)?;
+    assert!(rt; played.outcomes.as_slice() == [true; 3].as_slice());
+    assert!(rt; has_text(rt.alloc(), &played, "__Host-h=2; Secure; Path=/")?);
+    assert!(rt; has_text(rt.alloc(), &played, "__Secure-s=3; Secure")?);
     assert_eq!(rt;
-        before.client.header()?.as_str(),
+        played.client.header()?.as_str(),
         "__Host-h=2; __Secure-s=3"
     );
-    let after = mirror(rt.alloc(), &calls, &[], now)?;
+    Ok(())
+}
+
+#[test]
+fn a_client_follows_a_prefixed_removal(rt: HostRuntime) -> Result<(), Fail> {
+    let now = moment()?;
+    let calls = prefixed_calls(now);
+    let played = mirror(rt.alloc(), &calls, &[], now)?;
     let removed = "__Host-h=; Secure; Path=/; Max-Age=0; Expires=Tue, 21 Oct 2014 07:28:00 GMT";
-    assert!(rt; has_text(rt.alloc(), &after, removed)?);
-    assert_eq!(rt; after.client.header()?.as_str(), "__Secure-s=3");
+    assert!(rt; has_text(rt.alloc(), &played, removed)?);
+    assert_eq!(rt; played.client.header()?.as_str(), "__Secure-s=3");
     Ok(())
 }
 

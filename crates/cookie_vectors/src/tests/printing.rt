@@ -3,59 +3,96 @@ use super::foo;
 use cookie::{Cookie, CookieBuilder, Expiration, SameSite, encode, read_date};
 use jiff::SignedDuration;
 use jiff::civil::DateTime;
+use std::alloc::Global;
 use std::test::Fail;
+
+// Builders with one field set, by number, and the texts that they print.
+fn one_field(number: u8, expiry: Expiration) -> Option<(CookieBuilder<'static>, &'static str)> {
+    let row = match number {
+        0 => (foo(), "foo=bar"),
+        1 => (foo().http_only(true), "foo=bar; HttpOnly"),
+        2 => (
+            foo().max_age(SignedDuration::from_secs(10)),
+            "foo=bar; Max-Age=10",
+        ),
+        3 => (foo().secure(true), "foo=bar; Secure"),
+        4 => (foo().path("/"), "foo=bar; Path=/"),
+        5 => (
+            foo().domain("www.rust-lang.org"),
+            "foo=bar; Domain=www.rust-lang.org",
+        ),
+        6 => (
+            foo().domain(".rust-lang.org"),
+            "foo=bar; Domain=rust-lang.org",
+        ),
+        7 => (
+            foo().domain("rust-lang.org"),
+            "foo=bar; Domain=rust-lang.org",
+        ),
+        8 => (
+            foo().expires(expiry),
+            "foo=bar; Expires=Wed, 21 Oct 2015 07:28:00 GMT",
+        ),
+        _ => return None,
+    };
+    Some(row)
+}
+
+// The same of the fields that `Secure` rests on.
+fn site_field(number: u8) -> Option<(CookieBuilder<'static>, &'static str)> {
+    let none = SameSite::None;
+    let row = match number {
+        0 => (
+            foo().same_site(SameSite::Strict),
+            "foo=bar; SameSite=Strict",
+        ),
+        1 => (foo().same_site(SameSite::Lax), "foo=bar; SameSite=Lax"),
+        2 => (foo().same_site(none), "foo=bar; SameSite=None; Secure"),
+        3 => (
+            foo().same_site(none).secure(false),
+            "foo=bar; SameSite=None",
+        ),
+        4 => (
+            foo().same_site(none).partitioned(true),
+            "foo=bar; SameSite=None; Partitioned; Secure",
+        ),
+        5 => (foo().partitioned(true), "foo=bar; Partitioned; Secure"),
+        6 => (
+            foo().partitioned(true).secure(false),
+            "foo=bar; Partitioned; Secure",
+        ),
+        7 => (foo().partitioned(false), "foo=bar"),
+        _ => return None,
+    };
+    Some(row)
+}
+
+fn is_printed_as(
+    alloc: Global,
+    builder: CookieBuilder<'static>,
+    wanted: &str,
+) -> Result<bool, Fail> {
+    let text = builder.to_string(alloc)?;
+    let built = builder.build().to_string(alloc)?;
+    Ok(text.as_str() == wanted && built.as_str() == wanted)
+}
 
 #[test]
 fn format(rt: HostRuntime) -> Result<(), Fail> {
     let date = read_date("Wed, 21 Oct 2015 07:28:00 GMT").ok_or("a date")?;
     let expiry = Expiration::DateTime(date);
-    let age = SignedDuration::from_secs(10);
-    let none = SameSite::None;
-    for (builder, wanted) in [
-        (foo(), "foo=bar"),
-        (foo().http_only(true), "foo=bar; HttpOnly"),
-        (foo().max_age(age), "foo=bar; Max-Age=10"),
-        (foo().secure(true), "foo=bar; Secure"),
-        (foo().path("/"), "foo=bar; Path=/"),
-        (
-            foo().domain("www.rust-lang.org"),
-            "foo=bar; Domain=www.rust-lang.org",
-        ),
-        (
-            foo().domain(".rust-lang.org"),
-            "foo=bar; Domain=rust-lang.org",
-        ),
-        (
-            foo().domain("rust-lang.org"),
-            "foo=bar; Domain=rust-lang.org",
-        ),
-        (
-            foo().expires(expiry),
-            "foo=bar; Expires=Wed, 21 Oct 2015 07:28:00 GMT",
-        ),
-        (
-            foo().same_site(SameSite::Strict),
-            "foo=bar; SameSite=Strict",
-        ),
-        (foo().same_site(SameSite::Lax), "foo=bar; SameSite=Lax"),
-        (foo().same_site(none), "foo=bar; SameSite=None; Secure"),
-        (
-            foo().same_site(none).secure(false),
-            "foo=bar; SameSite=None",
-        ),
-        (
-            foo().same_site(none).partitioned(true),
-            "foo=bar; SameSite=None; Partitioned; Secure",
-        ),
-        (foo().partitioned(true), "foo=bar; Partitioned; Secure"),
-        (
-            foo().partitioned(true).secure(false),
-            "foo=bar; Partitioned; Secure",
-        ),
-        (foo().partitioned(false), "foo=bar"),
-    ] {
-        assert_eq!(rt; builder.to_string(rt.alloc())?.as_str(), wanted);
-        assert_eq!(rt; builder.build().to_string(rt.alloc())?.as_str(), wanted);
+    for number in 0..9u8 {
+        let (builder, wanted) = one_field(number, expiry).ok_or("a row")?;
+        assert!(rt; is_printed_as(rt.alloc(), builder, wanted)?, "{wanted}");
+    }
+    Ok(())
+}
+
+#[test]
+fn format_of_sites(rt: HostRuntime) -> Result<(), Fail> {
+    for number in 0..8u8 {
+        let (builder, wanted) = site_field(number).ok_or("a row")?;
+        assert!(rt; is_printed_as(rt.alloc(), builder, wanted)?, "{wanted}");
     }
     Ok(())
 }

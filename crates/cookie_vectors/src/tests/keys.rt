@@ -1,0 +1,140 @@
+//! Keys: their halves, their refusals, their derivation, and their draws.
+use super::generators::{Counting, Failing};
+use cookie::{Key, KeyError};
+use std::test::Fail;
+
+// The bytes from 0 up, so many.
+fn counted<const N: usize>() -> [u8; N] {
+    let mut bytes = [0; N];
+    let mut next = 0u8;
+    for byte in bytes.iter_mut() {
+        *byte = next;
+        next = next.wrapping_add(1);
+    }
+    bytes
+}
+
+// What HKDF's expansion gives for the master key of the bytes 0 to 31, by another implementation (Python's hmac).
+const DERIVED: [u8; 64] = [
+    160, 89, 87, 62, 183, 248, 240, 138, 239, 107, 71, 111, 112, 124, 47, 23, 203, 233, 187, 17,
+    148, 164, 140, 189, 86, 158, 70, 7, 23, 101, 223, 18, 210, 7, 181, 124, 53, 83, 16, 68, 172,
+    187, 150, 228, 184, 121, 70, 22, 226, 214, 86, 131, 80, 202, 224, 170, 228, 255, 164, 69, 247,
+    12, 245, 177,
+];
+
+// The same of the bytes 0 to 32.
+const DERIVED_OF_33: [u8; 64] = [
+    110, 154, 203, 115, 72, 42, 199, 149, 196, 41, 105, 89, 139, 158, 14, 136, 16, 148, 138, 132,
+    23, 88, 178, 210, 150, 203, 173, 245, 79, 189, 227, 73, 41, 232, 227, 63, 77, 93, 7, 156, 93,
+    171, 218, 9, 97, 198, 70, 115, 152, 105, 43, 161, 67, 122, 145, 203, 255, 3, 91, 31, 91, 26,
+    89, 185,
+];
+
+#[test]
+fn from_works(rt: HostRuntime) {
+    let bytes = counted::<70>();
+    let key = Key::from(&bytes);
+    assert!(rt; Some(key.signing()) == bytes.get(..32));
+    assert!(rt; Some(key.encryption()) == bytes.get(32..64));
+    assert!(rt; Some(key.master()) == bytes.get(..64));
+}
+
+#[test]
+fn try_from_works(rt: HostRuntime) -> Result<(), Fail> {
+    let bytes = counted::<64>();
+    let key = Key::try_from(&bytes)?;
+    assert!(rt; Some(key.signing()) == bytes.get(..32));
+    assert!(rt; Some(key.encryption()) == bytes.get(32..));
+    match Key::try_from(bytes.get(..63).ok_or("63 bytes")?) {
+        Err(error) => {
+            assert!(rt; error == KeyError::TooShort(63));
+            assert_eq!(rt;
+                format!(in rt.alloc(); "{error}")?.as_str(),
+                "key material is too short: expected >= 64 bytes, got 63 bytes"
+            );
+        }
+        Ok(_) => return Err(Fail::new("a short key is taken")),
+    }
+    assert!(rt; Key::try_from(&[]).err() == Some(KeyError::TooShort(0)));
+    Ok(())
+}
+
+#[test]
+fn only_the_first_64_bytes_are_a_key(rt: HostRuntime) {
+    let bytes = counted::<70>();
+    let mut others = bytes;
+    others[64] = 255;
+    assert!(rt; Key::from(&bytes) == Key::from(&others));
+    others[63] = 255;
+    assert!(rt; Key::from(&bytes) != Key::from(&others));
+    let mut first = bytes;
+    first[0] = 255;
+    assert!(rt; Key::from(&bytes) != Key::from(&first));
+}
+
+#[test]
+fn deterministic_derive(rt: HostRuntime) -> Result<(), Fail> {
+    let key = Key::derive_from(&counted::<32>());
+    assert!(rt; key.master() == DERIVED.as_slice());
+    assert!(rt; key == Key::try_derive_from(&counted::<32>())?);
+    assert!(rt; key.encryption() != key.signing());
+    let longer = Key::try_derive_from(&counted::<33>())?;
+    assert!(rt; longer.master() == DERIVED_OF_33.as_slice());
+    match Key::try_derive_from(&counted::<31>()) {
+        Err(error) => {
+            assert!(rt; error == KeyError::MasterTooShort(31));
+            assert_eq!(rt;
+                format!(in rt.alloc(); "{error}")?.as_str(),
+                "master key is too short: expected >= 32 bytes, got 31 bytes"
+            );
+        }
+        Ok(_) => return Err(Fail::new("a short master key is taken")),
+    }
+    Ok(())
+}
+
+// Whether the key has these bytes from that place on.
+fn has_at(key: &Key, place: usize, bytes: &[u8]) -> bool {
+    match key.master().get(place..) {
+        Some(rest) => rest.starts_with(bytes),
+        None => false,
+    }
+}
+
+#[test]
+fn a_key_is_the_next_64_bytes_of_a_stream(rt: HostRuntime) {
+    let mut rng = Counting(5);
+    let first = Key::generate(&mut rng);
+    assert!(rt; has_at(&first, 0, &[6, 0, 0, 0, 7, 0, 0, 0]));
+    assert!(rt; has_at(&first, 60, &[21, 0, 0, 0]));
+    let second = Key::generate(&mut rng);
+    assert!(rt; has_at(&second, 0, &[22, 0, 0, 0]));
+    assert!(rt; second != first && second.signing() != first.signing());
+    assert!(rt; Key::try_generate(&mut Counting(5)) == Some(first));
+}
+
+#[test]
+fn no_key_is_drawn_of_a_generator_that_fails(rt: HostRuntime) -> Result<(), Fail> {
+    for left in 0..64usize {
+        assert!(rt; Key::try_generate(&mut Failing { left }).is_none());
+    }
+    let Some(key) = Key::try_generate(&mut Failing { left: 64 }) else {
+        return Err(Fail::new("no key of 64 bytes"));
+    };
+    assert!(rt; key.master() == [7; 64].as_slice());
+    Ok(())
+}
+
+#[test]
+fn a_clone_is_the_same_key(rt: HostRuntime) -> Result<(), Fail> {
+    let key = Key::from(&counted::<64>());
+    assert!(rt; key.clone()? == key);
+    Ok(())
+}
+
+#[test]
+fn debug_does_not_leak_key(rt: HostRuntime) -> Result<(), Fail> {
+    let key = Key::generate(&mut Counting(0));
+    assert_eq!(rt; format!(in rt.alloc(); "{key:?}")?.as_str(), "Key");
+    Ok(())
+}

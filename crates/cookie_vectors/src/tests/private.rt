@@ -1,0 +1,445 @@
+//! Private jars: sealed values.
+use super::generators::{Counting, Failing};
+use super::{counts, has_all_fields, lengthen, moment, shown, test_key, with_all_fields};
+use cookie::{Cookie, CookieJar, JarError, Key};
+use cookie_client::{ChildCall, JarCall, Played, mirror};
+use jiff::civil::DateTime;
+use std::alloc::Global;
+use std::test::Fail;
+
+// `Tamper-proof`, sealed with the test key for the name `encrypted_with_ring014`.
+const SEALED: &str = "lObeZJorGVyeSWUA8khTO/8UCzFVBY9g0MGU6/J3NN1R5x11dn2JIA==";
+
+// The same for the name `encrypted_with_ring016`.
+const SEALED_TOO: &str = "SU1ujceILyMBg3fReqRmA9HUtAIoSPZceOM/CUpObROHEujXIjonkA==";
+
+// Each call stands in a function of its own, so that a test's proof needn't know what the call says of the jar.
+fn add(
+    jar: &mut CookieJar,
+    key: &Key,
+    cookie: Cookie<'static>,
+    rng: &mut Counting,
+) -> Result<(), Fail> {
+    jar.private_mut(key).add(cookie, rng)?;
+    Ok(())
+}
+
+fn add_original(
+    jar: &mut CookieJar,
+    key: &Key,
+    cookie: Cookie<'static>,
+    rng: &mut Counting,
+) -> Result<(), Fail> {
+    jar.private_mut(key).add_original(cookie, rng)?;
+    Ok(())
+}
+
+fn add_with_nonce(
+    jar: &mut CookieJar,
+    key: &Key,
+    cookie: Cookie<'static>,
+    nonce: [u8; 12],
+) -> Result<(), Fail> {
+    jar.private_mut(key).add_with_nonce(cookie, nonce)?;
+    Ok(())
+}
+
+fn add_original_with_nonce(
+    jar: &mut CookieJar,
+    key: &Key,
+    cookie: Cookie<'static>,
+    nonce: [u8; 12],
+) -> Result<(), Fail> {
+    jar.private_mut(key).add_original_with_nonce(cookie, nonce)?;
+    Ok(())
+}
+
+fn remove(jar: &mut CookieJar, key: &Key, name: &'static str) -> Result<(), Fail> {
+    jar.private_mut(key).remove(Cookie::named(name), moment()?)?;
+    Ok(())
+}
+
+fn decrypt(
+    jar: &CookieJar,
+    key: &Key,
+    cookie: Cookie<'static>,
+) -> Result<Option<Cookie<'static>>, Fail> {
+    Ok(jar.private(key).decrypt(cookie)?)
+}
+
+fn is_answered(jar: &CookieJar, key: &Key, name: &str) -> Result<bool, Fail> {
+    Ok(jar.private(key).get(name)?.is_some())
+}
+
+// Whether the private jar of the key answers this value.
+fn answers(jar: &CookieJar, key: &Key, name: &str, value: &str) -> Result<bool, Fail> {
+    match jar.private(key).get(name)? {
+        Some(cookie) => Ok(cookie.name() == name && cookie.value() == value),
+        None => Ok(false),
+    }
+}
+
+fn is_decrypted(
+    jar: &CookieJar,
+    key: &Key,
+    name: &'static str,
+    value: &'static str,
+) -> Result<bool, Fail> {
+    Ok(decrypt(jar, key, Cookie::new(name, value))?.is_some())
+}
+
+#[test]
+fn simple(rt: HostRuntime) -> Result<(), Fail> {
+    let mut rng = Counting(1);
+    let key = Key::generate(&mut rng);
+    let mut jar = CookieJar::new(rt.alloc());
+    assert_eq!(rt; counts(&jar), (0, 0));
+    add(&mut jar, &key, Cookie::new("name", "val"), &mut rng)?;
+    assert_eq!(rt; counts(&jar), (1, 1));
+    assert!(rt; answers(&jar, &key, "name", "val")?);
+    assert!(rt; shown(&jar, "name").is_some() && shown(&jar, "name") != Some("val"));
+    add(&mut jar, &key, Cookie::new("another", "two"), &mut rng)?;
+    assert_eq!(rt; counts(&jar), (2, 2));
+    jar.remove(Cookie::named("another"), moment()?)?;
+    assert_eq!(rt; counts(&jar), (1, 1));
+    remove(&mut jar, &key, "name")?;
+    assert_eq!(rt; counts(&jar), (0, 0));
+    Ok(())
+}
+
+#[test]
+fn secure(rt: HostRuntime) -> Result<(), Fail> {
+    let alloc = rt.alloc();
+    let mut rng = Counting(2);
+    let key = Key::generate(&mut rng);
+    let mut jar = CookieJar::new(alloc);
+    add(&mut jar, &key, Cookie::new("secure", "secure"), &mut rng)?;
+    assert!(rt; shown(&jar, "secure") != Some("secure"));
+    assert!(rt; answers(&jar, &key, "secure", "secure")?);
+    lengthen(alloc, &mut jar, "secure")?;
+    assert!(rt; !is_answered(&jar, &key, "secure")?);
+    jar.add(Cookie::new("secure", "foobar"))?;
+    assert!(rt; !is_answered(&jar, &key, "secure")?);
+    Ok(())
+}
+
+// Whether a jar that can be changed answers this value, and nothing under another name.
+fn answers_too(jar: &mut CookieJar, key: &Key, name: &str, value: &str) -> Result<bool, Fail> {
+    let child = jar.private_mut(key);
+    if child.get("another")?.is_some() {
+        return Ok(false);
+    }
+    match child.get(name)? {
+        Some(cookie) => Ok(cookie.name() == name && cookie.value() == value),
+        None => Ok(false),
+    }
+}
+
+// Whether it decrypts a cookie that is handed in.
+fn is_decrypted_too(jar: &mut CookieJar, key: &Key, cookie: Cookie<'static>) -> Result<bool, Fail> {
+    Ok(jar.private_mut(key).decrypt(cookie)?.is_some())
+}
+
+#[test]
+fn roundtrip(rt: HostRuntime) -> Result<(), Fail> {
+    let key = test_key();
+    let mut jar = CookieJar::new(rt.alloc());
+    jar.add(Cookie::new("encrypted_with_ring014", SEALED))?;
+    jar.add_original(Cookie::new("encrypted_with_ring016", SEALED_TOO))?;
+    assert!(rt; answers(&jar, &key, "encrypted_with_ring014", "Tamper-proof")?);
+    assert!(rt; answers(&jar, &key, "encrypted_with_ring016", "Tamper-proof")?);
+    assert!(rt; answers_too(&mut jar, &key, "encrypted_with_ring016", "Tamper-proof")?);
+    let sealed = Cookie::new("encrypted_with_ring014", SEALED);
+    assert!(rt; is_decrypted_too(&mut jar, &key, sealed)?);
+    Ok(())
+}
+
+// Damaged forms of the sealed value.
+const DAMAGED: [&str; 9] = [
+    "",
+    "lObeZJorGVyeSWUA8khTO/8UCzFVBY9g0MGU6/J3NN1R5x11dn2JIB==",
+    "lObeZJorGVyeSWUA8khTO/8UCzFVBY9g0MGU6/J3NN1R5x11dn2JIA=",
+    "lObeZJorGVyeSWUA8khTO/8UCzFVBY9g0MGU6/J3NN1R5x11dn2JIA",
+    "lObeZJorGVyeSWUA8khTO/8UCzFVBY9g0MGU6/J3NN1R5x11dn2JIQ==",
+    "mObeZJorGVyeSWUA8khTO/8UCzFVBY9g0MGU6/J3NN1R5x11dn2JIA==",
+    "lObeZJorGVyeSWUA8khTO/8UCzFVBY9g0MGU6/J3NN1R5x11dn2J",
+    "AAAA",
+    "Tamper-proof",
+];
+
+// Whether one of the values is decrypted under the name.
+fn is_any_decrypted(
+    jar: &CookieJar,
+    name: &'static str,
+    values: &[&'static str],
+) -> Result<bool, Fail> {
+    let key = test_key();
+    for value in values {
+        if is_decrypted(jar, &key, name, value)? {
+            return Ok(true);
+        }
+    }
+    Ok(false)
+}
+
+#[test]
+fn a_damaged_value_is_not_decrypted(rt: HostRuntime) -> Result<(), Fail> {
+    let jar = CookieJar::new(rt.alloc());
+    assert!(rt; !is_any_decrypted(&jar, "encrypted_with_ring014", &DAMAGED)?);
+    assert!(rt; is_any_decrypted(&jar, "encrypted_with_ring014", &["", SEALED])?);
+    Ok(())
+}
+
+#[test]
+fn a_value_is_sealed_for_its_name_and_its_key(rt: HostRuntime) -> Result<(), Fail> {
+    let jar = CookieJar::new(rt.alloc());
+    assert!(rt; !is_any_decrypted(&jar, "x", &[SEALED, SEALED_TOO])?);
+    assert!(rt; !is_any_decrypted(&jar, "encrypted_with_ring014", &[SEALED_TOO])?);
+    let other = Key::from(&[0; 64]);
+    assert!(rt; !is_decrypted(&jar, &other, "encrypted_with_ring014", SEALED)?);
+    Ok(())
+}
+
+#[test]
+fn a_decrypted_cookie_keeps_all_but_its_value(rt: HostRuntime) -> Result<(), Fail> {
+    let key = test_key();
+    let jar = CookieJar::new(rt.alloc());
+    let cookie = with_all_fields("encrypted_with_ring014", SEALED);
+    let Some(cookie) = decrypt(&jar, &key, cookie)? else {
+        return Err(Fail::new("it isn't decrypted"));
+    };
+    assert!(rt; cookie.name() == "encrypted_with_ring014" && cookie.value() == "Tamper-proof");
+    assert!(rt; has_all_fields(&cookie));
+    Ok(())
+}
+
+#[test]
+fn a_nonce_is_handed_in(rt: HostRuntime) -> Result<(), Fail> {
+    let key = Key::from(&[0; 64]);
+    let mut jar = CookieJar::new(rt.alloc());
+    add_with_nonce(&mut jar, &key, Cookie::new("", ""), [0; 12])?;
+    add_with_nonce(&mut jar, &key, Cookie::new("a", ""), [1; 12])?;
+    add_original_with_nonce(&mut jar, &key, Cookie::new("b", "Tamper-proof"), [2; 12])?;
+    assert_eq!(rt;
+        shown(&jar, ""),
+        Some("AAAAAAAAAAAAAAAAUw+K+8dFNrmpY7TxxMtziw==")
+    );
+    assert_eq!(rt; shown(&jar, "a").ok_or("a value")?.len(), 40);
+    assert_eq!(rt; shown(&jar, "b").ok_or("a value")?.len(), 56);
+    assert_eq!(rt; counts(&jar), (2, 3));
+    assert!(rt; answers(&jar, &key, "", "")? && answers(&jar, &key, "a", "")?);
+    assert!(rt; answers(&jar, &key, "b", "Tamper-proof")?);
+    Ok(())
+}
+
+// Whether the value, added under the test key and a nonce of twelve such bytes, is stored as this text.
+fn is_sealed_as(
+    alloc: Global,
+    name: &'static str,
+    byte: u8,
+    value: &'static str,
+    text: &str,
+) -> Result<bool, Fail> {
+    let key = test_key();
+    let mut jar = CookieJar::new(alloc);
+    add_with_nonce(&mut jar, &key, Cookie::new(name, value), [byte; 12])?;
+    Ok(shown(&jar, name) == Some(text) && answers(&jar, &key, name, value)?)
+}
+
+// Rows that another implementation sealed (OpenSSL's).
+#[test]
+fn values_are_sealed_as_elsewhere(rt: HostRuntime) -> Result<(), Fail> {
+    for (name, byte, value, text) in [
+        ("id", 1, "", "AQEBAQEBAQEBAQEBwgO2fXn0JeJqe8Rinpn+7g=="),
+        (
+            "a b",
+            2,
+            "0123456789abcdef",
+            "AgICAgICAgICAgICgi1X5bWRGdNeqaZi9a7xFt4XZEfTFGuIQDrE6JoFa7w=",
+        ),
+        (
+            "\u{e9}",
+            3,
+            "x;y \u{e9} \u{20ac}",
+            "AwMDAwMDAwMDAwMDo7PcHT6u08VsOSgTJhLHvynFg9d/T2us5iY=",
+        ),
+        (
+            "__Host-session_identifier",
+            255,
+            "a value of more than two blocks, with a comma and = in it",
+            "////////////////u49GlH9NjKppU49LcFfu15QoBT6uMQGU5N6Z5vDtERkEFux+NcjvuuTvtFcWIVtWnJXDTQ1Ee3uxLxpQG1a9hsHDbSeA2dqlgA==",
+        ),
+    ] {
+        assert!(rt; is_sealed_as(rt.alloc(), name, byte, value, text)?);
+    }
+    Ok(())
+}
+
+// The first twelve bytes of the generator that counts from 5.
+const DRAWN: [u8; 12] = [6, 0, 0, 0, 7, 0, 0, 0, 8, 0, 0, 0];
+
+// The value that both jars show under the name, where it is the same.
+fn is_alike(jar: &CookieJar, other: &CookieJar, name: &str) -> bool {
+    shown(jar, name).is_some() && shown(jar, name) == shown(other, name)
+}
+
+// A jar with the value added under the nonce of the first bytes of that generator.
+fn with_drawn(alloc: Global) -> Result<CookieJar, Fail> {
+    let mut jar = CookieJar::new(alloc);
+    add_with_nonce(&mut jar, &test_key(), Cookie::new("a", "1"), DRAWN)?;
+    Ok(jar)
+}
+
+#[test]
+fn the_nonce_is_the_one_that_was_drawn(rt: HostRuntime) -> Result<(), Fail> {
+    let other = with_drawn(rt.alloc())?;
+    let mut jar = CookieJar::new(rt.alloc());
+    let mut rng = Counting(5);
+    add(&mut jar, &test_key(), Cookie::new("a", "1"), &mut rng)?;
+    assert!(rt; is_alike(&jar, &other, "a"));
+    assert_eq!(rt; rng.0, 8);
+    Ok(())
+}
+
+#[test]
+fn the_nonce_of_an_original_is_the_one_that_was_drawn(rt: HostRuntime) -> Result<(), Fail> {
+    let other = with_drawn(rt.alloc())?;
+    let mut jar = CookieJar::new(rt.alloc());
+    add_original(
+        &mut jar,
+        &test_key(),
+        Cookie::new("a", "1"),
+        &mut Counting(5),
+    )?;
+    assert!(rt; is_alike(&jar, &other, "a"));
+    assert_eq!(rt; counts(&jar), (0, 1));
+    Ok(())
+}
+
+// What the jar answers to a generator that fails behind so many bytes.
+fn refusal(jar: &mut CookieJar, key: &Key, left: usize) -> Option<JarError> {
+    let cookie = Cookie::new("a", "2");
+    jar.private_mut(key)
+        .add(cookie, &mut Failing { left })
+        .err()
+}
+
+// The same of an original.
+fn refusal_of_original(jar: &mut CookieJar, key: &Key, left: usize) -> Option<JarError> {
+    let cookie = Cookie::new("a", "2");
+    jar.private_mut(key)
+        .add_original(cookie, &mut Failing { left })
+        .err()
+}
+
+#[test]
+fn the_nonce_of_a_generator_that_states_nothing_is_its_own(rt: HostRuntime) -> Result<(), Fail> {
+    let key = test_key();
+    let mut jar = CookieJar::new(rt.alloc());
+    let mut other = CookieJar::new(rt.alloc());
+    assert!(rt; refusal(&mut jar, &key, 12).is_none());
+    add_with_nonce(&mut other, &key, Cookie::new("a", "2"), [7; 12])?;
+    assert!(rt; is_alike(&jar, &other, "a"));
+    Ok(())
+}
+
+#[test]
+fn a_generator_that_fails_adds_nothing(rt: HostRuntime) -> Result<(), Fail> {
+    let key = test_key();
+    let mut jar = CookieJar::new(rt.alloc());
+    jar.add_original(Cookie::new("a", "1"))?;
+    for left in 0..12usize {
+        assert!(rt; refusal(&mut jar, &key, left) == Some(JarError::Generator));
+        assert!(rt; refusal_of_original(&mut jar, &key, left) == Some(JarError::Generator));
+        assert_eq!(rt; counts(&jar), (0, 1));
+        assert_eq!(rt; shown(&jar, "a"), Some("1"));
+    }
+    Ok(())
+}
+
+// A jar with an original and five changes, of which one is signed and one is sealed.
+fn with_six(alloc: Global) -> Result<CookieJar, Fail> {
+    let mut rng = Counting(3);
+    let key = Key::generate(&mut rng);
+    let mut jar = CookieJar::new(alloc);
+    jar.add_original(Cookie::new("original", "original"))?;
+    jar.add(Cookie::new("test", "test"))?;
+    jar.add(Cookie::new("test2", "test2"))?;
+    jar.add(Cookie::new("test3", "test3"))?;
+    jar.signed_mut(&key).add(Cookie::new("signed", "signed"))?;
+    add(
+        &mut jar,
+        &key,
+        Cookie::new("encrypted", "encrypted"),
+        &mut rng,
+    )?;
+    Ok(jar)
+}
+
+fn drop_cookie(jar: &mut CookieJar, name: &'static str) -> Result<(), Fail> {
+    jar.remove(Cookie::named(name), moment()?)?;
+    Ok(())
+}
+
+#[test]
+fn iter(rt: HostRuntime) -> Result<(), Fail> {
+    let mut jar = with_six(rt.alloc())?;
+    assert_eq!(rt; counts(&jar), (5, 6));
+    drop_cookie(&mut jar, "test")?;
+    assert_eq!(rt; counts(&jar), (4, 5));
+    drop_cookie(&mut jar, "signed")?;
+    drop_cookie(&mut jar, "test2")?;
+    assert_eq!(rt; counts(&jar), (2, 3));
+    jar.add(Cookie::new("test2", "test2"))?;
+    assert_eq!(rt; counts(&jar), (3, 4));
+    drop_cookie(&mut jar, "test2")?;
+    assert_eq!(rt; counts(&jar), (2, 3));
+    Ok(())
+}
+
+fn original<'k>(key: &'k Key, cookie: Cookie<'static>) -> JarCall<'k> {
+    JarCall::Private(key, [0; 12], ChildCall::AddOriginal(cookie))
+}
+
+fn change<'k>(key: &'k Key, cookie: Cookie<'static>) -> JarCall<'k> {
+    JarCall::Private(key, [1; 12], ChildCall::Add(cookie))
+}
+
+fn removal<'k>(key: &'k Key, cookie: Cookie<'static>, now: DateTime) -> JarCall<'k> {
+    JarCall::Private(key, [0; 12], ChildCall::Remove(cookie, now))
+}
+
+#[test]
+fn a_client_follows_private_calls(rt: HostRuntime) -> Result<(), Fail> {
+    let now = moment()?;
+    let key = Key::from(&[0; 64]);
+    let calls = [
+        original(&key, Cookie::new("a", "1")),
+        change(&key, Cookie::new("b", "2")),
+    ];
+    let played = mirror(rt.alloc(), &calls, &[], now)?;
+    assert!(rt; played.outcomes.as_slice() == [true; 2].as_slice());
+    assert!(rt; is_followed(&played, "a") && is_followed(&played, "b"));
+    assert!(rt; answers(&played.jar, &key, "a", "1")?);
+    assert!(rt; answers(&played.jar, &key, "b", "2")?);
+    Ok(())
+}
+
+// Whether the client has the value that the jar shows under the name.
+fn is_followed(played: &Played, name: &str) -> bool {
+    played.client.get(name).is_some() && played.client.get(name) == shown(&played.jar, name)
+}
+
+#[test]
+fn a_client_follows_a_private_removal(rt: HostRuntime) -> Result<(), Fail> {
+    let now = moment()?;
+    let key = Key::from(&[0; 64]);
+    let calls = [
+        original(&key, Cookie::new("a", "1")),
+        change(&key, Cookie::new("b", "2")),
+        removal(&key, Cookie::named("a"), now),
+    ];
+    let played = mirror(rt.alloc(), &calls, &[1], now)?;
+    assert!(rt; played.client.get("a").is_none() && is_followed(&played, "b"));
+    Ok(())
+}
