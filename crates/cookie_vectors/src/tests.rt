@@ -21,6 +21,7 @@ mod rounds;
 mod sessions;
 mod signed;
 mod splitting;
+mod steps;
 mod streams;
 
 use cookie::{Cookie, CookieBuilder, CookieJar, Expiration, Key, SameSite};
@@ -66,6 +67,14 @@ fn shown<'a>(jar: &'a CookieJar, name: &str) -> Option<&'a str> {
     match jar.get(name) {
         Some(cookie) => Some(cookie.value()),
         None => None,
+    }
+}
+
+// Whether the jar shows another value under the name.
+fn is_hidden(jar: &CookieJar, name: &str, value: &str) -> bool {
+    match shown(jar, name) {
+        Some(text) => text != value,
+        None => false,
     }
 }
 

@@ -1,9 +1,11 @@
 //! Calls as values: which are fit, which are changes, and what comes of them on a jar.
-use super::{counts, moment, shown};
+use super::moment;
+use super::steps::{Step, after, calls, first_wrong};
 use cookie::{Cookie, CookieBuilder, CookieJar, Expiration};
 use cookie_client::{JarCall, replay};
 use jiff::SignedDuration;
 use jiff::civil::DateTime;
+use std::alloc::Global;
 use std::test::Fail;
 
 fn a() -> CookieBuilder<'static> {
@@ -26,7 +28,7 @@ fn a_client_can_follow_these_calls(rt: HostRuntime) -> Result<(), Fail> {
     let (sharp, later) = (at(0, 0)?, at(1, 0)?);
     let second = SignedDuration::from_secs(1);
     let path = "/; Max-Age=9";
-    for (call, wanted) in [
+    for (call, wanted) in &[
         (adds(a()), "a session's cookie"),
         (adds(a().expires(Expiration::Session)), "its expiry set"),
         (adds(a().expires(later)), "a later expiry"),
@@ -69,7 +71,7 @@ fn a_client_cannot_follow_these_calls(rt: HostRuntime) -> Result<(), Fail> {
     let now = moment()?;
     let (sharp, late, later) = (at(0, 0)?, at(0, 900_000_000)?, at(1, 0)?);
     let second = SignedDuration::from_secs(1);
-    for (call, wanted) in [
+    for (call, wanted) in &[
         (
             adds(a().max_age(SignedDuration::from_millis(500))),
             "half a second",
@@ -104,86 +106,72 @@ fn a_client_cannot_follow_these_calls(rt: HostRuntime) -> Result<(), Fail> {
     Ok(())
 }
 
-fn original(name: &'static str, value: &'static str) -> JarCall<'static> {
-    JarCall::AddOriginal(Cookie::new(name, value))
-}
-
-fn add(name: &'static str, value: &'static str) -> JarCall<'static> {
-    JarCall::Add(Cookie::new(name, value))
-}
-
-fn remove(name: &'static str, now: DateTime) -> JarCall<'static> {
-    JarCall::Remove(Cookie::named(name), now)
-}
-
-fn force(name: String) -> JarCall<'static> {
-    JarCall::ForceRemove(name)
-}
-
-fn reset() -> JarCall<'static> {
-    JarCall::ResetDelta
-}
-
 #[test]
 fn additions_and_removals_are_changes(rt: HostRuntime) -> Result<(), Fail> {
-    let now = moment()?;
-    let name = String::from_str(rt.alloc(), "a")?;
-    for (call, wanted) in [
-        (original("a", ""), false),
-        (add("a", ""), true),
-        (remove("a", now), true),
-        (force(name), false),
-        (reset(), false),
+    for (step, wanted) in [
+        (Step::AddOriginal("a", ""), false),
+        (Step::Add("a", ""), true),
+        (Step::Remove("a"), true),
+        (Step::ForceRemove("a"), false),
+        (Step::ResetDelta, false),
     ] {
-        assert_eq!(rt; call.is_change(), wanted);
+        for call in &calls(rt.alloc(), &[step])? {
+            assert_eq!(rt; call.is_change(), wanted);
+        }
     }
     Ok(())
 }
 
-// Calls on a jar that shows `o` and `gone`.
-fn nine_calls(now: DateTime, forced: String) -> [JarCall<'static>; 9] {
-    [
-        add("gone", "2"),
-        reset(),
-        original("p", "1"),
-        original("f", "1"),
-        add("n", "1"),
-        add("n", "2"),
-        remove("o", now),
-        remove("absent", now),
-        force(forced),
-    ]
-}
-
-// Whether the jar shows nothing under these names.
-fn lacks(jar: &CookieJar, names: &[&str]) -> bool {
-    for name in names {
-        if shown(jar, name).is_some() {
-            return false;
+// A jar that shows `o` and `gone`, and how many of these calls on it were taken.
+fn replayed(alloc: Global, steps: &[Step]) -> Result<(CookieJar, usize), Fail> {
+    let mut jar = after(
+        alloc,
+        &[Step::AddOriginal("o", "1"), Step::Add("gone", "1")],
+    )?;
+    let calls = calls(alloc, steps)?;
+    let mut taken = 0usize;
+    for outcome in &replay(alloc, &mut jar, calls.as_slice())? {
+        if *outcome {
+            taken = taken.saturating_add(1);
         }
     }
-    true
+    Ok((jar, taken))
 }
 
 #[test]
 fn calls_are_made_in_order_on_the_jar_handed_in(rt: HostRuntime) -> Result<(), Fail> {
-    let mut jar = CookieJar::new(rt.alloc());
-    jar.add_original(Cookie::new("o", "1"))?;
-    jar.add(Cookie::new("gone", "1"))?;
-    let forced = String::from_str(rt.alloc(), "f")?;
-    let calls = nine_calls(moment()?, forced);
-    let outcomes = replay(rt.alloc(), &mut jar, &calls)?;
-    assert!(rt; outcomes.as_slice() == [true; 9].as_slice());
-    assert_eq!(rt; counts(&jar), (2, 2));
-    assert!(rt; shown(&jar, "n") == Some("2") && shown(&jar, "p") == Some("1"));
-    assert!(rt; lacks(&jar, &["o", "f", "gone", "absent"]));
+    let (mut jar, taken) = replayed(
+        rt.alloc(),
+        &[
+            Step::Add("gone", "2"),
+            Step::ResetDelta,
+            Step::AddOriginal("p", "1"),
+            Step::AddOriginal("f", "1"),
+            Step::Add("n", "1"),
+            Step::Add("n", "2"),
+            Step::Remove("o"),
+            Step::Remove("absent"),
+            Step::ForceRemove("f"),
+        ],
+    )?;
+    assert_eq!(rt; taken, 9);
+    let shown = [
+        Step::Counts(2, 2),
+        Step::Shows("n", "2"),
+        Step::Shows("p", "1"),
+        Step::Lacks("o"),
+        Step::Lacks("f"),
+        Step::Lacks("gone"),
+        Step::Lacks("absent"),
+    ];
+    assert_eq!(rt; first_wrong(&mut jar, &shown)?, None);
     Ok(())
 }
 
 #[test]
 fn no_calls_have_no_outcomes(rt: HostRuntime) -> Result<(), Fail> {
-    let mut jar = CookieJar::new(rt.alloc());
-    assert!(rt; replay(rt.alloc(), &mut jar, &[])?.is_empty());
-    assert_eq!(rt; counts(&jar), (0, 0));
+    let (mut jar, taken) = replayed(rt.alloc(), &[])?;
+    assert_eq!(rt; taken, 0);
+    assert_eq!(rt; first_wrong(&mut jar, &[Step::Counts(1, 2)])?, None);
     Ok(())
 }

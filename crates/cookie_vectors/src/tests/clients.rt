@@ -3,57 +3,79 @@ use super::moment;
 use cookie_client::{Client, ClientError};
 use std::test::Fail;
 
+// Each call stands in a function of its own, so that a test's proof needn't know what it says of the client.
+fn reads(client: &mut Client, text: &str) -> Result<bool, Fail> {
+    Ok(client.read(text, moment()?)?)
+}
+
+fn holds(client: &mut Client, name: &str, value: &str) -> Result<(), Fail> {
+    client.hold(name, value)?;
+    Ok(())
+}
+
+fn has_header(client: &Client, header: &str) -> Result<bool, Fail> {
+    Ok(client.header()?.as_str() == header)
+}
+
 #[test]
 fn a_client_follows_what_it_reads(rt: HostRuntime) -> Result<(), Fail> {
-    let now = moment()?;
     let mut client = Client::new(rt.alloc());
-    assert_eq!(rt; client.header()?.as_str(), "");
-    assert!(rt; client.hold("c", "3") == Ok(()));
-    for (text, is_cookie) in [
+    assert!(rt; has_header(&client, "")?);
+    holds(&mut client, "c", "3")?;
+    for (text, is_cookie, header) in [
         (
             "b=2; Max-Age=1; Expires=Wed, 21 Oct 2015 07:28:00 GMT",
             true,
+            "b=2; c=3",
         ),
-        ("a=1; Expires=Wed, 21 Oct 2015 07:28:01 GMT", true),
-        ("bar", false),
-        ("=bar", false),
-        ("c=%FF", false),
+        (
+            "a=1; Expires=Wed, 21 Oct 2015 07:28:01 GMT",
+            true,
+            "a=1; b=2; c=3",
+        ),
+        ("bar", false, "a=1; b=2; c=3"),
+        ("=bar", false, "a=1; b=2; c=3"),
+        ("c=%FF", false, "a=1; b=2; c=3"),
+        (
+            "a=9; Expires=Wed, 21 Oct 2015 07:28:00 GMT",
+            true,
+            "b=2; c=3",
+        ),
+        ("b=9; Max-Age=0", true, "c=3"),
     ] {
-        assert!(rt; client.read(text, now) == Ok(is_cookie), "{text}");
+        assert!(rt; reads(&mut client, text)? == is_cookie, "{text}");
+        assert!(rt; has_header(&client, header)?, "{text}");
     }
-    assert_eq!(rt; client.get("b"), Some("2"));
-    assert_eq!(rt; client.header()?.as_str(), "a=1; b=2; c=3");
-    for text in [
-        "a=9; Expires=Wed, 21 Oct 2015 07:28:00 GMT",
-        "b=9; Max-Age=0",
-    ] {
-        assert!(rt; client.read(text, now) == Ok(true), "{text}");
-    }
-    assert_eq!(rt; client.get("a"), None);
-    assert_eq!(rt; client.header()?.as_str(), "c=3");
+    assert!(rt; client.get("c") == Some("3") && client.get("a").is_none());
     Ok(())
 }
 
 #[test]
 fn a_client_undoes_and_writes_escapes(rt: HostRuntime) -> Result<(), Fail> {
-    let text = "foo%20!%25%3F%3D=bar%3B%3B%2C%20a";
     let mut client = Client::new(rt.alloc());
-    assert!(rt; client.read("foo%20!%25%3F%3D=bar%3B%3B%2C%20a; Path=/", moment()?) == Ok(true));
+    let text = "foo%20!%25%3F%3D=bar%3B%3B%2C%20a; Path=/";
+    assert!(rt; reads(&mut client, text)?);
     assert_eq!(rt; client.get("foo !%?="), Some("bar;;, a"));
-    assert_eq!(rt; client.header()?.as_str(), text);
+    assert!(rt; has_header(&client, "foo%20!%25%3F%3D=bar%3B%3B%2C%20a")?);
     Ok(())
+}
+
+// A clone of a client with two cookies, once that client holds another value.
+fn copied(client: &mut Client) -> Result<Client, Fail> {
+    holds(client, "a", "1")?;
+    holds(client, "b", "2")?;
+    let copy = client.clone()?;
+    holds(client, "a", "3")?;
+    Ok(copy)
 }
 
 #[test]
 fn a_copy_of_a_client_goes_its_own_way(rt: HostRuntime) -> Result<(), Fail> {
     let mut client = Client::new(rt.alloc());
-    client.hold("a", "1")?;
-    client.hold("b", "2")?;
-    let mut copy = client.clone()?;
-    client.hold("a", "3")?;
-    copy.hold("c", "4")?;
-    assert_eq!(rt; client.header()?.as_str(), "a=3; b=2");
-    assert_eq!(rt; copy.header()?.as_str(), "a=1; b=2; c=4");
+    let mut copy = copied(&mut client)?;
+    holds(&mut copy, "c", "4")?;
+    assert!(rt; has_header(&client, "a=3; b=2")?);
+    assert!(rt; has_header(&copy, "a=1; b=2; c=4")?);
     Ok(())
 }
 

@@ -94,16 +94,31 @@ pub(super) fn is_alike(alloc: Global, jar: &CookieJar, flat: &FlatJar) -> Result
     Ok(is_answered_alike(jar, flat) && is_met_alike(alloc, jar, flat)?)
 }
 
+// Whether the calls have the same outcomes on the two jars.
+fn have_same_outcomes(
+    alloc: Global,
+    calls: &[JarCall<'_>],
+    jar: &mut CookieJar,
+    flat: &mut FlatJar,
+) -> Result<bool, Fail> {
+    let outcomes = replay(alloc, jar, calls)?;
+    Ok(flat.replay(calls)?.as_slice() == outcomes.as_slice())
+}
+
+// Whether a clone of the first jar is like the second.
+fn is_copied_alike(alloc: Global, jar: &CookieJar, flat: &FlatJar) -> Result<bool, Fail> {
+    Ok(is_alike(alloc, &jar.clone()?, flat)?)
+}
+
 // Whether the calls have the same outcomes on the two jars, and leave them, and a clone, alike.
 fn is_replayed_alike(alloc: Global, calls: &[JarCall<'_>]) -> Result<bool, Fail> {
     let mut jar = CookieJar::new(alloc);
     let mut flat = FlatJar::new(alloc);
-    let outcomes = replay(alloc, &mut jar, calls)?;
-    if flat.replay(calls)?.as_slice() != outcomes.as_slice() {
-        return Ok(false);
-    }
-    let copy = jar.clone()?;
-    Ok(is_alike(alloc, &jar, &flat)? && is_alike(alloc, &copy, &flat)?)
+    Ok(
+        have_same_outcomes(alloc, calls, &mut jar, &mut flat)?
+            && is_alike(alloc, &jar, &flat)?
+            && is_copied_alike(alloc, &jar, &flat)?,
+    )
 }
 
 #[test]

@@ -1,5 +1,6 @@
 //! A jar, and a client that follows it.
-use super::{counts, moment, shown};
+use super::steps::{Step, calls, first_wrong};
+use super::{counts, moment};
 use cookie::{Cookie, CookieBuilder, Expiration};
 use cookie_client::{JarCall, Played, mirror};
 use jiff::SignedDuration;
@@ -7,114 +8,93 @@ use jiff::civil::DateTime;
 use std::alloc::Global;
 use std::test::Fail;
 
-fn original(name: &'static str, value: &'static str) -> JarCall<'static> {
-    JarCall::AddOriginal(Cookie::new(name, value))
+// What comes of the calls at the moment of most rows, with the texts read in the order of `pick`.
+fn played(alloc: Global, steps: &[Step], pick: &[usize]) -> Result<Played, Fail> {
+    let calls = calls(alloc, steps)?;
+    Ok(mirror(alloc, calls.as_slice(), pick, moment()?)?)
 }
 
-fn adds(name: &'static str, value: &'static str) -> JarCall<'static> {
-    JarCall::Add(Cookie::new(name, value))
+// The header of the client after the calls.
+fn header_of(alloc: Global, steps: &[Step], pick: &[usize]) -> Result<String, Fail> {
+    Ok(played(alloc, steps, pick)?.client.header()?)
 }
 
-fn removes(name: &'static str, now: DateTime) -> JarCall<'static> {
-    JarCall::Remove(Cookie::named(name), now)
-}
-
-fn forces(alloc: Global, name: &str) -> Result<JarCall<'static>, Fail> {
-    Ok(JarCall::ForceRemove(String::from_str(alloc, name)?))
-}
-
-// What comes of the calls at the moment of most rows, with the walk's order of the texts.
-fn played(alloc: Global, calls: &[JarCall<'_>]) -> Result<Played, Fail> {
-    Ok(mirror(alloc, calls, &[], moment()?)?)
-}
-
-fn is_taken(played: &Played) -> bool {
+// How many of the calls were refused.
+fn refused(played: &Played) -> usize {
+    let mut refused = 0usize;
     for outcome in &played.outcomes {
         if !outcome {
-            return false;
+            refused = refused.saturating_add(1);
         }
     }
-    true
+    refused
 }
+
+// Whether each call was taken, the client's header is this text, and the jar shows what it has to.
+fn is_played_as(alloc: Global, steps: &[Step], header: &str, shown: &[Step]) -> Result<bool, Fail> {
+    let mut played = played(alloc, steps, &[])?;
+    Ok(
+        played.outcomes.len() == steps.len()
+            && refused(&played) == 0
+            && played.client.header()?.as_str() == header
+            && first_wrong(&mut played.jar, shown)?.is_none(),
+    )
+}
+
+// Two originals, of which one is changed and one is removed, and an addition.
+const CHANGES: [Step; 5] = [
+    Step::AddOriginal("a", "1"),
+    Step::AddOriginal("b", "2"),
+    Step::Add("a", "3"),
+    Step::Remove("b"),
+    Step::Add("c", "4"),
+];
 
 #[test]
 fn every_order_gives_one_header(rt: HostRuntime) -> Result<(), Fail> {
-    let now = moment()?;
-    let calls = [
-        original("a", "1"),
-        original("b", "2"),
-        adds("a", "3"),
-        removes("b", now),
-        adds("c", "4"),
-    ];
     for first in 0..3 {
         for second in 0..2 {
-            let pick = [first, second, 0];
-            let played = mirror(rt.alloc(), &calls, &pick, now)?;
-            assert_eq!(rt; played.client.header()?.as_str(), "a=3; c=4");
+            let header = header_of(rt.alloc(), &CHANGES, &[first, second, 0])?;
+            assert_eq!(rt; header.as_str(), "a=3; c=4");
         }
     }
     for pick in [[usize::MAX, 5], [7, usize::MAX]] {
-        let played = mirror(rt.alloc(), &calls, &pick, now)?;
-        assert_eq!(rt; played.client.header()?.as_str(), "a=3; c=4");
+        let header = header_of(rt.alloc(), &CHANGES, &pick)?;
+        assert_eq!(rt; header.as_str(), "a=3; c=4");
     }
     Ok(())
 }
 
 #[test]
 fn the_jar_and_the_outcomes_are_handed_out(rt: HostRuntime) -> Result<(), Fail> {
-    let now = moment()?;
-    let calls = [
-        original("a", "1"),
-        original("b", "2"),
-        adds("a", "3"),
-        removes("b", now),
-        adds("c", "4"),
-    ];
-    let played = played(rt.alloc(), &calls)?;
-    assert_eq!(rt; played.client.header()?.as_str(), "a=3; c=4");
-    assert!(rt; played.outcomes.as_slice() == [true; 5].as_slice());
-    assert_eq!(rt; counts(&played.jar), (3, 2));
+    let shown = [Step::Counts(3, 2)];
+    assert!(rt; is_played_as(rt.alloc(), &CHANGES, "a=3; c=4", &shown)?);
     Ok(())
 }
 
-// The header after the calls, if the delta has so many cookies.
-fn header_of(
-    alloc: Global,
-    calls: &[JarCall<'_>],
-    pick: &[usize],
-    count: usize,
-) -> Result<String, Fail> {
-    let played = mirror(alloc, calls, pick, moment()?)?;
-    let (changes, _) = counts(&played.jar);
-    if changes != count {
-        return Err(Fail::new("another count of changes"));
-    }
-    Ok(played.client.header()?)
-}
+// Two originals, and four changes.
+const UP_TO_FOUR: [Step; 6] = [
+    Step::AddOriginal("b", "1"),
+    Step::AddOriginal("d", "1"),
+    Step::Add("a", "x;y"),
+    Step::Remove("b"),
+    Step::Add("d", "3"),
+    Step::Add("c", "4"),
+];
 
 #[test]
 fn up_to_four_changes_give_one_client_in_every_order(rt: HostRuntime) -> Result<(), Fail> {
-    let now = moment()?;
-    let calls = [
-        original("b", "1"),
-        original("d", "1"),
-        adds("a", "x;y"),
-        removes("b", now),
-        adds("d", "3"),
-        adds("c", "4"),
-    ];
     for (count, header) in [
-        (0usize, "b=1; d=1"),
-        (1, "a=x%3By; b=1; d=1"),
-        (2, "a=x%3By; d=1"),
-        (3, "a=x%3By; d=3"),
-        (4, "a=x%3By; c=4; d=3"),
+        (2usize, "b=1; d=1"),
+        (3, "a=x%3By; b=1; d=1"),
+        (4, "a=x%3By; d=1"),
+        (5, "a=x%3By; d=3"),
+        (6, "a=x%3By; c=4; d=3"),
     ] {
-        let calls = calls.get(..2 + count).ok_or("fewer calls")?;
+        let steps = UP_TO_FOUR.get(..count).ok_or("fewer steps")?;
         for number in 0..24 {
             let pick = [number / 6, number / 2 % 3, number % 2];
-            let text = header_of(rt.alloc(), calls, &pick, count)?;
+            let text = header_of(rt.alloc(), steps, &pick)?;
             assert_eq!(rt; text.as_str(), header, "order {number} of {count}");
         }
     }
@@ -122,70 +102,88 @@ fn up_to_four_changes_give_one_client_in_every_order(rt: HostRuntime) -> Result<
 }
 
 #[test]
-fn a_removal_stays_until_the_reset(rt: HostRuntime) -> Result<(), Fail> {
-    let now = moment()?;
-    let calls = [
-        original("n", "1"),
-        removes("n", now),
-        original("n", "5"),
-        JarCall::ResetDelta,
-    ];
-    let before = played(rt.alloc(), &calls[..3])?;
-    assert!(rt; shown(&before.jar, "n").is_none());
-    assert_eq!(rt; counts(&before.jar), (1, 0));
-    assert_eq!(rt; before.client.header()?.as_str(), "");
-    assert!(rt; before.outcomes.as_slice() == [true; 3].as_slice());
-    let after = played(rt.alloc(), &calls)?;
-    assert!(rt; shown(&after.jar, "n") == Some("5"));
-    assert_eq!(rt; counts(&after.jar), (0, 1));
-    assert_eq!(rt; after.client.get("n"), Some("5"));
-    assert!(rt; after.outcomes.as_slice() == [true; 4].as_slice());
+fn each_change_is_in_the_delta(rt: HostRuntime) -> Result<(), Fail> {
+    for (count, changes) in [(2usize, 0usize), (3, 1), (4, 2), (5, 3), (6, 4)] {
+        let steps = UP_TO_FOUR.get(..count).ok_or("fewer steps")?;
+        let played = played(rt.alloc(), steps, &[])?;
+        assert_eq!(rt; counts(&played.jar).0, changes);
+    }
     Ok(())
 }
 
+// A removal, behind which the original comes again, and a reset.
+const REMOVED: [Step; 4] = [
+    Step::AddOriginal("n", "1"),
+    Step::Remove("n"),
+    Step::AddOriginal("n", "5"),
+    Step::ResetDelta,
+];
+
+#[test]
+fn a_removal_stays_until_the_reset(rt: HostRuntime) -> Result<(), Fail> {
+    let shown = [Step::Lacks("n"), Step::Counts(1, 0)];
+    assert!(rt; is_played_as(rt.alloc(), &REMOVED[..3], "", &shown)?);
+    let shown = [Step::Shows("n", "5"), Step::Counts(0, 1)];
+    assert!(rt; is_played_as(rt.alloc(), &REMOVED, "n=5", &shown)?);
+    Ok(())
+}
+
+// A removal by force, and an addition of the same name.
+const FORCED: [Step; 3] = [
+    Step::AddOriginal("n", "1"),
+    Step::ForceRemove("n"),
+    Step::Add("n", "2"),
+];
+
 #[test]
 fn a_forced_removal_is_not_told(rt: HostRuntime) -> Result<(), Fail> {
-    let forced = forces(rt.alloc(), "n")?;
-    let calls = [original("n", "1"), forced, adds("n", "2")];
-    let before = played(rt.alloc(), &calls[..2])?;
-    assert_eq!(rt; counts(&before.jar), (0, 0));
-    assert_eq!(rt; before.client.header()?.as_str(), "n=1");
-    assert!(rt; is_taken(&before));
-    let after = played(rt.alloc(), &calls)?;
-    assert!(rt; shown(&after.jar, "n") == Some("2"));
-    assert_eq!(rt; after.client.header()?.as_str(), "n=2");
-    assert!(rt; is_taken(&after));
+    let shown = [Step::Lacks("n"), Step::Counts(0, 0)];
+    assert!(rt; is_played_as(rt.alloc(), &FORCED[..2], "n=1", &shown)?);
+    let shown = [Step::Shows("n", "2")];
+    assert!(rt; is_played_as(rt.alloc(), &FORCED, "n=2", &shown)?);
     Ok(())
+}
+
+// What comes of one addition at the moment, and whether it is fit there.
+fn added(alloc: Global, cookie: Cookie<'static>, now: DateTime) -> Result<(Played, bool), Fail> {
+    let calls = [JarCall::Add(cookie)];
+    let played = mirror(alloc, &calls, &[], now)?;
+    Ok((played, calls[0].is_fit(now)))
+}
+
+fn with_expiry(expiry: DateTime) -> Cookie<'static> {
+    CookieBuilder::new("a", "1")
+        .expires(Expiration::DateTime(expiry))
+        .build()
 }
 
 #[test]
 fn an_expiry_of_two_digits_is_read_by_the_year_rule(rt: HostRuntime) -> Result<(), Fail> {
     let now = DateTime::new(50, 1, 1, 0, 0, 0, 0)?;
-    let expiry = Expiration::DateTime(DateTime::new(60, 1, 1, 0, 0, 0, 0)?);
-    let call = JarCall::Add(CookieBuilder::new("a", "1").expires(expiry).build());
-    assert!(rt; call.is_fit(now));
-    let played = mirror(rt.alloc(), &[call], &[], now)?;
-    assert_eq!(rt; played.client.header()?.as_str(), "a=1");
+    let cookie = with_expiry(DateTime::new(60, 1, 1, 0, 0, 0, 0)?);
+    let (played, is_fit) = added(rt.alloc(), cookie, now)?;
+    assert!(rt; is_fit);
+    assert!(rt; played.client.get("a") == Some("1"));
     Ok(())
+}
+
+fn with_half_a_second() -> Cookie<'static> {
+    CookieBuilder::new("a", "1")
+        .max_age(SignedDuration::from_millis(500))
+        .build()
 }
 
 #[test]
 fn an_unfit_addition_is_shown_by_the_jar_alone(rt: HostRuntime) -> Result<(), Fail> {
-    let age = SignedDuration::from_millis(500);
-    let call = JarCall::Add(CookieBuilder::new("a", "1").max_age(age).build());
-    assert!(rt; !call.is_fit(moment()?));
-    let played = played(rt.alloc(), &[call])?;
-    assert!(rt; shown(&played.jar, "a") == Some("1"));
-    assert_eq!(rt; played.client.header()?.as_str(), "");
-    assert!(rt; is_taken(&played));
+    let (mut played, is_fit) = added(rt.alloc(), with_half_a_second(), moment()?)?;
+    assert!(rt; !is_fit && refused(&played) == 0);
+    assert!(rt; played.client.get("a").is_none());
+    assert!(rt; first_wrong(&mut played.jar, &[Step::Shows("a", "1")])?.is_none());
     Ok(())
 }
 
 #[test]
 fn no_calls_leave_an_empty_client(rt: HostRuntime) -> Result<(), Fail> {
-    let played = played(rt.alloc(), &[])?;
-    assert_eq!(rt; counts(&played.jar), (0, 0));
-    assert_eq!(rt; played.client.header()?.as_str(), "");
-    assert!(rt; played.outcomes.is_empty());
+    assert!(rt; is_played_as(rt.alloc(), &[], "", &[Step::Counts(0, 0)])?);
     Ok(())
 }

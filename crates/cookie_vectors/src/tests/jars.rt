@@ -1,225 +1,253 @@
 //! What a jar holds after its calls, and what the walks over it meet.
-use super::{counts, moment, shown};
+use super::steps::{Step, after, first_wrong};
+use super::{counts, moment};
 use cookie::{Cookie, CookieJar, JarError};
 use jiff::SignedDuration;
 use std::alloc::Global;
 use std::test::Fail;
 
-// A jar with these originals, whose values are their names.
-fn with_originals(alloc: Global, names: &[&'static str]) -> Result<CookieJar, Fail> {
-    let mut jar = CookieJar::new(alloc);
-    for name in names {
-        jar.add_original(Cookie::new(*name, *name))?;
-    }
-    Ok(jar)
-}
-
-// Removes the cookie of that name, without a path.
-fn remove(jar: &mut CookieJar, name: &'static str) -> Result<(), Fail> {
-    jar.remove(Cookie::named(name), moment()?)?;
-    Ok(())
-}
-
-// How many cookies the delta has, and how many of them have a value that isn't empty.
-fn delta_counts(jar: &CookieJar) -> (usize, usize) {
-    let mut all = 0usize;
-    let mut valued = 0usize;
-    for cookie in jar.delta() {
-        all = all.saturating_add(1);
-        if !cookie.value().is_empty() {
-            valued = valued.saturating_add(1);
-        }
-    }
-    (all, valued)
+// Whether each of the steps on a new jar is right; else the place of the first that isn't.
+fn wrong(alloc: Global, steps: &[Step]) -> Result<Option<usize>, Fail> {
+    first_wrong(&mut CookieJar::new(alloc), steps)
 }
 
 #[test]
 fn simple(rt: HostRuntime) -> Result<(), Fail> {
-    let mut jar = CookieJar::new(rt.alloc());
-    jar.add(Cookie::named("test"))?;
-    jar.add(Cookie::named("test2"))?;
-    remove(&mut jar, "test")?;
-    assert!(rt; shown(&jar, "test").is_none());
-    assert!(rt; shown(&jar, "test2").is_some());
-    jar.add(Cookie::named("test3"))?;
-    remove(&mut jar, "test2")?;
-    remove(&mut jar, "test3")?;
-    for name in ["test", "test2", "test3"] {
-        assert!(rt; shown(&jar, name).is_none());
-    }
+    let steps = [
+        Step::Add("test", ""),
+        Step::Add("test2", ""),
+        Step::Remove("test"),
+        Step::Lacks("test"),
+        Step::Shows("test2", ""),
+        Step::Add("test3", ""),
+        Step::Remove("test2"),
+        Step::Remove("test3"),
+        Step::Lacks("test"),
+        Step::Lacks("test2"),
+        Step::Lacks("test3"),
+    ];
+    assert_eq!(rt; wrong(rt.alloc(), &steps)?, None);
     Ok(())
 }
 
-// A jar after originals, additions and removals.
-fn changed(alloc: Global) -> Result<CookieJar, Fail> {
-    let mut jar = with_originals(alloc, &["original", "original1"])?;
-    for name in ["test", "test2", "test3", "test4"] {
-        jar.add(Cookie::new(name, name))?;
+// Originals, additions and removals.
+const CHANGES: [Step; 8] = [
+    Step::AddOriginal("original", "original"),
+    Step::AddOriginal("original1", "original1"),
+    Step::Add("test", "test"),
+    Step::Add("test2", "test2"),
+    Step::Add("test3", "test3"),
+    Step::Add("test4", "test4"),
+    Step::Remove("test"),
+    Step::Remove("original"),
+];
+
+// The age of the cookie of that name in the delta of that jar.
+fn age_of(name: &str) -> Option<Option<SignedDuration>> {
+    match name {
+        "original" => Some(Some(SignedDuration::ZERO)),
+        "test2" | "test3" | "test4" => Some(None),
+        _ => None,
     }
-    remove(&mut jar, "test")?;
-    remove(&mut jar, "original")?;
-    Ok(jar)
 }
 
 #[test]
 fn delta(rt: HostRuntime) -> Result<(), Fail> {
-    let jar = changed(rt.alloc())?;
+    let jar = after(rt.alloc(), &CHANGES)?;
     assert_eq!(rt; counts(&jar), (4, 4));
     for cookie in jar.delta() {
-        let age = match cookie.name() {
-            "original" => Some(SignedDuration::ZERO),
-            "test2" | "test3" | "test4" => None,
-            _ => return Err(Fail::new("another name is in the delta")),
-        };
-        assert!(rt; cookie.max_age() == age);
+        assert!(rt; age_of(cookie.name()) == Some(cookie.max_age()));
     }
     Ok(())
 }
 
+// The value that a walk over that jar meets under the name, once `original1` is `new`.
+fn value_of(name: &str) -> Option<&'static str> {
+    match name {
+        "original1" => Some("new"),
+        "test2" => Some("test2"),
+        "test3" => Some("test3"),
+        "test4" => Some("test4"),
+        _ => None,
+    }
+}
+
 #[test]
 fn the_walk_meets_what_the_jar_shows(rt: HostRuntime) -> Result<(), Fail> {
-    let mut jar = changed(rt.alloc())?;
-    jar.add(Cookie::new("original1", "new"))?;
-    assert_eq!(rt; counts(&jar), (5, 4));
+    let mut jar = after(rt.alloc(), &CHANGES)?;
+    let more = [Step::Add("original1", "new"), Step::Counts(5, 4)];
+    assert_eq!(rt; first_wrong(&mut jar, &more)?, None);
     for cookie in jar.iter() {
-        let value = match cookie.name() {
-            "original1" => "new",
-            "test2" => "test2",
-            "test3" => "test3",
-            "test4" => "test4",
-            _ => return Err(Fail::new("another name is shown")),
-        };
-        assert_eq!(rt; cookie.value(), value);
+        assert!(rt; value_of(cookie.name()) == Some(cookie.value()));
     }
     Ok(())
 }
 
 #[test]
 fn replace_original(rt: HostRuntime) -> Result<(), Fail> {
-    let mut jar = CookieJar::new(rt.alloc());
-    jar.add_original(Cookie::new("original_a", "a"))?;
-    jar.add_original(Cookie::new("original_b", "b"))?;
-    assert!(rt; shown(&jar, "original_a") == Some("a"));
-    jar.add(Cookie::new("original_a", "av2"))?;
-    assert!(rt; shown(&jar, "original_a") == Some("av2"));
-    assert!(rt; shown(&jar, "original_b") == Some("b"));
-    assert!(rt; shown(&jar, "original_c").is_none());
+    let steps = [
+        Step::AddOriginal("original_a", "a"),
+        Step::AddOriginal("original_b", "b"),
+        Step::Shows("original_a", "a"),
+        Step::Add("original_a", "av2"),
+        Step::Shows("original_a", "av2"),
+        Step::Shows("original_b", "b"),
+        Step::Lacks("original_c"),
+    ];
+    assert_eq!(rt; wrong(rt.alloc(), &steps)?, None);
     Ok(())
 }
 
 #[test]
 fn empty_delta(rt: HostRuntime) -> Result<(), Fail> {
-    let mut jar = CookieJar::new(rt.alloc());
-    jar.add(Cookie::new("name", "val"))?;
-    assert_eq!(rt; counts(&jar), (1, 1));
-    remove(&mut jar, "name")?;
-    assert_eq!(rt; counts(&jar), (0, 0));
-    jar.add_original(Cookie::new("name", "val"))?;
-    assert_eq!(rt; counts(&jar), (0, 1));
-    remove(&mut jar, "name")?;
-    assert_eq!(rt; counts(&jar), (1, 0));
-    jar.add(Cookie::new("name", "val"))?;
-    assert_eq!(rt; counts(&jar), (1, 1));
-    remove(&mut jar, "name")?;
-    assert_eq!(rt; counts(&jar), (1, 0));
+    let steps = [
+        Step::Add("name", "val"),
+        Step::Counts(1, 1),
+        Step::Remove("name"),
+        Step::Counts(0, 0),
+        Step::AddOriginal("name", "val"),
+        Step::Counts(0, 1),
+        Step::Remove("name"),
+        Step::Counts(1, 0),
+        Step::Add("name", "val"),
+        Step::Counts(1, 1),
+        Step::Remove("name"),
+        Step::Counts(1, 0),
+    ];
+    assert_eq!(rt; wrong(rt.alloc(), &steps)?, None);
     Ok(())
 }
 
 #[test]
 fn add_remove_add(rt: HostRuntime) -> Result<(), Fail> {
-    let mut jar = with_originals(rt.alloc(), &["name"])?;
-    assert_eq!(rt; delta_counts(&jar), (0, 0));
-    remove(&mut jar, "name")?;
-    assert_eq!(rt; delta_counts(&jar), (1, 0));
-    jar.add_original(Cookie::new("name", "val"))?;
-    assert_eq!(rt; delta_counts(&jar), (1, 0));
-    remove(&mut jar, "name")?;
-    assert_eq!(rt; delta_counts(&jar), (1, 0));
-    jar.add(Cookie::new("name", "val"))?;
-    assert_eq!(rt; delta_counts(&jar), (1, 1));
-    remove(&mut jar, "name")?;
-    assert_eq!(rt; delta_counts(&jar), (1, 0));
+    let steps = [
+        Step::AddOriginal("name", "name"),
+        Step::Counts(0, 1),
+        Step::Remove("name"),
+        Step::Counts(1, 0),
+        Step::AddOriginal("name", "val"),
+        Step::Counts(1, 0),
+        Step::Remove("name"),
+        Step::Counts(1, 0),
+        Step::Add("name", "val"),
+        Step::Counts(1, 1),
+        Step::Remove("name"),
+        Step::Counts(1, 0),
+    ];
+    assert_eq!(rt; wrong(rt.alloc(), &steps)?, None);
     Ok(())
 }
 
 #[test]
 fn replace_remove(rt: HostRuntime) -> Result<(), Fail> {
-    let mut jar = with_originals(rt.alloc(), &["name"])?;
-    assert_eq!(rt; delta_counts(&jar), (0, 0));
-    jar.add(Cookie::new("name", "val"))?;
-    assert_eq!(rt; delta_counts(&jar), (1, 1));
-    remove(&mut jar, "name")?;
-    assert_eq!(rt; delta_counts(&jar), (1, 0));
+    let steps = [
+        Step::AddOriginal("name", "name"),
+        Step::Counts(0, 1),
+        Step::Add("name", "val"),
+        Step::Counts(1, 1),
+        Step::Remove("name"),
+        Step::Counts(1, 0),
+    ];
+    assert_eq!(rt; wrong(rt.alloc(), &steps)?, None);
+    Ok(())
+}
+
+// Removes the cookie of that name with the path of the whole host.
+fn remove_everywhere(jar: &mut CookieJar, name: &'static str) -> Result<(), Fail> {
+    let cookie = Cookie::build(Cookie::named(name)).path("/").build();
+    jar.remove(cookie, moment()?)?;
     Ok(())
 }
 
 #[test]
 fn remove_with_path(rt: HostRuntime) -> Result<(), Fail> {
-    let mut jar = with_originals(rt.alloc(), &["name"])?;
-    assert_eq!(rt; counts(&jar), (0, 1));
+    let original = [Step::AddOriginal("name", "name"), Step::Counts(0, 1)];
+    let mut jar = after(rt.alloc(), &original)?;
     for cookie in jar.iter() {
         assert!(rt; cookie.path().is_none());
     }
-    let cookie = Cookie::build(Cookie::named("name")).path("/").build();
-    jar.remove(cookie, moment()?)?;
+    remove_everywhere(&mut jar, "name")?;
     assert_eq!(rt; counts(&jar), (1, 0));
     for cookie in jar.delta() {
-        assert_eq!(rt; cookie.value(), "");
-        assert!(rt; cookie.path() == Some("/"));
+        assert!(rt; cookie.value().is_empty() && cookie.path() == Some("/"));
     }
     Ok(())
 }
 
 #[test]
 fn forced_removals_leave_no_trace(rt: HostRuntime) -> Result<(), Fail> {
-    let mut jar = with_originals(rt.alloc(), &["name"])?;
-    jar.add(Cookie::new("key", "value"))?;
-    assert_eq!(rt; counts(&jar), (1, 2));
-    jar.force_remove("name");
-    assert_eq!(rt; counts(&jar), (1, 1));
-    assert!(rt; shown(&jar, "name").is_none());
-    jar.force_remove("key");
-    assert_eq!(rt; counts(&jar), (0, 0));
-    jar.force_remove("absent");
-    assert_eq!(rt; counts(&jar), (0, 0));
+    let steps = [
+        Step::AddOriginal("name", "name"),
+        Step::Add("key", "value"),
+        Step::Counts(1, 2),
+        Step::ForceRemove("name"),
+        Step::Counts(1, 1),
+        Step::Lacks("name"),
+        Step::ForceRemove("key"),
+        Step::Counts(0, 0),
+        Step::ForceRemove("absent"),
+        Step::Counts(0, 0),
+    ];
+    assert_eq!(rt; wrong(rt.alloc(), &steps)?, None);
     Ok(())
 }
 
 #[test]
 fn a_reset_shows_the_originals_again(rt: HostRuntime) -> Result<(), Fail> {
-    let mut jar = with_originals(rt.alloc(), &["name", "language"])?;
-    jar.add(Cookie::new("language", "changed"))?;
-    jar.add(Cookie::new("more", "more"))?;
-    remove(&mut jar, "name")?;
-    assert_eq!(rt; counts(&jar), (3, 2));
-    jar.reset_delta();
-    assert_eq!(rt; counts(&jar), (0, 2));
-    assert!(rt; shown(&jar, "name") == Some("name"));
-    assert!(rt; shown(&jar, "language") == Some("language"));
+    let steps = [
+        Step::AddOriginal("name", "name"),
+        Step::AddOriginal("language", "language"),
+        Step::Add("language", "changed"),
+        Step::Add("more", "more"),
+        Step::Remove("name"),
+        Step::Counts(3, 2),
+        Step::ResetDelta,
+        Step::Counts(0, 2),
+        Step::Shows("name", "name"),
+        Step::Shows("language", "language"),
+    ];
+    assert_eq!(rt; wrong(rt.alloc(), &steps)?, None);
     Ok(())
+}
+
+// A clone of a jar with two originals and two changes, once that jar has lost them.
+fn copied(alloc: Global) -> Result<CookieJar, Fail> {
+    let steps = [
+        Step::AddOriginal("kept", "kept"),
+        Step::AddOriginal("gone", "gone"),
+        Step::Add("new", "value"),
+        Step::Remove("gone"),
+    ];
+    let mut jar = after(alloc, &steps)?;
+    let copy = jar.clone()?;
+    jar.reset_delta();
+    jar.force_remove("kept");
+    Ok(copy)
 }
 
 #[test]
 fn a_clone_goes_its_own_way(rt: HostRuntime) -> Result<(), Fail> {
-    let mut jar = with_originals(rt.alloc(), &["kept", "gone"])?;
-    jar.add(Cookie::new("new", "value"))?;
-    remove(&mut jar, "gone")?;
-    let copy = jar.clone()?;
-    jar.reset_delta();
-    jar.force_remove("kept");
-    assert_eq!(rt; counts(&copy), (2, 2));
-    assert!(rt; shown(&copy, "kept") == Some("kept"));
-    assert!(rt; shown(&copy, "new") == Some("value"));
-    assert_eq!(rt; counts(&jar), (0, 1));
+    let held = [
+        Step::Counts(2, 2),
+        Step::Shows("kept", "kept"),
+        Step::Lacks("gone"),
+        Step::Shows("new", "value"),
+    ];
+    assert_eq!(rt; first_wrong(&mut copied(rt.alloc())?, &held)?, None);
     Ok(())
+}
+
+// A jar that read its original and its change.
+fn with_read(alloc: Global) -> Result<CookieJar, Fail> {
+    let mut jar = CookieJar::new(alloc);
+    jar.add_original(Cookie::parse("a=1")?)?;
+    jar.add(Cookie::parse("b=2")?)?;
+    Ok(jar)
 }
 
 #[test]
 fn stored_cookies_keep_their_raw_forms(rt: HostRuntime) -> Result<(), Fail> {
-    let mut jar = CookieJar::new(rt.alloc());
-    jar.add_original(Cookie::parse("a=1")?)?;
-    jar.add(Cookie::parse("b=2")?)?;
-    let copy = jar.clone()?;
+    let copy = with_read(rt.alloc())?.clone()?;
     for cookie in copy.iter() {
         assert!(rt; cookie.value_raw() == Some(cookie.value()));
     }

@@ -1,5 +1,5 @@
 //! Names with a prefix, and what a prefix asks of a cookie.
-use super::{counts, moment};
+use super::{counts, moment, shown};
 use cookie::prefix::{Host, NamePrefix, Prefix, Prefixing, Secure};
 use cookie::{Cookie, CookieBuilder, CookieJar};
 use cookie_client::{ChildCall, JarCall, Played, PrefixKind, mirror};
@@ -69,17 +69,29 @@ fn loose_cookie() -> Cookie<'static> {
         .build()
 }
 
+// Whether the cookie is that one, as `__Host-` asks for it.
+fn is_host_cookie(cookie: &Cookie<'_>) -> bool {
+    cookie.name_value() == ("name", "some-value")
+        && cookie.secure() == Some(true)
+        && cookie.http_only() == Some(true)
+        && cookie.path() == Some("/")
+        && cookie.domain().is_none()
+}
+
+// Whether the jar shows that one through the prefix.
+fn shows_host_cookie(jar: &CookieJar) -> Result<bool, Fail> {
+    match get(jar, Host, "name")? {
+        Some(cookie) => Ok(is_host_cookie(&cookie)),
+        None => Ok(false),
+    }
+}
+
 #[test]
 fn a_host_cookie_conforms(rt: HostRuntime) -> Result<(), Fail> {
     let mut jar = CookieJar::new(rt.alloc());
     add(&mut jar, Host, loose_cookie())?;
-    let Some(cookie) = get(&jar, Host, "name")? else {
-        return Err(Fail::new("it isn't shown"));
-    };
-    assert!(rt; cookie.name() == "name" && cookie.value() == "some-value");
-    assert!(rt; cookie.secure() == Some(true) && cookie.http_only() == Some(true));
-    assert!(rt; cookie.path() == Some("/") && cookie.domain().is_none());
-    assert!(rt; jar.get("__Host-name").is_some() && jar.get("name").is_none());
+    assert!(rt; shows_host_cookie(&jar)?);
+    assert!(rt; shown(&jar, "__Host-name").is_some() && shown(&jar, "name").is_none());
     Ok(())
 }
 
@@ -103,58 +115,68 @@ fn remove(jar: &mut CookieJar, name: &'static str) -> Result<(), Fail> {
     Ok(())
 }
 
+// Whether the delta has a cookie with this text.
+fn is_told(alloc: Global, jar: &CookieJar, name: &str, text: &str) -> Result<bool, Fail> {
+    Ok(delta_text(alloc, jar, name)?.as_str() == text)
+}
+
 #[test]
 fn cookies_of_both_prefixes_are_printed(rt: HostRuntime) -> Result<(), Fail> {
-    let jar = with_both(rt.alloc())?;
+    let alloc = rt.alloc();
+    let jar = with_both(alloc)?;
     assert_eq!(rt; counts(&jar), (2, 2));
-    let host = delta_text(rt.alloc(), &jar, "__Host-h")?;
-    assert_eq!(rt; host.as_str(), "__Host-h=2; Secure; Path=/");
-    let secure = delta_text(rt.alloc(), &jar, "__Secure-s")?;
-    assert_eq!(rt; secure.as_str(), "__Secure-s=3; Secure");
+    assert!(rt; is_told(alloc, &jar, "__Host-h", "__Host-h=2; Secure; Path=/")?);
+    assert!(rt; is_told(alloc, &jar, "__Secure-s", "__Secure-s=3; Secure")?);
     Ok(())
 }
+
+// What a removal through the prefix tells the client.
+const REMOVED: &str = "__Host-h=; Secure; Path=/; Max-Age=0; Expires=Tue, 21 Oct 2014 07:28:00 GMT";
 
 #[test]
 fn a_removal_through_a_prefix_is_printed(rt: HostRuntime) -> Result<(), Fail> {
     let mut jar = with_both(rt.alloc())?;
     remove(&mut jar, "h")?;
-    let host = delta_text(rt.alloc(), &jar, "__Host-h")?;
-    assert_eq!(rt;
-        host.as_str(),
-        "__Host-h=; Secure; Path=/; Max-Age=0; Expires=Tue, 21 Oct 2014 07:28:00 GMT"
-    );
+    assert!(rt; is_told(rt.alloc(), &jar, "__Host-h", REMOVED)?);
     assert!(rt; get(&jar, Host, "h")?.is_none());
     Ok(())
+}
+
+// Whether a cookie of the first name has the second once the prefix is taken off.
+fn is_clipped<P: Prefix>(alloc: Global, name: &'static str, wanted: &str) -> Result<bool, Fail> {
+    Ok(P::clip(alloc, Cookie::named(name))?.name() == wanted)
 }
 
 #[test]
 fn a_prefix_is_taken_off_in_its_own_case(rt: HostRuntime) -> Result<(), Fail> {
     let alloc = rt.alloc();
-    assert_eq!(rt; Host::clip(alloc, Cookie::named("__Host-"))?.name(), "");
-    assert_eq!(rt;
-        Host::clip(alloc, Cookie::named("__host-a"))?.name(),
-        "__host-a"
-    );
-    assert_eq!(rt;
-        Secure::clip(alloc, Cookie::named("__Secure-a"))?.name(),
-        "a"
-    );
-    assert_eq!(rt;
-        Secure::clip(alloc, Cookie::named("__Secure"))?.name(),
-        "__Secure"
-    );
+    assert!(rt; is_clipped::<Host>(alloc, "__Host-", "")?);
+    assert!(rt; is_clipped::<Host>(alloc, "__host-a", "__host-a")?);
+    assert!(rt; is_clipped::<Secure>(alloc, "__Secure-a", "a")?);
+    assert!(rt; is_clipped::<Secure>(alloc, "__Secure", "__Secure")?);
     Ok(())
+}
+
+// Whether a cookie that is added through the prefix is stored under this name, kept from scripts or not.
+fn is_stored<P: Prefix>(
+    alloc: Global,
+    prefix: P,
+    name: &str,
+    http_only: Option<bool>,
+) -> Result<bool, Fail> {
+    let jar = with_added(alloc, prefix)?;
+    match jar.get(name) {
+        Some(cookie) => Ok(cookie.value() == "1" && cookie.http_only() == http_only),
+        None => Ok(false),
+    }
 }
 
 #[test]
 fn a_third_prefix_conforms(rt: HostRuntime) -> Result<(), Fail> {
-    let jar = with_added(rt.alloc(), Team)?;
-    let Some(cookie) = jar.get("team.a") else {
-        return Err(Fail::new("it isn't stored"));
-    };
-    assert!(rt; cookie.value() == "1" && cookie.http_only() == Some(true));
-    assert!(rt; with_added(rt.alloc(), Host)?.get("__Host-a").is_some());
-    assert!(rt; with_added(rt.alloc(), Secure)?.get("__Secure-a").is_some());
+    let alloc = rt.alloc();
+    assert!(rt; is_stored(alloc, Team, "team.a", Some(true))?);
+    assert!(rt; is_stored(alloc, Host, "__Host-a", None)?);
+    assert!(rt; is_stored(alloc, Secure, "__Secure-a", None)?);
     Ok(())
 }
 
@@ -269,44 +291,51 @@ fn prefixed_calls(now: DateTime) -> [JarCall<'static>; 4] {
     ]
 }
 
-#[test]
-fn a_client_follows_prefixed_calls(rt: HostRuntime) -> Result<(), Fail> {
+// What comes of the first of these calls.
+fn played(alloc: Global, count: usize) -> Result<Played, Fail> {
     let now = moment()?;
     let calls = prefixed_calls(now);
-    let played = mirror(rt.alloc(), &calls[..3], &[], now)?;
+    let calls = calls.get(..count).ok_or("fewer calls")?;
+    Ok(mirror(alloc, calls, &[], now)?)
+}
+
+fn has_header(played: &Played, header: &str) -> Result<bool, Fail> {
+    Ok(played.client.header()?.as_str() == header)
+}
+
+#[test]
+fn a_client_follows_prefixed_calls(rt: HostRuntime) -> Result<(), Fail> {
+    let played = played(rt.alloc(), 3)?;
     assert!(rt; played.outcomes.as_slice() == [true; 3].as_slice());
     assert!(rt; has_text(rt.alloc(), &played, "__Host-h=2; Secure; Path=/")?);
     assert!(rt; has_text(rt.alloc(), &played, "__Secure-s=3; Secure")?);
-    assert_eq!(rt;
-        played.client.header()?.as_str(),
-        "__Host-h=2; __Secure-s=3"
-    );
+    assert!(rt; has_header(&played, "__Host-h=2; __Secure-s=3")?);
     Ok(())
 }
 
 #[test]
 fn a_client_follows_a_prefixed_removal(rt: HostRuntime) -> Result<(), Fail> {
-    let now = moment()?;
-    let calls = prefixed_calls(now);
-    let played = mirror(rt.alloc(), &calls, &[], now)?;
-    let removed = "__Host-h=; Secure; Path=/; Max-Age=0; Expires=Tue, 21 Oct 2014 07:28:00 GMT";
-    assert!(rt; has_text(rt.alloc(), &played, removed)?);
-    assert_eq!(rt; played.client.header()?.as_str(), "__Secure-s=3");
+    let played = played(rt.alloc(), 4)?;
+    assert!(rt; has_text(rt.alloc(), &played, REMOVED)?);
+    assert!(rt; has_header(&played, "__Secure-s=3")?);
     Ok(())
+}
+
+fn cut_path() -> JarCall<'static> {
+    let cookie = CookieBuilder::new("h", "1").path("/;x").build();
+    host(ChildCall::Add(cookie))
 }
 
 #[test]
 fn a_prefixed_call_is_looked_at_as_it_was_handed_in(rt: HostRuntime) -> Result<(), Fail> {
     let now = moment()?;
-    let cut = CookieBuilder::new("h", "1").path("/;x").build();
-    let add = host(ChildCall::Add(cut));
-    assert!(rt; !add.is_fit(now));
-    assert!(rt; add.is_change());
-    let original = host(ChildCall::AddOriginal(Cookie::new("h", "1")));
-    assert!(rt; original.is_fit(now));
-    assert!(rt; !original.is_change());
-    let nameless = host(ChildCall::Remove(Cookie::named(""), now));
-    assert!(rt; !nameless.is_fit(now));
-    assert!(rt; nameless.is_change());
+    let original = Cookie::new("h", "1");
+    for (call, is_fit, is_change) in &[
+        (cut_path(), false, true),
+        (host(ChildCall::AddOriginal(original)), true, false),
+        (host(ChildCall::Remove(Cookie::named(""), now)), false, true),
+    ] {
+        assert_eq!(rt; (call.is_fit(now), call.is_change()), (*is_fit, *is_change));
+    }
     Ok(())
 }

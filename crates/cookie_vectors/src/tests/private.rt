@@ -1,9 +1,11 @@
 //! Private jars: sealed values.
 use super::generators::{Counting, Failing};
-use super::{counts, has_all_fields, lengthen, moment, shown, test_key, with_all_fields};
+use super::steps::{KeyedStep, Step, after, first_wrong};
+use super::{
+    counts, has_all_fields, is_hidden, lengthen, moment, shown, test_key, with_all_fields,
+};
 use cookie::{Cookie, CookieJar, JarError, Key};
 use cookie_client::{ChildCall, JarCall, Played, mirror};
-use jiff::civil::DateTime;
 use std::alloc::Global;
 use std::test::Fail;
 
@@ -88,38 +90,86 @@ fn is_decrypted(
     Ok(decrypt(jar, key, Cookie::new(name, value))?.is_some())
 }
 
+fn is_right(
+    alloc: Global,
+    jar: &mut CookieJar,
+    key: &Key,
+    rng: &mut Counting,
+    step: KeyedStep,
+) -> Result<bool, Fail> {
+    match step {
+        KeyedStep::Add(name, value) => add(jar, key, Cookie::new(name, value), rng)?,
+        KeyedStep::Remove(name) => remove(jar, key, name)?,
+        KeyedStep::Lengthen(name) => lengthen(alloc, jar, name)?,
+        KeyedStep::Answers(name, value) => return answers(jar, key, name, value),
+        KeyedStep::AnswersNothing(name) => return Ok(!is_answered(jar, key, name)?),
+        KeyedStep::Hides(name, value) => return Ok(is_hidden(jar, name, value)),
+        KeyedStep::Jar(step) => return step.is_right(jar),
+    }
+    Ok(true)
+}
+
+// The place of the first step at which a new jar, or its child jar, shows another thing.
+fn wrong(alloc: Global, seed: u32, steps: &[KeyedStep]) -> Result<Option<usize>, Fail> {
+    let mut rng = Counting(seed);
+    let key = Key::generate(&mut rng);
+    let mut jar = CookieJar::new(alloc);
+    for index in 0..steps.len() {
+        if !is_right(alloc, &mut jar, &key, &mut rng, steps[index])? {
+            return Ok(Some(index));
+        }
+    }
+    Ok(None)
+}
+
+#[test]
+fn a_wrong_step_is_found(rt: HostRuntime) -> Result<(), Fail> {
+    for (step, place) in [
+        (KeyedStep::Answers("a", "2"), Some(1)),
+        (KeyedStep::Answers("a", "1"), None),
+        (KeyedStep::AnswersNothing("a"), Some(1)),
+        (KeyedStep::AnswersNothing("b"), None),
+        (KeyedStep::Hides("b", "1"), Some(1)),
+        (KeyedStep::Hides("a", "1"), None),
+        (KeyedStep::Jar(Step::Lacks("a")), Some(1)),
+    ] {
+        let found = wrong(rt.alloc(), 1, &[KeyedStep::Add("a", "1"), step])?;
+        assert_eq!(rt; found, place);
+    }
+    Ok(())
+}
+
 #[test]
 fn simple(rt: HostRuntime) -> Result<(), Fail> {
-    let mut rng = Counting(1);
-    let key = Key::generate(&mut rng);
-    let mut jar = CookieJar::new(rt.alloc());
-    assert_eq!(rt; counts(&jar), (0, 0));
-    add(&mut jar, &key, Cookie::new("name", "val"), &mut rng)?;
-    assert_eq!(rt; counts(&jar), (1, 1));
-    assert!(rt; answers(&jar, &key, "name", "val")?);
-    assert!(rt; shown(&jar, "name").is_some() && shown(&jar, "name") != Some("val"));
-    add(&mut jar, &key, Cookie::new("another", "two"), &mut rng)?;
-    assert_eq!(rt; counts(&jar), (2, 2));
-    jar.remove(Cookie::named("another"), moment()?)?;
-    assert_eq!(rt; counts(&jar), (1, 1));
-    remove(&mut jar, &key, "name")?;
-    assert_eq!(rt; counts(&jar), (0, 0));
+    let steps = [
+        KeyedStep::Jar(Step::Counts(0, 0)),
+        KeyedStep::Add("name", "val"),
+        KeyedStep::Jar(Step::Counts(1, 1)),
+        KeyedStep::Answers("name", "val"),
+        KeyedStep::Hides("name", "val"),
+        KeyedStep::Add("another", "two"),
+        KeyedStep::Jar(Step::Counts(2, 2)),
+        KeyedStep::Jar(Step::Remove("another")),
+        KeyedStep::Jar(Step::Counts(1, 1)),
+        KeyedStep::Remove("name"),
+        KeyedStep::Jar(Step::Counts(0, 0)),
+    ];
+    assert_eq!(rt; wrong(rt.alloc(), 1, &steps)?, None);
     Ok(())
 }
 
 #[test]
 fn secure(rt: HostRuntime) -> Result<(), Fail> {
-    let alloc = rt.alloc();
-    let mut rng = Counting(2);
-    let key = Key::generate(&mut rng);
-    let mut jar = CookieJar::new(alloc);
-    add(&mut jar, &key, Cookie::new("secure", "secure"), &mut rng)?;
-    assert!(rt; shown(&jar, "secure") != Some("secure"));
-    assert!(rt; answers(&jar, &key, "secure", "secure")?);
-    lengthen(alloc, &mut jar, "secure")?;
-    assert!(rt; !is_answered(&jar, &key, "secure")?);
-    jar.add(Cookie::new("secure", "foobar"))?;
-    assert!(rt; !is_answered(&jar, &key, "secure")?);
+    let steps = [
+        KeyedStep::Add("secure", "secure"),
+        KeyedStep::Hides("secure", "secure"),
+        KeyedStep::Answers("secure", "secure"),
+        KeyedStep::Lengthen("secure"),
+        KeyedStep::AnswersNothing("secure"),
+        KeyedStep::Jar(Step::Add("secure", "foobar")),
+        KeyedStep::AnswersNothing("secure"),
+    ];
+    assert_eq!(rt; wrong(rt.alloc(), 2, &steps)?, None);
     Ok(())
 }
 
@@ -143,12 +193,15 @@ fn is_decrypted_too(jar: &mut CookieJar, key: &Key, cookie: Cookie<'static>) -> 
 #[test]
 fn roundtrip(rt: HostRuntime) -> Result<(), Fail> {
     let key = test_key();
-    let mut jar = CookieJar::new(rt.alloc());
-    jar.add(Cookie::new("encrypted_with_ring014", SEALED))?;
-    jar.add_original(Cookie::new("encrypted_with_ring016", SEALED_TOO))?;
-    assert!(rt; answers(&jar, &key, "encrypted_with_ring014", "Tamper-proof")?);
-    assert!(rt; answers(&jar, &key, "encrypted_with_ring016", "Tamper-proof")?);
-    assert!(rt; answers_too(&mut jar, &key, "encrypted_with_ring016", "Tamper-proof")?);
+    let stored = [
+        Step::Add("encrypted_with_ring014", SEALED),
+        Step::AddOriginal("encrypted_with_ring016", SEALED_TOO),
+    ];
+    let mut jar = after(rt.alloc(), &stored)?;
+    for name in ["encrypted_with_ring014", "encrypted_with_ring016"] {
+        assert!(rt; answers(&jar, &key, name, "Tamper-proof")?);
+        assert!(rt; answers_too(&mut jar, &key, name, "Tamper-proof")?);
+    }
     let sealed = Cookie::new("encrypted_with_ring014", SEALED);
     assert!(rt; is_decrypted_too(&mut jar, &key, sealed)?);
     Ok(())
@@ -213,22 +266,38 @@ fn a_decrypted_cookie_keeps_all_but_its_value(rt: HostRuntime) -> Result<(), Fai
     Ok(())
 }
 
+// A jar with two changes and an original, each with a nonce of its own.
+fn with_nonces(alloc: Global, key: &Key) -> Result<CookieJar, Fail> {
+    let mut jar = CookieJar::new(alloc);
+    add_with_nonce(&mut jar, key, Cookie::new("", ""), [0; 12])?;
+    add_with_nonce(&mut jar, key, Cookie::new("a", ""), [1; 12])?;
+    add_original_with_nonce(&mut jar, key, Cookie::new("b", "Tamper-proof"), [2; 12])?;
+    Ok(jar)
+}
+
+// Whether the jar holds a text of this length, and answers this value.
+fn is_held(
+    jar: &CookieJar,
+    key: &Key,
+    name: &str,
+    length: usize,
+    value: &str,
+) -> Result<bool, Fail> {
+    match shown(jar, name) {
+        Some(text) => Ok(text.len() == length && answers(jar, key, name, value)?),
+        None => Ok(false),
+    }
+}
+
 #[test]
 fn a_nonce_is_handed_in(rt: HostRuntime) -> Result<(), Fail> {
     let key = Key::from(&[0; 64]);
-    let mut jar = CookieJar::new(rt.alloc());
-    add_with_nonce(&mut jar, &key, Cookie::new("", ""), [0; 12])?;
-    add_with_nonce(&mut jar, &key, Cookie::new("a", ""), [1; 12])?;
-    add_original_with_nonce(&mut jar, &key, Cookie::new("b", "Tamper-proof"), [2; 12])?;
-    assert_eq!(rt;
-        shown(&jar, ""),
-        Some("AAAAAAAAAAAAAAAAUw+K+8dFNrmpY7TxxMtziw==")
-    );
-    assert_eq!(rt; shown(&jar, "a").ok_or("a value")?.len(), 40);
-    assert_eq!(rt; shown(&jar, "b").ok_or("a value")?.len(), 56);
+    let jar = with_nonces(rt.alloc(), &key)?;
     assert_eq!(rt; counts(&jar), (2, 3));
-    assert!(rt; answers(&jar, &key, "", "")? && answers(&jar, &key, "a", "")?);
-    assert!(rt; answers(&jar, &key, "b", "Tamper-proof")?);
+    assert!(rt; shown(&jar, "") == Some("AAAAAAAAAAAAAAAAUw+K+8dFNrmpY7TxxMtziw=="));
+    for (name, length, value) in [("", 40, ""), ("a", 40, ""), ("b", 56, "Tamper-proof")] {
+        assert!(rt; is_held(&jar, &key, name, length, value)?);
+    }
     Ok(())
 }
 
@@ -357,69 +426,66 @@ fn a_generator_that_fails_adds_nothing(rt: HostRuntime) -> Result<(), Fail> {
     Ok(())
 }
 
+fn add_signed(jar: &mut CookieJar, key: &Key, cookie: Cookie<'static>) -> Result<(), Fail> {
+    jar.signed_mut(key).add(cookie)?;
+    Ok(())
+}
+
 // A jar with an original and five changes, of which one is signed and one is sealed.
 fn with_six(alloc: Global) -> Result<CookieJar, Fail> {
     let mut rng = Counting(3);
     let key = Key::generate(&mut rng);
-    let mut jar = CookieJar::new(alloc);
-    jar.add_original(Cookie::new("original", "original"))?;
-    jar.add(Cookie::new("test", "test"))?;
-    jar.add(Cookie::new("test2", "test2"))?;
-    jar.add(Cookie::new("test3", "test3"))?;
-    jar.signed_mut(&key).add(Cookie::new("signed", "signed"))?;
-    add(
-        &mut jar,
-        &key,
-        Cookie::new("encrypted", "encrypted"),
-        &mut rng,
-    )?;
+    let steps = [
+        Step::AddOriginal("original", "original"),
+        Step::Add("test", "test"),
+        Step::Add("test2", "test2"),
+        Step::Add("test3", "test3"),
+    ];
+    let mut jar = after(alloc, &steps)?;
+    add_signed(&mut jar, &key, Cookie::new("signed", "signed"))?;
+    let cookie = Cookie::new("encrypted", "encrypted");
+    add(&mut jar, &key, cookie, &mut rng)?;
     Ok(jar)
-}
-
-fn drop_cookie(jar: &mut CookieJar, name: &'static str) -> Result<(), Fail> {
-    jar.remove(Cookie::named(name), moment()?)?;
-    Ok(())
 }
 
 #[test]
 fn iter(rt: HostRuntime) -> Result<(), Fail> {
     let mut jar = with_six(rt.alloc())?;
-    assert_eq!(rt; counts(&jar), (5, 6));
-    drop_cookie(&mut jar, "test")?;
-    assert_eq!(rt; counts(&jar), (4, 5));
-    drop_cookie(&mut jar, "signed")?;
-    drop_cookie(&mut jar, "test2")?;
-    assert_eq!(rt; counts(&jar), (2, 3));
-    jar.add(Cookie::new("test2", "test2"))?;
-    assert_eq!(rt; counts(&jar), (3, 4));
-    drop_cookie(&mut jar, "test2")?;
-    assert_eq!(rt; counts(&jar), (2, 3));
+    let steps = [
+        Step::Counts(5, 6),
+        Step::Remove("test"),
+        Step::Counts(4, 5),
+        Step::Remove("signed"),
+        Step::Remove("test2"),
+        Step::Counts(2, 3),
+        Step::Add("test2", "test2"),
+        Step::Counts(3, 4),
+        Step::Remove("test2"),
+        Step::Counts(2, 3),
+    ];
+    assert_eq!(rt; first_wrong(&mut jar, &steps)?, None);
     Ok(())
 }
 
-fn original<'k>(key: &'k Key, cookie: Cookie<'static>) -> JarCall<'k> {
-    JarCall::Private(key, [0; 12], ChildCall::AddOriginal(cookie))
-}
-
-fn change<'k>(key: &'k Key, cookie: Cookie<'static>) -> JarCall<'k> {
-    JarCall::Private(key, [1; 12], ChildCall::Add(cookie))
-}
-
-fn removal<'k>(key: &'k Key, cookie: Cookie<'static>, now: DateTime) -> JarCall<'k> {
-    JarCall::Private(key, [0; 12], ChildCall::Remove(cookie, now))
+// What comes of the first of three calls through a private jar: an original, a change, and a removal.
+fn played(alloc: Global, key: &Key, count: usize) -> Result<Played, Fail> {
+    let now = moment()?;
+    let calls = [
+        JarCall::Private(key, [0; 12], ChildCall::AddOriginal(Cookie::new("a", "1"))),
+        JarCall::Private(key, [1; 12], ChildCall::Add(Cookie::new("b", "2"))),
+        JarCall::Private(key, [0; 12], ChildCall::Remove(Cookie::named("a"), now)),
+    ];
+    let calls = calls.get(..count).ok_or("fewer calls")?;
+    Ok(mirror(alloc, calls, &[1], now)?)
 }
 
 #[test]
 fn a_client_follows_private_calls(rt: HostRuntime) -> Result<(), Fail> {
-    let now = moment()?;
     let key = Key::from(&[0; 64]);
-    let calls = [
-        original(&key, Cookie::new("a", "1")),
-        change(&key, Cookie::new("b", "2")),
-    ];
-    let played = mirror(rt.alloc(), &calls, &[], now)?;
+    let played = played(rt.alloc(), &key, 2)?;
     assert!(rt; played.outcomes.as_slice() == [true; 2].as_slice());
-    assert!(rt; is_followed(&played, "a") && is_followed(&played, "b"));
+    assert!(rt; is_followed(&played, "a"));
+    assert!(rt; is_followed(&played, "b"));
     assert!(rt; answers(&played.jar, &key, "a", "1")?);
     assert!(rt; answers(&played.jar, &key, "b", "2")?);
     Ok(())
@@ -432,14 +498,8 @@ fn is_followed(played: &Played, name: &str) -> bool {
 
 #[test]
 fn a_client_follows_a_private_removal(rt: HostRuntime) -> Result<(), Fail> {
-    let now = moment()?;
-    let key = Key::from(&[0; 64]);
-    let calls = [
-        original(&key, Cookie::new("a", "1")),
-        change(&key, Cookie::new("b", "2")),
-        removal(&key, Cookie::named("a"), now),
-    ];
-    let played = mirror(rt.alloc(), &calls, &[1], now)?;
-    assert!(rt; played.client.get("a").is_none() && is_followed(&played, "b"));
+    let played = played(rt.alloc(), &Key::from(&[0; 64]), 3)?;
+    assert!(rt; played.client.get("a").is_none());
+    assert!(rt; is_followed(&played, "b"));
     Ok(())
 }

@@ -1,6 +1,9 @@
 //! Signed jars: values with their signatures.
 use super::generators::Counting;
-use super::{counts, has_all_fields, lengthen, moment, shown, test_key, with_all_fields};
+use super::steps::{KeyedStep, Step, after, first_wrong};
+use super::{
+    counts, has_all_fields, is_hidden, lengthen, moment, shown, test_key, with_all_fields,
+};
 use cookie::{Cookie, CookieBuilder, CookieJar, Key};
 use cookie_client::{ChildCall, JarCall, mirror};
 use std::alloc::Global;
@@ -66,48 +69,94 @@ fn is_verified(jar: &CookieJar, key: &Key, value: &'static str) -> Result<bool, 
     Ok(verify(jar, key, Cookie::new("x", value))?.is_some())
 }
 
+fn is_right(alloc: Global, jar: &mut CookieJar, key: &Key, step: KeyedStep) -> Result<bool, Fail> {
+    match step {
+        KeyedStep::Add(name, value) => add(jar, key, name, value)?,
+        KeyedStep::Remove(name) => remove(jar, key, name)?,
+        KeyedStep::Lengthen(name) => lengthen(alloc, jar, name)?,
+        KeyedStep::Answers(name, value) => return answers(jar, key, name, value),
+        KeyedStep::AnswersNothing(name) => return Ok(!is_answered(jar, key, name)?),
+        KeyedStep::Hides(name, value) => return Ok(is_hidden(jar, name, value)),
+        KeyedStep::Jar(step) => return step.is_right(jar),
+    }
+    Ok(true)
+}
+
+// The place of the first step at which a new jar, or its child jar, shows another thing.
+fn wrong(alloc: Global, seed: u32, steps: &[KeyedStep]) -> Result<Option<usize>, Fail> {
+    let key = Key::generate(&mut Counting(seed));
+    let mut jar = CookieJar::new(alloc);
+    for index in 0..steps.len() {
+        if !is_right(alloc, &mut jar, &key, steps[index])? {
+            return Ok(Some(index));
+        }
+    }
+    Ok(None)
+}
+
+#[test]
+fn a_wrong_step_is_found(rt: HostRuntime) -> Result<(), Fail> {
+    for (step, place) in [
+        (KeyedStep::Answers("a", "2"), Some(1)),
+        (KeyedStep::Answers("a", "1"), None),
+        (KeyedStep::AnswersNothing("a"), Some(1)),
+        (KeyedStep::AnswersNothing("b"), None),
+        (KeyedStep::Hides("b", "1"), Some(1)),
+        (KeyedStep::Hides("a", "1"), None),
+        (KeyedStep::Jar(Step::Lacks("a")), Some(1)),
+    ] {
+        let found = wrong(rt.alloc(), 1, &[KeyedStep::Add("a", "1"), step])?;
+        assert_eq!(rt; found, place);
+    }
+    Ok(())
+}
+
 #[test]
 fn simple(rt: HostRuntime) -> Result<(), Fail> {
-    let key = Key::generate(&mut Counting(1));
-    let mut jar = CookieJar::new(rt.alloc());
-    assert_eq!(rt; counts(&jar), (0, 0));
-    add(&mut jar, &key, "name", "val")?;
-    assert_eq!(rt; counts(&jar), (1, 1));
-    assert!(rt; answers(&jar, &key, "name", "val")?);
-    assert!(rt; shown(&jar, "name").is_some() && shown(&jar, "name") != Some("val"));
-    add(&mut jar, &key, "another", "two")?;
-    assert_eq!(rt; counts(&jar), (2, 2));
-    jar.remove(Cookie::named("another"), moment()?)?;
-    assert_eq!(rt; counts(&jar), (1, 1));
-    remove(&mut jar, &key, "name")?;
-    assert_eq!(rt; counts(&jar), (0, 0));
+    let steps = [
+        KeyedStep::Jar(Step::Counts(0, 0)),
+        KeyedStep::Add("name", "val"),
+        KeyedStep::Jar(Step::Counts(1, 1)),
+        KeyedStep::Answers("name", "val"),
+        KeyedStep::Hides("name", "val"),
+        KeyedStep::Add("another", "two"),
+        KeyedStep::Jar(Step::Counts(2, 2)),
+        KeyedStep::Jar(Step::Remove("another")),
+        KeyedStep::Jar(Step::Counts(1, 1)),
+        KeyedStep::Remove("name"),
+        KeyedStep::Jar(Step::Counts(0, 0)),
+    ];
+    assert_eq!(rt; wrong(rt.alloc(), 1, &steps)?, None);
     Ok(())
 }
 
 #[test]
 fn private(rt: HostRuntime) -> Result<(), Fail> {
-    let alloc = rt.alloc();
-    let key = Key::generate(&mut Counting(2));
-    let mut jar = CookieJar::new(alloc);
-    add(&mut jar, &key, "secure", "secure")?;
-    assert!(rt; shown(&jar, "secure") != Some("secure"));
-    assert!(rt; answers(&jar, &key, "secure", "secure")?);
-    lengthen(alloc, &mut jar, "secure")?;
-    assert!(rt; !is_answered(&jar, &key, "secure")?);
-    jar.add(Cookie::new("secure", "foobar"))?;
-    assert!(rt; !is_answered(&jar, &key, "secure")?);
+    let steps = [
+        KeyedStep::Add("secure", "secure"),
+        KeyedStep::Hides("secure", "secure"),
+        KeyedStep::Answers("secure", "secure"),
+        KeyedStep::Lengthen("secure"),
+        KeyedStep::AnswersNothing("secure"),
+        KeyedStep::Jar(Step::Add("secure", "foobar")),
+        KeyedStep::AnswersNothing("secure"),
+    ];
+    assert_eq!(rt; wrong(rt.alloc(), 2, &steps)?, None);
     Ok(())
 }
 
 #[test]
 fn roundtrip(rt: HostRuntime) -> Result<(), Fail> {
     let key = test_key();
-    let mut jar = CookieJar::new(rt.alloc());
-    jar.add(Cookie::new("signed_with_ring014", SIGNED))?;
-    jar.add_original(Cookie::new("signed_with_ring016", SIGNED))?;
-    assert!(rt; answers(&jar, &key, "signed_with_ring014", "Tamper-proof")?);
-    assert!(rt; answers(&jar, &key, "signed_with_ring016", "Tamper-proof")?);
-    assert!(rt; answers_too(&mut jar, &key, "signed_with_ring016", "Tamper-proof")?);
+    let stored = [
+        Step::Add("signed_with_ring014", SIGNED),
+        Step::AddOriginal("signed_with_ring016", SIGNED),
+    ];
+    let mut jar = after(rt.alloc(), &stored)?;
+    for name in ["signed_with_ring014", "signed_with_ring016"] {
+        assert!(rt; answers(&jar, &key, name, "Tamper-proof")?);
+        assert!(rt; answers_too(&mut jar, &key, name, "Tamper-proof")?);
+    }
     Ok(())
 }
 
@@ -167,16 +216,20 @@ fn a_verified_cookie_keeps_all_but_its_value(rt: HostRuntime) -> Result<(), Fail
     Ok(())
 }
 
+// The encoded text of the cookie that the jar shows.
+fn encoded(alloc: Global, jar: &CookieJar, name: &str) -> Result<String, Fail> {
+    let cookie = jar.get(name).ok_or("a cookie")?;
+    Ok(cookie.encoded().to_string(alloc)?)
+}
+
 #[test]
 fn a_signed_cookie_is_printed_with_its_signature(rt: HostRuntime) -> Result<(), Fail> {
-    let alloc = rt.alloc();
-    let key = test_key();
-    let mut jar = CookieJar::new(alloc);
-    add(&mut jar, &key, "id", "Tamper-proof")?;
-    assert_eq!(rt; shown(&jar, "id"), Some(SIGNED));
-    let cookie = jar.get("id").ok_or("a cookie")?;
+    let mut jar = CookieJar::new(rt.alloc());
+    add(&mut jar, &test_key(), "id", "Tamper-proof")?;
+    assert!(rt; shown(&jar, "id") == Some(SIGNED));
+    let text = encoded(rt.alloc(), &jar, "id")?;
     assert_eq!(rt;
-        cookie.encoded().to_string(alloc)?.as_str(),
+        text.as_str(),
         "id=3tdHXEQ2kf6fxC7dWzBGmpSLMtJenXLKrZ9cHkSsl1w%3DTamper-proof"
     );
     Ok(())
@@ -214,23 +267,19 @@ fn a_signed_original_is_no_change(rt: HostRuntime) -> Result<(), Fail> {
     let key = test_key();
     let mut jar = CookieJar::new(rt.alloc());
     add_original(&mut jar, &key, Cookie::new("id", "Tamper-proof"))?;
-    assert_eq!(rt; counts(&jar), (0, 1));
-    assert_eq!(rt; shown(&jar, "id"), Some(SIGNED));
+    let steps = [Step::Counts(0, 1), Step::Shows("id", SIGNED)];
+    assert_eq!(rt; first_wrong(&mut jar, &steps)?, None);
     remove(&mut jar, &key, "id")?;
     assert_eq!(rt; counts(&jar), (1, 0));
     Ok(())
-}
-
-fn played_header(alloc: Global, calls: &[JarCall]) -> Result<String, Fail> {
-    Ok(mirror(alloc, calls, &[], moment()?)?.client.header()?)
 }
 
 fn signed<'k>(key: &'k Key, call: ChildCall) -> JarCall<'k> {
     JarCall::Signed(key, call)
 }
 
-#[test]
-fn a_client_follows_signed_calls(rt: HostRuntime) -> Result<(), Fail> {
+// The client's header after the first of three calls: an original, a change, and a removal.
+fn header_after(alloc: Global, count: usize) -> Result<String, Fail> {
     let key = test_key();
     let now = moment()?;
     let calls = [
@@ -241,30 +290,43 @@ fn a_client_follows_signed_calls(rt: HostRuntime) -> Result<(), Fail> {
         signed(&key, ChildCall::Add(Cookie::new("b", "Tamper-proof"))),
         signed(&key, ChildCall::Remove(Cookie::named("a"), now)),
     ];
-    let original = played_header(rt.alloc(), &calls[..1])?;
-    assert_eq!(rt;
-        original.as_str(),
-        "a=3tdHXEQ2kf6fxC7dWzBGmpSLMtJenXLKrZ9cHkSsl1w%3DTamper-proof"
-    );
-    let removed = played_header(rt.alloc(), &calls)?;
-    assert_eq!(rt;
-        removed.as_str(),
-        "b=3tdHXEQ2kf6fxC7dWzBGmpSLMtJenXLKrZ9cHkSsl1w%3DTamper-proof"
-    );
+    let calls = calls.get(..count).ok_or("fewer calls")?;
+    Ok(mirror(alloc, calls, &[], now)?.client.header()?)
+}
+
+#[test]
+fn a_client_follows_signed_calls(rt: HostRuntime) -> Result<(), Fail> {
+    for (count, header) in [
+        (
+            1usize,
+            "a=3tdHXEQ2kf6fxC7dWzBGmpSLMtJenXLKrZ9cHkSsl1w%3DTamper-proof",
+        ),
+        (
+            3,
+            "b=3tdHXEQ2kf6fxC7dWzBGmpSLMtJenXLKrZ9cHkSsl1w%3DTamper-proof",
+        ),
+    ] {
+        assert_eq!(rt; header_after(rt.alloc(), count)?.as_str(), header);
+    }
     Ok(())
+}
+
+fn cut_path() -> ChildCall {
+    ChildCall::Add(CookieBuilder::new("a", "1").path("/;x").build())
 }
 
 #[test]
 fn a_call_with_a_key_is_looked_at_as_it_was_handed_in(rt: HostRuntime) -> Result<(), Fail> {
     let now = moment()?;
     let key = test_key();
-    let cut = CookieBuilder::new("a", "1").path("/;x").build();
-    let addition = signed(&key, ChildCall::Add(cut));
-    assert!(rt; !addition.is_fit(now) && addition.is_change());
-    let original = signed(&key, ChildCall::AddOriginal(Cookie::new("a", "1")));
-    assert!(rt; original.is_fit(now) && !original.is_change());
+    let original = ChildCall::AddOriginal(Cookie::new("a", "1"));
     let nameless = ChildCall::Remove(Cookie::named(""), now);
-    let removal = JarCall::Private(&key, [0; 12], nameless);
-    assert!(rt; !removal.is_fit(now) && removal.is_change());
+    for (call, is_fit, is_change) in &[
+        (signed(&key, cut_path()), false, true),
+        (signed(&key, original), true, false),
+        (JarCall::Private(&key, [0; 12], nameless), false, true),
+    ] {
+        assert_eq!(rt; (call.is_fit(now), call.is_change()), (*is_fit, *is_change));
+    }
     Ok(())
 }
