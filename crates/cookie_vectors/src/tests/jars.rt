@@ -6,7 +6,7 @@ use jiff::SignedDuration;
 use std::alloc::Global;
 use std::test::Fail;
 
-// Whether each of the steps on a new jar is right; else the place of the first that isn't.
+// The place of the first wrong step on a new jar.
 fn wrong(alloc: Global, steps: &[Step]) -> Result<Option<usize>, Fail> {
     first_wrong(&mut CookieJar::new(alloc), steps)
 }
@@ -122,17 +122,17 @@ fn empty_delta(rt: HostRuntime) -> Result<(), Fail> {
 fn add_remove_add(rt: HostRuntime) -> Result<(), Fail> {
     let steps = [
         Step::AddOriginal("name", "name"),
-        Step::Counts(0, 1),
+        Step::DeltaCounts(0, 0),
         Step::Remove("name"),
-        Step::Counts(1, 0),
+        Step::DeltaCounts(1, 0),
         Step::AddOriginal("name", "val"),
-        Step::Counts(1, 0),
+        Step::DeltaCounts(1, 0),
         Step::Remove("name"),
-        Step::Counts(1, 0),
+        Step::DeltaCounts(1, 0),
         Step::Add("name", "val"),
-        Step::Counts(1, 1),
+        Step::DeltaCounts(1, 1),
         Step::Remove("name"),
-        Step::Counts(1, 0),
+        Step::DeltaCounts(1, 0),
     ];
     assert_eq!(rt; wrong(rt.alloc(), &steps)?, None);
     Ok(())
@@ -142,11 +142,11 @@ fn add_remove_add(rt: HostRuntime) -> Result<(), Fail> {
 fn replace_remove(rt: HostRuntime) -> Result<(), Fail> {
     let steps = [
         Step::AddOriginal("name", "name"),
-        Step::Counts(0, 1),
+        Step::DeltaCounts(0, 0),
         Step::Add("name", "val"),
-        Step::Counts(1, 1),
+        Step::DeltaCounts(1, 1),
         Step::Remove("name"),
-        Step::Counts(1, 0),
+        Step::DeltaCounts(1, 0),
     ];
     assert_eq!(rt; wrong(rt.alloc(), &steps)?, None);
     Ok(())
@@ -220,9 +220,15 @@ fn copied(alloc: Global) -> Result<CookieJar, Fail> {
     ];
     let mut jar = after(alloc, &steps)?;
     let copy = jar.clone()?;
-    jar.reset_delta();
-    jar.force_remove("kept");
-    Ok(copy)
+    let more = [
+        Step::ResetDelta,
+        Step::ForceRemove("kept"),
+        Step::Counts(0, 1),
+    ];
+    match first_wrong(&mut jar, &more)? {
+        Some(_) => Err(Fail::new("the jar shows another thing")),
+        None => Ok(copy),
+    }
 }
 
 #[test]

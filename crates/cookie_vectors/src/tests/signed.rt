@@ -108,6 +108,11 @@ fn a_wrong_step_is_found(rt: HostRuntime) -> Result<(), Fail> {
         let found = wrong(rt.alloc(), 1, &[KeyedStep::Add("a", "1"), step])?;
         assert_eq!(rt; found, place);
     }
+    let bare = [
+        KeyedStep::Jar(Step::Add("a", "1")),
+        KeyedStep::Hides("a", "1"),
+    ];
+    assert_eq!(rt; wrong(rt.alloc(), 1, &bare)?, Some(1));
     Ok(())
 }
 

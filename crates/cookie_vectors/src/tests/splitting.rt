@@ -29,13 +29,17 @@ fn a_blank_header_gives_no_items(rt: HostRuntime) {
     }
 }
 
-// Whether the next item is a cookie with this pair, and lends it or not.
-fn is_next(items: &mut SplitCookies<'_>, (name, value): (&str, &str), is_lent: bool) -> bool {
+// Whether the next item is a cookie with this pair, and lends both texts, or neither.
+fn is_next(items: &mut SplitCookies<'_>, pair: (&str, &str), is_lent: bool) -> bool {
     match items.next() {
-        Some(Ok(cookie)) if is_lent => {
-            cookie.name_raw() == Some(name) && cookie.value_raw() == Some(value)
+        Some(Ok(cookie)) => {
+            let (name, value) = if is_lent {
+                (Some(pair.0), Some(pair.1))
+            } else {
+                (None, None)
+            };
+            cookie.name_value() == pair && cookie.name_raw() == name && cookie.value_raw() == value
         }
-        Some(Ok(cookie)) => cookie.name_value() == (name, value) && cookie.name_raw().is_none(),
         _ => false,
     }
 }
@@ -58,21 +62,21 @@ fn escapes_are_not_undone(rt: HostRuntime) -> Result<(), Fail> {
 
 const ENCODED: &str = "name=val%20ue ; ; foo%20!%25%3F%3D=bar%3B%3B%2C%20a";
 
-// Whether the pairs of that header come in order, and then none.
-fn is_decoded(mut items: SplitCookies<'_>) -> Result<bool, Fail> {
-    for pair in [("name", "val ue"), ("foo !%?=", "bar;;, a")] {
-        if items.next().ok_or("an item")??.name_value() != pair {
-            return Ok(false);
-        }
-    }
-    Ok(items.next().is_none())
+#[test]
+fn split_parse_encoded(rt: HostRuntime) {
+    let mut items = Cookie::split_parse_encoded(rt.alloc(), ENCODED);
+    assert!(rt; is_next(&mut items, ("name", "val ue"), false));
+    assert!(rt; is_next(&mut items, ("foo !%?=", "bar;;, a"), false));
+    assert!(rt; items.next().is_none());
 }
 
 #[test]
-fn split_parse_encoded(rt: HostRuntime) -> Result<(), Fail> {
-    assert!(rt; is_decoded(Cookie::split_parse_encoded(rt.alloc(), ENCODED))?);
-    let own = String::from_str(rt.alloc(), ENCODED)?;
-    assert!(rt; is_decoded(Cookie::split_parse_encoded_owned(rt.alloc(), own))?);
+fn split_parse_encoded_owned(rt: HostRuntime) -> Result<(), Fail> {
+    let text = String::from_str(rt.alloc(), ENCODED)?;
+    let mut items = Cookie::split_parse_encoded_owned(rt.alloc(), text);
+    assert!(rt; is_next(&mut items, ("name", "val ue"), false));
+    assert!(rt; is_next(&mut items, ("foo !%?=", "bar;;, a"), false));
+    assert!(rt; items.next().is_none());
     Ok(())
 }
 

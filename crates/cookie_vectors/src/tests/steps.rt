@@ -16,6 +16,8 @@ pub(super) enum Step {
     ResetDelta,
     /// How many cookies the delta has, and how many the jar shows.
     Counts(usize, usize),
+    /// How many cookies the delta has, and how many of them have a value that isn't empty.
+    DeltaCounts(usize, usize),
     Shows(&'static str, &'static str),
     Lacks(&'static str),
 }
@@ -45,6 +47,7 @@ impl Step {
             Step::ForceRemove(name) => jar.force_remove(name),
             Step::ResetDelta => jar.reset_delta(),
             Step::Counts(changes, shown) => return Ok(counts(jar) == (changes, shown)),
+            Step::DeltaCounts(all, valued) => return Ok(delta_counts(jar) == (all, valued)),
             Step::Shows(name, value) => return Ok(shown(jar, name) == Some(value)),
             Step::Lacks(name) => return Ok(shown(jar, name).is_none()),
         }
@@ -66,6 +69,18 @@ impl Step {
             _ => None,
         })
     }
+}
+
+fn delta_counts(jar: &CookieJar) -> (usize, usize) {
+    let mut all = 0usize;
+    let mut valued = 0usize;
+    for cookie in jar.delta() {
+        all = all.saturating_add(1);
+        if !cookie.value().is_empty() {
+            valued = valued.saturating_add(1);
+        }
+    }
+    (all, valued)
 }
 
 /// The place of the first step at which the jar shows another thing.
@@ -103,6 +118,8 @@ fn a_wrong_step_is_found(rt: HostRuntime) -> Result<(), Fail> {
     for (step, place) in [
         (Step::Counts(0, 0), Some(1)),
         (Step::Counts(1, 1), None),
+        (Step::DeltaCounts(1, 0), Some(1)),
+        (Step::DeltaCounts(1, 1), None),
         (Step::Shows("a", "2"), Some(1)),
         (Step::Shows("a", "1"), None),
         (Step::Lacks("a"), Some(1)),
