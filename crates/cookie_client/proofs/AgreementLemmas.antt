@@ -97,11 +97,11 @@ All-accepted P (false ∷ bs) (x ∷ xs) all = All-accepted P bs xs (All-tail P 
 pub All-both : {X : Type 0} (P Q : X → Type 0) (xs : List X) → All P xs → All Q xs → All (λ x. P x × Q x) xs
 All-both P Q xs all also k d within = (all k d within, also k d within)
 
-put_by : (P : JarCall → Type 0) (R : Name → Marked → Type 0) → ((call : JarCall) → P call → Puts R (change_of call)) → (outcomes : List Bool) (cs : List JarCall) → All P cs
+put_by : (P : JarCall → Type 0) (R : Name → Marked → Type 0) → ((call : JarCall) → P call → Puts R (change_of call)) → (outcomes : List Bool) (cs : List JarCall) → All P (accepted outcomes cs)
     → AreEntries R (after_all (changes_of outcomes cs) empty_jar).delta
 put_by P R puts outcomes cs all =
     AreEntries-after_all R (changes_of outcomes cs) empty_jar
-    (All-map (Puts R) change_of (accepted outcomes cs) (All-weaker P (λ call. Puts R (change_of call)) puts (accepted outcomes cs) (All-accepted P outcomes cs all)))
+    (All-map (Puts R) change_of (accepted outcomes cs) (All-weaker P (λ call. Puts R (change_of call)) puts (accepted outcomes cs) all))
     (AreEntries-empty R)
 
 -- ---- what the client held
@@ -209,15 +209,6 @@ unforced_back name (change ∷ changes) earlier front back =
     let parts = unforced_parts name change changes front in
     unforced_back name changes (change ∷ earlier) parts.1 (unforced_first name change earlier parts.0 back)
 
-unforced_accepted : (name : Name) (outcomes : List Bool) (cs : List JarCall) → is_forced name (map change_of cs) ≡ false → is_forced name (changes_of outcomes cs) ≡ false
-unforced_accepted name [] cs e = refl
-unforced_accepted name (b ∷ bs) [] e = refl
-unforced_accepted name (true ∷ bs) (call ∷ cs) e =
-    let parts = unforced_parts name (change_of call) (map change_of cs) e in
-    unforced_first name (change_of call) (changes_of bs cs) parts.0 (unforced_accepted name bs cs parts.1)
-unforced_accepted name (false ∷ bs) (call ∷ cs) e =
-    unforced_accepted name bs cs (unforced_parts name (change_of call) (map change_of cs) e).1
-
 -- ---- the theorem
 
 -- what is expected is what the jar shows, where the client held nothing but what the originals have
@@ -239,7 +230,7 @@ module _ (now : DateTime) (cs : List JarCall) (outcomes : List Bool) (known : Al
   made = after_all (changes_of outcomes cs) empty_jar
 
   kept : AreEntries IsKept made.delta
-  kept = put_by IsKnownCall IsKept puts_kept outcomes cs known
+  kept = put_by IsKnownCall IsKept puts_kept outcomes cs (All-accepted IsKnownCall outcomes cs known)
 
   -- the client that read these texts
   abbrev client_of : List (List ℕ) → Values
@@ -251,36 +242,36 @@ module _ (now : DateTime) (cs : List JarCall) (outcomes : List Bool) (known : Al
   held : (name : Name) → get (holds_originals changes) name ≡ value_of (last_original name (reverse changes))
   held name = held_at name changes [] empty (get-empty name_cmp name)
 
-  decided_is : All (IsFitCall now) cs → (name : Name) (d : Option Marked) → get made.delta name ≡ d → (o : Option Record) → get made.originals name ≡ o
+  decided_is : All (IsFitCall now) (accepted outcomes cs) → (name : Name) (d : Option Marked) → get made.delta name ≡ d → (o : Option Record) → get made.originals name ≡ o
       → decided now d (value_of (last_original name (reverse changes))) ≡ expected d o (value_of (last_original name (reverse changes)))
   decided_is fits name None d None o = refl
   decided_is fits name None d (Some original) o =
       ap value_of (last_of_kept name (reverse changes) original (sym ((looks_back changes).originals name) ∙ o))
   decided_is fits name (Some entry) d original o =
       decided_fit now name entry
-      (put_by (λ call. IsKnownCall call × IsFitCall now call) (IsFitEntry now) (puts_fit now) outcomes cs (All-both IsKnownCall (IsFitCall now) cs known fits) name entry d)
+      (put_by (λ call. IsKnownCall call × IsFitCall now call) (IsFitEntry now) (puts_fit now) outcomes cs (All-both IsKnownCall (IsFitCall now) (accepted outcomes cs) (All-accepted IsKnownCall outcomes cs known) fits) name entry d)
       (value_of (last_original name (reverse changes)))
 
-  followed : (texts : List (List ℕ)) → AreDeltaTexts made.delta texts → All (IsFitCall now) cs → (name : Name)
+  followed : (texts : List (List ℕ)) → AreDeltaTexts made.delta texts → All (IsFitCall now) (accepted outcomes cs) → (name : Name)
       → get (client_of texts) name ≡ expected (get made.delta name) (get made.originals name) (value_of (last_original name (reverse changes)))
   followed texts are fits name =
       read_at now made.delta kept texts are (holds_originals changes) name
       ∙ ap (decided now (get made.delta name)) (held name)
       ∙ decided_is fits name (get made.delta name) refl (get made.originals name) refl
 
-  agrees : (texts : List (List ℕ)) → AreDeltaTexts made.delta texts → All (IsFitCall now) cs → (name : Name) → is_forced name (map change_of cs) ≡ false
+  agrees : (texts : List (List ℕ)) → AreDeltaTexts made.delta texts → All (IsFitCall now) (accepted outcomes cs) → (name : Name) → is_forced name (changes_of outcomes cs) ≡ false
       → get (client_of texts) name ≡ value_of (view made name)
   agrees texts are fits name unforced =
       followed texts are fits name
       ∙ expected_shown (get made.delta name) (get made.originals name) (last_original name (reverse changes)) (λ e.
-      last_unforced name (reverse changes) (unforced_back name changes [] (unforced_accepted name outcomes cs unforced) refl)
+      last_unforced name (reverse changes) (unforced_back name changes [] unforced refl)
       ∙ sym ((looks_back changes).originals name) ∙ e)
 
-  unnamed : (texts : List (List ℕ)) → AreDeltaTexts made.delta texts → All (IsFitCall now) cs → get (client_of texts) [] ≡ None
+  unnamed : (texts : List (List ℕ)) → AreDeltaTexts made.delta texts → All (IsFitCall now) (accepted outcomes cs) → get (client_of texts) [] ≡ None
   unnamed texts are fits =
       read_at now made.delta kept texts are (holds_originals changes) []
       ∙ decided_unnamed now made.delta kept (get made.delta []) refl (get (holds_originals changes) [])
-      ∙ held_unnamed changes empty (All-map IsNamedChange change_of (accepted outcomes cs) (All-weaker (IsFitCall now) (λ call. IsNamedChange (change_of call)) (named_change now) (accepted outcomes cs) (All-accepted (IsFitCall now) outcomes cs fits)))
+      ∙ held_unnamed changes empty (All-map IsNamedChange change_of (accepted outcomes cs) (All-weaker (IsFitCall now) (λ call. IsNamedChange (change_of call)) (named_change now) (accepted outcomes cs) fits))
       ∙ get-empty name_cmp []
 
   -- the client of the calls, whatever list of the delta's texts it read

@@ -176,11 +176,11 @@ originals_left (call ∷ cs) are jar =
     originals_left cs (All-tail (λ call. is_change call ≡ true) call cs are) (after (change_of call) jar)
     ∙ same_originals call (All-head (λ call. is_change call ≡ true) call cs are) jar
 
-put_by : (P : JarCall → Type 0) (R : Name → Marked → Type 0) → ((call : JarCall) → P call → Puts R (change_of call)) → (outcomes : List Bool) (cs : List JarCall) → All P cs
+put_by : (P : JarCall → Type 0) (R : Name → Marked → Type 0) → ((call : JarCall) → P call → Puts R (change_of call)) → (outcomes : List Bool) (cs : List JarCall) → All P (accepted outcomes cs)
     → (jar : JarState) → jar.delta ≡ empty → AreEntries R (after_all (changes_of outcomes cs) jar).delta
 put_by P R puts outcomes cs all jar fresh =
     AreEntries-after_all R (changes_of outcomes cs) jar
-    (All-map (Puts R) change_of (accepted outcomes cs) (All-weaker P (λ call. Puts R (change_of call)) puts (accepted outcomes cs) (All-accepted P outcomes cs all)))
+    (All-map (Puts R) change_of (accepted outcomes cs) (All-weaker P (λ call. Puts R (change_of call)) puts (accepted outcomes cs) all))
     (subst (AreEntries R) (sym fresh) (AreEntries-empty R))
 
 -- what a fit entry makes of what the client held is what the jar shows
@@ -207,26 +207,26 @@ module _ (now : DateTime) (before : Values) (header : List ℕ) (is : IsHeaderOf
   original name = ap (λ cookies. get (with_originals cookies empty_jar).originals name) (header-cookies before header is) ∙ original_of before name
 
   kept : AreEntries IsKept made.delta
-  kept = put_by IsKnownCall IsKept puts_kept outcomes cs known (jar_for before) fresh
+  kept = put_by IsKnownCall IsKept puts_kept outcomes cs (All-accepted IsKnownCall outcomes cs known) (jar_for before) fresh
 
-  fit : All (IsFitChange now) cs → AreEntries (IsFitEntry now) made.delta
+  fit : All (IsFitChange now) (accepted outcomes cs) → AreEntries (IsFitEntry now) made.delta
   fit fits =
       put_by (λ call. IsKnownCall call × IsFitCall now call) (IsFitEntry now) (puts_fit now) outcomes cs
-      (All-both IsKnownCall (IsFitCall now) cs known (All-weaker (IsFitChange now) (IsFitCall now) (λ call f. f.0) cs fits)) (jar_for before) fresh
+      (All-both IsKnownCall (IsFitCall now) (accepted outcomes cs) (All-accepted IsKnownCall outcomes cs known) (All-weaker (IsFitChange now) (IsFitCall now) (λ call f. f.0) (accepted outcomes cs) fits)) (jar_for before) fresh
 
-  left : All (IsFitChange now) cs → made.originals ≡ (jar_for before).originals
+  left : All (IsFitChange now) (accepted outcomes cs) → made.originals ≡ (jar_for before).originals
   left fits =
       originals_left (accepted outcomes cs)
-      (All-accepted (λ call. is_change call ≡ true) outcomes cs (All-weaker (IsFitChange now) (λ call. is_change call ≡ true) (λ call f. f.1) cs fits)) (jar_for before)
+      (All-weaker (IsFitChange now) (λ call. is_change call ≡ true) (λ call f. f.1) (accepted outcomes cs) fits) (jar_for before)
 
-  agrees : (texts : List (List ℕ)) → AreDeltaTexts made.delta texts → All (IsFitChange now) cs → (name : Name) → get (after_texts now texts before) name ≡ value_of (view made name)
+  agrees : (texts : List (List ℕ)) → AreDeltaTexts made.delta texts → All (IsFitChange now) (accepted outcomes cs) → (name : Name) → get (after_texts now texts before) name ≡ value_of (view made name)
   agrees texts are fits name =
       read_at now made.delta kept texts are before name
       ∙ shown now name (get made.delta name) (get made.originals name) (get before name) (fit fits name)
       (sym (ap (λ o. value_of (get o name)) (left fits) ∙ ap value_of (original name) ∙ value_of-plain name (get before name)))
 
   -- what the client is after any list of the delta's texts
-  pub round_agrees : (jar : JarState) (client : Values) (texts : List (List ℕ)) → jar ≡ made → AreDeltaTexts jar.delta texts → client ≡ after_texts now texts before → RoundAgrees now before cs jar client
+  pub round_agrees : (jar : JarState) (client : Values) (texts : List (List ℕ)) → jar ≡ made → AreDeltaTexts jar.delta texts → client ≡ after_texts now texts before → RoundAgrees now before cs outcomes jar client
   round_agrees jar client texts was are read =
       let texts_are : AreDeltaTexts made.delta texts = subst (λ (j : JarState). AreDeltaTexts j.delta texts) was are in
       record {

@@ -1,13 +1,13 @@
 -- The client half of the main theorem: after any list of jar calls, a client that held each name's last original and
 -- has read the delta's encoded texts, in any order and with any repetition, agrees with the jar.
-use Rattle.std.specs.Prelude.{◌≡◌, ℕ, Bool, true, false, List, [], ◌∷◌, map, reverse, Option, Some, None, option_map, All, Contains, if◌then◌else◌}
+use Rattle.std.specs.Prelude.{◌≡◌, ℕ, Bool, true, false, List, [], ◌∷◌, reverse, Option, Some, None, option_map, All, Contains, if◌then◌else◌}
 use Rattle.std.specs.FinMap.{FinMap, empty, get}
 use Rattle.jiff.specs.Types.{DateTime}
-use Rattle.cookie.specs.History.{last_original, is_forced}
+use Rattle.cookie.specs.History.{accepted, last_original, is_forced}
 use Rattle.cookie.specs.Jar.{Name, name_cmp, Marked, JarState, Change, AddOriginal, Add, Remove, ForceRemove, ResetDelta, view}
 use Rattle.cookie.specs.Record.{Record}
 use Rattle.cookie.specs.Text.{cookie_text}
-use Rattle.cookie_client.specs.Calls.{change_of, changes_of, IsFitCall}
+use Rattle.cookie_client.specs.Calls.{changes_of, IsFitCall}
 use Rattle.cookie_client.specs.Client.{Values, after_texts}
 use Rattle.cookie_client.specs.Session.{holding}
 use Rattle.cookie_client.specs.declared.call.JarCall.{JarCall}
@@ -52,8 +52,8 @@ pub record Agrees (now : DateTime) (calls : List JarCall) (outcomes : List Bool)
   -- whether the calls are fit or not, it is the one that held each name's last original and read the delta's texts: in any order, and with any repetition
   pub in_any_order : (texts : List (List ℕ)) → AreDeltaTexts jar.delta texts → client ≡ after_texts now texts (holds_originals (changes_of outcomes calls))
   -- where all calls are fit, it has at each name that no call removes by force the value that the jar shows there
-  pub agrees : All (IsFitCall now) calls → (name : Name) → is_forced name (map change_of calls) ≡ false → get client name ≡ value_of (view jar name)
+  pub agrees : All (IsFitCall now) (accepted outcomes calls) → (name : Name) → is_forced name (changes_of outcomes calls) ≡ false → get client name ≡ value_of (view jar name)
   -- and so at a name that was removed by force, but where neither map has the name: there it has the value of the last original, if there was one
-  pub forced : All (IsFitCall now) calls → (name : Name) → get client name ≡ expected (get jar.delta name) (get jar.originals name) (value_of (last_original name (reverse (changes_of outcomes calls))))
+  pub forced : All (IsFitCall now) (accepted outcomes calls) → (name : Name) → get client name ≡ expected (get jar.delta name) (get jar.originals name) (value_of (last_original name (reverse (changes_of outcomes calls))))
   -- where all calls are fit, it holds nothing under the empty name, so that its header reads back as its map (`Client::header`)
-  pub named : All (IsFitCall now) calls → get client [] ≡ None
+  pub named : All (IsFitCall now) (accepted outcomes calls) → get client [] ≡ None

@@ -1,9 +1,9 @@
 -- Many requests and one client: what a request knows of the client stands in its header (RFC 6265 5.4).
-use Rattle.std.specs.Prelude.{◌≡◌, ℕ, true, List, [], ◌∷◌, length, option_map, None, All}
+use Rattle.std.specs.Prelude.{◌≡◌, ℕ, Bool, true, List, [], ◌∷◌, length, option_map, None, All}
 use Rattle.std.specs.FinMap.{get}
 use Rattle.jiff.specs.Types.{DateTime}
 use Rattle.cookie.specs.CookieOf.{header_cookies}
-use Rattle.cookie.specs.History.{after_all}
+use Rattle.cookie.specs.History.{accepted, after_all}
 use Rattle.cookie.specs.Jar.{Name, JarState, empty_jar, view}
 use Rattle.cookie.specs.Record.{plain}
 use Rattle.cookie_client.specs.Agreement.{AreDeltaTexts, value_of}
@@ -23,11 +23,11 @@ abbrev pub IsFitChange : DateTime → JarCall → Type 0
 IsFitChange now call = IsFitCall now call × (is_change call ≡ true)
 
 -- The client after a request, for the client before it, the request's calls and its jar.
-pub record RoundAgrees (now : DateTime) (before : Values) (calls : List JarCall) (jar : JarState) (client : Values) : Type 0 where
+pub record RoundAgrees (now : DateTime) (before : Values) (calls : List JarCall) (outcomes : List Bool) (jar : JarState) (client : Values) : Type 0 where
   -- whether the calls are fit or not, it is the one before, which read the delta's texts: in any order, and with any repetition
   pub in_any_order : (texts : List (List ℕ)) → AreDeltaTexts jar.delta texts → client ≡ after_texts now texts before
   -- where each call is fit and a change, it has at every name the value that the jar shows there
-  pub agrees : All (IsFitChange now) calls → (name : Name) → get client name ≡ value_of (view jar name)
+  pub agrees : All (IsFitChange now) (accepted outcomes calls) → (name : Name) → get client name ≡ value_of (view jar name)
   -- whether the calls are fit or not, it holds nothing under the empty name, so that its header reads back as its map (`Client::header`)
   pub named : get client [] ≡ None
 
@@ -42,7 +42,7 @@ pub record IsRound (now : DateTime) (before : Values) (calls : List JarCall) (pl
   -- and is what the accepted calls made of it
   pub jar : played.jar ≡ after_all (changes_of played.outcomes.items calls) (jar_for before)
   -- its client agrees with its jar
-  pub agreement : RoundAgrees now before calls played.jar played.client
+  pub agreement : RoundAgrees now before calls played.outcomes.items played.jar played.client
 
 -- Requests came to this, one after the other. The client of each goes on to the next.
 abbrev pub AreRounds : DateTime → Values → List Request → List Played → Type 0
