@@ -1,5 +1,5 @@
 //! Cookies with texts of their own, and reading with decoding (RFC 6265 5.2).
-ghost use Rattle.std.specs.Prelude.{false, true, ◌≡◌, Some, None, IsOk, IfOk, IfErr, string_bytes};
+ghost use Rattle.std.specs.Prelude.{false, true, ◌≡◌, ◌↔◌, Some, None, Ok, IsOk, IfOk, IfErr, string_bytes};
 ghost use Rattle.std.specs.Result.{result_map_both, result_ok};
 ghost use Rattle.cookie_core.specs.CookieOf.{cookie_of};
 ghost use Rattle.cookie_core.specs.CookieStr.{source_bytes};
@@ -50,6 +50,7 @@ impl<'c> Cookie<'c> {
     pub fn parse_encoded(alloc: Global, text: &'c str) -> Result<Cookie<'c>, ParseError>
         ensures reads { ReadsDecoded text.now (result_map_both (λ c. c.fields) (λ e. e) result) }
         ensures value { AgreesInMemory true text.now (result_map_both (λ c. c.fields) (λ e. e) result) }
+        ensures agrees { (r : Record) → (cookie_of true text.now ≡ Some r) ↔ Reads true text.now (Ok r) }
         ensures fault { IfErr result (NamesFault text.now) }
         ensures certain { (r : Record) → cookie_of false text.now ≡ Some r → are_decoded r ≡ false → IsOk result }
         ensures raw { IfOk result (λ c. LendsDecoded text.now c.raw) }

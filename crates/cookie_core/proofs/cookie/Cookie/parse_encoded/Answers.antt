@@ -1,5 +1,6 @@
 use Rattle.std.proofs.Common.{true, ap, ◌∙◌}
 use Rattle.cookie_core.specs.CookieOf.{cookie_of}
+use Rattle.cookie_core.proofs.CookieOfLemmas.{cookie_of-Reads}
 use Rattle.cookie_core.proofs.DecodeLemmas.{AgreesInMemory-reads, LendsDecoded-borrowed}
 use Rattle.cookie_core.proofs.LawLemmas.{agreed-gives}
 use Rattle.cookie_core.proofs.NormalFormLemmas.{cookie_of-normal, cookie_of-stripped}
@@ -25,3 +26,6 @@ returns-clause-settled c = normal-third
 
 pub returns-clause-settled_at_once : goal.returns-clause-settled_at_once
 returns-clause-settled_at_once c = normal-second
+
+pub returns-clause-agrees : goal.returns-clause-agrees
+returns-clause-agrees c = cookie_of-Reads true c.args.text.now
