@@ -1,5 +1,5 @@
 //! The key of signed and private jars.
-ghost use Rattle.std.specs.Prelude.{◌≡◌, ◌≤◌, ◌<◌, ℕ, List, Ok, Err, IfSome, ⊤, length, codes, All};
+ghost use Rattle.std.specs.Prelude.{◌≡◌, ◌≤◌, ◌<◌, ℕ, List, Ok, Err, IfNone, IfSome, ⊤, length, codes, All};
 ghost use Rattle.std.specs.Str.{bytes_eq};
 ghost use Rattle.std.specs.Cmp.{partial_equiv_from_equiv};
 ghost use Rattle.std.specs.Cmp.Lexicographic.{nat_list_eq_equiv};
@@ -97,7 +97,8 @@ impl Key {
 
     /// The key of 64 bytes that one draw from a generator gave, or `None` where it failed.
     pub fn try_generate<R: TryRng>(rng: &mut R) -> Option<Key>
-        ensures { IfSome result (λ key. R.may_fill rng.old key rng.new) }
+        ensures drawn { IfSome result (λ key. R.may_fill rng.old key rng.new) }
+        ensures failed { IfNone result R.Error }
     {
         let mut bytes = [0; KEY_LENGTH];
         rng.try_fill_bytes(&mut bytes).ok()?;

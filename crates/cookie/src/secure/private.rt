@@ -136,6 +136,7 @@ impl<'a> PrivateJarMut<'a> {
         ensures drawn { result ≡ Err refusal.OutOfMemory → (nonce : List ℕ) × IsNonce nonce × R.may_fill rng.old nonce rng.new }
         ensures too_long { (¬ CanSeal cookie.entry.fields) ↔ (result ≡ Err refusal.TooLong) }
         ensures undrawn { ¬ CanSeal cookie.entry.fields → rng.new ≡ rng.old }
+        ensures failed { result ≡ Err refusal.Generator → R.Error }
         ensures err { OnErr result (jar_of self.new ≡ jar_of self.old) }
         ensures same { ChangesSame self.new self.old }
     {
@@ -155,6 +156,7 @@ impl<'a> PrivateJarMut<'a> {
         ensures drawn { result ≡ Err refusal.OutOfMemory → (nonce : List ℕ) × IsNonce nonce × R.may_fill rng.old nonce rng.new }
         ensures too_long { (¬ CanSeal cookie.entry.fields) ↔ (result ≡ Err refusal.TooLong) }
         ensures undrawn { ¬ CanSeal cookie.entry.fields → rng.new ≡ rng.old }
+        ensures failed { result ≡ Err refusal.Generator → R.Error }
         ensures err { OnErr result (jar_of self.new ≡ jar_of self.old) }
         ensures shown { IfOk result (λ _. AnswersPair (IsSealingOf (key_of self.new)) (view (jar_of self.new) cookie.entry.fields.name) cookie.entry.fields) }
         ensures same { ChangesSame self.new self.old }
@@ -231,6 +233,7 @@ fn nonce_for<R: TryRng>(cookie: &Cookie<'_>, rng: &mut R) -> Result<[u8; 12], Ja
     ensures too_long { (¬ CanSeal cookie.now.fields) ↔ (result ≡ Err refusal.TooLong) }
     ensures undrawn { ¬ CanSeal cookie.now.fields → rng.new ≡ rng.old }
     ensures no_memory { ¬ (result ≡ Err refusal.OutOfMemory) }
+    ensures failed { result ≡ Err refusal.Generator → R.Error }
 {
     if !can_seal(cookie) {
         return Err(JarError::TooLong);
