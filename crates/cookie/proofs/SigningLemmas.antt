@@ -1,5 +1,6 @@
 -- A signed value is a signature of 44 characters, which are ASCII, and the value.
 use Rattle.std.proofs.Common.{◌≡◌, ◌↔◌, ◌+◌, ◌<◌, ◌≤◌, ℕ, List, [], ◌++◌, length, take, drop, replicate, arith, refl, sym, ap, subst, ◌∙◌, length-append, append-nil, IsAscii, IsUtf8, IsCharBoundary, Option, Some, None, Result, Ok, Err, OnOk, IfOk}
+use Rattle.std.specs.Int.{w64, to_be_bytes}
 use Rattle.std.proofs.lemmas.List.{get_or_append_left, drop_all, take-append-drop}
 use Rattle.std.proofs.lemmas.Str.{IsCharBoundary-after_ascii, IsUtf8-append, IsUtf8-from_ascii}
 use Rattle.std.proofs.Math.Seq.{take-append_seam, drop-append_seam}
@@ -41,18 +42,22 @@ IsAscii-signature key name value = IsAscii-encode_of standard (hmac key (covered
 pub IsUtf8-signature : (key : List ℕ) (name : Name) (value : List ℕ) → IsUtf8 (signature key name value)
 IsUtf8-signature key name value = IsUtf8-from_ascii (signature key name value) (IsAscii-signature key name value)
 
+-- the three pieces, joined
+pub message-is : (name value l n v : List ℕ) → l ≡ to_be_bytes w64 (length name) → n ≡ name → v ≡ value → l ++ (n ++ (v ++ [])) ≡ covered name value
+message-is name value l n v e f g = ap (λ x. x ++ (n ++ (v ++ []))) e ∙ ap (λ x. to_be_bytes w64 (length name) ++ (x ++ (v ++ []))) f ∙ ap (λ x. to_be_bytes w64 (length name) ++ (name ++ x)) (append-nil v ∙ g)
+
 -- what `encode_slice` leaves in 44 bytes
 pub signature-from : (key : List ℕ) (name : Name) (value message mac old new : List ℕ) (r : Result ℕ EncodeSliceError)
-    → message ≡ covered name value → mac ≡ hmac key (message ++ []) → length old ≡ 44
+    → message ≡ covered name value → mac ≡ hmac key message → length old ≡ 44
     → (encoded_size_of standard (length mac) ≤ length old → r ≡ Ok (encoded_size_of standard (length mac)))
     → OnOk r (IsEncodedOver standard mac old new) → new ≡ signature key name value
 unfolding signature
 signature-from key name value message mac old new r e hm long fits written =
-    let size : encoded_size_of standard (length mac) ≡ 44 = ap (encoded_size_of standard) (ap length hm ∙ length-hmac key (message ++ [])) in
+    let size : encoded_size_of standard (length mac) ≡ 44 = ap (encoded_size_of standard) (ap length hm ∙ length-hmac key message) in
     let ok : r ≡ Ok (encoded_size_of standard (length mac)) = fits (subst (λ n. n ≤ length old) (sym size) (omega arith)) in
     let over : new ≡ encode_of standard mac ++ drop (encoded_size_of standard (length mac)) old = subst (λ q. OnOk q (IsEncodedOver standard mac old new)) ok written in
     over ∙ ap (λ xs. encode_of standard mac ++ xs) (ap (λ n. drop n old) size ∙ drop_all 44 old (omega arith))
-    ∙ append-nil (encode_of standard mac) ∙ ap (encode_of standard) (hm ∙ ap (hmac key) (append-nil message ∙ e))
+    ∙ append-nil (encode_of standard mac) ∙ ap (encode_of standard) (hm ∙ ap (hmac key) e)
 
 -- ---- signed values
 

@@ -1,6 +1,7 @@
 -- Signed values: HMAC-SHA256 (RFC 2104), as padded base64 (RFC 4648 4), before the value. A key here is the half of a
 -- key that signs.
-use Rattle.std.specs.Prelude.{◌≡◌, ℕ, List, ◌++◌}
+use Rattle.std.specs.Prelude.{◌≡◌, ℕ, List, ◌++◌, length}
+use Rattle.std.specs.Int.{w64, to_be_bytes}
 use Rattle.base64.specs.Engines.{standard}
 use Rattle.base64.specs.GeneralPurpose.{encode_of}
 use Rattle.cookie_core.specs.Record.{Record}
@@ -9,7 +10,7 @@ use Rattle.cookie.specs.Jar.{Name}
 
 -- what the signature of a value covers, for a cookie of that name: the value alone
 abbrev pub covered : Name → List ℕ → List ℕ
-covered name value = value
+covered name value = to_be_bytes w64 (length name) ++ name ++ value
 
 -- the signature of a value, of 44 characters
 unfoldable pub signature : List ℕ → Name → List ℕ → List ℕ

@@ -13,11 +13,13 @@ use std::alloc::{AllocError, Global};
 const SIGNATURE_LEN: usize = 44;
 
 // The signature of a value, for a cookie of that name.
-fn signature(key: &[u8], _name: &str, value: &str) -> [u8; 44]
-    ensures { result ≡ signature key.now _name.now value.now }
+fn signature(key: &[u8], name: &str, value: &str) -> [u8; 44]
+    ensures { result ≡ signature key.now name.now value.now }
 {
     let mut text = [0; SIGNATURE_LEN];
-    let _ = STANDARD.encode_slice(&hmac(key, &[value.as_bytes()]), &mut text);
+    let length = (name.len() as u64).to_be_bytes();
+    let digest = hmac(key, &[&length, name.as_bytes(), value.as_bytes()]);
+    let _ = STANDARD.encode_slice(&digest, &mut text);
     text
 }
 
