@@ -1,4 +1,4 @@
--- What is left of a name without its prefix. This is a word of the private code of src/prefix.rt.
+-- Mirrors private code: what is left of a name without its prefix (src/prefix.rt).
 use Rattle.std.specs.Prelude.{◌≡◌, false, Option, Some, None}
 use Rattle.std.specs.Str.{bytes_eq}
 use Rattle.cookie.specs.Jar.{Name}

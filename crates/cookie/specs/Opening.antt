@@ -1,4 +1,4 @@
--- What a private call opens: the bytes of a sealing, before their base64.
+-- Mirrors private code: what a private call opens, the bytes of a sealing before their base64.
 use Rattle.std.specs.Prelude.{◌≡◌, ℕ, List, length}
 use Rattle.cookie.specs.Sealing.{IsSealable, sealed_bytes}
 

@@ -1,4 +1,4 @@
--- What is left of the walk over the cookies that a jar shows. These are words of the private code of src/iter.rt.
+-- Mirrors private code: what is left of the walk over the cookies that a jar shows (src/iter.rt).
 use Rattle.std.specs.Prelude.{List, [], ◌∷◌, filter, is_none, if◌then◌else◌}
 use Rattle.std.specs.FinMap.{FinMap, get}
 use Rattle.cookie_core.specs.Record.{Record}

@@ -1,4 +1,4 @@
--- A table with text keys as a finite map from names.
+-- Mirrors private code: a table with text keys, seen as a finite map from names.
 use Rattle.std.specs.Prelude.{◌≡◌, List, String, IfSome, map}
 use Rattle.std.specs.FinMap.{FinMap, from_entries, get}
 use Rattle.std.specs.String.{string_bytes}

@@ -1,4 +1,4 @@
--- What the type of a cookie says of the cookie in a call. These are words of private code.
+-- Mirrors private code: what the type of a cookie says of the cookie in a call.
 use Rattle.cookie.specs.Record.{IsCookie}
 use Rattle.cookie_client.specs.declared.call.JarCall.{JarCall}
 use Rattle.cookie_client.specs.declared.call.JarCall.TheVariants as calls

@@ -1,4 +1,4 @@
--- What a client holds of a cookie that a jar shows. These are words of private code.
+-- Mirrors private code: what a client holds of a cookie that a jar shows.
 use Rattle.std.specs.Prelude.{Option, Some, None}
 use Rattle.std.specs.FinMap.{insert}
 use Rattle.cookie.specs.Jar.{Name}

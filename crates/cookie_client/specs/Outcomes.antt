@@ -1,4 +1,4 @@
--- What the outcome of a call tells of it. These are words of private code.
+-- Mirrors private code: what the outcome of a call tells of it.
 use Rattle.std.specs.Prelude.{◌≡◌, Bool, true, false, List, [], ◌∷◌}
 use Rattle.cookie_client.specs.Calls.{is_certain, IsTooLong}
 use Rattle.cookie_client.specs.declared.call.JarCall.{JarCall}

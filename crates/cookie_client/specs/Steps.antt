@@ -1,4 +1,4 @@
--- Words for the steps of a session's engine, and of `rounds`.
+-- Mirrors private code: the steps of a session's engine, and of `rounds`.
 use Rattle.std.specs.Prelude.{◌≡◌, ℕ, true, List, [], ◌∷◌, map, Option, Some, None}
 use Rattle.std.specs.FinMap.{get, entries}
 use Rattle.cookie.specs.CookieOf.{cookie_of}

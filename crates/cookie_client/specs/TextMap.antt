@@ -1,4 +1,4 @@
--- How a table of texts by name is seen: as the finite map of their bytes.
+-- Mirrors private code: a table of texts by name, seen as the finite map of their bytes.
 use Rattle.std.specs.Prelude.{ℕ, List, map, String}
 use Rattle.std.specs.Coded.{Coded, coded_list, coded_ℕ}
 use Rattle.std.specs.FinMap.{FinMap, code, from_entries}

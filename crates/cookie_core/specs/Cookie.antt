@@ -1,4 +1,4 @@
--- What a cookie's private fields stand for. This file mirrors private code.
+-- Mirrors private code: what a cookie's private fields stand for.
 use Rattle.std.specs.Prelude.{option_map, option_and_then, IfSome}
 use Rattle.cookie_core.specs.Record.{CookieView, without_leading_dot}
 use Rattle.cookie_core.specs.CookieStr.{source_bytes, text_bytes, raw_bytes, Fits}

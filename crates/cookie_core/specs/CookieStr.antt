@@ -1,4 +1,4 @@
--- What the texts of a cookie are, in the source that it was read from. This file mirrors private code.
+-- Mirrors private code: what the texts of a cookie are, in the source that it was read from.
 use Rattle.std.specs.Prelude.{◌≡◌, ℕ, ◌≤◌, List, Option, Some, None, [], slice_range, string_bytes, IsCharBoundary, option_map, option_and_then, IfSome}
 use Rattle.cookie_core.specs.Record.{Record, RawForms}
 use Rattle.cookie_core.specs.declared.source.Source.{Source}

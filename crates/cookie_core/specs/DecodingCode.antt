@@ -1,4 +1,4 @@
--- What the decoder's own answers mean. This file mirrors private code.
+-- Mirrors private code: what the decoder's own answers mean.
 use Rattle.std.specs.Prelude.{◌≡◌, ℕ, ◌||◌, Bool, List, IsUtf8, None, if◌then◌else◌}
 use Rattle.std.specs.Str.{valid_up_to, error_len}
 use Rattle.cookie_core.specs.CookieStr.{Fits, source_bytes, text_bytes, raw_bytes, lent, lent_forms}

@@ -1,4 +1,4 @@
--- Parts that end below the greatest place. This file mirrors private code.
+-- Mirrors private code: parts that end below the greatest place.
 use Rattle.std.specs.Prelude.{◌+◌, ◌<◌, ◌^◌, length}
 use Rattle.cookie_core.specs.declared.part.Part.{Part}
 

@@ -1,4 +1,4 @@
--- What becomes of an outcome that gets texts of its own. This file mirrors private code.
+-- Mirrors private code: what becomes of an outcome that gets texts of its own.
 use Rattle.std.specs.Prelude.{◌≡◌, Result, Ok, Err}
 use Rattle.cookie_core.specs.Record.{CookieView, no_raw_forms}
 use Rattle.cookie_core.specs.declared.parse_error.ParseError.{ParseError}

@@ -1,4 +1,4 @@
--- Where a part of a text stands. This file mirrors private code.
+-- Mirrors private code: where a part of a text stands.
 use Rattle.std.specs.Prelude.{◌≡◌, ℕ, ◌+◌, List, ◌++◌, length, IsCharBoundary, IsUtf8}
 
 -- the text t stands at i in the text s, which may be cut at both its ends

@@ -1,4 +1,4 @@
--- What the small printers write. This file mirrors private code.
+-- Mirrors private code: what the small printers write.
 use Rattle.std.specs.Prelude.{ℕ, Bool, List, [], ◌++◌, Option, Some, None, codes, option_map, if◌then◌else◌}
 use Rattle.cookie_date.specs.Text.{date_text}
 use Rattle.cookie_date.specs.declared.text.DateText.{DateText}

@@ -1,4 +1,4 @@
--- How a cookie's record is stored, so that a map of records can be what contracts see of a type.
+-- Mirrors private code: how a cookie's record is stored, so that contracts can see a map of records.
 use Rattle.std.specs.Prelude.{ℕ, ℤ, List, Option, Bool, refl}
 use Rattle.std.specs.Coded.{Coded, code_by, coded×, coded_ℕ, coded_ℤ, coded_bool, coded_list, coded_option}
 use Rattle.cookie_core.specs.Record.{Record}

@@ -1,4 +1,4 @@
--- What the reader's own types mean. This file mirrors private code.
+-- Mirrors private code: what the reader's own types mean.
 use Rattle.std.specs.Prelude.{◌≡◌, ◌≢◌, ℕ, ℤ, Bool, List, [], Option, None, option_map, IfSome, Result, Ok, Err, codes, MatchOption}
 use Rattle.std.specs.Option.{option_or}
 use Rattle.jiff.specs.Words.{signed_nanos}

@@ -1,4 +1,4 @@
--- What a splitter's own types mean. This file mirrors private code.
+-- Mirrors private code: what a splitter's own types mean.
 use Rattle.std.specs.Prelude.{◌≡◌, ℕ, ◌≤◌, Bool, true, false, List, [], ◌∷◌, Option, Some, None, option_map, IfSome, slice_range, string_bytes, IsCharBoundary}
 use Rattle.cookie_core.specs.Header.{header_texts}
 use Rattle.cookie_core.specs.SplitCookies.{texts_left}

@@ -1,4 +1,4 @@
--- What a splitter's private fields stand for. This file mirrors private code.
+-- Mirrors private code: what a splitter's private fields stand for.
 use Rattle.std.specs.Prelude.{IfSome}
 use Rattle.cookie_core.specs.SplitCode.{header_bytes, is_decoded, is_owned, IsIn, texts_in}
 use Rattle.cookie_core.specs.SplitCookies.{SplitView}

@@ -1,4 +1,4 @@
--- How far a reader has come. This file mirrors private code.
+-- Mirrors private code: how far a reader has come.
 use Rattle.std.specs.Prelude.{◌≡◌, ℕ, List, [], ◌∷◌, ◌++◌, Option, Some, None, All}
 use Rattle.cookie_core.specs.Pieces.{Lacks}
 use Rattle.cookie_core.specs.Attributes.{SetsAttributes}

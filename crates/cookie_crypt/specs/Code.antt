@@ -1,4 +1,4 @@
--- Words of private functions only.
+-- Mirrors private code: the table of a block's multiples, and the doubled bytes of a state.
 use Rattle.std.specs.Prelude.{◌≡◌, ℕ, ◌*◌, ◌^◌, ◌<◌, List, map, slice_index}
 use Rattle.std.specs.List.{range_with_len}
 use Rattle.cookie_crypt.specs.ByteField.{byte_times_x}

@@ -1,4 +1,4 @@
--- The date-time that the fields of a written date stand for. This file mirrors private code.
+-- Mirrors private code: the date-time that the fields of a written date stand for.
 use Rattle.std.specs.Prelude.{◌≡◌, ◌<◌, pos}
 use Rattle.jiff.specs.Types.{DateTime}
 use Rattle.jiff.specs.Words.{IsDate}

@@ -1,4 +1,4 @@
--- What the readers of a date's pieces and forms compute. This file mirrors private code.
+-- Mirrors private code: what the readers of a date's pieces and forms compute.
 use Rattle.std.specs.Prelude.{ℕ, zero, suc, ◌+◌, ◌-◌, ◌*◌, ◌==◌, List, [], ◌∷◌, length, take, drop, Option, Some, None, option_map, bytes_eq, codes, if◌then◌else◌, ℤ, pos, neg_ℤ, Bool, true, false, slice_index, slice_index_or}
 use Rattle.std.specs.Char.{is_ascii_digit}
 use Rattle.std.specs.Borrow.{Bor}
