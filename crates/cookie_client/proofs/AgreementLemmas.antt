@@ -1,5 +1,5 @@
 -- The client of calls agrees with their jar.
-use Rattle.std.proofs.Common.{◌≡◌, ℕ, Bool, true, false, cond, ◌||◌, inl, inr, ⊎_elim, List, [], ◌∷◌, map, reverse, refl, sym, ap, subst, ◌∙◌, All, Option, Some, None}
+use Rattle.std.proofs.Common.{◌≡◌, ℕ, Bool, true, false, cond, ◌||◌, inl, inr, ⊎_elim, List, [], ◌∷◌, reverse, refl, sym, ap, subst, ◌∙◌, All, Option, Some, None}
 use mathlib.Core.List.{reverse_aux}
 use mathlib.Core.Logic.{◌≢◌}
 use Rattle.std.proofs.lemmas.Bool.{or_parts}

@@ -1,5 +1,6 @@
--- The client half of the main theorem: after any list of jar calls, a client that held each name's last original and
--- has read the delta's encoded texts, in any order and with any repetition, agrees with the jar.
+-- The client half of the main theorem: after any list of jar calls, a client that held each name's last accepted
+-- original and has read the delta's encoded texts, in any order and with any repetition, agrees with the jar. A call
+-- that was refused counts as not made: nothing is asked of it.
 use Rattle.std.specs.Prelude.{◌≡◌, ℕ, Bool, true, false, List, [], ◌∷◌, reverse, Option, Some, None, option_map, All, Contains, if◌then◌else◌}
 use Rattle.std.specs.FinMap.{FinMap, empty, get}
 use Rattle.jiff.specs.Types.{DateTime}
@@ -47,13 +48,23 @@ expected None None held = held
 expected None (Some original) held = Some original.value
 expected (Some entry) original held = if entry.removed then None else Some entry.cookie.value
 
--- The client of calls, of which those with the outcome true were made on an empty jar.
-pub record Agrees (now : DateTime) (calls : List JarCall) (outcomes : List Bool) (jar : JarState) (client : Values) : Type 0 where
-  -- whether the calls are fit or not, it is the one that held each name's last original and read the delta's texts: in any order, and with any repetition
-  pub in_any_order : (texts : List (List ℕ)) → AreDeltaTexts jar.delta texts → client ≡ after_texts now texts (holds_originals (changes_of outcomes calls))
-  -- where all calls are fit, it has at each name that no call removes by force the value that the jar shows there
-  pub agrees : All (IsFitCall now) (accepted outcomes calls) → (name : Name) → is_forced name (changes_of outcomes calls) ≡ false → get client name ≡ value_of (view jar name)
-  -- and so at a name that was removed by force, but where neither map has the name: there it has the value of the last original, if there was one
-  pub forced : All (IsFitCall now) (accepted outcomes calls) → (name : Name) → get client name ≡ expected (get jar.delta name) (get jar.originals name) (value_of (last_original name (reverse (changes_of outcomes calls))))
-  -- where all calls are fit, it holds nothing under the empty name, so that its header reads back as its map (`Client::header`)
+-- The client of calls, of which the accepted ones, those with the outcome true, were made on an empty jar.
+pub record Agrees (now : DateTime) (calls : List JarCall) (outcomes : List Bool) (jar : JarState) (client : Values)
+    : Type 0 where
+  -- whether the calls are fit or not, it is the one that held each name's last accepted original and read the delta's
+  -- texts: in any order, and with any repetition
+  pub in_any_order : (texts : List (List ℕ)) → AreDeltaTexts jar.delta texts
+      → client ≡ after_texts now texts (holds_originals (changes_of outcomes calls))
+  -- where the accepted calls are fit, it has at each name that none of them removes by force the value that the jar
+  -- shows there
+  pub agrees : All (IsFitCall now) (accepted outcomes calls)
+      → (name : Name) → is_forced name (changes_of outcomes calls) ≡ false
+      → get client name ≡ value_of (view jar name)
+  -- and so at a name that one of them removes by force, but where neither map has the name: there it has the value of
+  -- the last accepted original, if there was one
+  pub forced : All (IsFitCall now) (accepted outcomes calls) → (name : Name)
+      → get client name ≡ expected (get jar.delta name) (get jar.originals name)
+      (value_of (last_original name (reverse (changes_of outcomes calls))))
+  -- where the accepted calls are fit, it holds nothing under the empty name, so that its header reads back as its map
+  -- (`Client::header`)
   pub named : All (IsFitCall now) (accepted outcomes calls) → get client [] ≡ None

@@ -22,23 +22,31 @@ jar_for client = with_originals (header_cookies true (header_text client)) empty
 abbrev pub IsFitChange : DateTime → JarCall → Type 0
 IsFitChange now call = IsFitCall now call × (is_change call ≡ true)
 
--- The client after a request, for the client before it, the request's calls and its jar.
-pub record RoundAgrees (now : DateTime) (before : Values) (calls : List JarCall) (outcomes : List Bool) (jar : JarState) (client : Values) : Type 0 where
-  -- whether the calls are fit or not, it is the one before, which read the delta's texts: in any order, and with any repetition
-  pub in_any_order : (texts : List (List ℕ)) → AreDeltaTexts jar.delta texts → client ≡ after_texts now texts before
-  -- where each call is fit and a change, it has at every name the value that the jar shows there
-  pub agrees : All (IsFitChange now) (accepted outcomes calls) → (name : Name) → get client name ≡ value_of (view jar name)
-  -- whether the calls are fit or not, it holds nothing under the empty name, so that its header reads back as its map (`Client::header`)
+-- The client after a request, for the client before it, the request's calls with their outcomes, and its jar. A call
+-- that was refused counts as not made.
+pub record RoundAgrees (now : DateTime) (before : Values) (calls : List JarCall) (outcomes : List Bool) (jar : JarState)
+    (client : Values) : Type 0 where
+  -- whether the calls are fit or not, it is the one before, which read the delta's texts: in any order, and with any
+  -- repetition
+  pub in_any_order : (texts : List (List ℕ)) → AreDeltaTexts jar.delta texts
+      → client ≡ after_texts now texts before
+  -- where each accepted call is fit and a change, it has at every name the value that the jar shows there
+  pub agrees : All (IsFitChange now) (accepted outcomes calls) → (name : Name)
+      → get client name ≡ value_of (view jar name)
+  -- whether the calls are fit or not, it holds nothing under the empty name, so that its header reads back as its map
+  -- (`Client::header`)
   pub named : get client [] ≡ None
 
 -- What a request's calls came to, for the client before it.
 pub record IsRound (now : DateTime) (before : Values) (calls : List JarCall) (played : Played) : Type 0 where
-  -- one outcome a call; a call that is never refused has the outcome true, and one that is always refused has false
+  -- one outcome a call, true where it was accepted; a call that is never refused has the outcome true, and one that is
+  -- always refused has false
   pub count : length played.outcomes.items ≡ length calls
   pub certain : AreTaken calls played.outcomes.items
   pub refused : AreRefused calls played.outcomes.items
   -- its jar had these originals at first: each name's value as the client held it, with nothing else set
-  pub originals : (name : Name) → get (jar_for before).originals name ≡ option_map (plain name) (get before name)
+  pub originals : (name : Name)
+      → get (jar_for before).originals name ≡ option_map (plain name) (get before name)
   -- and is what the accepted calls made of it
   pub jar : played.jar ≡ after_all (changes_of played.outcomes.items calls) (jar_for before)
   -- its client agrees with its jar
