@@ -1,5 +1,5 @@
 -- Whether an expiry is later, told by whole seconds.
-use Rattle.std.proofs.Common.{◌≡◌, ℕ, ◌<◌, true, Some, None, refl, ap, ◌∙◌, arith, ℤ, pos, ◌+ℤ◌, ◌*ℤ◌}
+use Rattle.std.proofs.Common.{◌≡◌, ℕ, ◌<◌, Some, ap, ◌∙◌, arith, ℤ, pos, ◌+ℤ◌, ◌*ℤ◌}
 use Rattle.std.specs.Prelude.{int_lt}
 use Rattle.jiff.specs.Types.{DateTime}
 use Rattle.jiff.specs.Words.{civil_nanos, civil_seconds}
@@ -26,7 +26,3 @@ is_after-seconds m now =
 pub is_later-seconds : (e : Expiration) (m now : DateTime) → datetime_of e ≡ Some m → is_later (Some e) now ≡ int_lt (civil_seconds now) (civil_seconds m)
 is_later-seconds (expiration.AtDateTime m') m now e = let same : m' ≡ m = cc in ap (λ d. is_later (Some (expiration.AtDateTime d)) now) same ∙ is_after-seconds m now
 is_later-seconds expiration.Session m now e = absurd cc
-
-pub is_later-session : (e : Expiration) (now : DateTime) → datetime_of e ≡ None → is_later (Some e) now ≡ true
-is_later-session (expiration.AtDateTime m) now e = absurd cc
-is_later-session expiration.Session now e = refl
