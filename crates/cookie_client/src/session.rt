@@ -187,15 +187,23 @@ fn answer(alloc: Global, now: DateTime, bytes: &[u8]) -> Result<String, RunError
     }
 }
 
-/// Plays the program's session: reads the input to its end, works out the whole text, and then writes it.
+/// Plays the program's session: reads the input to its end, works out the whole text, and then writes it. The moment is
+/// a date in UTC, in one of the four forms that `cookie::read_date` takes, of the year 100 or later.
+///
+/// Fails with `BadMoment` before anything is read. Then come `Input` where a read fails, `BadInput` where the bytes
+/// aren't UTF-8, `BadLine` at the first bad line, counted from 1, and `Output` where a write fails, an interrupted one
+/// too, or takes nothing. `OutOfMemory` may stand in the place of any but `BadMoment`, before anything is written. After
+/// `Output` a beginning of the text was written that isn't the whole, after any other failure nothing. It doesn't flush.
 pub fn run<R: Read, W: Write>(
     alloc: Global,
     moment: &str,
     input: &mut R,
     output: &mut W,
 ) -> Result<(), RunError>
-    ensures played { IsPlayed moment.now (IsRead (R.remaining input.old) (R.remaining input.new)) (W.contents output.old) (W.contents output.new) result }
-    ensures bad_moment { moment_of moment.now ≡ None → (result ≡ Err errors.BadMoment) × (input.new ≡ input.old) × (output.new ≡ output.old) }
+    ensures played { IsPlayed moment.now (IsRead (R.remaining input.old) (R.remaining input.new))
+        (W.contents output.old) (W.contents output.new) result }
+    ensures bad_moment { moment_of moment.now ≡ None
+        → (result ≡ Err errors.BadMoment) × (input.new ≡ input.old) × (output.new ≡ output.old) }
 {
     let Some(now) = moment_of(moment) else {
         return Err(RunError::BadMoment);

@@ -1,6 +1,7 @@
 //! All of a reader's bytes, and a text written whole.
-ghost use Rattle.std.specs.Prelude.{◌≡◌, ℕ, ◌⊎◌, IfOk, IfErr, OnOk, take};
+ghost use Rattle.std.specs.Prelude.{◌≡◌, ◌⊎◌, IfOk, IfErr, OnOk};
 ghost use Rattle.std.specs.Io.KnownBytes.{Appends, Consumes, IsAtEnd};
+ghost use Rattle.cookie_client.specs.Run.{StopsShort};
 ghost use Rattle.cookie_client.specs.declared.run_error.RunError.TheVariants as errors;
 
 use crate::run_error::RunError;
@@ -26,10 +27,12 @@ pub(crate) fn read_all<R: Read>(alloc: Global, input: &mut R) -> Result<Vec<u8>,
     }
 }
 
-/// Writes the text, going on behind a short write. After an error a beginning of it was written.
+/// Writes the text, going on behind a short write. It fails where a write fails or takes nothing, and then a beginning
+/// of the text was written that isn't the whole.
 pub(crate) fn write_text<W: Write>(output: &mut W, text: &[u8]) -> Result<(), RunError>
     ensures ok { OnOk result (Appends (W.contents output.old) (W.contents output.new) text.now) }
-    ensures err { IfErr result (λ e. (e ≡ errors.Output) × (n : ℕ) × Appends (W.contents output.old) (W.contents output.new) (take n text.now)) }
+    ensures err { IfErr result (λ e. (e ≡ errors.Output)
+        × StopsShort (W.contents output.old) (W.contents output.new) text.now) }
 {
     let mut written = 0;
     while written < text.len() {
