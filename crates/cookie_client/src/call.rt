@@ -17,7 +17,7 @@ pub enum JarCall<'k> {
     AddOriginal(Cookie<'static>),
     /// Adds a cookie.
     Add(Cookie<'static>),
-    /// Removes the cookie's name at a moment in UTC.
+    /// Removes the cookie's name at a moment in UTC (RFC 6265 3.1).
     Remove(Cookie<'static>, DateTime),
     /// Removes a name from originals and changes alike.
     ForceRemove(String),
@@ -25,10 +25,11 @@ pub enum JarCall<'k> {
     ResetDelta,
     /// A call through the child jar of a prefix.
     Prefixed(PrefixKind, ChildCall),
-    /// A call through the signed child jar of the key.
+    /// A call through the signed child jar of the key. The key must be random.
     Signed(&'k Key, ChildCall),
-    /// A call through the private child jar of the key. An addition is sealed under the nonce, under which nothing else
-    /// may be sealed with that key.
+    /// A call through the private child jar of the key. An addition is sealed under the nonce of twelve bytes, which a
+    /// removal doesn't use. The key must be random, and nothing else may ever be sealed with it under the same nonce
+    /// (SP 800-38D 8): no contract sees to that. Of random nonces at most 2^32 may be used with one key (8.3).
     Private(&'k Key, [u8; 12], ChildCall),
 }
 

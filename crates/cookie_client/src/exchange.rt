@@ -23,17 +23,26 @@ use std::alloc::{AllocError, Global};
 /// What came of calls: the jar, the client that followed it, and which calls were accepted.
 #[derive(Drop)]
 pub struct Played {
+    /// The jar after the accepted calls.
     pub jar: CookieJar,
+    /// The client after it has read the jar's delta.
     pub client: Client,
+    /// One outcome a call, in their order: true where it was accepted. A refused call counts as not made.
     pub outcomes: Vec<bool>,
 }
 
 /// Makes the calls on a new jar, and has a client follow it: one that holds the value of each name's last accepted
-/// original as it was stored, and then reads the encoded text of each cookie of the delta at the moment `now` in UTC.
+/// original as it was stored, and then reads the encoded text of each cookie of the delta at the moment `now` in UTC
+/// (RFC 6265 5.3).
+///
+/// Where each accepted call is fit at that moment (`JarCall::is_fit`), the client has at every name the value that the
+/// jar shows, except at a name that one of them removes by force.
 ///
 /// The texts stand in the order of the delta's walk. The text that is read as the i-th is number `pick[i]` of those
-/// that are left, modulo their count, or number 0 where `pick` has ended. It fails for want of memory alone, where that
-/// is wanted outside the calls.
+/// that are left, modulo their count, or number 0 where `pick` has ended.
+///
+/// The calls are made as by `replay`, so a call that is refused is an outcome and no failure. It fails for want of
+/// memory alone, where that is wanted outside the calls, and then answers `ClientError::OutOfMemory` and nothing else.
 pub fn mirror(
     alloc: Global,
     calls: &[JarCall<'_>],
@@ -43,8 +52,10 @@ pub fn mirror(
     ensures count { IfOk result (λ p. length p.outcomes.items ≡ length calls.now) }
     ensures certain { IfOk result (λ p. AreTaken calls.now p.outcomes.items) }
     ensures refused { IfOk result (λ p. AreRefused calls.now p.outcomes.items) }
-    ensures jar { IfOk result (λ p. p.jar ≡ after_all (changes_of p.outcomes.items calls.now) empty_jar) }
-    ensures looks_back { IfOk result (λ p. LooksBack (reverse (changes_of p.outcomes.items calls.now)) p.jar) }
+    ensures jar { IfOk result (λ p.
+        p.jar ≡ after_all (changes_of p.outcomes.items calls.now) empty_jar) }
+    ensures looks_back { IfOk result (λ p.
+        LooksBack (reverse (changes_of p.outcomes.items calls.now)) p.jar) }
     ensures agreement { IfOk result (λ p. Agrees now calls.now p.outcomes.items p.jar p.client) }
 {
     known_calls(calls);

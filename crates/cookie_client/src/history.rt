@@ -110,18 +110,20 @@ fn is_accepted(alloc: Global, jar: &mut CookieJar, call: &JarCall<'_>) -> bool
     play(alloc, jar, call).is_ok()
 }
 
-/// Makes the calls in order, and answers which were accepted.
+/// Makes the calls in order, and answers which were accepted: one outcome a call, true where it was.
 ///
 /// A call that is refused, or whose cookie finds no memory to be copied, has the outcome false and changes nothing.
 /// Forced removals and resets are always accepted; an addition through a private jar that is too long to be sealed never
-/// is. It fails only where the list of outcomes finds no memory, before any call is made, and then the jar is as before.
+/// is. It fails only where the list of outcomes finds no memory, before any call is made: then it answers
+/// `ClientError::OutOfMemory`, and the jar is as before.
 pub fn replay(
     alloc: Global,
     jar: &mut CookieJar,
     calls: &[JarCall<'_>],
 ) -> Result<Vec<bool>, ClientError>
     ensures count { IfOk result (λ outcomes. length outcomes.items ≡ length calls.now) }
-    ensures jar { IfOk result (λ outcomes. jar.new ≡ after_all (changes_of outcomes.items calls.now) jar.old) }
+    ensures jar { IfOk result (λ outcomes.
+        jar.new ≡ after_all (changes_of outcomes.items calls.now) jar.old) }
     ensures certain { IfOk result (λ outcomes. AreTaken calls.now outcomes.items) }
     ensures refused { IfOk result (λ outcomes. AreRefused calls.now outcomes.items) }
     ensures err { OnErr result (jar.new ≡ jar.old) }

@@ -36,7 +36,8 @@ fn signed_alone(alloc: Global, key: &Key, cookie: &Cookie<'static>) -> Result<Co
     Ok(jar)
 }
 
-/// Has a client hold the cookie's value as the private child jar of the key stores it under this nonce.
+/// Has a client hold the cookie's value as the private child jar of the key stores it under this nonce: it is the same
+/// text sealed again, so no other text is sealed under that nonce.
 pub(crate) fn hold_sealed(
     alloc: Global,
     client: &mut Client,

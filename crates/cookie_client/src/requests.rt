@@ -16,12 +16,18 @@ use cookie::CookieJar;
 use jiff::civil::DateTime;
 use std::alloc::Global;
 
-/// Makes the calls of each request on a jar of its own, and has one client follow them all.
+/// Makes the calls of each request on a jar of its own, and has one client follow them all (RFC 6265 5.3, 5.4). There
+/// is one `Played` for each request, in their order.
 ///
 /// The client holds nothing at first. The jar of a request is new: its originals are the cookies of the client's
 /// header, split and decoded, with a name and a value alone. The calls are made as by `replay`, and the client then
-/// reads the delta as in `mirror`, with `pick` from its start. It fails for want of memory alone, where that is wanted
-/// outside the calls.
+/// reads the delta as in `mirror`, at the one moment `now` in UTC, with `pick` from its start.
+///
+/// Where each accepted call of a request is fit at that moment (`JarCall::is_fit`) and a change (`JarCall::is_change`),
+/// the client of that request has at every name the value that its jar shows.
+///
+/// A call that is refused is an outcome and no failure. It fails for want of memory alone, where that is wanted outside
+/// the calls, and then answers `ClientError::OutOfMemory` and nothing else.
 pub fn rounds(
     alloc: Global,
     requests: &[Request<'_, '_>],
