@@ -1,5 +1,5 @@
 -- Ages that are printed and read.
-use Rattle.std.proofs.Common.{◌≡◌, true, false, ℕ, ℤ, pos, negsuc, neg_ℤ, ◌*ℤ◌, ◌/◌, ◌<◌, ◌≤◌, ◌^◌, eqb, List, [], ◌∷◌, length, Some, option_map, refl, sym, ap, ◌∙◌, zero, suc, arith}
+use Rattle.std.proofs.Common.{◌≡◌, true, false, ℕ, ℤ, pos, negsuc, neg_ℤ, ◌*ℤ◌, ◌/◌, ◌<◌, ◌≤◌, ◌^◌, eqb, List, [], ◌∷◌, Some, option_map, refl, sym, ap, ◌∙◌, zero, suc, arith}
 use Rattle.std.specs.Prelude.{int_div, int_lt}
 use Rattle.std.specs.Char.{is_ascii_digit}
 use Rattle.std.specs.Fmt.{signed_decimal, decimal}
@@ -10,10 +10,10 @@ use Rattle.std.proofs.lemmas.Bool.Decides.{nat_tests}
 use Rattle.std.proofs.lemmas.Fmt.{digits_decimal, digits_value-decimal, decimal_nonempty}
 use Rattle.jiff.proofs.SpanFacts.{signed_arith}
 use Rattle.jiff.specs.Words.{IsDurationNanos}
-use Rattle.cookie_core.specs.Attributes.{max_age_seconds, seconds_of_digits, nanos_of_seconds}
+use Rattle.cookie_core.specs.Attributes.{max_age_seconds, nanos_of_seconds}
 use Rattle.cookie_core.specs.Normal.{whole_age}
 use Rattle.cookie_core.specs.Text.{seconds_text}
-use Rattle.cookie_core.proofs.AgeLemmas.{ascii_digits}
+use Rattle.cookie_core.proofs.AgeLemmas.{ascii_digits, seconds_of_digits-some}
 use Rattle.cookie_core.proofs.ByteLemmas.{all-weaker}
 use Rattle.cookie_core.proofs.EscapeTextLemmas.{is_token}
 
@@ -30,18 +30,11 @@ decimal_is_tokens n h = all-weaker is_ascii_digit is_token digit_is_token (decim
 
 -- ---- the printed seconds
 
-seconds_of_digits_value : (ds : List ℕ) → 0 < length ds → digits_value 10 ds ≤ 9223372036854775807 → seconds_of_digits ds ≡ digits_value 10 ds
-seconds_of_digits_value [] some small = absurd (omega arith)
-seconds_of_digits_value (d ∷ ds) some small = omega arith
-
 no_minus : (ds : List ℕ) → list_all is_ascii_digit ds ≡ true → starts_with eqb ds (45 ∷ []) ≡ false
 no_minus [] h = refl
 no_minus (d ∷ ds) h =
     let k = (and_parts (is_ascii_digit d) (list_all is_ascii_digit ds) h).0 in
     grind (arith, nat_tests, k)
-
-read_digits : (ds : List ℕ) → list_all is_ascii_digit ds ≡ true → max_age_seconds ds ≡ Some (seconds_of_digits ds)
-read_digits ds h = rw (no_minus ds h, h) refl
 
 -- a number of seconds below zero is read as zero
 abbrev natural : ℤ → ℕ
@@ -55,11 +48,12 @@ CanBeSeconds (negsuc k) = k ≤ 9223372036854775807
 
 read_seconds : (s : ℤ) → CanBeSeconds s → max_age_seconds (signed_decimal s) ≡ Some (natural s)
 read_seconds (pos k) h =
-    let d = decimal_is_digits k (omega arith) in
-    let v : digits_value 10 (decimal k) ≡ k = digits_value-decimal ascii_digits k (omega arith) in
-    let some = decimal_nonempty k (omega arith) in
-    read_digits (decimal k) d ∙ ap Some (seconds_of_digits_value (decimal k) some (rw v h) ∙ v)
-read_seconds (negsuc k) h = rw (decimal_is_digits (suc k) (omega arith)) refl
+    let digits = decimal_is_digits k (omega arith) in
+    let value : digits_value 10 (decimal k) ≡ k = digits_value-decimal ascii_digits k (omega arith) in
+    let some = seconds_of_digits-some (decimal k) (decimal_nonempty k (omega arith)) digits in
+    rw (no_minus (decimal k) digits) (some ∙ ap Some (rw value (omega arith)))
+read_seconds (negsuc k) h =
+    rw (seconds_of_digits-some (decimal (suc k)) (decimal_nonempty (suc k) (omega arith)) (decimal_is_digits (suc k) (omega arith))) refl
 
 neg_fits : (q : ℕ) → q ≤ 9223372036854775808 → CanBeSeconds (neg_ℤ (pos q))
 neg_fits zero h = omega arith

@@ -26,16 +26,16 @@ IsAttribute p k (Some v) = IsPair p k v
 abbrev pub IsWord : List ℕ → List ℕ → Type 0
 IsWord t w = str_to_ascii_lowercase t ≡ w
 
--- the seconds of an age of these digits: the greatest where there are none or the number is greater
-abbrev pub seconds_of_digits : List ℕ → ℕ
-seconds_of_digits [] = 9223372036854775807
-seconds_of_digits (d ∷ ds) = min (digits_value 10 (d ∷ ds)) 9223372036854775807
+-- the seconds of an age of these digits, where there is a digit and nothing else: no more than the greatest
+abbrev pub seconds_of_digits : List ℕ → Option ℕ
+seconds_of_digits [] = None
+seconds_of_digits (d ∷ ds) =
+    if list_all is_ascii_digit (d ∷ ds) then Some (min (digits_value 10 (d ∷ ds)) 9223372036854775807) else None
 
--- the seconds that the value of `max-age` gives, if it is valid (RFC 6265 5.2.2): none below zero
+-- the seconds that the value of `max-age` gives, if it is valid (RFC 6265 5.2.2): one leading `-` is taken off, and makes them zero
 abbrev pub max_age_seconds : List ℕ → Option ℕ
 max_age_seconds v =
-    if starts_with eqb v (45 ∷ []) then (if list_all is_ascii_digit (drop 1 v) then Some 0 else None)
-    else (if list_all is_ascii_digit v then Some (seconds_of_digits v) else None)
+    if starts_with eqb v (45 ∷ []) then option_map (λ _. 0) (seconds_of_digits (drop 1 v)) else seconds_of_digits v
 
 -- the age of so many seconds, in nanoseconds
 abbrev pub nanos_of_seconds : ℕ → ℤ

@@ -55,32 +55,28 @@ fn are_digits(text: &str) -> bool
     text.as_bytes().iter().all(|byte| byte.is_ascii_digit())
 }
 
-/// The number that the digits give, or the greatest.
-fn seconds(digits: &str) -> i64
-    requires { IsTrue (list_all is_ascii_digit digits.now) }
-    ensures { result ≡ pos (seconds_of_digits digits.now) }
+/// The seconds that the digits give, at most the greatest; `None` where there is no digit, or anything else.
+fn seconds(digits: &str) -> Option<i64>
+    ensures { result ≡ option_map pos (seconds_of_digits digits.now) }
 {
+    if digits.is_empty() || !are_digits(digits) {
+        return None;
+    }
     match digits.parse::<i64>() {
-        Ok(number) => number,
-        Err(_) => i64::MAX,
+        Ok(number) => Some(number),
+        Err(_) => Some(i64::MAX),
     }
 }
 
+/// The age that the value of `Max-Age` gives, none below zero (RFC 6265 5.2.2).
 fn max_age(value: &str) -> Option<SignedDuration>
     ensures { option_map signed_nanos result ≡ option_map nanos_of_seconds (max_age_seconds value.now) }
 {
     if value.starts_with("-") {
-        return if are_digits(&value[1..]) {
-            Some(SignedDuration::ZERO)
-        } else {
-            None
-        };
+        let _seconds = seconds(&value[1..])?;
+        return Some(SignedDuration::ZERO);
     }
-    if are_digits(value) {
-        Some(SignedDuration::from_secs(seconds(value)))
-    } else {
-        None
-    }
+    Some(SignedDuration::from_secs(seconds(value)?))
 }
 
 /// The key of an attribute.

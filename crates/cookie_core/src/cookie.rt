@@ -275,7 +275,8 @@ impl<'c> Cookie<'c> {
         }
     }
 
-    /// The age from now on after which it expires, if it is set.
+    /// The age from now on after which it expires, if it is set. One that was read is in whole seconds, from zero to
+    /// `i64::MAX` of them (RFC 6265 5.2.2).
     pub fn max_age(&self) -> Option<SignedDuration>
         ensures { option_map signed_nanos result ≡ self.now.fields.max_age }
     {
