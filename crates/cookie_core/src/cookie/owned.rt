@@ -45,8 +45,8 @@ impl<'c> Cookie<'c> {
     /// Reads a text as a cookie, its name and value without their escapes.
     ///
     /// It wants memory only where one of the two holds an escape, and then neither is lent. It refuses a text with
-    /// no `=` in its first piece, an empty name, bytes that aren't UTF-8, and want of memory, in that order. The
-    /// encoded text of a cookie is read as its normal form.
+    /// no `=` in its first piece, then an empty name, and then, in no fixed order, bytes that aren't UTF-8 and want
+    /// of memory. The encoded text of a cookie is read as its normal form.
     pub fn parse_encoded(alloc: Global, text: &'c str) -> Result<Cookie<'c>, ParseError>
         ensures reads { ReadsDecoded text.now (result_map_both (λ c. c.fields) (λ e. e) result) }
         ensures value { AgreesInMemory true text.now (result_map_both (λ c. c.fields) (λ e. e) result) }
