@@ -15,8 +15,8 @@ ReadsInMemory-item true true t o h = h
 
 -- each item of each splitter: the answer is that of `cookie_of`, unless memory was wanting
 pub NextCookie-agrees : (s s' : SplitView) (o : Result CookieView ParseError) → NextCookie s (Some o) s' → (t : List ℕ) × (s.texts ≡ t ∷ s'.texts) × AgreesInMemory s.is_decoded t (fields_of o)
-NextCookie-agrees s s' o (t, e, h, _, _, _) =
-    (t, e, AgreesInMemory-reads s.is_decoded t (fields_of o) (ReadsInMemory-item s.is_decoded s.is_owned t (fields_of o) h))
+NextCookie-agrees s s' o (t, e, item, _) =
+    (t, e, AgreesInMemory-reads s.is_decoded t (fields_of o) (ReadsInMemory-item s.is_decoded s.is_owned t (fields_of o) item.reads))
 
 -- an item of a decoding splitter
 pub NextCookie-decodes : (s s' : SplitView) (o : Result CookieView ParseError) → s.is_decoded ≡ true → NextCookie s (Some o) s' → (t : List ℕ) × (s.texts ≡ t ∷ s'.texts) × AgreesInMemory true t (fields_of o)
@@ -26,14 +26,14 @@ NextCookie-decodes s s' o d h =
 
 -- an item of the plain splitter
 pub NextCookie-plain : (s s' : SplitView) (o : Result CookieView ParseError) → s.is_decoded ≡ false → s.is_owned ≡ false → NextCookie s (Some o) s' → (t : List ℕ) × (s.texts ≡ t ∷ s'.texts) × Reads false t (fields_of o) × IfOk o (λ c. c.raw ≡ all_lent c.fields)
-NextCookie-plain s s' o d w (t, e, h, l, _, _) =
-    let h' : ReadsItem false false t (fields_of o) = rw (d, w) at h in
-    let l' : IfOk o (LendsItem false false t) = rw (d, w) at l in
-    (t, e, h', l')
+NextCookie-plain s s' o d w (t, e, item, _) =
+    let reads : ReadsItem false false t (fields_of o) = rw (d, w) at item.reads in
+    let lends : IfOk o (LendsItem false false t) = rw (d, w) at item.lends in
+    (t, e, reads, lends)
 
 -- an item of the decoding splitter of a borrowed text
 pub NextCookie-encoded : (s s' : SplitView) (o : Result CookieView ParseError) → s.is_decoded ≡ true → s.is_owned ≡ false → NextCookie s (Some o) s' → (t : List ℕ) × (s.texts ≡ t ∷ s'.texts) × ReadsDecoded t (fields_of o) × IfOk o (λ c. LendsDecoded t c.raw)
-NextCookie-encoded s s' o d w (t, e, h, l, _, _) =
-    let h' : ReadsItem true false t (fields_of o) = rw (d, w) at h in
-    let l' : IfOk o (LendsItem true false t) = rw (d, w) at l in
-    (t, e, h', l')
+NextCookie-encoded s s' o d w (t, e, item, _) =
+    let reads : ReadsItem true false t (fields_of o) = rw (d, w) at item.reads in
+    let lends : IfOk o (LendsItem true false t) = rw (d, w) at item.lends in
+    (t, e, reads, lends)

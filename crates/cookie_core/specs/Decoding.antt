@@ -1,5 +1,5 @@
 -- What a text is read as where memory can be wanting, and what a decoded cookie lends (RFC 6265 5.2, RFC 3986 2.1).
-use Rattle.std.specs.Prelude.{◌≡◌, ◌≢◌, ℕ, ◌||◌, Bool, true, false, List, [], Option, Some, None, option_map, Result, Err, IsUtf8, drop, if◌then◌else◌}
+use Rattle.std.specs.Prelude.{◌≡◌, ◌≢◌, ℕ, ◌||◌, Bool, true, false, List, [], Option, Some, None, option_map, Result, Err, IsOk, IsUtf8, drop, if◌then◌else◌}
 use Rattle.std.specs.Result.{result_ok}
 use Rattle.std.specs.Str.{is_utf8, valid_up_to, error_len}
 use Rattle.std.specs.Str.Lossy.{utf8_valid_len, utf8_error_len}
@@ -49,6 +49,10 @@ NamesFault t _ = Unit {0}
 -- the name and the value are both own texts: one of them holds an escape
 abbrev pub are_decoded : Record → Bool
 are_decoded r = has_escape r.name || has_escape r.value
+
+-- a text that is a cookie is read, whatever memory there is, where neither the name nor the value holds an escape
+abbrev pub IsCertain : {C : Type 0} → List ℕ → Result C ParseError → Type 0
+IsCertain t o = (r : Record) → cookie_of false t ≡ Some r → are_decoded r ≡ false → IsOk o
 
 -- what a decoded cookie lends, of the record that its text has as it stands
 abbrev pub lent_decoded : Record → RawForms

@@ -1,7 +1,7 @@
 -- What the items of a header are; `texts_left`, `ReadsItem` and `LendsItem` are inner words.
 use Rattle.std.specs.Prelude.{◌≡◌, ℕ, Bool, true, false, List, [], ◌∷◌, Option, Some, None, Result, IfOk, IfErr}
 use Rattle.std.specs.Result.{result_map_both}
-use Rattle.cookie_core.specs.Decoding.{ReadsInMemory, LendsDecoded, NamesFault}
+use Rattle.cookie_core.specs.Decoding.{ReadsInMemory, LendsDecoded, NamesFault, IsCertain}
 use Rattle.cookie_core.specs.Header.{header_texts}
 use Rattle.cookie_core.specs.Reads.{Reads}
 use Rattle.cookie_core.specs.Record.{Record, CookieView, all_lent, no_raw_forms}
@@ -50,8 +50,14 @@ pub record IsAlike (s s' : SplitView) : Type 0 where
   pub is_decoded : s'.is_decoded ≡ s.is_decoded
   pub is_owned : s'.is_owned ≡ s.is_owned
 
--- the next item is what the first text is read as, whether it is read or refused; with no text there is none, and none is left
+-- an item is what its text is read as; want of memory comes only where the cookie gets texts of its own, or an escape is undone
+pub record IsItem (s : SplitView) (t : List ℕ) (o : Result CookieView ParseError) : Type 0 where
+  pub reads : ReadsItem s.is_decoded s.is_owned t (result_map_both (λ c. c.fields) (λ e. e) o)
+  pub fault : IfErr o (NamesFault t)
+  pub certain : s.is_owned ≡ false → IsCertain t o
+  pub lends : IfOk o (LendsItem s.is_decoded s.is_owned t)
+
+-- the next item is that of the first text, whether it is read or refused; with no text there is none, and none is left
 abbrev pub NextCookie : SplitView → Option (Result CookieView ParseError) → SplitView → Type 0
 NextCookie s None s' = (s.texts ≡ []) × (s'.texts ≡ [])
-NextCookie s (Some o) s' =
-    (t : List ℕ) × (s.texts ≡ t ∷ s'.texts) × ReadsItem s.is_decoded s.is_owned t (result_map_both (λ c. c.fields) (λ e. e) o) × IfOk o (LendsItem s.is_decoded s.is_owned t) × IsAlike s s' × IfErr o (NamesFault t)
+NextCookie s (Some o) s' = (t : List ℕ) × (s.texts ≡ t ∷ s'.texts) × IsItem s t o × IsAlike s s'

@@ -3,7 +3,7 @@ ghost use Rattle.std.specs.Prelude.{false, true, ◌≡◌, ◌↔◌, Some, Non
 ghost use Rattle.std.specs.Result.{result_map_both, result_ok};
 ghost use Rattle.cookie_core.specs.CookieOf.{cookie_of};
 ghost use Rattle.cookie_core.specs.CookieStr.{source_bytes};
-ghost use Rattle.cookie_core.specs.Decoding.{ReadsInMemory, ReadsDecoded, AgreesInMemory, LendsDecoded, NamesFault, are_decoded};
+ghost use Rattle.cookie_core.specs.Decoding.{ReadsInMemory, ReadsDecoded, AgreesInMemory, LendsDecoded, NamesFault, IsCertain};
 ghost use Rattle.cookie_core.specs.DecodingCode.{lent_decoded_forms};
 ghost use Rattle.cookie_core.specs.Laws.{IsSettled, IsSettledAtOnce};
 ghost use Rattle.cookie_core.specs.Memory.{Gives};
@@ -52,7 +52,7 @@ impl<'c> Cookie<'c> {
         ensures value { AgreesInMemory true text.now (result_map_both (λ c. c.fields) (λ e. e) result) }
         ensures agrees { (r : Record) → (cookie_of true text.now ≡ Some r) ↔ Reads true text.now (Ok r) }
         ensures fault { IfErr result (NamesFault text.now) }
-        ensures certain { (r : Record) → cookie_of false text.now ≡ Some r → are_decoded r ≡ false → IsOk result }
+        ensures certain { IsCertain text.now result }
         ensures raw { IfOk result (λ c. LendsDecoded text.now c.raw) }
         ensures normal { (r : Record) → IsCookie r → CanBeRead r → text.now ≡ cookie_text true false r → Gives OutOfMemory result (λ c. c.fields ≡ normal r) }
         ensures pair { (r : Record) → IsNamed r → text.now ≡ cookie_text true true r → Gives OutOfMemory result (λ c. c.fields ≡ plain r.name r.value) }
@@ -67,7 +67,7 @@ impl<'c> Cookie<'c> {
         ensures reads { ReadsDecoded (string_bytes text) (result_map_both (λ c. c.fields) (λ e. e) result) }
         ensures value { AgreesInMemory true (string_bytes text) (result_map_both (λ c. c.fields) (λ e. e) result) }
         ensures fault { IfErr result (NamesFault (string_bytes text)) }
-        ensures certain { (r : Record) → cookie_of false (string_bytes text) ≡ Some r → are_decoded r ≡ false → IsOk result }
+        ensures certain { IsCertain (string_bytes text) result }
         ensures raw { IfOk result (λ c. c.raw ≡ no_raw_forms) }
         ensures normal { (r : Record) → IsCookie r → CanBeRead r → string_bytes text ≡ cookie_text true false r → Gives OutOfMemory result (λ c. c.fields ≡ normal r) }
         ensures pair { (r : Record) → IsNamed r → string_bytes text ≡ cookie_text true true r → Gives OutOfMemory result (λ c. c.fields ≡ plain r.name r.value) }
@@ -78,7 +78,7 @@ impl<'c> Cookie<'c> {
     fn read_encoded(alloc: Global, source: Source<'c>) -> Result<Cookie<'c>, ParseError>
         ensures reads { ReadsDecoded (source_bytes source.entry) (result_map_both (λ c. c.fields) (λ e. e) result) }
         ensures fault { IfErr result (NamesFault (source_bytes source.entry)) }
-        ensures certain { (r : Record) → cookie_of false (source_bytes source.entry) ≡ Some r → are_decoded r ≡ false → IsOk result }
+        ensures certain { IsCertain (source_bytes source.entry) result }
         ensures raw { IfOk result (λ c. (r : Record) × (cookie_of false (source_bytes source.entry) ≡ Some r) × (c.raw ≡ lent_decoded_forms source.entry r)) }
     {
         let layout = match Layout::of(source.as_str()) {

@@ -8,8 +8,11 @@ returns-clause-steps c =
     rw (← c.self.view_is) (
       cut_out (header_bytes c.self.inside.header) c.in_ok-piece.piece,
       ap (texts_in (header_bytes c.self.inside.header)) c.in_ok-self.was ∙ first.2,
-      c.item.ensures.reads,
-      c.item.ensures.raw,
+      record {
+        reads = c.item.ensures.reads;
+        fault = c.item.ensures.fault;
+        certain = c.item.ensures.certain;
+        lends = c.item.ensures.raw;
+      },
       record { is_decoded = refl; is_owned = refl },
-      c.item.ensures.fault,
     )
