@@ -70,7 +70,8 @@ fn seconds(digits: &str) -> Option<i64>
 
 /// The age that the value of `Max-Age` gives, none below zero (RFC 6265 5.2.2).
 fn max_age(value: &str) -> Option<SignedDuration>
-    ensures { option_map signed_nanos result ≡ option_map nanos_of_seconds (max_age_seconds value.now) }
+    ensures { option_map signed_nanos result
+        ≡ option_map nanos_of_seconds (max_age_seconds value.now) }
 {
     if value.starts_with("-") {
         let _seconds = seconds(&value[1..])?;

@@ -86,7 +86,8 @@ impl<'c> Builder<Cookie<'c>> {
 
     /// Sets the age from now on after which it expires, of which whole seconds are printed (RFC 6265 5.2.2).
     pub fn max_age(mut self, age: SignedDuration) -> CookieBuilder<'c>
-        ensures fields { result.fields ≡ record self.entry.fields { max_age = Some (signed_nanos age) } }
+        ensures fields { result.fields
+            ≡ record self.entry.fields { max_age = Some (signed_nanos age) } }
         ensures raw { result.raw ≡ self.entry.raw }
     {
         self.inner.set_max_age(Some(age));

@@ -49,13 +49,18 @@ impl<'c> Cookie<'c> {
     /// of memory. The encoded text of a cookie is read as its normal form.
     pub fn parse_encoded(alloc: Global, text: &'c str) -> Result<Cookie<'c>, ParseError>
         ensures reads { ReadsDecoded text.now (result_map_both (λ c. c.fields) (λ e. e) result) }
-        ensures value { AgreesInMemory true text.now (result_map_both (λ c. c.fields) (λ e. e) result) }
-        ensures agrees { (r : Record) → (cookie_of true text.now ≡ Some r) ↔ Reads true text.now (Ok r) }
+        ensures value { AgreesInMemory true text.now
+            (result_map_both (λ c. c.fields) (λ e. e) result) }
+        ensures agrees { (r : Record)
+            → (cookie_of true text.now ≡ Some r) ↔ Reads true text.now (Ok r) }
         ensures fault { IfErr result (NamesFault text.now) }
         ensures certain { IsCertain text.now result }
         ensures raw { IfOk result (λ c. LendsDecoded text.now c.raw) }
-        ensures normal { (r : Record) → IsCookie r → CanBeRead r → text.now ≡ cookie_text true false r → Gives OutOfMemory result (λ c. c.fields ≡ normal r) }
-        ensures pair { (r : Record) → IsNamed r → text.now ≡ cookie_text true true r → Gives OutOfMemory result (λ c. c.fields ≡ plain r.name r.value) }
+        ensures normal { (r : Record) → IsCookie r → CanBeRead r
+            → text.now ≡ cookie_text true false r
+            → Gives OutOfMemory result (λ c. c.fields ≡ normal r) }
+        ensures pair { (r : Record) → IsNamed r → text.now ≡ cookie_text true true r
+            → Gives OutOfMemory result (λ c. c.fields ≡ plain r.name r.value) }
         ensures settled { IsSettled }
         ensures settled_at_once { IsSettledAtOnce }
     {
@@ -64,22 +69,30 @@ impl<'c> Cookie<'c> {
 
     /// Reads a text as `parse_encoded` does. The cookie keeps the text, and lends nothing.
     pub fn parse_encoded_owned(alloc: Global, text: String) -> Result<Cookie<'c>, ParseError>
-        ensures reads { ReadsDecoded (string_bytes text) (result_map_both (λ c. c.fields) (λ e. e) result) }
-        ensures value { AgreesInMemory true (string_bytes text) (result_map_both (λ c. c.fields) (λ e. e) result) }
+        ensures reads { ReadsDecoded (string_bytes text)
+            (result_map_both (λ c. c.fields) (λ e. e) result) }
+        ensures value { AgreesInMemory true (string_bytes text)
+            (result_map_both (λ c. c.fields) (λ e. e) result) }
         ensures fault { IfErr result (NamesFault (string_bytes text)) }
         ensures certain { IsCertain (string_bytes text) result }
         ensures raw { IfOk result (λ c. c.raw ≡ no_raw_forms) }
-        ensures normal { (r : Record) → IsCookie r → CanBeRead r → string_bytes text ≡ cookie_text true false r → Gives OutOfMemory result (λ c. c.fields ≡ normal r) }
-        ensures pair { (r : Record) → IsNamed r → string_bytes text ≡ cookie_text true true r → Gives OutOfMemory result (λ c. c.fields ≡ plain r.name r.value) }
+        ensures normal { (r : Record) → IsCookie r → CanBeRead r
+            → string_bytes text ≡ cookie_text true false r
+            → Gives OutOfMemory result (λ c. c.fields ≡ normal r) }
+        ensures pair { (r : Record) → IsNamed r → string_bytes text ≡ cookie_text true true r
+            → Gives OutOfMemory result (λ c. c.fields ≡ plain r.name r.value) }
     {
         Cookie::read_encoded(alloc, Source::Owned(text))
     }
 
     fn read_encoded(alloc: Global, source: Source<'c>) -> Result<Cookie<'c>, ParseError>
-        ensures reads { ReadsDecoded (source_bytes source.entry) (result_map_both (λ c. c.fields) (λ e. e) result) }
+        ensures reads { ReadsDecoded (source_bytes source.entry)
+            (result_map_both (λ c. c.fields) (λ e. e) result) }
         ensures fault { IfErr result (NamesFault (source_bytes source.entry)) }
         ensures certain { IsCertain (source_bytes source.entry) result }
-        ensures raw { IfOk result (λ c. (r : Record) × (cookie_of false (source_bytes source.entry) ≡ Some r) × (c.raw ≡ lent_decoded_forms source.entry r)) }
+        ensures raw { IfOk result (λ c. (r : Record)
+            × (cookie_of false (source_bytes source.entry) ≡ Some r)
+            × (c.raw ≡ lent_decoded_forms source.entry r)) }
     {
         let layout = match Layout::of(source.as_str()) {
             Ok(layout) => layout,

@@ -99,7 +99,8 @@ impl<'c> Cookie<'c> {
     /// Sets the age from now on after which it expires, of which whole seconds are printed; `None` unsets that
     /// (RFC 6265 5.2.2).
     pub fn set_max_age(&mut self, value: Option<SignedDuration>)
-        ensures fields { self.new.fields ≡ record self.old.fields { max_age = option_map signed_nanos value } }
+        ensures fields { self.new.fields
+            ≡ record self.old.fields { max_age = option_map signed_nanos value } }
         ensures raw { self.new.raw ≡ self.old.raw }
     {
         self.max_age = value;
