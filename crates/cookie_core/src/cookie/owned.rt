@@ -1,5 +1,5 @@
 //! Cookies with texts of their own, and reading with decoding (RFC 6265 5.2).
-ghost use Rattle.std.specs.Prelude.{false, true, ◌≡◌, ◌↔◌, Some, None, Ok, IsOk, IfOk, IfErr, string_bytes};
+ghost use Rattle.std.specs.Prelude.{false, true, ◌≡◌, ◌↔◌, Some, None, Ok, IfOk, IfErr, string_bytes};
 ghost use Rattle.std.specs.Result.{result_map_both, result_ok};
 ghost use Rattle.cookie_core.specs.CookieOf.{cookie_of};
 ghost use Rattle.cookie_core.specs.CookieStr.{source_bytes};
