@@ -1,5 +1,6 @@
 -- Values that the standards give, so that a wrong constant or step in the definitions does not check.
-use Rattle.std.proofs.Common.{◌≡◌, [], ◌∷◌, replicate, map, slice_index, bit_xor, ◌%◌, refl, ap}
+use Rattle.std.proofs.Common.{◌≡◌, ℕ, List, [], ◌∷◌, ◌++◌, replicate, map, take, slice_index, bit_xor, ◌%◌, refl, ap}
+use Rattle.std.specs.Int.{w32, w64, w128, to_be_bytes}
 use Rattle.std.specs.List.{range_with_len}
 use Rattle.cookie_crypt.specs.ByteField.{byte_times_x, byte_times_power, byte_product_below, byte_product, inverse_in_last, inverse}
 use Rattle.cookie_crypt.specs.Sbox.{affine_below, s_box}
@@ -59,3 +60,56 @@ tag_of_zeros : tag_of (replicate 32 0) (replicate 12 0) [] (0xce ∷ 0xa7 ∷ 0x
     ≡ 0xd0 ∷ 0xd1 ∷ 0xc8 ∷ 0xa7 ∷ 0x99 ∷ 0x99 ∷ 0x6b ∷ 0xf0 ∷ 0x26 ∷ 0x5b ∷ 0x98 ∷ 0xb5 ∷ 0xd4 ∷ 0x8a ∷ 0xb9 ∷ 0x19 ∷ []
 unfolding byte_times_x byte_times_power byte_product_below byte_product inverse_in_last inverse affine_below s_box sub_bytes shift_rows mix_columns added_word next_word words key_expansion add_round_key rounds cipher encrypt_block times_x times_power product_below field_product times_often ghash number_of bytes_of counter_block block_at blocks hashed_blocks hash_subkey masked_hash tag_of
 tag_of_zeros = refl
+
+-- GCM's test cases 15 and 16: a text of four blocks; the same text without its last four bytes, under twenty bytes of
+-- data, so that the last block of both is short
+abbrev key_of_fifteen : List ℕ
+key_of_fifteen = to_be_bytes w128 0xfeffe9928665731c6d6a8f9467308308 ++ to_be_bytes w128 0xfeffe9928665731c6d6a8f9467308308
+
+abbrev nonce_of_fifteen : List ℕ
+nonce_of_fifteen = to_be_bytes w64 0xcafebabefacedbad ++ to_be_bytes w32 0xdecaf888
+
+abbrev data_of_sixteen : List ℕ
+data_of_sixteen = to_be_bytes w128 0xfeedfacedeadbeeffeedfacedeadbeef ++ to_be_bytes w32 0xabaddad2
+
+abbrev text_of_fifteen : List ℕ
+text_of_fifteen =
+    to_be_bytes w128 0xd9313225f88406e5a55909c5aff5269a ++ to_be_bytes w128 0x86a7a9531534f7da2e4c303d8a318a72
+    ++ to_be_bytes w128 0x1c3c0c95956809532fcf0e2449a6b525 ++ to_be_bytes w128 0xb16aedf5aa0de657ba637b391aafd255
+
+abbrev sealed_fifteen : List ℕ
+sealed_fifteen =
+    to_be_bytes w128 0x522dc1f099567d07f47f37a32a84427d ++ to_be_bytes w128 0x643a8cdcbfe5c0c97598a2bd2555d1aa
+    ++ to_be_bytes w128 0x8cb08e48590dbb3da7b08b1056828838 ++ to_be_bytes w128 0xc5f61e6393ba7a0abcc9f662898015ad
+
+stream_2 : encrypt_block key_of_fifteen (counter_block nonce_of_fifteen 2) ≡ to_be_bytes w128 0x8b1cf3d561d27be251263e66857164e7
+unfolding byte_times_x byte_times_power byte_product_below byte_product inverse_in_last inverse affine_below s_box sub_bytes shift_rows mix_columns added_word next_word words key_expansion add_round_key rounds cipher encrypt_block counter_block
+stream_2 = refl
+
+stream_3 : encrypt_block key_of_fifteen (counter_block nonce_of_fifteen 3) ≡ to_be_bytes w128 0xe29d258faad137135bd49280af645bd8
+unfolding byte_times_x byte_times_power byte_product_below byte_product inverse_in_last inverse affine_below s_box sub_bytes shift_rows mix_columns added_word next_word words key_expansion add_round_key rounds cipher encrypt_block counter_block
+stream_3 = refl
+
+stream_4 : encrypt_block key_of_fifteen (counter_block nonce_of_fifteen 4) ≡ to_be_bytes w128 0x908c82ddcc65b26e887f85341f243d1d
+unfolding byte_times_x byte_times_power byte_product_below byte_product inverse_in_last inverse affine_below s_box sub_bytes shift_rows mix_columns added_word next_word words key_expansion add_round_key rounds cipher encrypt_block counter_block
+stream_4 = refl
+
+stream_5 : encrypt_block key_of_fifteen (counter_block nonce_of_fifteen 5) ≡ to_be_bytes w128 0x749cf39639b79c5d06aa8d5b932fc7f8
+unfolding byte_times_x byte_times_power byte_product_below byte_product inverse_in_last inverse affine_below s_box sub_bytes shift_rows mix_columns added_word next_word words key_expansion add_round_key rounds cipher encrypt_block counter_block
+stream_5 = refl
+
+text_of_four_blocks : gctr key_of_fifteen nonce_of_fifteen text_of_fifteen ≡ sealed_fifteen
+unfolding key_stream gctr
+text_of_four_blocks = rw (stream_2, stream_3, stream_4, stream_5) refl
+
+text_of_short_block : gctr key_of_fifteen nonce_of_fifteen (take 60 text_of_fifteen) ≡ take 60 sealed_fifteen
+unfolding key_stream gctr
+text_of_short_block = rw (stream_2, stream_3, stream_4, stream_5) refl
+
+tag_of_four_blocks : tag_of key_of_fifteen nonce_of_fifteen [] sealed_fifteen ≡ to_be_bytes w128 0xb094dac5d93471bdec1a502270e3cc6c
+unfolding byte_times_x byte_times_power byte_product_below byte_product inverse_in_last inverse affine_below s_box sub_bytes shift_rows mix_columns added_word next_word words key_expansion add_round_key rounds cipher encrypt_block times_x times_power product_below field_product times_often ghash number_of bytes_of counter_block block_at blocks hashed_blocks hash_subkey masked_hash tag_of
+tag_of_four_blocks = refl
+
+tag_of_short_blocks : tag_of key_of_fifteen nonce_of_fifteen data_of_sixteen (take 60 sealed_fifteen) ≡ to_be_bytes w128 0x76fc6ece0f4e1768cddf8853bb2d551b
+unfolding byte_times_x byte_times_power byte_product_below byte_product inverse_in_last inverse affine_below s_box sub_bytes shift_rows mix_columns added_word next_word words key_expansion add_round_key rounds cipher encrypt_block times_x times_power product_below field_product times_often ghash number_of bytes_of counter_block block_at blocks hashed_blocks hash_subkey masked_hash tag_of
+tag_of_short_blocks = refl

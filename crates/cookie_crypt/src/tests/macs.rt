@@ -4,9 +4,9 @@ use crate::{expand64, hmac};
 
 const LONGEST: usize = 256;
 
-// Key, message and the first bytes of its HMAC: RFC 4231, 4.2, Wycheproof, and RFC 4231, 4.7, whose key is longer than
-// a block.
-const MACS: [(&str, &str, &str); 11] = [
+// Key, message and the first bytes of its HMAC: RFC 4231, 4.2, Wycheproof, RFC 4231, 4.7, whose key is longer than a
+// block, and by another implementation (Python's hmac) keys of a block and of one byte more.
+const MACS: [(&str, &str, &str); 13] = [
     (
         "0b0b0b0b0b0b0b0b0b0b0b0b0b0b0b0b0b0b0b0b",
         "4869205468657265",
@@ -61,6 +61,16 @@ const MACS: [(&str, &str, &str); 11] = [
         "aaaaaaaaaaaaaaaaaaaaaaaaaaaaaaaaaaaaaaaaaaaaaaaaaaaaaaaaaaaaaaaaaaaaaaaaaaaaaaaaaaaaaaaaaaaaaaaaaaaaaaaaaaaaaaaaaaaaaaaaaaaaaaaaaaaaaaaaaaaaaaaaaaaaaaaaaaaaaaaaaaaaaaaaaaaaaaaaaaaaaaaaaaaaaaaaaaaaaaaaaaaaaaaaaaaaaaaaaaaaaaaaaaaaaaaaaaaaaaaaaaaaaaaaaaaaaaaaaaaaaa",
         "54657374205573696e67204c6172676572205468616e20426c6f636b2d53697a65204b6579202d2048617368204b6579204669727374",
         "60e431591ee0b67f0d8a26aacbf5b77f8e0bc6213728c5140546040f0ee37f54",
+    ),
+    (
+        "000102030405060708090a0b0c0d0e0f101112131415161718191a1b1c1d1e1f202122232425262728292a2b2c2d2e2f303132333435363738393a3b3c3d3e3f",
+        "61206b65792074686174206973206c6f6e676572207468616e206120626c6f636b",
+        "468af2eda6e48435012c1d0730652d0f71b5dec41071a4b0dcf057a82046e2df",
+    ),
+    (
+        "000102030405060708090a0b0c0d0e0f101112131415161718191a1b1c1d1e1f202122232425262728292a2b2c2d2e2f303132333435363738393a3b3c3d3e3f40",
+        "61206b65792074686174206973206c6f6e676572207468616e206120626c6f636b",
+        "dfc12d40c4e6694a0e8ac8d2c410ee161741587b59055fe7785fc8c1f04e0a89",
     ),
 ];
 
