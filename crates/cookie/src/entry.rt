@@ -69,16 +69,21 @@ impl Entry for DeltaCookie {
 
 // The entry at a name.
 pub(crate) fn find<'a, X: Entry>(table: &'a IndexMap<String, X>, name: &str) -> Option<&'a X>
-    ensures { option_map (λ x. X.shows x.now) result ≡ map.get (by_name X.shows table.now.entries) name.now }
+    ensures { option_map (λ x. X.shows x.now) result
+        ≡ map.get (by_name X.shows table.now.entries) name.now }
 {
     table.get(name)
 }
 
 // Puts an entry at its name. On an error the table stays as it was.
 pub(crate) fn put<X: Entry>(table: &mut IndexMap<String, X>, entry: X) -> Result<(), AllocError>
-    ensures ok { OnOk result (by_name X.shows table.new.entries ≡ map.insert (by_name X.shows table.old.entries) (X.name_of (X.shows entry)) (X.shows entry)) }
-    ensures err { OnErr result (by_name X.shows table.new.entries ≡ by_name X.shows table.old.entries) }
-    ensures named { IsNamed X.name_of (by_name X.shows table.old.entries) → IsNamed X.name_of (by_name X.shows table.new.entries) }
+    ensures ok { OnOk result (by_name X.shows table.new.entries
+        ≡ map.insert (by_name X.shows table.old.entries)
+        (X.name_of (X.shows entry)) (X.shows entry)) }
+    ensures err { OnErr result (by_name X.shows table.new.entries
+        ≡ by_name X.shows table.old.entries) }
+    ensures named { IsNamed X.name_of (by_name X.shows table.old.entries)
+        → IsNamed X.name_of (by_name X.shows table.new.entries) }
 {
     let key = String::from_str(*table.allocator(), entry.own_name())?;
     set(table, key, entry)?;
@@ -87,8 +92,10 @@ pub(crate) fn put<X: Entry>(table: &mut IndexMap<String, X>, entry: X) -> Result
 
 // Puts an entry at a key. On an error the table stays as it was.
 fn set<X: Entry>(table: &mut IndexMap<String, X>, key: String, entry: X) -> Result<(), AllocError>
-    ensures ok { OnOk result (by_name X.shows table.new.entries ≡ map.insert (by_name X.shows table.old.entries) (string_bytes key) (X.shows entry)) }
-    ensures err { OnErr result (by_name X.shows table.new.entries ≡ by_name X.shows table.old.entries) }
+    ensures ok { OnOk result (by_name X.shows table.new.entries
+        ≡ map.insert (by_name X.shows table.old.entries) (string_bytes key) (X.shows entry)) }
+    ensures err { OnErr result (by_name X.shows table.new.entries
+        ≡ by_name X.shows table.old.entries) }
 {
     table.insert(key, entry)?;
     Ok(())
@@ -96,8 +103,10 @@ fn set<X: Entry>(table: &mut IndexMap<String, X>, key: String, entry: X) -> Resu
 
 // Drops the entry at a name.
 pub(crate) fn discard<X: Entry>(table: &mut IndexMap<String, X>, name: &str)
-    ensures removed { by_name X.shows table.new.entries ≡ map.remove (by_name X.shows table.old.entries) name.now }
-    ensures named { IsNamed X.name_of (by_name X.shows table.old.entries) → IsNamed X.name_of (by_name X.shows table.new.entries) }
+    ensures removed { by_name X.shows table.new.entries
+        ≡ map.remove (by_name X.shows table.old.entries) name.now }
+    ensures named { IsNamed X.name_of (by_name X.shows table.old.entries)
+        → IsNamed X.name_of (by_name X.shows table.new.entries) }
 {
     table.swap_remove(name);
 }
@@ -107,7 +116,8 @@ pub(crate) fn copy<X: Entry>(
     table: &IndexMap<String, X>,
     alloc: Global,
 ) -> Result<IndexMap<String, X>, AllocError>
-    ensures { IfOk result (λ made. by_name X.shows made.entries ≡ by_name X.shows table.now.entries) }
+    ensures { IfOk result (λ made.
+        by_name X.shows made.entries ≡ by_name X.shows table.now.entries) }
 {
     let mut made = IndexMap::new(alloc);
     for (key, entry) in table {

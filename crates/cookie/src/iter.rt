@@ -80,7 +80,9 @@ impl<'a> Iter<'a> {
         delta: &'a IndexMap<String, DeltaCookie>,
         originals: &'a IndexMap<String, Original>,
     ) -> Iter<'a>
-        ensures { result ≡ additions (map marked (values_of delta.now.entries)) ++ uncovered (by_name marked delta.now.entries) (map unmarked (values_of originals.now.entries)) }
+        ensures { result ≡ additions (map marked (values_of delta.now.entries))
+            ++ uncovered (by_name marked delta.now.entries)
+            (map unmarked (values_of originals.now.entries)) }
     {
         Iter {
             delta,
@@ -111,7 +113,8 @@ impl<'a> Iterator for Iter<'a> {
 
 // The next cookie that was added.
 fn next_added<'a>(changes: &mut Values<'a, String, DeltaCookie>) -> Option<&'a Cookie<'static>>
-    ensures { TakesFirst (λ c. c.now.fields) (additions (map marked changes.old)) result (additions (map marked changes.new)) }
+    ensures { TakesFirst (λ c. c.now.fields) (additions (map marked changes.old))
+        result (additions (map marked changes.new)) }
 {
     while let Some(entry) = changes.next() {
         if !entry.removed {
@@ -126,7 +129,9 @@ fn next_uncovered<'a>(
     delta: &IndexMap<String, DeltaCookie>,
     originals: &mut Values<'a, String, Original>,
 ) -> Option<&'a Cookie<'static>>
-    ensures { TakesFirst (λ c. c.now.fields) (uncovered (by_name marked delta.now.entries) (map unmarked originals.old)) result (uncovered (by_name marked delta.now.entries) (map unmarked originals.new)) }
+    ensures { TakesFirst (λ c. c.now.fields)
+        (uncovered (by_name marked delta.now.entries) (map unmarked originals.old)) result
+        (uncovered (by_name marked delta.now.entries) (map unmarked originals.new)) }
 {
     while let Some(original) = originals.next() {
         if find(delta, original.cookie.name()).is_none() {

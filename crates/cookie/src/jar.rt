@@ -47,7 +47,8 @@ impl CookieJar {
     /// After any changes of it, each map has at each name what looking back through the changes finds.
     pub fn new(alloc: Global) -> CookieJar
         ensures empty { result ≡ empty_jar }
-        ensures history { (changes : List Change) → LooksBack (reverse changes) (after_all changes result) }
+        ensures history { (changes : List Change)
+            → LooksBack (reverse changes) (after_all changes result) }
     {
         CookieJar {
             originals: IndexMap::new(alloc),
@@ -73,7 +74,8 @@ impl CookieJar {
     ///
     /// Fails for want of memory alone, and then leaves the jar as it was.
     pub fn add_original(&mut self, cookie: Cookie<'static>) -> Result<(), JarError>
-        ensures gives { Gives refusal.OutOfMemory result (λ _. self.new ≡ after (AddOriginal cookie.entry.fields) self.old) }
+        ensures gives { Gives refusal.OutOfMemory result (λ _.
+            self.new ≡ after (AddOriginal cookie.entry.fields) self.old) }
         ensures err { OnErr result (self.new ≡ self.old) }
     {
         put(&mut self.originals, Original { cookie })?;
@@ -84,7 +86,8 @@ impl CookieJar {
     ///
     /// Fails for want of memory alone, and then leaves the jar as it was.
     pub fn add(&mut self, cookie: Cookie<'static>) -> Result<(), JarError>
-        ensures gives { Gives refusal.OutOfMemory result (λ _. self.new ≡ after (Add cookie.entry.fields) self.old) }
+        ensures gives { Gives refusal.OutOfMemory result (λ _.
+            self.new ≡ after (Add cookie.entry.fields) self.old) }
         ensures err { OnErr result (self.new ≡ self.old) }
     {
         put(&mut self.delta, DeltaCookie::added(cookie))?;
@@ -96,7 +99,8 @@ impl CookieJar {
     ///
     /// Fails for want of memory alone, where there is such an original, and then leaves the jar as it was.
     pub fn remove(&mut self, cookie: Cookie<'static>, now: DateTime) -> Result<(), JarError>
-        ensures gives { Gives refusal.OutOfMemory result (λ _. self.new ≡ after (Remove cookie.entry.fields now) self.old) }
+        ensures gives { Gives refusal.OutOfMemory result (λ _.
+            self.new ≡ after (Remove cookie.entry.fields now) self.old) }
         ensures err { OnErr result (self.new ≡ self.old) }
         ensures certain { get self.old.originals cookie.entry.fields.name ≡ None → IsOk result }
     {

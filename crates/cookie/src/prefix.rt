@@ -54,9 +54,12 @@ pub trait Prefixing: Prefix {
 
     /// The cookie with the prefix before its name. The name counts as set, where the prefix isn't empty.
     fn prefix<'c>(alloc: Global, mut cookie: Cookie<'c>) -> Result<Cookie<'c>, AllocError>
-        ensures fields { Gives alloc_error result (λ c. c.fields ≡ prefixed Self.PREFIX cookie.entry.fields) }
-        ensures raw { Gives alloc_error result (λ c. c.raw ≡ renamed_raw (Self.PREFIX ++ cookie.entry.fields.name) cookie.entry) }
-        ensures back { Gives alloc_error result (λ c. clipped Self.PREFIX c.fields ≡ cookie.entry.fields) }
+        ensures fields { Gives alloc_error result (λ c.
+            c.fields ≡ prefixed Self.PREFIX cookie.entry.fields) }
+        ensures raw { Gives alloc_error result (λ c.
+            c.raw ≡ renamed_raw (Self.PREFIX ++ cookie.entry.fields.name) cookie.entry) }
+        ensures back { Gives alloc_error result (λ c.
+            clipped Self.PREFIX c.fields ≡ cookie.entry.fields) }
     {
         if !Self::PREFIX.as_str().is_empty() {
             let name = Self::prefixed_name(alloc, cookie.name())?;
@@ -68,8 +71,10 @@ pub trait Prefixing: Prefix {
     /// The cookie without the prefix before its name, where it stands there. The name counts as set, where it
     /// changes.
     fn clip<'c>(alloc: Global, mut cookie: Cookie<'c>) -> Result<Cookie<'c>, AllocError>
-        ensures fields { Gives alloc_error result (λ c. c.fields ≡ clipped Self.PREFIX cookie.entry.fields) }
-        ensures raw { Gives alloc_error result (λ c. c.raw ≡ renamed_raw (clipped_name Self.PREFIX cookie.entry.fields.name) cookie.entry) }
+        ensures fields { Gives alloc_error result (λ c.
+            c.fields ≡ clipped Self.PREFIX cookie.entry.fields) }
+        ensures raw { Gives alloc_error result (λ c.
+            c.raw ≡ renamed_raw (clipped_name Self.PREFIX cookie.entry.fields.name) cookie.entry) }
     {
         if let Some(rest) = without(Self::PREFIX.as_str(), cookie.name()) {
             let rest = String::from_str(alloc, rest)?;
@@ -80,8 +85,13 @@ pub trait Prefixing: Prefix {
 
     /// The cookie as it is stored: with the prefix before its name, and then conforming.
     fn apply<'c>(alloc: Global, cookie: Cookie<'c>) -> Result<Cookie<'c>, AllocError>
-        ensures fields { Gives alloc_error result (λ c. c.fields ≡ applied Self.PREFIX Self.conformed cookie.entry.fields) }
-        ensures raw { Gives alloc_error result (λ c. c.raw ≡ Self.conformed_raw (record { fields = prefixed Self.PREFIX cookie.entry.fields; raw = renamed_raw (Self.PREFIX ++ cookie.entry.fields.name) cookie.entry })) }
+        ensures fields { Gives alloc_error result (λ c.
+            c.fields ≡ applied Self.PREFIX Self.conformed cookie.entry.fields) }
+        ensures raw { Gives alloc_error result (λ c.
+            c.raw ≡ Self.conformed_raw (record {
+              fields = prefixed Self.PREFIX cookie.entry.fields;
+              raw = renamed_raw (Self.PREFIX ++ cookie.entry.fields.name) cookie.entry;
+            })) }
         ensures conforms { Gives alloc_error result (λ c. Self.conformed c.fields ≡ c.fields) }
     {
         Ok(Self::conform(Self::prefix(alloc, cookie)?))

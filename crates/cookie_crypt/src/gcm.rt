@@ -44,7 +44,8 @@ fn tag_of(cipher: &Aes256, nonce: &[u8; 12], aad: &[u8], text: &[u8], steps: &mu
     ensures made { result ≡ tag_of cipher.now nonce.now aad.now text.now }
     ensures by_steps { result ≡ tag_by_steps cipher.now nonce.now aad.now text.now }
     ensures powers_first { HasPowersFirst (hash_subkey cipher.now) }
-    ensures counted { steps.new ≡ with_blocks steps.old.blocks (tag_steps (length aad.now) (length text.now)) }
+    ensures counted { steps.new
+        ≡ with_blocks steps.old.blocks (tag_steps (length aad.now) (length text.now)) }
 {
     let subkey = number_of(steps.encrypt_block(cipher, [0; 16]));
     let multiples = multiples(subkey);
@@ -94,14 +95,17 @@ impl Gcm {
         steps: &mut Steps,
     ) -> Option<[u8; 16]>
         ensures limits { IsSome result ↔ IsWithin (length aad.now) (length text.old) }
-        ensures sealed { IfSome result (λ tag. IsSealing self.now nonce.now aad.now text.old text.new tag) }
-        ensures counted { OnSome result (steps.new ≡ sealing_steps (length aad.now) (length text.old)) }
+        ensures sealed { IfSome result (λ tag.
+            IsSealing self.now nonce.now aad.now text.old text.new tag) }
+        ensures counted { OnSome result (steps.new
+            ≡ sealing_steps (length aad.now) (length text.old)) }
         ensures unchanged { IfNone result (text.new ≡ text.old) }
         ensures uncounted { IfNone result (steps.new ≡ no_steps) }
 
         // The hash in the tag is a sum of blocks times powers. The standard's steps give it too, over all blocks, and a
         // block times a power is one product.
-        ensures by_steps { IfSome result (λ tag. tag ≡ tag_by_steps self.now nonce.now aad.now text.new) }
+        ensures by_steps { IfSome result (λ tag.
+            tag ≡ tag_by_steps self.now nonce.now aad.now text.new) }
         ensures steps_are_the_sum { HasSum (hash_subkey self.now) }
         ensures powers_first { OnSome result (HasPowersFirst (hash_subkey self.now)) }
 
@@ -128,12 +132,17 @@ impl Gcm {
         tag: &[u8; 16],
         steps: &mut Steps,
     ) -> bool
-        ensures opened { OnTrue result (IsSealing self.now nonce.now aad.now text.new text.old tag.now) }
-        ensures only { OnTrue result ((plain : List ℕ) → IsSealing self.now nonce.now aad.now plain text.old tag.now → text.new ≡ plain) }
-        ensures refused { OnFalse result ((plain : List ℕ) → ¬ IsSealing self.now nonce.now aad.now plain text.old tag.now) }
+        ensures opened { OnTrue result
+            (IsSealing self.now nonce.now aad.now text.new text.old tag.now) }
+        ensures only { OnTrue result ((plain : List ℕ)
+            → IsSealing self.now nonce.now aad.now plain text.old tag.now → text.new ≡ plain) }
+        ensures refused { OnFalse result ((plain : List ℕ)
+            → ¬ IsSealing self.now nonce.now aad.now plain text.old tag.now) }
         ensures unchanged { OnFalse result (text.new ≡ text.old) }
-        ensures counted { OnTrue result (steps.new ≡ sealing_steps (length aad.now) (length text.old)) }
-        ensures counted_if_refused { OnFalse result (IsWithin (length aad.now) (length text.old) → steps.new ≡ tag_steps (length aad.now) (length text.old)) }
+        ensures counted { OnTrue result (steps.new
+            ≡ sealing_steps (length aad.now) (length text.old)) }
+        ensures counted_if_refused { OnFalse result (IsWithin (length aad.now) (length text.old)
+            → steps.new ≡ tag_steps (length aad.now) (length text.old)) }
         ensures uncounted { ¬ IsWithin (length aad.now) (length text.old) → steps.new ≡ no_steps }
         ensures bytes { SealsToBytes self.now }
     {

@@ -12,7 +12,8 @@ use crate::steps::Steps;
 pub fn hash_from(hash: u128, multiples: &[u128; 16], bytes: &[u8], steps: &mut Steps) -> u128
     requires room { steps.old.products + block_count (length bytes.now) < 2 ^ 64 }
     requires room_for_steps { steps.old.table_steps + 32 * block_count (length bytes.now) < 2 ^ 64 }
-    ensures made { (h : ℕ) → h < 2 ^ 128 → IsMultiples h multiples.now → result ≡ ghash_from h hash (blocks bytes.now) }
+    ensures made { (h : ℕ) → h < 2 ^ 128 → IsMultiples h multiples.now
+        → result ≡ ghash_from h hash (blocks bytes.now) }
     ensures counted { steps.new ≡ with_products (block_count (length bytes.now)) steps.old }
 {
     let mut sum = hash;

@@ -76,7 +76,8 @@ impl Steps {
     pub(crate) fn product(&mut self, multiples: &[u128; 16], block: u128) -> u128
         requires room { self.old.products + 1 < 2 ^ 64 }
         requires room_for_steps { self.old.table_steps + 32 < 2 ^ 64 }
-        ensures made { (h : ℕ) → h < 2 ^ 128 → IsMultiples h multiples.now → result ≡ field_product block h }
+        ensures made { (h : ℕ) → h < 2 ^ 128 → IsMultiples h multiples.now
+            → result ≡ field_product block h }
         ensures counted { self.new ≡ with_products 1 self.old }
     {
         self.products += 1;

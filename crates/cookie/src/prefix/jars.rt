@@ -61,7 +61,8 @@ impl CookieJar {
 
     // A copy of the cookie that the jar shows under the name with the prefix, without the prefix.
     fn get_clipped<P: Prefix>(&self, name: &str) -> Result<Option<Cookie<'static>>, JarError>
-        ensures { Gives refusal.OutOfMemory result (λ o. option_map (λ c. c.fields) o ≡ prefixed_view P.PREFIX self.now name.now) }
+        ensures { Gives refusal.OutOfMemory result (λ o.
+            option_map (λ c. c.fields) o ≡ prefixed_view P.PREFIX self.now name.now) }
     {
         let alloc = self.allocator();
         let name = P::prefixed_name(alloc, name)?;
@@ -77,7 +78,8 @@ impl<'a, P: Prefix> PrefixedJar<'a, P> {
     ///
     /// Fails for want of memory alone.
     pub fn get(&self, name: &str) -> Result<Option<Cookie<'static>>, JarError>
-        ensures { Gives refusal.OutOfMemory result (λ o. option_map (λ c. c.fields) o ≡ prefixed_view P.PREFIX self.now name.now) }
+        ensures { Gives refusal.OutOfMemory result (λ o.
+            option_map (λ c. c.fields) o ≡ prefixed_view P.PREFIX self.now name.now) }
     {
         self.jar.get_clipped::<P>(name)
     }
@@ -88,7 +90,8 @@ impl<'a, P: Prefix> PrefixedJarMut<'a, P> {
     ///
     /// Fails for want of memory alone.
     pub fn get(&self, name: &str) -> Result<Option<Cookie<'static>>, JarError>
-        ensures { Gives refusal.OutOfMemory result (λ o. option_map (λ c. c.fields) o ≡ prefixed_view P.PREFIX (jar_of self.now) name.now) }
+        ensures { Gives refusal.OutOfMemory result (λ o.
+            option_map (λ c. c.fields) o ≡ prefixed_view P.PREFIX (jar_of self.now) name.now) }
     {
         self.jar.get_clipped::<P>(name)
     }
@@ -97,7 +100,9 @@ impl<'a, P: Prefix> PrefixedJarMut<'a, P> {
     ///
     /// Fails for want of memory alone, and then leaves the jar as it was.
     pub fn add_original(&mut self, cookie: Cookie<'static>) -> Result<(), JarError>
-        ensures gives { Gives refusal.OutOfMemory result (λ _. jar_of self.new ≡ after (AddOriginal (applied P.PREFIX P.conformed cookie.entry.fields)) (jar_of self.old)) }
+        ensures gives { Gives refusal.OutOfMemory result (λ _.
+            jar_of self.new ≡ after
+            (AddOriginal (applied P.PREFIX P.conformed cookie.entry.fields)) (jar_of self.old)) }
         ensures err { OnErr result (jar_of self.new ≡ jar_of self.old) }
         ensures same { ChangesSame self.new self.old }
     {
@@ -110,9 +115,13 @@ impl<'a, P: Prefix> PrefixedJarMut<'a, P> {
     ///
     /// Fails for want of memory alone, and then leaves the jar as it was.
     pub fn add(&mut self, cookie: Cookie<'static>) -> Result<(), JarError>
-        ensures gives { Gives refusal.OutOfMemory result (λ _. jar_of self.new ≡ after (Add (applied P.PREFIX P.conformed cookie.entry.fields)) (jar_of self.old)) }
+        ensures gives { Gives refusal.OutOfMemory result (λ _.
+            jar_of self.new ≡ after
+            (Add (applied P.PREFIX P.conformed cookie.entry.fields)) (jar_of self.old)) }
         ensures err { OnErr result (jar_of self.new ≡ jar_of self.old) }
-        ensures shown { IfOk result (λ _. option_map pair_of (prefixed_view P.PREFIX (jar_of self.new) cookie.entry.fields.name) ≡ Some (pair_of cookie.entry.fields)) }
+        ensures shown { IfOk result (λ _.
+            option_map pair_of (prefixed_view P.PREFIX (jar_of self.new) cookie.entry.fields.name)
+            ≡ Some (pair_of cookie.entry.fields)) }
         ensures same { ChangesSame self.new self.old }
     {
         let added = P::apply(self.jar.allocator(), cookie)?;
@@ -125,7 +134,9 @@ impl<'a, P: Prefix> PrefixedJarMut<'a, P> {
     ///
     /// Fails for want of memory alone, and then leaves the jar as it was.
     pub fn remove(&mut self, cookie: Cookie<'static>, now: DateTime) -> Result<(), JarError>
-        ensures gives { Gives refusal.OutOfMemory result (λ _. jar_of self.new ≡ after (Remove (applied P.PREFIX P.conformed cookie.entry.fields) now) (jar_of self.old)) }
+        ensures gives { Gives refusal.OutOfMemory result (λ _.
+            jar_of self.new ≡ after
+            (Remove (applied P.PREFIX P.conformed cookie.entry.fields) now) (jar_of self.old)) }
         ensures err { OnErr result (jar_of self.new ≡ jar_of self.old) }
         ensures same { ChangesSame self.new self.old }
     {

@@ -47,7 +47,8 @@ pub(crate) fn seal<'c>(
     mut cookie: Cookie<'c>,
 ) -> Result<Cookie<'c>, AllocError>
     requires { CanSeal cookie.fields }
-    ensures gives { Gives alloc_error result (λ c. c.fields ≡ sealed key.now nonce.now cookie.entry.fields) }
+    ensures gives { Gives alloc_error result (λ c.
+        c.fields ≡ sealed key.now nonce.now cookie.entry.fields) }
     ensures stands { IfOk result (λ c. IsSealingOf key.now c.fields cookie.entry.fields.value) }
 {
     is_nonce(nonce);
@@ -62,7 +63,9 @@ pub(crate) fn decrypt<'c>(
     key: &[u8; 32],
     mut cookie: Cookie<'c>,
 ) -> Result<Option<Cookie<'c>>, AllocError>
-    ensures { Gives alloc_error result (λ answer. AnswersExactly (IsSealingOf key.now) (Some cookie.entry.fields) (option_map (λ c. c.fields) answer)) }
+    ensures { Gives alloc_error result (λ answer.
+        AnswersExactly (IsSealingOf key.now) (Some cookie.entry.fields)
+        (option_map (λ c. c.fields) answer)) }
 {
     let Some(value) = unseal(alloc, key, cookie.name(), cookie.value())? else {
         return Ok(None);
@@ -80,7 +83,8 @@ fn sealed_text(
     value: &str,
 ) -> Result<String, AllocError>
     requires { IsSealable name.now value.now }
-    ensures { IfOk result (λ text. string_bytes text ≡ sealing key.now name.now nonce.now value.now) }
+    ensures { IfOk result (λ text.
+        string_bytes text ≡ sealing key.now name.now nonce.now value.now) }
 {
     let bytes = sealed_bytes(alloc, key, name, nonce, value)?;
     STANDARD.encode(alloc, bytes.as_slice())
@@ -95,7 +99,8 @@ fn sealed_bytes(
     value: &str,
 ) -> Result<Vec<u8>, AllocError>
     requires { IsSealable name.now value.now }
-    ensures { IfOk result (λ bytes. bytes.items ≡ sealed_bytes key.now name.now nonce.now value.now) }
+    ensures { IfOk result (λ bytes.
+        bytes.items ≡ sealed_bytes key.now name.now nonce.now value.now) }
 {
     let mut bytes = Vec::from_slice(alloc, nonce)?;
     bytes.extend_from_slice(value.as_bytes())?;
@@ -115,7 +120,9 @@ fn unseal(
     name: &str,
     text: &str,
 ) -> Result<Option<String>, AllocError>
-    ensures { IfOk result (λ answer. (v : List ℕ) → (option_map string_bytes answer ≡ Some v) ↔ IsSealed key.now name.now text.now v) }
+    ensures { IfOk result (λ answer.
+        (v : List ℕ)
+        → (option_map string_bytes answer ≡ Some v) ↔ IsSealed key.now name.now text.now v) }
 {
     let cipher = Gcm::new(key);
     let Some(bytes) = decoded(alloc, text)? else {
@@ -132,7 +139,9 @@ fn unseal(
 
 // The bytes that the text is the padded base64 of, if it is that of any.
 fn decoded(alloc: Global, text: &str) -> Result<Option<Vec<u8>>, AllocError>
-    ensures exact { IfOk result (λ answer. (b : List ℕ) → IsBytes b → (option_map (λ v. v.items) answer ≡ Some b) ↔ (text.now ≡ encode_of standard b)) }
+    ensures exact { IfOk result (λ answer.
+        (b : List ℕ) → IsBytes b
+        → (option_map (λ v. v.items) answer ≡ Some b) ↔ (text.now ≡ encode_of standard b)) }
     ensures bytes { IfOk result (λ answer. IfSome answer (λ b. IsBytes b.items)) }
 {
     match STANDARD.decode(alloc, text.as_bytes()) {
@@ -149,7 +158,10 @@ fn opened(
     name: &str,
     bytes: &[u8],
 ) -> Result<Option<Vec<u8>>, AllocError>
-    ensures { IfOk result (λ answer. (v : List ℕ) → (option_map (λ p. p.items) answer ≡ Some v) ↔ IsSealedBytes cipher.now name.now bytes.now v) }
+    ensures { IfOk result (λ answer.
+        (v : List ℕ)
+        → (option_map (λ p. p.items) answer ≡ Some v)
+        ↔ IsSealedBytes cipher.now name.now bytes.now v) }
 {
     let Some((nonce, rest)) = bytes.split_first_chunk::<NONCE_LEN>() else {
         return Ok(None);
