@@ -158,7 +158,7 @@ impl Model for Aes256 {
 }
 
 impl Aes256 {
-    /// AES-256 under `key`.
+    /// AES-256 under `key`, which must be random. It isn't wiped from memory.
     pub fn new(key: &[u8; 32]) -> Aes256
         ensures { result ≡ key.now }
     {

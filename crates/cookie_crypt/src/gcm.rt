@@ -72,7 +72,7 @@ impl Model for Gcm {
 }
 
 impl Gcm {
-    /// AES-256-GCM under `key`.
+    /// AES-256-GCM under `key`, which must be random. It isn't wiped from memory.
     pub fn new(key: &[u8; 32]) -> Gcm
         ensures value { result ≡ key.now }
         ensures bytes { SealsToBytes key.now }
@@ -83,7 +83,8 @@ impl Gcm {
     }
 
     /// Encrypts the text in place, and gives the tag of it and of the associated data `aad`
-    /// (SP 800-38D, 7.1). No two texts may be sealed under one key and one nonce.
+    /// (SP 800-38D, 7.1). No two texts may be sealed under one key and one nonce, and under one key at
+    /// most 2^32 random nonces may be drawn (8.3).
     ///
     /// `None` where the text has more than 2^36 - 32 bytes or the data more than 2^61 - 1. `steps` is
     /// set to what was done, whatever it held.
@@ -121,7 +122,7 @@ impl Gcm {
     }
 
     /// Decrypts the text in place and answers true where text and tag are a sealing (SP 800-38D, 7.2).
-    /// Else it leaves the text as it was.
+    /// Else it leaves the text as it was. The comparison of tags may end at the first byte that differs.
     ///
     /// `steps` is set to what was done, whatever it held.
     pub fn open_in_place(

@@ -37,7 +37,7 @@ fn hmac_short(key: &[u8], pieces: &[&[u8]]) -> [u8; 32]
     outer.finalize()
 }
 
-/// HMAC-SHA256 of the joined pieces under the key (RFC 2104).
+/// HMAC-SHA256 of the joined pieces under the key (RFC 2104). The key must be random.
 pub fn hmac(key: &[u8], pieces: &[&[u8]]) -> [u8; 32]
     ensures { result ≡ hmac key.now (concat (map (λ piece. piece.now) pieces.now)) }
 {

@@ -30,6 +30,11 @@ pub(crate) fn are_bytes(bytes: &[u8])
 {}
 
 /// Sixty-four secret bytes: the first half signs, the second half encrypts. Contracts see them as a list.
+///
+/// A key is only as safe as its bytes are random: they must come from a cryptographic generator, or from a master
+/// key that does. Under one key at most 2^32 random nonces may be drawn (SP 800-38D 8.3). A comparison of keys,
+/// signatures or tags may end at the first byte that differs, so its time may tell where that is. A key that is let
+/// go isn't wiped from memory.
 #[derive(Drop)]
 pub struct Key {
     bytes: [u8; KEY_LENGTH],
@@ -42,7 +47,9 @@ impl Model for Key {
 }
 
 impl Key {
-    /// The key of the first 64 bytes. There must be as many; `try_from` takes any number.
+    /// The key of the first 64 bytes.
+    ///
+    /// The caller sees to it that there are as many, and that they are random; `try_from` takes any number.
     pub fn from(key: &[u8]) -> Key
         requires { key_length ≤ length key.now }
         ensures { result ≡ key_of key.now }
@@ -52,10 +59,11 @@ impl Key {
         Key { bytes }
     }
 
-    /// The key of the first 64 bytes. Fails exactly where there are fewer.
+    /// The key of the first 64 bytes, which must be random. Fails exactly where there are fewer.
     pub fn try_from(key: &[u8]) -> Result<Key, KeyError>
         ensures ok { key_length ≤ length key.now → result ≡ Ok (key_of key.now) }
-        ensures too_short { length key.now < key_length → result ≡ Err (refusal.TooShort (length key.now)) }
+        ensures too_short { length key.now < key_length
+            → result ≡ Err (refusal.TooShort (length key.now)) }
     {
         if key.len() < KEY_LENGTH {
             return Err(KeyError::TooShort(key.len()));
@@ -63,8 +71,11 @@ impl Key {
         Ok(Key::from(key))
     }
 
-    /// The key derived from a master key, by the whole of it (RFC 5869, 2.3). The master key must have at least 32
-    /// bytes; `try_derive_from` takes any number.
+    /// The key derived from a master key, by the whole of it (RFC 5869, 2.3). The same master key always gives the
+    /// same key.
+    ///
+    /// The caller sees to it that the master key has at least 32 bytes, and that they are random; `try_derive_from`
+    /// takes any number.
     pub fn derive_from(master_key: &[u8]) -> Key
         requires { master_length ≤ length master_key.now }
         ensures { result ≡ derived master_key.now }
@@ -74,11 +85,12 @@ impl Key {
         }
     }
 
-    /// The key derived from a master key, by the whole of it (RFC 5869, 2.3). Fails exactly where the master key
-    /// has fewer than 32 bytes.
+    /// The key derived from a master key, by the whole of it (RFC 5869, 2.3). The master key must be random. Fails
+    /// exactly where it has fewer than 32 bytes.
     pub fn try_derive_from(master_key: &[u8]) -> Result<Key, KeyError>
         ensures ok { master_length ≤ length master_key.now → result ≡ Ok (derived master_key.now) }
-        ensures too_short { length master_key.now < master_length → result ≡ Err (refusal.MasterTooShort (length master_key.now)) }
+        ensures too_short { length master_key.now < master_length
+            → result ≡ Err (refusal.MasterTooShort (length master_key.now)) }
     {
         if master_key.len() < MASTER_LENGTH {
             return Err(KeyError::MasterTooShort(master_key.len()));
@@ -86,7 +98,7 @@ impl Key {
         Ok(Key::derive_from(master_key))
     }
 
-    /// The key of the next 64 bytes of a generator, by one draw.
+    /// The key of the next 64 bytes of a generator, by one draw. `rng` must be a cryptographic generator.
     pub fn generate<R: Rng>(rng: &mut R) -> Key
         ensures { (result, R.stream rng.new) ≡ fill_bytes key_length (R.stream rng.old) }
     {
@@ -95,7 +107,8 @@ impl Key {
         Key { bytes }
     }
 
-    /// The key of 64 bytes that one draw from a generator gave, or `None` where it failed.
+    /// The key of 64 bytes that one draw from a generator gave, or `None` where it failed. `rng` must be a
+    /// cryptographic generator.
     pub fn try_generate<R: TryRng>(rng: &mut R) -> Option<Key>
         ensures drawn { IfSome result (λ key. R.may_fill rng.old key rng.new) }
         ensures failed { IfNone result R.Error }
@@ -123,7 +136,7 @@ impl Key {
     pub fn master(&self) -> &[u8]
         ensures { result.now ≡ self.now }
     {
-        &self.bytes
+        &self.bytes[..]
     }
 
     // The half that signs, as an array.
@@ -158,7 +171,7 @@ impl Clone for Key {
     }
 }
 
-/// Equal where all 64 bytes are.
+/// Equal where all 64 bytes are. The comparison may end at the first byte that differs.
 impl PartialEq for Key {
     ghost eq = { bytes_eq };
 

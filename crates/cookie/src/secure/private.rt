@@ -43,7 +43,7 @@ pub struct PrivateJarMut<'a> {
 }
 
 impl CookieJar {
-    /// The jar through a key that encrypts, to look cookies up. It takes no memory.
+    /// The jar through a key that encrypts, to look cookies up. It takes no memory. The key must be random.
     pub fn private<'a>(&'a self, key: &Key) -> PrivateJar<'a>
         ensures { result ≡ record { jar = self.now; key = encryption_half key.now } }
     {
@@ -53,7 +53,8 @@ impl CookieJar {
         }
     }
 
-    /// The jar through a key that encrypts, to look cookies up and to change it. It takes no memory.
+    /// The jar through a key that encrypts, to look cookies up and to change it. It takes no memory. The key must be
+    /// random.
     pub fn private_mut<'a>(&'a mut self, key: &Key) -> PrivateJarMut<'a>
         ensures same { Changes result self.entry }
         ensures value { jar_of result ≡ self.old }
@@ -67,7 +68,9 @@ impl CookieJar {
 
     // The cookie that the jar shows under the name, with the value that its own is a sealing of.
     fn get_decrypted(&self, key: &[u8; 32], name: &str) -> Result<Option<Cookie<'static>>, JarError>
-        ensures { Gives refusal.OutOfMemory result (λ answer. AnswersExactly (IsSealingOf key.now) (view self.now name.now) (option_map (λ c. c.fields) answer)) }
+        ensures { Gives refusal.OutOfMemory result (λ answer.
+            AnswersExactly (IsSealingOf key.now) (view self.now name.now)
+            (option_map (λ c. c.fields) answer)) }
     {
         let alloc = self.allocator();
         match self.get(name) {
@@ -83,7 +86,9 @@ impl<'a> PrivateJar<'a> {
     ///
     /// Fails for want of memory alone.
     pub fn get(&self, name: &str) -> Result<Option<Cookie<'static>>, JarError>
-        ensures { Gives refusal.OutOfMemory result (λ answer. AnswersExactly (IsSealingOf self.now.key) (view self.now.jar name.now) (option_map (λ c. c.fields) answer)) }
+        ensures { Gives refusal.OutOfMemory result (λ answer.
+            AnswersExactly (IsSealingOf self.now.key) (view self.now.jar name.now)
+            (option_map (λ c. c.fields) answer)) }
     {
         self.jar.get_decrypted(&self.key, name)
     }
@@ -93,7 +98,9 @@ impl<'a> PrivateJar<'a> {
     ///
     /// Fails for want of memory alone.
     pub fn decrypt(&self, cookie: Cookie<'static>) -> Result<Option<Cookie<'static>>, JarError>
-        ensures { Gives refusal.OutOfMemory result (λ answer. AnswersExactly (IsSealingOf self.now.key) (Some cookie.entry.fields) (option_map (λ c. c.fields) answer)) }
+        ensures { Gives refusal.OutOfMemory result (λ answer.
+            AnswersExactly (IsSealingOf self.now.key) (Some cookie.entry.fields)
+            (option_map (λ c. c.fields) answer)) }
     {
         Ok(decrypt(self.jar.allocator(), &self.key, cookie)?)
     }
@@ -105,7 +112,9 @@ impl<'a> PrivateJarMut<'a> {
     ///
     /// Fails for want of memory alone.
     pub fn get(&self, name: &str) -> Result<Option<Cookie<'static>>, JarError>
-        ensures { Gives refusal.OutOfMemory result (λ answer. AnswersExactly (IsSealingOf (key_of self.now)) (view (jar_of self.now) name.now) (option_map (λ c. c.fields) answer)) }
+        ensures { Gives refusal.OutOfMemory result (λ answer.
+            AnswersExactly (IsSealingOf (key_of self.now)) (view (jar_of self.now) name.now)
+            (option_map (λ c. c.fields) answer)) }
     {
         self.jar.get_decrypted(&self.key, name)
     }
@@ -115,13 +124,16 @@ impl<'a> PrivateJarMut<'a> {
     ///
     /// Fails for want of memory alone.
     pub fn decrypt(&self, cookie: Cookie<'static>) -> Result<Option<Cookie<'static>>, JarError>
-        ensures { Gives refusal.OutOfMemory result (λ answer. AnswersExactly (IsSealingOf (key_of self.now)) (Some cookie.entry.fields) (option_map (λ c. c.fields) answer)) }
+        ensures { Gives refusal.OutOfMemory result (λ answer.
+            AnswersExactly (IsSealingOf (key_of self.now)) (Some cookie.entry.fields)
+            (option_map (λ c. c.fields) answer)) }
     {
         Ok(decrypt(self.jar.allocator(), &self.key, cookie)?)
     }
 
     /// Adds an original cookie, with its value sealed under its name and a nonce that one draw of twelve bytes from
-    /// `rng` gives.
+    /// `rng` gives. `rng` must be a cryptographic generator, and under one key at most 2^32 nonces may be drawn
+    /// (SP 800-38D 8.3).
     ///
     /// Fails with `TooLong` where the name has more than 2^61 - 1 bytes or the value more than 2^36 - 32, and then
     /// draws nothing; else with `Generator` where the draw failed; else for want of memory. It then leaves the jar
@@ -131,9 +143,13 @@ impl<'a> PrivateJarMut<'a> {
         cookie: Cookie<'static>,
         rng: &mut R,
     ) -> Result<(), JarError>
-        ensures ok { OnOk result ((nonce : List ℕ) × IsNonce nonce × R.may_fill rng.old nonce rng.new × (jar_of self.new ≡ after (AddOriginal (sealed (key_of self.old) nonce cookie.entry.fields)) (jar_of self.old))) }
+        ensures ok { OnOk result ((nonce : List ℕ) × IsNonce nonce
+            × R.may_fill rng.old nonce rng.new
+            × (jar_of self.new ≡ after
+            (AddOriginal (sealed (key_of self.old) nonce cookie.entry.fields)) (jar_of self.old))) }
         ensures within { OnOk result (CanSeal cookie.entry.fields) }
-        ensures drawn { result ≡ Err refusal.OutOfMemory → (nonce : List ℕ) × IsNonce nonce × R.may_fill rng.old nonce rng.new }
+        ensures drawn { result ≡ Err refusal.OutOfMemory
+            → (nonce : List ℕ) × IsNonce nonce × R.may_fill rng.old nonce rng.new }
         ensures too_long { (¬ CanSeal cookie.entry.fields) ↔ (result ≡ Err refusal.TooLong) }
         ensures undrawn { ¬ CanSeal cookie.entry.fields → rng.new ≡ rng.old }
         ensures failed { result ≡ Err refusal.Generator → R.Error }
@@ -145,20 +161,27 @@ impl<'a> PrivateJarMut<'a> {
     }
 
     /// Adds a cookie, with its value sealed under its name and a nonce that one draw of twelve bytes from `rng`
-    /// gives. A `get` of its name then gives its name and value.
+    /// gives. A `get` of its name then gives its name and value. `rng` must be a cryptographic generator, and under
+    /// one key at most 2^32 nonces may be drawn (SP 800-38D 8.3).
     ///
     /// Fails with `TooLong` where the name has more than 2^61 - 1 bytes or the value more than 2^36 - 32, and then
     /// draws nothing; else with `Generator` where the draw failed; else for want of memory. It then leaves the jar
     /// as it was.
     pub fn add<R: TryRng>(&mut self, cookie: Cookie<'static>, rng: &mut R) -> Result<(), JarError>
-        ensures ok { OnOk result ((nonce : List ℕ) × IsNonce nonce × R.may_fill rng.old nonce rng.new × (jar_of self.new ≡ after (Add (sealed (key_of self.old) nonce cookie.entry.fields)) (jar_of self.old))) }
+        ensures ok { OnOk result ((nonce : List ℕ) × IsNonce nonce
+            × R.may_fill rng.old nonce rng.new
+            × (jar_of self.new ≡ after
+            (Add (sealed (key_of self.old) nonce cookie.entry.fields)) (jar_of self.old))) }
         ensures within { OnOk result (CanSeal cookie.entry.fields) }
-        ensures drawn { result ≡ Err refusal.OutOfMemory → (nonce : List ℕ) × IsNonce nonce × R.may_fill rng.old nonce rng.new }
+        ensures drawn { result ≡ Err refusal.OutOfMemory
+            → (nonce : List ℕ) × IsNonce nonce × R.may_fill rng.old nonce rng.new }
         ensures too_long { (¬ CanSeal cookie.entry.fields) ↔ (result ≡ Err refusal.TooLong) }
         ensures undrawn { ¬ CanSeal cookie.entry.fields → rng.new ≡ rng.old }
         ensures failed { result ≡ Err refusal.Generator → R.Error }
         ensures err { OnErr result (jar_of self.new ≡ jar_of self.old) }
-        ensures shown { IfOk result (λ _. AnswersPair (IsSealingOf (key_of self.new)) (view (jar_of self.new) cookie.entry.fields.name) cookie.entry.fields) }
+        ensures shown { IfOk result (λ _.
+            AnswersPair (IsSealingOf (key_of self.new))
+            (view (jar_of self.new) cookie.entry.fields.name) cookie.entry.fields) }
         ensures same { ChangesSame self.new self.old }
     {
         let nonce = nonce_for(&cookie, rng)?;
@@ -166,7 +189,7 @@ impl<'a> PrivateJarMut<'a> {
     }
 
     /// Adds an original cookie, with its value sealed under its name and the nonce. No two values may be sealed
-    /// under one key and one nonce.
+    /// under one key and one nonce, and under one key at most 2^32 random nonces may be drawn (SP 800-38D 8.3).
     ///
     /// Fails with `TooLong` where the name has more than 2^61 - 1 bytes or the value more than 2^36 - 32, else for
     /// want of memory alone. It then leaves the jar as it was.
@@ -175,7 +198,9 @@ impl<'a> PrivateJarMut<'a> {
         cookie: Cookie<'static>,
         nonce: [u8; 12],
     ) -> Result<(), JarError>
-        ensures gives { CanSeal cookie.entry.fields → Gives refusal.OutOfMemory result (λ _. jar_of self.new ≡ after (AddOriginal (sealed (key_of self.old) nonce cookie.entry.fields)) (jar_of self.old)) }
+        ensures gives { CanSeal cookie.entry.fields → Gives refusal.OutOfMemory result (λ _.
+            jar_of self.new ≡ after
+            (AddOriginal (sealed (key_of self.old) nonce cookie.entry.fields)) (jar_of self.old)) }
         ensures within { OnOk result (CanSeal cookie.entry.fields) }
         ensures too_long { (¬ CanSeal cookie.entry.fields) ↔ (result ≡ Err refusal.TooLong) }
         ensures err { OnErr result (jar_of self.new ≡ jar_of self.old) }
@@ -189,7 +214,8 @@ impl<'a> PrivateJarMut<'a> {
     }
 
     /// Adds a cookie, with its value sealed under its name and the nonce. A `get` of its name then gives its name
-    /// and value. No two values may be sealed under one key and one nonce.
+    /// and value. No two values may be sealed under one key and one nonce, and under one key at most 2^32 random
+    /// nonces may be drawn (SP 800-38D 8.3).
     ///
     /// Fails with `TooLong` where the name has more than 2^61 - 1 bytes or the value more than 2^36 - 32, else for
     /// want of memory alone. It then leaves the jar as it was.
@@ -198,11 +224,15 @@ impl<'a> PrivateJarMut<'a> {
         cookie: Cookie<'static>,
         nonce: [u8; 12],
     ) -> Result<(), JarError>
-        ensures gives { CanSeal cookie.entry.fields → Gives refusal.OutOfMemory result (λ _. jar_of self.new ≡ after (Add (sealed (key_of self.old) nonce cookie.entry.fields)) (jar_of self.old)) }
+        ensures gives { CanSeal cookie.entry.fields → Gives refusal.OutOfMemory result (λ _.
+            jar_of self.new ≡ after
+            (Add (sealed (key_of self.old) nonce cookie.entry.fields)) (jar_of self.old)) }
         ensures within { OnOk result (CanSeal cookie.entry.fields) }
         ensures too_long { (¬ CanSeal cookie.entry.fields) ↔ (result ≡ Err refusal.TooLong) }
         ensures err { OnErr result (jar_of self.new ≡ jar_of self.old) }
-        ensures shown { IfOk result (λ _. AnswersPair (IsSealingOf (key_of self.new)) (view (jar_of self.new) cookie.entry.fields.name) cookie.entry.fields) }
+        ensures shown { IfOk result (λ _.
+            AnswersPair (IsSealingOf (key_of self.new))
+            (view (jar_of self.new) cookie.entry.fields.name) cookie.entry.fields) }
         ensures same { ChangesSame self.new self.old }
     {
         if !can_seal(&cookie) {
@@ -217,9 +247,11 @@ impl<'a> PrivateJarMut<'a> {
     ///
     /// Fails for want of memory alone, where there is such an original, and then leaves the jar as it was.
     pub fn remove(&mut self, cookie: Cookie<'static>, now: DateTime) -> Result<(), JarError>
-        ensures gives { Gives refusal.OutOfMemory result (λ _. jar_of self.new ≡ after (Remove cookie.entry.fields now) (jar_of self.old)) }
+        ensures gives { Gives refusal.OutOfMemory result (λ _.
+            jar_of self.new ≡ after (Remove cookie.entry.fields now) (jar_of self.old)) }
         ensures err { OnErr result (jar_of self.new ≡ jar_of self.old) }
-        ensures certain { get (jar_of self.old).originals cookie.entry.fields.name ≡ None → IsOk result }
+        ensures certain { get (jar_of self.old).originals cookie.entry.fields.name ≡ None
+            → IsOk result }
         ensures same { ChangesSame self.new self.old }
     {
         self.jar.remove(cookie, now)
