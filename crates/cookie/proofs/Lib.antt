@@ -7,6 +7,7 @@ pub mod NameLemmas
 pub mod PrefixLemmas
 pub mod SealingLemmas
 pub mod ShownLemmas
+mod SigningFacts
 pub mod SigningLemmas
 pub mod TableCopyLemmas
 pub mod WalkLemmas

@@ -1,7 +1,8 @@
 -- A signed value is a signature of 44 characters, which are ASCII, and the value.
 use Rattle.std.proofs.Common.{◌≡◌, ◌↔◌, ◌+◌, ◌<◌, ◌≤◌, ℕ, List, [], ◌++◌, length, take, drop, replicate, arith, refl, sym, ap, subst, ◌∙◌, length-append, append-nil, IsAscii, IsUtf8, IsCharBoundary, Option, Some, None, Result, Ok, Err, OnOk, IfOk}
-use Rattle.std.specs.Int.{w64, to_be_bytes}
+use Rattle.std.specs.Int.{w64, from_be_bytes, to_be_bytes}
 use Rattle.std.proofs.lemmas.List.{get_or_append_left, drop_all, take-append-drop}
+use Rattle.std.proofs.lemmas.Nat.{from_be_bytes-to_be_bytes_8}
 use Rattle.std.proofs.lemmas.Str.{IsCharBoundary-after_ascii, IsUtf8-append, IsUtf8-from_ascii}
 use Rattle.std.proofs.Math.Seq.{take-append_seam, drop-append_seam}
 use Rattle.base64.specs.Engines.{standard}
@@ -16,7 +17,7 @@ use Rattle.cookie_crypt.proofs.MacLemmas.{length-hmac}
 use Rattle.cookie_core.specs.Memory.{Gives}
 use Rattle.cookie.specs.AnswersExactly.{AnswersPair}
 use Rattle.cookie.specs.Jar.{Name, JarState, Add, after, view}
-use Rattle.cookie.specs.Signing.{IsSigningOf, covered, signature, signing, signed}
+use Rattle.cookie.specs.Signing.{CoversOnePair, IsSigningOf, covered, signature, signing, signed}
 use Rattle.cookie.specs.declared.jar_error.JarError.{JarError}
 use Rattle.cookie.specs.declared.jar_error.JarError.TheVariants as refusal
 use Rattle.cookie.proofs.AnswerLemmas.{answered_pair, view-stored}
@@ -42,9 +43,29 @@ IsAscii-signature key name value = IsAscii-encode_of standard (hmac key (covered
 pub IsUtf8-signature : (key : List ℕ) (name : Name) (value : List ℕ) → IsUtf8 (signature key name value)
 IsUtf8-signature key name value = IsUtf8-from_ascii (signature key name value) (IsAscii-signature key name value)
 
--- the three pieces, joined
-pub message-is : (name value l n v : List ℕ) → l ≡ to_be_bytes w64 (length name) → n ≡ name → v ≡ value → l ++ (n ++ (v ++ [])) ≡ covered name value
-message-is name value l n v e f g = ap (λ x. x ++ (n ++ (v ++ []))) e ∙ ap (λ x. to_be_bytes w64 (length name) ++ (x ++ (v ++ []))) f ∙ ap (λ x. to_be_bytes w64 (length name) ++ (name ++ x)) (append-nil v ∙ g)
+-- the length, the name and the value, joined
+pub message-is : (name : Name) (value size front back : List ℕ) → size ≡ to_be_bytes w64 (length name) → front ≡ name → back ≡ value
+    → size ++ (front ++ (back ++ [])) ≡ covered name value
+message-is name value size front back is_size is_front is_back =
+    ap (λ xs. xs ++ (front ++ (back ++ []))) is_size
+    ∙ ap (λ xs. to_be_bytes w64 (length name) ++ (xs ++ (back ++ []))) is_front
+    ∙ ap (λ xs. to_be_bytes w64 (length name) ++ (name ++ xs)) (append-nil back ∙ is_back)
+
+-- lists of one length, each before another list, are the same where the whole is
+same_seam : (front other back another : List ℕ) → length front ≡ length other → front ++ back ≡ other ++ another
+    → (front ≡ other) × (back ≡ another)
+same_seam front other back another long same = (
+  sym (take-append_seam front back) ∙ ap (take (length front)) same ∙ ap (λ n. take n (other ++ another)) long ∙ take-append_seam other another,
+  sym (drop-append_seam front back) ∙ ap (drop (length front)) same ∙ ap (λ n. drop n (other ++ another)) long ∙ drop-append_seam other another,
+)
+
+-- the first eight bytes give the length of the name, and so its end
+pub covers_one_pair : CoversOnePair
+covers_one_pair name other value another fits fits_too same =
+    let size : to_be_bytes w64 (length name) ≡ to_be_bytes w64 (length other) = ap (take 8) same in
+    let long : length name ≡ length other =
+    sym (from_be_bytes-to_be_bytes_8 (length name) fits) ∙ ap (from_be_bytes w64) size ∙ from_be_bytes-to_be_bytes_8 (length other) fits_too in
+    same_seam name other value another long (ap (drop 8) same)
 
 -- what `encode_slice` leaves in 44 bytes
 pub signature-from : (key : List ℕ) (name : Name) (value message mac old new : List ℕ) (r : Result ℕ EncodeSliceError)

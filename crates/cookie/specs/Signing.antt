@@ -1,6 +1,6 @@
 -- Signed values: HMAC-SHA256 (RFC 2104), as padded base64 (RFC 4648 4), before the value. A key here is the half of a
 -- key that signs.
-use Rattle.std.specs.Prelude.{◌≡◌, ℕ, List, ◌++◌, length}
+use Rattle.std.specs.Prelude.{◌≡◌, ℕ, ◌<◌, ◌^◌, List, ◌++◌, length}
 use Rattle.std.specs.Int.{w64, to_be_bytes}
 use Rattle.base64.specs.Engines.{standard}
 use Rattle.base64.specs.GeneralPurpose.{encode_of}
@@ -8,9 +8,17 @@ use Rattle.cookie_core.specs.Record.{Record}
 use Rattle.cookie_crypt.specs.Hmac.{hmac}
 use Rattle.cookie.specs.Jar.{Name}
 
--- what the signature of a value covers, for a cookie of that name: the value alone
+-- what the signature of a value covers, for a cookie of that name: the length of the name in eight bytes, the highest
+-- first, then the name as it is stored, and then the value
 abbrev pub covered : Name → List ℕ → List ℕ
 covered name value = to_be_bytes w64 (length name) ++ name ++ value
+
+-- No two pairs of name and value are covered alike: the length says where the name ends. Eight bytes hold the length of
+-- every text in memory.
+abbrev pub CoversOnePair : Type 0
+CoversOnePair =
+    (name other : Name) (value another : List ℕ) → length name < 2 ^ 64 → length other < 2 ^ 64
+    → covered name value ≡ covered other another → (name ≡ other) × (value ≡ another)
 
 -- the signature of a value, of 44 characters
 unfoldable pub signature : List ℕ → Name → List ℕ → List ℕ

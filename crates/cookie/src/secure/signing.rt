@@ -12,13 +12,13 @@ use std::alloc::{AllocError, Global};
 
 const SIGNATURE_LEN: usize = 44;
 
-// The signature of a value, for a cookie of that name.
+// The signature of a value, for a cookie of that name: of the length of the name, the name and the value.
 fn signature(key: &[u8], name: &str, value: &str) -> [u8; 44]
     ensures { result ≡ signature key.now name.now value.now }
 {
-    let mut text = [0; SIGNATURE_LEN];
     let length = (name.len() as u64).to_be_bytes();
     let digest = hmac(key, &[&length, name.as_bytes(), value.as_bytes()]);
+    let mut text = [0; SIGNATURE_LEN];
     let _ = STANDARD.encode_slice(&digest, &mut text);
     text
 }
@@ -43,7 +43,8 @@ pub(crate) fn sign<'c>(
 
 // What stands behind the signature in a value, where it is signed.
 fn verified<'v>(key: &[u8], name: &str, value: &'v str) -> Option<&'v str>
-    ensures { (v : List ℕ) → (option_copied result ≡ Some v) ↔ (value.now ≡ signing key.now name.now v) }
+    ensures { (v : List ℕ)
+        → (option_copied result ≡ Some v) ↔ (value.now ≡ signing key.now name.now v) }
 {
     let Some((front, rest)) = value.split_at_checked(SIGNATURE_LEN) else {
         return None;
@@ -61,7 +62,9 @@ pub(crate) fn verify<'c>(
     key: &[u8],
     mut cookie: Cookie<'c>,
 ) -> Result<Option<Cookie<'c>>, AllocError>
-    ensures { Gives alloc_error result (λ answer. AnswersExactly (IsSigningOf key.now) (Some cookie.entry.fields) (option_map (λ c. c.fields) answer)) }
+    ensures { Gives alloc_error result (λ answer.
+        AnswersExactly (IsSigningOf key.now) (Some cookie.entry.fields)
+        (option_map (λ c. c.fields) answer)) }
 {
     let Some(value) = verified(key, cookie.name(), cookie.value()) else {
         return Ok(None);
@@ -69,4 +72,35 @@ pub(crate) fn verify<'c>(
     let value = String::from_str(alloc, value)?;
     cookie.set_value_owned(value);
     Ok(Some(cookie))
+}
+
+#[cfg(test)]
+mod tests {
+    use super::signature;
+    use base64::engine::general_purpose::STANDARD;
+    use cookie_crypt::hmac;
+    use std::test::Fail;
+
+    const KEY: &[u8] = b"a key that signs";
+
+    // Name, value, and what is signed of them: the length of the name in eight bytes, the name and the value.
+    const MESSAGES: [(&str, &str, &[u8]); 5] = [
+        ("id", "v", b"\0\0\0\0\0\0\0\x02\x69\x64\x76"),
+        ("ab", "c", b"\0\0\0\0\0\0\0\x02\x61\x62\x63"),
+        ("a", "bc", b"\0\0\0\0\0\0\0\x01\x61\x62\x63"),
+        ("", "abc", b"\0\0\0\0\0\0\0\0\x61\x62\x63"),
+        ("", "", b"\0\0\0\0\0\0\0\0"),
+    ];
+
+    #[test]
+    fn names_are_signed_with_their_values(rt: HostRuntime) -> Result<(), Fail> {
+        for (name, value, message) in MESSAGES {
+            let expected = STANDARD.encode(rt.alloc(), &hmac(KEY, &[message]))?;
+            assert!(rt;
+                expected.as_bytes() == signature(KEY, name, value).as_slice(),
+                "{name}={value}"
+            );
+        }
+        Ok(())
+    }
 }

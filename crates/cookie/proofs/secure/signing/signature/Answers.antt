@@ -1,8 +1,9 @@
-use Rattle.std.proofs.Common.{refl, rules, ◌≡◌, ◌++◌, ap, ◌∙◌, append-nil}
-use Rattle.cookie.proofs.SigningLemmas.{signature-from, message-is}
+use Rattle.std.proofs.Common.{refl}
+use Rattle.cookie.proofs.SigningLemmas.{message-is, signature-from}
 use Rattle.cookie.proofs.secure.signing.signature.Goals as goal
 
 pub returns : goal.returns
 returns c =
     signature-from c.args.key.now c.args.name.now c.args.value.now _ c.hmac-digest.result _ _ c.encode_slice.result
-    (message-is _ _ _ _ _ c.to_be_bytes-length.ensures c.as_bytes.ensures.value c.as_bytes-2.ensures.value) c.hmac-digest.ensures refl c.encode_slice.ensures.fits c.encode_slice.ensures.written
+    (message-is _ _ _ _ _ c.to_be_bytes-length.ensures c.as_bytes.ensures.value c.as_bytes-2.ensures.value)
+    c.hmac-digest.ensures refl c.encode_slice.ensures.fits c.encode_slice.ensures.written
