@@ -37,17 +37,19 @@ impl<'t> Read for FailingReader<'t> {
     }
 }
 
-/// A writer that takes one byte a call, and fails behind so many calls.
+/// A writer that takes so many bytes a call at most, and fails behind so many calls.
 #[derive(Drop)]
 pub(super) struct ShortWriter {
     taken: Vec<u8>,
+    most: usize,
     left: usize,
 }
 
 impl ShortWriter {
-    pub(super) fn new(alloc: Global, left: usize) -> ShortWriter {
+    pub(super) fn new(alloc: Global, most: usize, left: usize) -> ShortWriter {
         ShortWriter {
             taken: Vec::new(alloc),
+            most,
             left,
         }
     }
@@ -63,9 +65,10 @@ impl Write for ShortWriter {
         if self.left == 0 || buf.is_empty() {
             return Err(broken());
         }
-        self.taken.push(buf[0])?;
+        let part = buf.get(..self.most).unwrap_or(buf);
+        self.taken.extend_from_slice(part)?;
         self.left -= 1;
-        Ok(1)
+        Ok(part.len())
     }
 
     fn flush(&mut self) -> io::Result<()> {

@@ -1,7 +1,8 @@
-//! Sessions of the program over readers and writers that fail.
+//! Sessions of the program over readers and writers that fail, and long ones over streams that take a little at a time.
 use super::MOMENT;
 use super::devices::{FailingReader, FullWriter, ShortWriter};
 use cookie_client::{RunError, run};
+use std::alloc::Global;
 use std::test::Fail;
 
 const INPUT: &[u8] = b"x=1\nadd a=1";
@@ -37,7 +38,7 @@ fn a_bad_moment_is_told_before_anything_is_read(rt: HostRuntime) {
 fn a_failed_write_leaves_a_beginning(rt: HostRuntime) -> Result<(), Fail> {
     for left in 0..40 {
         let mut input = INPUT;
-        let mut output = ShortWriter::new(rt.alloc(), left);
+        let mut output = ShortWriter::new(rt.alloc(), 1, left);
         let outcome = run(rt.alloc(), MOMENT, &mut input, &mut output);
         assert_eq!(rt; outcome.is_ok(), left >= OUTPUT.len(), "after {left}");
         let is_output = matches!(outcome, Ok(()) | Err(RunError::Output));
@@ -48,5 +49,55 @@ fn a_failed_write_leaves_a_beginning(rt: HostRuntime) -> Result<(), Fail> {
     let mut input = INPUT;
     let outcome = run(rt.alloc(), MOMENT, &mut input, &mut FullWriter);
     assert!(rt; matches!(outcome, Err(RunError::Output)));
+    Ok(())
+}
+
+// A name with three digits, and a value of 500 bytes that no other name has.
+fn pair(alloc: Global, number: u32) -> Result<String, Fail> {
+    let name = format!(in alloc; "n{number}")?;
+    let mut pair = format!(in alloc; "{name}=")?;
+    for _ in 0..125 {
+        pair.push_str(name.as_str())?;
+    }
+    Ok(pair)
+}
+
+// A session that adds a hundred of them, and what is written for it: each of them twice.
+fn long_session(alloc: Global) -> Result<(String, String), Fail> {
+    let mut input = String::new(alloc);
+    let mut written = String::new(alloc);
+    let mut header = String::from_str(alloc, "Cookie: ")?;
+    for number in 100..200 {
+        let pair = pair(alloc, number)?;
+        input.push_str(format!(in alloc; "\nadd {pair}")?.as_str())?;
+        written.push_str(format!(in alloc; "Set-Cookie: {pair}\n")?.as_str())?;
+        if number > 100 {
+            header.push_str("; ")?;
+        }
+        header.push_str(pair.as_str())?;
+    }
+    written.push_str(header.as_str())?;
+    written.push_str("\n")?;
+    Ok((input, written))
+}
+
+#[test]
+fn a_long_text_is_written_whole(rt: HostRuntime) -> Result<(), Fail> {
+    let (text, wanted) = long_session(rt.alloc())?;
+    assert_eq!(rt; wanted.len(), 102_507);
+    let mut input = text.as_bytes();
+    let mut written = Vec::new(rt.alloc());
+    run(rt.alloc(), MOMENT, &mut input, &mut written)?;
+    assert!(rt; written.as_slice() == wanted.as_bytes());
+    Ok(())
+}
+
+#[test]
+fn a_long_text_is_read_and_written_a_little_at_a_time(rt: HostRuntime) -> Result<(), Fail> {
+    let (text, wanted) = long_session(rt.alloc())?;
+    let mut input = FailingReader::new(text.as_bytes(), usize::MAX);
+    let mut output = ShortWriter::new(rt.alloc(), 7, usize::MAX);
+    run(rt.alloc(), MOMENT, &mut input, &mut output)?;
+    assert!(rt; output.taken() == wanted.as_bytes());
     Ok(())
 }
