@@ -178,13 +178,9 @@ fn secure(rt: HostRuntime) -> Result<(), Fail> {
     Ok(())
 }
 
-// Whether a jar that can be changed answers this value, and nothing under another name.
+// Whether a jar that can be changed answers this value.
 fn answers_too(jar: &mut CookieJar, key: &Key, name: &str, value: &str) -> Result<bool, Fail> {
-    let child = jar.private_mut(key);
-    if child.get("another")?.is_some() {
-        return Ok(false);
-    }
-    match child.get(name)? {
+    match jar.private_mut(key).get(name)? {
         Some(cookie) => Ok(cookie.name() == name && cookie.value() == value),
         None => Ok(false),
     }

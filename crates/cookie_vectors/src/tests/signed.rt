@@ -9,8 +9,15 @@ use cookie_client::{ChildCall, JarCall, mirror};
 use std::alloc::Global;
 use std::test::Fail;
 
-// `Tamper-proof`, signed with the test key.
-const SIGNED: &str = "3tdHXEQ2kf6fxC7dWzBGmpSLMtJenXLKrZ9cHkSsl1w=Tamper-proof";
+// `Tamper-proof`, signed with the test key for the name `id`. The signatures here were worked out by Python's hmac, and
+// again by OpenSSL.
+const SIGNED: &str = "cMcV8FaG/z/JS4bYk1VWqDagQ9aCoYD675qpIOI2XKU=Tamper-proof";
+
+// The same as the crate `cookie` signs it, for every name.
+const NAMELESS: &str = "3tdHXEQ2kf6fxC7dWzBGmpSLMtJenXLKrZ9cHkSsl1w=Tamper-proof";
+
+// `v`, signed with the test key for the name `id`.
+const SHORT: &str = "YEX0azEv230lTf/SrQUdkf+tvRE7YD+JDqy5wEnxhus=v";
 
 // Each call stands in a function of its own, so that a test's proof needn't know what the call says of the jar.
 fn add(
@@ -41,13 +48,9 @@ fn verify(
     Ok(jar.signed(key).verify(cookie)?)
 }
 
-// Whether a jar that can be changed answers this value, and nothing under another name.
+// Whether a jar that can be changed answers this value.
 fn answers_too(jar: &mut CookieJar, key: &Key, name: &str, value: &str) -> Result<bool, Fail> {
-    let child = jar.signed_mut(key);
-    if child.get("another")?.is_some() {
-        return Ok(false);
-    }
-    match child.get(name)? {
+    match jar.signed_mut(key).get(name)? {
         Some(cookie) => Ok(cookie.name() == name && cookie.value() == value),
         None => Ok(false),
     }
@@ -65,8 +68,13 @@ fn is_answered(jar: &CookieJar, key: &Key, name: &str) -> Result<bool, Fail> {
     Ok(jar.signed(key).get(name)?.is_some())
 }
 
-fn is_verified(jar: &CookieJar, key: &Key, value: &'static str) -> Result<bool, Fail> {
-    Ok(verify(jar, key, Cookie::new("x", value))?.is_some())
+fn is_verified(
+    jar: &CookieJar,
+    key: &Key,
+    name: &'static str,
+    value: &'static str,
+) -> Result<bool, Fail> {
+    Ok(verify(jar, key, Cookie::new(name, value))?.is_some())
 }
 
 fn is_right(alloc: Global, jar: &mut CookieJar, key: &Key, step: KeyedStep) -> Result<bool, Fail> {
@@ -83,15 +91,18 @@ fn is_right(alloc: Global, jar: &mut CookieJar, key: &Key, step: KeyedStep) -> R
 }
 
 // The place of the first step at which a new jar, or its child jar, shows another thing.
-fn wrong(alloc: Global, seed: u32, steps: &[KeyedStep]) -> Result<Option<usize>, Fail> {
-    let key = Key::generate(&mut Counting(seed));
+fn wrong(alloc: Global, key: &Key, steps: &[KeyedStep]) -> Result<Option<usize>, Fail> {
     let mut jar = CookieJar::new(alloc);
     for index in 0..steps.len() {
-        if !is_right(alloc, &mut jar, &key, steps[index])? {
+        if !is_right(alloc, &mut jar, key, steps[index])? {
             return Ok(Some(index));
         }
     }
     Ok(None)
+}
+
+fn drawn(seed: u32) -> Key {
+    Key::generate(&mut Counting(seed))
 }
 
 #[test]
@@ -105,14 +116,14 @@ fn a_wrong_step_is_found(rt: HostRuntime) -> Result<(), Fail> {
         (KeyedStep::Hides("a", "1"), None),
         (KeyedStep::Jar(Step::Lacks("a")), Some(1)),
     ] {
-        let found = wrong(rt.alloc(), 1, &[KeyedStep::Add("a", "1"), step])?;
+        let found = wrong(rt.alloc(), &drawn(1), &[KeyedStep::Add("a", "1"), step])?;
         assert_eq!(rt; found, place);
     }
     let bare = [
         KeyedStep::Jar(Step::Add("a", "1")),
         KeyedStep::Hides("a", "1"),
     ];
-    assert_eq!(rt; wrong(rt.alloc(), 1, &bare)?, Some(1));
+    assert_eq!(rt; wrong(rt.alloc(), &drawn(1), &bare)?, Some(1));
     Ok(())
 }
 
@@ -131,7 +142,7 @@ fn simple(rt: HostRuntime) -> Result<(), Fail> {
         KeyedStep::Remove("name"),
         KeyedStep::Jar(Step::Counts(0, 0)),
     ];
-    assert_eq!(rt; wrong(rt.alloc(), 1, &steps)?, None);
+    assert_eq!(rt; wrong(rt.alloc(), &drawn(1), &steps)?, None);
     Ok(())
 }
 
@@ -146,22 +157,54 @@ fn private(rt: HostRuntime) -> Result<(), Fail> {
         KeyedStep::Jar(Step::Add("secure", "foobar")),
         KeyedStep::AnswersNothing("secure"),
     ];
-    assert_eq!(rt; wrong(rt.alloc(), 2, &steps)?, None);
+    assert_eq!(rt; wrong(rt.alloc(), &drawn(2), &steps)?, None);
+    Ok(())
+}
+
+// What the child jar stores, and what the jar was handed, for the test key.
+const NAMED: [KeyedStep; 12] = [
+    KeyedStep::Add("id", "v"),
+    KeyedStep::Jar(Step::Shows("id", SHORT)),
+    KeyedStep::Answers("id", "v"),
+    KeyedStep::Jar(Step::Add("ie", SHORT)),
+    KeyedStep::AnswersNothing("ie"),
+    KeyedStep::Jar(Step::Add("a", "8i21DTCOSSWa3mXtuZT5Yx34+2bh0BFUBIMOkBs1Sas=bc")),
+    KeyedStep::AnswersNothing("a"),
+    KeyedStep::Jar(Step::Add("ab", "8i21DTCOSSWa3mXtuZT5Yx34+2bh0BFUBIMOkBs1Sas=c")),
+    KeyedStep::Answers("ab", "c"),
+    KeyedStep::Add("", "v"),
+    KeyedStep::Jar(Step::Shows("", "7vrCDiK3viJhqiQJQJt014/kBP3q+weVDO9m1+gzFqQ=v")),
+    KeyedStep::Answers("", "v"),
+];
+
+#[test]
+fn a_signed_value_stays_with_its_name(rt: HostRuntime) -> Result<(), Fail> {
+    assert_eq!(rt; wrong(rt.alloc(), &test_key(), &NAMED)?, None);
+    Ok(())
+}
+
+// Values that were signed without their names, under the names that the crate `cookie` has in its tests, and another.
+const OLD: [KeyedStep; 6] = [
+    KeyedStep::Jar(Step::Add("signed_with_ring014", NAMELESS)),
+    KeyedStep::AnswersNothing("signed_with_ring014"),
+    KeyedStep::Jar(Step::AddOriginal("signed_with_ring016", NAMELESS)),
+    KeyedStep::AnswersNothing("signed_with_ring016"),
+    KeyedStep::Jar(Step::Add("id", NAMELESS)),
+    KeyedStep::AnswersNothing("id"),
+];
+
+#[test]
+fn a_value_signed_without_its_name_is_refused(rt: HostRuntime) -> Result<(), Fail> {
+    assert_eq!(rt; wrong(rt.alloc(), &test_key(), &OLD)?, None);
     Ok(())
 }
 
 #[test]
-fn roundtrip(rt: HostRuntime) -> Result<(), Fail> {
-    let key = test_key();
-    let stored = [
-        Step::Add("signed_with_ring014", SIGNED),
-        Step::AddOriginal("signed_with_ring016", SIGNED),
-    ];
+fn a_jar_that_can_be_changed_answers_too(rt: HostRuntime) -> Result<(), Fail> {
+    let stored = [Step::Add("id", SIGNED), Step::AddOriginal("ie", SIGNED)];
     let mut jar = after(rt.alloc(), &stored)?;
-    for name in ["signed_with_ring014", "signed_with_ring016"] {
-        assert!(rt; answers(&jar, &key, name, "Tamper-proof")?);
-        assert!(rt; answers_too(&mut jar, &key, name, "Tamper-proof")?);
-    }
+    assert!(rt; answers_too(&mut jar, &test_key(), "id", "Tamper-proof")?);
+    assert!(rt; !answers_too(&mut jar, &test_key(), "ie", "Tamper-proof")?);
     Ok(())
 }
 
@@ -169,31 +212,50 @@ fn is_verified_too(jar: &mut CookieJar, key: &Key, cookie: Cookie<'static>) -> R
     Ok(jar.signed_mut(key).verify(cookie)?.is_some())
 }
 
+// Forty-three characters of one byte, and one of two: the 44th byte ends none.
+const ACROSS: &str = "yyyyyyyyyyyyyyyyyyyyyyyyyyyyyyyyyyyyyyyyyyy\u{a3}";
+
+// Whether a jar that can be changed verifies this value.
+fn verifies(
+    alloc: Global,
+    key: &Key,
+    name: &'static str,
+    value: &'static str,
+) -> Result<bool, Fail> {
+    is_verified_too(&mut CookieJar::new(alloc), key, Cookie::new(name, value))
+}
+
 #[test]
 fn issue_178(rt: HostRuntime) -> Result<(), Fail> {
-    let cookie = Cookie::parse("x=yyyyyyyyyyyyyyyyyyyyyyyyyyyyyyyyyyyyyyyyyyy£")?;
-    let key = Key::from(&[0; 64]);
-    let mut jar = CookieJar::new(rt.alloc());
-    assert!(rt; !is_verified_too(&mut jar, &key, cookie)?);
+    assert!(rt; !verifies(rt.alloc(), &Key::from(&[0; 64]), "x", ACROSS)?);
+    assert!(rt; !verifies(rt.alloc(), &test_key(), "x", ACROSS)?);
+    assert!(rt; verifies(rt.alloc(), &test_key(), "id", SIGNED)?);
     Ok(())
 }
 
-// Values that aren't signed under the test key.
-const UNSIGNED: [&str; 8] = [
+// Values that aren't signed under the test key for the name `id`.
+const UNSIGNED: [&str; 10] = [
     "",
-    "3tdHXEQ2kf6fxC7dWzBGmpSLMtJenXLKrZ9cHkSsl1w",
-    "3tdHXEQ2kf6fxC7dWzBGmpSLMtJenXLKrZ9cHkSsl1w=",
-    "3tdHXEQ2kf6fxC7dWzBGmpSLMtJenXLKrZ9cHkSsl1w=Tamper-proo",
-    "3tdHXEQ2kf6fxC7dWzBGmpSLMtJenXLKrZ9cHkSsl1wTamper-proof",
-    "3tdHXEQ2kf6fxC7dWzBGmpSLMtJenXLKrZ9cHkSsl1x=Tamper-proof",
-    "4tdHXEQ2kf6fxC7dWzBGmpSLMtJenXLKrZ9cHkSsl1w=Tamper-proof",
+    "cMcV8FaG/z/JS4bYk1VWqDagQ9aCoYD675qpIOI2XKU",
+    "cMcV8FaG/z/JS4bYk1VWqDagQ9aCoYD675qpIOI2XKU=",
+    "cMcV8FaG/z/JS4bYk1VWqDagQ9aCoYD675qpIOI2XKU=Tamper-proo",
+    "cMcV8FaG/z/JS4bYk1VWqDagQ9aCoYD675qpIOI2XKUTamper-proof",
+    "cMcV8FaG/z/JS4bYk1VWqDagQ9aCoYD675qpIOI2XKV=Tamper-proof",
+    "dMcV8FaG/z/JS4bYk1VWqDagQ9aCoYD675qpIOI2XKU=Tamper-proof",
     "Tamper-proof",
+    NAMELESS,
+    ACROSS,
 ];
 
 // Whether one of the values is verified.
-fn is_any_verified(jar: &CookieJar, key: &Key, values: &[&'static str]) -> Result<bool, Fail> {
+fn is_any_verified(
+    jar: &CookieJar,
+    key: &Key,
+    name: &'static str,
+    values: &[&'static str],
+) -> Result<bool, Fail> {
     for value in values {
-        if is_verified(jar, key, value)? {
+        if is_verified(jar, key, name, value)? {
             return Ok(true);
         }
     }
@@ -203,9 +265,10 @@ fn is_any_verified(jar: &CookieJar, key: &Key, values: &[&'static str]) -> Resul
 #[test]
 fn a_value_without_its_signature_is_not_verified(rt: HostRuntime) -> Result<(), Fail> {
     let jar = CookieJar::new(rt.alloc());
-    assert!(rt; !is_any_verified(&jar, &test_key(), &UNSIGNED)?);
-    assert!(rt; is_any_verified(&jar, &test_key(), &["", SIGNED])?);
-    assert!(rt; !is_any_verified(&jar, &Key::from(&[0; 64]), &[SIGNED])?);
+    assert!(rt; !is_any_verified(&jar, &test_key(), "id", &UNSIGNED)?);
+    assert!(rt; is_any_verified(&jar, &test_key(), "id", &["", SIGNED])?);
+    assert!(rt; !is_any_verified(&jar, &test_key(), "ie", &[SIGNED, SHORT])?);
+    assert!(rt; !is_any_verified(&jar, &Key::from(&[0; 64]), "id", &[SIGNED])?);
     Ok(())
 }
 
@@ -213,10 +276,10 @@ fn a_value_without_its_signature_is_not_verified(rt: HostRuntime) -> Result<(), 
 fn a_verified_cookie_keeps_all_but_its_value(rt: HostRuntime) -> Result<(), Fail> {
     let key = test_key();
     let jar = CookieJar::new(rt.alloc());
-    let Some(cookie) = verify(&jar, &key, with_all_fields("any", SIGNED))? else {
+    let Some(cookie) = verify(&jar, &key, with_all_fields("id", SIGNED))? else {
         return Err(Fail::new("it isn't verified"));
     };
-    assert!(rt; cookie.name() == "any" && cookie.value() == "Tamper-proof");
+    assert!(rt; cookie.name() == "id" && cookie.value() == "Tamper-proof");
     assert!(rt; has_all_fields(&cookie));
     Ok(())
 }
@@ -235,34 +298,45 @@ fn a_signed_cookie_is_printed_with_its_signature(rt: HostRuntime) -> Result<(), 
     let text = encoded(rt.alloc(), &jar, "id")?;
     assert_eq!(rt;
         text.as_str(),
-        "id=3tdHXEQ2kf6fxC7dWzBGmpSLMtJenXLKrZ9cHkSsl1w%3DTamper-proof"
+        "id=cMcV8FaG%2Fz%2FJS4bYk1VWqDagQ9aCoYD675qpIOI2XKU%3DTamper-proof"
     );
     Ok(())
 }
 
-// Whether the value, signed under the test key, is stored as this text.
-fn is_signed_as(alloc: Global, value: &'static str, text: &str) -> Result<bool, Fail> {
+// Whether the cookie, signed under the test key, is stored as this text.
+fn is_signed_as(
+    alloc: Global,
+    name: &'static str,
+    value: &'static str,
+    text: &str,
+) -> Result<bool, Fail> {
     let key = test_key();
     let mut jar = CookieJar::new(alloc);
-    add(&mut jar, &key, "a", value)?;
-    Ok(shown(&jar, "a") == Some(text) && answers(&jar, &key, "a", value)?)
+    add(&mut jar, &key, name, value)?;
+    Ok(shown(&jar, name) == Some(text) && answers(&jar, &key, name, value)?)
 }
 
-// Rows that another implementation signed (OpenSSL's).
 #[test]
 fn values_are_signed_as_elsewhere(rt: HostRuntime) -> Result<(), Fail> {
-    for (value, text) in [
-        ("", "CcfJpMExK2FhMGScFO6LJRWY7qSh17lumUGjywsB4tk="),
+    for (name, value, text) in [
+        ("a", "", "HW3uV96hz6aABeiuBtrHK9wYx+lHdaNpiQeln6wCTEU="),
         (
-            "x;y \u{e9} \u{20ac}",
-            "g0nIIPBEy/w/ImKAKVgC8bRL+T7d7+t38cFioae8F3k=x;y \u{e9} \u{20ac}",
+            "\u{e9}",
+            "1",
+            "KXAUDiQhGz5S38cvvdfQOV2KbfVBGCx27Y7xaTi0Kbc=1",
         ),
         (
+            "a",
+            "x;y \u{e9} \u{20ac}",
+            "1ja+P4cHxt8sPf+WJ0aZFjEH2ButcbOOgspULbInmeg=x;y \u{e9} \u{20ac}",
+        ),
+        (
+            "__Host-session_identifier",
             "a value of more than one block of SHA-256, which is sixty-four bytes long, so this is",
-            "YF/5R02xku8yvGjugj5WIqLzqaKMOTJMjrYaUqEBl20=a value of more than one block of SHA-256, which is sixty-four bytes long, so this is",
+            "NJs2vC2fSRjuL+mq0iYH+IpiRECdlbo4anjSS/9xzYc=a value of more than one block of SHA-256, which is sixty-four bytes long, so this is",
         ),
     ] {
-        assert!(rt; is_signed_as(rt.alloc(), value, text)?);
+        assert!(rt; is_signed_as(rt.alloc(), name, value, text)?);
     }
     Ok(())
 }
@@ -304,11 +378,11 @@ fn a_client_follows_signed_calls(rt: HostRuntime) -> Result<(), Fail> {
     for (count, header) in [
         (
             1usize,
-            "a=3tdHXEQ2kf6fxC7dWzBGmpSLMtJenXLKrZ9cHkSsl1w%3DTamper-proof",
+            "a=BUc44lI7Dm%2FtTDcxr9%2FP+8rYV2UozyuE1DzviLSw47w%3DTamper-proof",
         ),
         (
             3,
-            "b=3tdHXEQ2kf6fxC7dWzBGmpSLMtJenXLKrZ9cHkSsl1w%3DTamper-proof",
+            "b=RrPVwIC%2FToJbtele03OAHOkhBYGWJdkMwzDG16KO6Aw%3DTamper-proof",
         ),
     ] {
         assert_eq!(rt; header_after(rt.alloc(), count)?.as_str(), header);
