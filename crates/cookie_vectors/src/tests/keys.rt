@@ -30,6 +30,22 @@ const DERIVED_OF_33: [u8; 64] = [
     89, 185,
 ];
 
+// The same of the bytes 0 to 64: a key of more than the 64 bytes that HMAC takes as they are.
+const DERIVED_OF_65: [u8; 64] = [
+    102, 58, 246, 116, 35, 147, 120, 244, 191, 30, 180, 84, 144, 251, 18, 15, 85, 219, 70, 227, 19,
+    93, 154, 27, 42, 58, 17, 252, 132, 97, 77, 133, 74, 146, 229, 100, 192, 147, 108, 248, 197,
+    212, 91, 220, 21, 236, 78, 3, 25, 16, 139, 57, 193, 96, 90, 76, 65, 187, 252, 6, 23, 229, 111,
+    82,
+];
+
+// The same of the bytes 0 to 31, and 32 bytes of 255.
+const DERIVED_OF_CHANGED: [u8; 64] = [
+    193, 149, 122, 163, 139, 123, 169, 27, 216, 253, 62, 121, 116, 71, 131, 189, 80, 137, 64, 177,
+    204, 226, 140, 22, 206, 180, 30, 7, 9, 42, 182, 121, 107, 49, 15, 88, 15, 165, 182, 123, 42,
+    252, 187, 179, 45, 170, 67, 14, 156, 136, 119, 231, 98, 174, 103, 113, 234, 159, 68, 220, 169,
+    36, 76, 170,
+];
+
 #[test]
 fn from_works(rt: HostRuntime) {
     let bytes = counted::<70>();
@@ -61,6 +77,7 @@ fn try_from_works(rt: HostRuntime) -> Result<(), Fail> {
 
 #[test]
 fn only_the_first_64_bytes_are_a_key(rt: HostRuntime) {
+    assert!(rt; Key::from(&counted::<65>()) == Key::from(&counted::<64>()));
     let bytes = counted::<70>();
     let mut others = bytes;
     others[64] = 255;
@@ -73,13 +90,38 @@ fn only_the_first_64_bytes_are_a_key(rt: HostRuntime) {
 }
 
 #[test]
-fn deterministic_derive(rt: HostRuntime) -> Result<(), Fail> {
+fn deterministic_derive(rt: HostRuntime) {
     let key = Key::derive_from(&counted::<32>());
-    assert!(rt; key.master() == DERIVED.as_slice());
-    assert!(rt; key == Key::try_derive_from(&counted::<32>())?);
+    assert!(rt; key == Key::derive_from(&counted::<32>()));
     assert!(rt; key.encryption() != key.signing());
-    let longer = Key::try_derive_from(&counted::<33>())?;
-    assert!(rt; longer.master() == DERIVED_OF_33.as_slice());
+    let mut bytes = counted::<32>();
+    for byte in bytes.iter_mut() {
+        *byte = byte.wrapping_add(32);
+    }
+    let other = Key::derive_from(&bytes);
+    assert!(rt; other.signing() != key.signing());
+    assert!(rt; other.encryption() != key.encryption());
+}
+
+// Whether the key that is derived of the bytes is this one.
+fn is_derived_as(master: &[u8], key: &[u8]) -> Result<bool, Fail> {
+    let derived = Key::try_derive_from(master)?;
+    Ok(derived.master() == key && derived == Key::derive_from(master))
+}
+
+#[test]
+fn keys_are_derived_as_elsewhere(rt: HostRuntime) -> Result<(), Fail> {
+    let mut changed = [255; 64];
+    changed[..32].copy_from_slice(&counted::<32>());
+    assert!(rt; is_derived_as(&counted::<32>(), &DERIVED)?);
+    assert!(rt; is_derived_as(&counted::<33>(), &DERIVED_OF_33)?);
+    assert!(rt; is_derived_as(&counted::<65>(), &DERIVED_OF_65)?);
+    assert!(rt; is_derived_as(&changed, &DERIVED_OF_CHANGED)?);
+    Ok(())
+}
+
+#[test]
+fn a_short_master_key_is_refused(rt: HostRuntime) -> Result<(), Fail> {
     match Key::try_derive_from(&counted::<31>()) {
         Err(error) => {
             assert!(rt; error == KeyError::MasterTooShort(31));
