@@ -1,9 +1,14 @@
 //! Texts of cookies, plain and escaped, with attributes and without.
 use super::foo;
-use cookie::{Cookie, CookieBuilder, Expiration, SameSite, encode, read_date};
+use cookie::{
+    Cookie, CookieBuilder, DateText, Expiration, JarError, KeyError, ParseError, SameSite, encode,
+    read_date,
+};
+use cookie_client::{ClientError, RunError};
 use jiff::SignedDuration;
 use jiff::civil::DateTime;
 use std::alloc::Global;
+use std::fmt;
 use std::test::Fail;
 
 // Builders with one field set, by number, and the texts that they print.
@@ -177,5 +182,46 @@ fn texts_are_escaped(rt: HostRuntime) -> Result<(), Fail> {
         let encoded = encode(text).to_string(rt.alloc())?;
         assert_eq!(rt; encoded.as_str(), wanted);
     }
+    Ok(())
+}
+
+// Whether the text stays as it is under a width, a sign, zeros in front and a precision.
+fn is_printed_alike<T: fmt::Display>(alloc: Global, shown: &T, wanted: &str) -> Result<bool, Fail> {
+    let text = format!(in alloc; "{shown}|{shown:>60}|{shown:*^+60}|{shown:060}|{shown:.3}")?;
+    let all = format!(in alloc; "{wanted}|{wanted}|{wanted}|{wanted}|{wanted}")?;
+    Ok(text.as_str() == all.as_str())
+}
+
+#[test]
+fn neither_width_nor_precision_changes_a_text(rt: HostRuntime) -> Result<(), Fail> {
+    let alloc = rt.alloc();
+    let date = read_date("Wed, 21 Oct 2015 07:28:00 GMT").ok_or("a date")?;
+    assert!(rt; is_printed_alike(alloc, &DateText(date), "Wed, 21 Oct 2015 07:28:00 GMT")?);
+    assert!(rt; is_printed_alike(alloc, &SameSite::Strict, "Strict")?);
+    assert!(rt; is_printed_alike(alloc, &encode("\u{e9}("), "%C3%A9%28")?);
+    Ok(())
+}
+
+#[test]
+fn neither_width_nor_precision_changes_a_cookie(rt: HostRuntime) -> Result<(), Fail> {
+    let alloc = rt.alloc();
+    let all =
+        "id=x y; HttpOnly; SameSite=Lax; Secure; Path=/; Domain=b.c; Max-Age=90; Expires=Wed, 21 Oct 2015 07:28:00 GMT";
+    let cookie = Cookie::parse(all)?;
+    assert!(rt; is_printed_alike(alloc, &cookie, all)?);
+    assert!(rt; is_printed_alike(alloc, &cookie.encoded().stripped(), "id=x%20y")?);
+    assert!(rt; is_printed_alike(alloc, &foo().path("/"), "foo=bar; Path=/")?);
+    Ok(())
+}
+
+#[test]
+fn neither_width_nor_precision_changes_a_refusal(rt: HostRuntime) -> Result<(), Fail> {
+    let alloc = rt.alloc();
+    assert!(rt; is_printed_alike(alloc, &ParseError::EmptyName, "the cookie's name is empty")?);
+    assert!(rt; is_printed_alike(alloc, &JarError::Generator, "the generator failed")?);
+    assert!(rt; is_printed_alike(alloc, &ClientError::OutOfMemory, "out of memory")?);
+    assert!(rt; is_printed_alike(alloc, &RunError::BadLine(3), "cookiejar: bad line 3")?);
+    let short = "key material is too short: expected >= 64 bytes, got 6 bytes";
+    assert!(rt; is_printed_alike(alloc, &KeyError::TooShort(6), short)?);
     Ok(())
 }
