@@ -1,5 +1,9 @@
 //! The calls that show and change a cookie's fields, and those of its builder.
-use cookie::{Cookie, CookieBuilder, Expiration, SameSite, days_after, read_date};
+use cookie::{
+    Cookie, CookieBuilder, Expiration, JarError, KeyError, ParseError, SameSite, days_after,
+    read_date,
+};
+use cookie_client::ClientError;
 use jiff::SignedDuration;
 use jiff::civil::DateTime;
 use std::hash::{FoldHasher, Hash, Hasher};
@@ -177,6 +181,23 @@ fn same_site_has_three_values(rt: HostRuntime) -> Result<(), Fail> {
         assert_eq!(rt; hash_of(value), hash_of(value));
     }
     assert!(rt; hash_of(SameSite::Lax) != hash_of(SameSite::Strict));
+    Ok(())
+}
+
+// Whether a clone equals its value, and the value no other.
+fn is_cloned<T: Clone + PartialEq>(value: &T, other: &T) -> Result<bool, Fail> {
+    Ok(value.clone()? == *value && *value != *other)
+}
+
+#[test]
+fn small_values_are_cloned_and_compared(rt: HostRuntime) -> Result<(), Fail> {
+    let at = Expiration::DateTime(DateTime::MIN);
+    assert!(rt; is_cloned(&SameSite::Lax, &SameSite::None)?);
+    assert!(rt; is_cloned(&at, &Expiration::Session)?);
+    assert!(rt; is_cloned(&ParseError::EmptyName, &ParseError::MissingPair)?);
+    assert!(rt; is_cloned(&JarError::TooLong, &JarError::Generator)?);
+    assert!(rt; is_cloned(&KeyError::TooShort(6), &KeyError::TooShort(7))?);
+    assert!(rt; ClientError::OutOfMemory.clone()? == ClientError::OutOfMemory);
     Ok(())
 }
 
