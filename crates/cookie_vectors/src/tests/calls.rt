@@ -161,6 +161,29 @@ fn calls_are_made_in_order_on_the_jar_handed_in(rt: HostRuntime) -> Result<(), F
     Ok(())
 }
 
+// An original that is held already, and removals of names that the jar lacks.
+#[test]
+fn calls_that_bring_nothing_new_are_accepted(rt: HostRuntime) -> Result<(), Fail> {
+    let (mut jar, outcomes) = replayed(
+        rt.alloc(),
+        &[
+            Step::AddOriginal("o", "1"),
+            Step::Add("gone", "1"),
+            Step::Remove("absent"),
+            Step::ForceRemove("absent"),
+        ],
+    )?;
+    assert!(rt; outcomes.as_slice() == [true; 4].as_slice());
+    let shown = [
+        Step::Counts(1, 2),
+        Step::Shows("o", "1"),
+        Step::Shows("gone", "1"),
+        Step::Lacks("absent"),
+    ];
+    assert_eq!(rt; first_wrong(&mut jar, &shown)?, None);
+    Ok(())
+}
+
 #[test]
 fn no_calls_have_no_outcomes(rt: HostRuntime) -> Result<(), Fail> {
     let (mut jar, outcomes) = replayed(rt.alloc(), &[])?;
