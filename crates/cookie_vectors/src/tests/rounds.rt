@@ -70,7 +70,7 @@ fn a_signed_value_goes_through_the_requests(rt: HostRuntime) -> Result<(), Fail>
         Request { calls: &[] },
         Request { calls: &third },
     ];
-    let header = "id=3tdHXEQ2kf6fxC7dWzBGmpSLMtJenXLKrZ9cHkSsl1w%3DTamper-proof";
+    let header = "id=cMcV8FaG%2Fz%2FJS4bYk1VWqDagQ9aCoYD675qpIOI2XKU%3DTamper-proof";
     let is_followed = is_followed(rt.alloc(), &requests, &[], &[header, header, ""])?;
     assert!(rt; is_followed);
     Ok(())
