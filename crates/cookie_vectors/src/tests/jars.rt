@@ -152,6 +152,27 @@ fn replace_remove(rt: HostRuntime) -> Result<(), Fail> {
     Ok(())
 }
 
+#[test]
+fn calls_that_bring_nothing_new_leave_the_jar(rt: HostRuntime) -> Result<(), Fail> {
+    let steps = [
+        Step::AddOriginal("name", "val"),
+        Step::AddOriginal("name", "val"),
+        Step::Counts(0, 1),
+        Step::Shows("name", "val"),
+        Step::Remove("absent"),
+        Step::ForceRemove("absent"),
+        Step::Counts(0, 1),
+        Step::Shows("name", "val"),
+        Step::Remove("name"),
+        Step::Remove("name"),
+        Step::AddOriginal("name", "val"),
+        Step::Counts(1, 0),
+        Step::Lacks("name"),
+    ];
+    assert_eq!(rt; wrong(rt.alloc(), &steps)?, None);
+    Ok(())
+}
+
 // Removes the cookie of that name with the path of the whole host.
 fn remove_everywhere(jar: &mut CookieJar, name: &'static str) -> Result<(), Fail> {
     let cookie = Cookie::build(Cookie::named(name)).path("/").build();
