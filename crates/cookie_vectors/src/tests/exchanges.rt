@@ -185,6 +185,26 @@ fn an_unfit_addition_is_shown_by_the_jar_alone(rt: HostRuntime) -> Result<(), Fa
     Ok(())
 }
 
+// What comes of an addition of that cookie, and one of another name.
+fn both_added(alloc: Global, cookie: Cookie<'static>) -> Result<Played, Fail> {
+    let calls = [JarCall::Add(cookie), JarCall::Add(Cookie::new("b", "2"))];
+    Ok(mirror(alloc, &calls, &[], moment()?)?)
+}
+
+#[test]
+fn a_fit_addition_behind_an_unfit_one_is_followed(rt: HostRuntime) -> Result<(), Fail> {
+    let mut played = both_added(rt.alloc(), with_half_a_second())?;
+    assert!(rt; played.outcomes.as_slice() == [true; 2].as_slice());
+    assert!(rt; has_header(&played, "b=2")?);
+    let shown = [
+        Step::Counts(2, 2),
+        Step::Shows("a", "1"),
+        Step::Shows("b", "2"),
+    ];
+    assert!(rt; first_wrong(&mut played.jar, &shown)?.is_none());
+    Ok(())
+}
+
 #[test]
 fn no_calls_leave_an_empty_client(rt: HostRuntime) -> Result<(), Fail> {
     assert!(rt; is_played_as(rt.alloc(), &[], "", &[Step::Counts(0, 0)])?);
