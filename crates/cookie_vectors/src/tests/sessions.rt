@@ -1,6 +1,7 @@
 //! Sessions of the program, over bytes in memory.
 use super::MOMENT;
-use cookie_client::{RunError, run};
+use cookie::JarError;
+use cookie_client::{ClientError, RunError, run};
 use std::alloc::Global;
 use std::test::Fail;
 
@@ -33,6 +34,8 @@ fn sessions_have_their_texts(rt: HostRuntime) -> Result<(), Fail> {
             "\nadd b=2; Max-Age=0",
             "Set-Cookie: b=2; Max-Age=0\nCookie: \n",
         ),
+        ("\nadd b=2; Max-Age=", "Set-Cookie: b=2\nCookie: b=2\n"),
+        ("\nadd c=3; Max-Age=-", "Set-Cookie: c=3\nCookie: c=3\n"),
         (
             "a=x%20y\nadd b=1%3B2",
             "Set-Cookie: b=1%3B2\nCookie: a=x%20y; b=1%3B2\n",
@@ -104,6 +107,14 @@ fn faults_are_told_in_their_order(rt: HostRuntime) -> Result<(), Fail> {
 fn other_faults_have_their_texts(rt: HostRuntime) -> Result<(), Fail> {
     for (error, wanted) in [
         (RunError::OutOfMemory, "cookiejar: out of memory"),
+        (
+            RunError::from(ClientError::OutOfMemory),
+            "cookiejar: out of memory",
+        ),
+        (
+            RunError::from(JarError::OutOfMemory),
+            "cookiejar: out of memory",
+        ),
         (RunError::Input, "cookiejar: input or output failed"),
         (RunError::Output, "cookiejar: input or output failed"),
     ] {
