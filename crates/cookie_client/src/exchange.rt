@@ -176,11 +176,14 @@ fn reordered(
 ) -> Result<Vec<String>, AllocError>
     ensures { IfOk result (λ ordered. IsPermutation texts.items ordered.items) }
 {
-    let mut ordered = Vec::new(alloc);
+    let mut ordered = Vec::with_capacity(alloc, texts.len())?;
     let mut turn = 0usize;
+    // The next text stands last, so that number 0 moves no other.
+    texts.reverse();
     while texts.len() > 0 {
+        let last = texts.len() - 1;
         let place = place_of(pick, turn, texts.len());
-        let text = texts.remove(place);
+        let text = texts.remove(last - place);
         ordered.push(text)?;
         turn = turn.saturating_add(1);
     }
