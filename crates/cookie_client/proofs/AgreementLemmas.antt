@@ -1,108 +1,28 @@
 -- The client of calls agrees with their jar.
-use Rattle.std.proofs.Common.{◌≡◌, ℕ, Bool, true, false, cond, ◌||◌, inl, inr, ⊎_elim, List, [], ◌∷◌, reverse, refl, sym, ap, subst, ◌∙◌, All, Option, Some, None}
+use Rattle.std.proofs.Common.{◌≡◌, ℕ, Bool, true, false, cond, ◌||◌, ⊎_elim, List, [], ◌∷◌, reverse, refl, sym, ap, subst, ◌∙◌, All, Option, Some, None}
 use mathlib.Core.List.{reverse_aux}
 use mathlib.Core.Logic.{◌≢◌}
 use Rattle.std.proofs.lemmas.Bool.{or_parts}
-use Rattle.std.proofs.lemmas.List.Elements.{All-nil, All-cons, All-head, All-tail, All-map, All-weaker}
+use Rattle.std.proofs.lemmas.List.Elements.{All-head, All-tail}
 use Rattle.std.proofs.lemmas.Option.{none-some}
 use Rattle.std.specs.FinMap.{FinMap, empty, get, insert, get-empty}
+use Rattle.std.specs.List.{list_any}
 use Rattle.std.specs.Str.{bytes_eq}
 use Rattle.jiff.specs.Types.{DateTime}
-use Rattle.cookie.specs.History.{after_all, accepted, original_by, last_original, is_forced}
-use Rattle.cookie.specs.Jar.{Name, name_cmp, Marked, JarState, empty_jar, Change, AddOriginal, Add, Remove, ForceRemove, ResetDelta, overlay, view}
-use Rattle.cookie.specs.Keys.{encryption_half, signing_half}
+use Rattle.cookie.specs.History.{after_all, original_by, last_original, is_forced}
+use Rattle.cookie.specs.Jar.{Name, name_cmp, Marked, JarState, empty_jar, Change, AddOriginal, Add, Remove, ForceRemove, ResetDelta, after, overlay}
 use Rattle.cookie.specs.Record.{Record}
-use Rattle.cookie.specs.Sealing.{sealed}
-use Rattle.cookie.specs.Signing.{signed}
 use Rattle.cookie.proofs.HistoryLemmas.{looks_back}
-use Rattle.cookie.proofs.NameLemmas.{get_inserted}
+use Rattle.cookie.proofs.NameLemmas.{get_inserted, get_removed}
 use Rattle.cookie.proofs.OutcomeLemmas.{nameless_outcome}
-use Rattle.cookie_client.specs.Agreement.{Agrees, AreDeltaTexts, originals_of, holds_originals, value_of, expected}
-use Rattle.cookie_client.specs.Calls.{change_of, child_change, changes_of, stored_with, IsFitCall, IsFitChild}
+use Rattle.cookie_client.specs.Agreement.{Agrees, AreDeltaTexts, HoldsOriginals, alters_original, originals_of, holds_originals, value_of}
+use Rattle.cookie_client.specs.Calls.{IsFit}
 use Rattle.cookie_client.specs.Client.{Values, after_texts}
-use Rattle.cookie_client.specs.KnownCalls.{IsKnownCall, IsKnownChild}
 use Rattle.cookie_client.specs.Session.{holding}
-use Rattle.cookie_client.specs.declared.call.JarCall.{JarCall}
-use Rattle.cookie_client.specs.declared.call.JarCall.TheVariants as calls
-use Rattle.cookie_client.specs.declared.child_call.ChildCall.{ChildCall}
-use Rattle.cookie_client.specs.declared.child_call.ChildCall.TheVariants as child
-use Rattle.cookie_client.proofs.EntryLemmas.{AreEntries, Puts, AreEntries-empty, AreEntries-after_all, chosen}
-use Rattle.cookie_client.proofs.FitLemmas.{IsCookie-removal, IsFitEntry, decided_fit}
-use Rattle.cookie_client.proofs.StoredLemmas.{IsStoring, IsStoring-same, IsStoring-prefixed, IsStoring-signed, IsStoring-sealed}
+use Rattle.cookie_client.proofs.ChangeLemmas.{IsKnown, are_kept, are_fit}
+use Rattle.cookie_client.proofs.EntryLemmas.{AreEntries, AreEntries-empty, chosen}
+use Rattle.cookie_client.proofs.FitLemmas.{IsFitEntry, decided_fit}
 use Rattle.cookie_client.proofs.ReadTextLemmas.{IsKept, effect, decided, read_at, same_client}
-
--- ---- what the calls put into the delta
-
--- an original that the change adds has a name
-abbrev IsNamedChange : Change → Type 0
-IsNamedChange (AddOriginal cookie) = cookie.name ≢ []
-IsNamedChange (Add cookie) = Unit {0}
-IsNamedChange (Remove cookie now) = Unit {0}
-IsNamedChange (ForceRemove name) = Unit {0}
-IsNamedChange ResetDelta = Unit {0}
-
--- what a call on a child jar puts there, and whether its original has a name
-module _ (stored dropped : Record → Record) (storing : IsStoring stored) (dropping : IsStoring dropped) where
-  puts_kept_child : (call : ChildCall) → IsKnownChild call → Puts IsKept (child_change stored dropped call)
-  puts_kept_child (child.AddOriginal cookie) known = tt
-  puts_kept_child (child.Add cookie) known = record { cookie = storing.cookie cookie.fields known; name = refl }
-  puts_kept_child (child.Remove cookie moment) known =
-      record { cookie = IsCookie-removal moment (dropped cookie.fields) (dropping.cookie cookie.fields known); name = refl }
-
-  puts_fit_child : (now : DateTime) (call : ChildCall) → IsKnownChild call → IsFitChild now call → Puts (IsFitEntry now) (child_change stored dropped call)
-  puts_fit_child now (child.AddOriginal cookie) known fit = tt
-  puts_fit_child now (child.Add cookie) known fit =
-      inl (record { kept = refl; cookie = storing.cookie cookie.fields known; fit = storing.fit now cookie.fields fit })
-  puts_fit_child now (child.Remove cookie moment) known fit =
-      inr (record {
-        removed = refl;
-        cookie = dropped cookie.fields;
-        moment = moment;
-        named = record { cookie = dropping.cookie cookie.fields known; name = dropping.named cookie.fields fit };
-        is = refl;
-      })
-
-  named_child : (now : DateTime) (call : ChildCall) → IsFitChild now call → IsNamedChange (child_change stored dropped call)
-  named_child now (child.AddOriginal cookie) fit = storing.named cookie.fields fit
-  named_child now (child.Add cookie) fit = tt
-  named_child now (child.Remove cookie moment) fit = tt
-
-pub puts_kept : (call : JarCall) → IsKnownCall call → Puts IsKept (change_of call)
-puts_kept (calls.AddOriginal cookie) known = tt
-puts_kept (calls.Add cookie) known = record { cookie = known; name = refl }
-puts_kept (calls.Remove cookie moment) known = record { cookie = IsCookie-removal moment cookie.fields known; name = refl }
-puts_kept (calls.ForceRemove name) known = tt
-puts_kept calls.ResetDelta known = tt
-puts_kept (calls.Prefixed kind call) known = puts_kept_child (stored_with kind) (stored_with kind) (IsStoring-prefixed kind) (IsStoring-prefixed kind) call known
-puts_kept (calls.Signed key call) known = puts_kept_child (signed (signing_half key.now)) (λ c. c) (IsStoring-signed (signing_half key.now)) IsStoring-same call known
-puts_kept (calls.Private key nonce call) known = puts_kept_child (sealed (encryption_half key.now) nonce) (λ c. c) (IsStoring-sealed (encryption_half key.now) nonce) IsStoring-same call known
-
-pub puts_fit : (now : DateTime) (call : JarCall) → IsKnownCall call × IsFitCall now call → Puts (IsFitEntry now) (change_of call)
-puts_fit now (calls.AddOriginal cookie) h = tt
-puts_fit now (calls.Add cookie) h = inl (record { kept = refl; cookie = h.0; fit = h.1 })
-puts_fit now (calls.Remove cookie moment) h =
-    inr (record { removed = refl; cookie = cookie.fields; moment = moment; named = record { cookie = h.0; name = h.1 }; is = refl })
-puts_fit now (calls.ForceRemove name) h = tt
-puts_fit now calls.ResetDelta h = tt
-puts_fit now (calls.Prefixed kind call) h = puts_fit_child (stored_with kind) (stored_with kind) (IsStoring-prefixed kind) (IsStoring-prefixed kind) now call h.0 h.1
-puts_fit now (calls.Signed key call) h = puts_fit_child (signed (signing_half key.now)) (λ c. c) (IsStoring-signed (signing_half key.now)) IsStoring-same now call h.0 h.1
-puts_fit now (calls.Private key nonce call) h = puts_fit_child (sealed (encryption_half key.now) nonce) (λ c. c) (IsStoring-sealed (encryption_half key.now) nonce) IsStoring-same now call h.0 h.1
-
-pub All-accepted : {X : Type 0} (P : X → Type 0) (outcomes : List Bool) (xs : List X) → All P xs → All P (accepted outcomes xs)
-All-accepted P [] xs all = All-nil P
-All-accepted P (b ∷ bs) [] all = All-nil P
-All-accepted P (true ∷ bs) (x ∷ xs) all = All-cons P x (accepted bs xs) (All-head P x xs all) (All-accepted P bs xs (All-tail P x xs all))
-All-accepted P (false ∷ bs) (x ∷ xs) all = All-accepted P bs xs (All-tail P x xs all)
-
-pub All-both : {X : Type 0} (P Q : X → Type 0) (xs : List X) → All P xs → All Q xs → All (λ x. P x × Q x) xs
-All-both P Q xs all also k d within = (all k d within, also k d within)
-
-put_by : (P : JarCall → Type 0) (R : Name → Marked → Type 0) → ((call : JarCall) → P call → Puts R (change_of call)) → (outcomes : List Bool) (cs : List JarCall) → All P (accepted outcomes cs)
-    → AreEntries R (after_all (changes_of outcomes cs) empty_jar).delta
-put_by P R puts outcomes cs all =
-    AreEntries-after_all R (changes_of outcomes cs) empty_jar
-    (All-map (Puts R) change_of (accepted outcomes cs) (All-weaker P (λ call. Puts R (change_of call)) puts (accepted outcomes cs) all))
-    (AreEntries-empty R)
 
 -- ---- what the client held
 
@@ -150,30 +70,20 @@ last_unforced name (ResetDelta ∷ earlier) unforced = last_unforced name earlie
 
 -- ---- the empty name
 
-named_change : (now : DateTime) (call : JarCall) → IsFitCall now call → IsNamedChange (change_of call)
-named_change now (calls.AddOriginal cookie) fit = fit
-named_change now (calls.Add cookie) fit = tt
-named_change now (calls.Remove cookie moment) fit = tt
-named_change now (calls.ForceRemove name) fit = tt
-named_change now calls.ResetDelta fit = tt
-named_change now (calls.Prefixed kind call) fit = named_child (stored_with kind) (stored_with kind) (IsStoring-prefixed kind) (IsStoring-prefixed kind) now call fit
-named_change now (calls.Signed key call) fit = named_child (signed (signing_half key.now)) (λ c. c) (IsStoring-signed (signing_half key.now)) IsStoring-same now call fit
-named_change now (calls.Private key nonce call) fit = named_child (sealed (encryption_half key.now) nonce) (λ c. c) (IsStoring-sealed (encryption_half key.now) nonce) IsStoring-same now call fit
-
 another_name : (name : Name) → name ≢ [] → bytes_eq [] name ≡ false
 another_name [] some = absurd (some refl)
 another_name (b ∷ bs) some = refl
 
-held_unnamed : (changes : List Change) (values : Values) → All IsNamedChange changes → get (holding (originals_of changes) values) [] ≡ get values []
-held_unnamed [] values all = refl
-held_unnamed (AddOriginal cookie ∷ changes) values all =
-    held_unnamed changes (insert values cookie.name cookie.value) (All-tail IsNamedChange (AddOriginal cookie) changes all)
+held_unnamed : (now : DateTime) (changes : List Change) (values : Values) → All (IsFit now) changes → get (holding (originals_of changes) values) [] ≡ get values []
+held_unnamed now [] values all = refl
+held_unnamed now (AddOriginal cookie ∷ changes) values all =
+    held_unnamed now changes (insert values cookie.name cookie.value) (All-tail (IsFit now) (AddOriginal cookie) changes all)
     ∙ get_inserted values cookie.name cookie.value []
-    ∙ ap (λ b. cond b (Some cookie.value) (get values [])) (another_name cookie.name (All-head IsNamedChange (AddOriginal cookie) changes all))
-held_unnamed (Add cookie ∷ changes) values all = held_unnamed changes values (All-tail IsNamedChange (Add cookie) changes all)
-held_unnamed (Remove cookie now ∷ changes) values all = held_unnamed changes values (All-tail IsNamedChange (Remove cookie now) changes all)
-held_unnamed (ForceRemove name ∷ changes) values all = held_unnamed changes values (All-tail IsNamedChange (ForceRemove name) changes all)
-held_unnamed (ResetDelta ∷ changes) values all = held_unnamed changes values (All-tail IsNamedChange ResetDelta changes all)
+    ∙ ap (λ b. cond b (Some cookie.value) (get values [])) (another_name cookie.name (All-head (IsFit now) (AddOriginal cookie) changes all))
+held_unnamed now (Add cookie ∷ changes) values all = held_unnamed now changes values (All-tail (IsFit now) (Add cookie) changes all)
+held_unnamed now (Remove cookie moment ∷ changes) values all = held_unnamed now changes values (All-tail (IsFit now) (Remove cookie moment) changes all)
+held_unnamed now (ForceRemove name ∷ changes) values all = held_unnamed now changes values (All-tail (IsFit now) (ForceRemove name) changes all)
+held_unnamed now (ResetDelta ∷ changes) values all = held_unnamed now changes values (All-tail (IsFit now) ResetDelta changes all)
 
 -- a text of the delta leaves the empty name as it was
 pub decided_unnamed : (now : DateTime) (delta : FinMap name_cmp Marked) → AreEntries IsKept delta → (o : Option Marked) → get delta [] ≡ o → (before : Option (List ℕ)) → decided now o before ≡ before
@@ -209,79 +119,63 @@ unforced_back name (change ∷ changes) earlier front back =
     let parts = unforced_parts name change changes front in
     unforced_back name changes (change ∷ earlier) parts.1 (unforced_first name change earlier parts.0 back)
 
+-- ---- what a client holds that was told of each original
+
+pub holds_each : (now : DateTime) (changes : List Change) (jar : JarState) → jar ≡ after_all changes empty_jar → HoldsOriginals now changes jar
+holds_each now changes jar is =
+    let last : (name : Name) → get (holds_originals changes) name ≡ value_of (last_original name (reverse changes)) =
+    λ name. held_at name changes [] empty (get-empty name_cmp name) in
+    let original : (name : Name) → get jar.originals name ≡ original_by name (reverse changes) =
+    λ name. ap (λ (j : JarState). get j.originals name) is ∙ (looks_back changes).originals name in
+    record {
+      last = last;
+      unforced = λ name unforced. last name ∙ ap value_of (last_unforced name (reverse changes) (unforced_back name changes [] unforced refl) ∙ sym (original name));
+      standing = λ name cookie e. last name ∙ ap value_of (last_of_kept name (reverse changes) cookie (sym (original name) ∙ e) ∙ sym e);
+      named = λ fits. held_unnamed now changes empty fits ∙ get-empty name_cmp [];
+    }
+
+-- ---- originals that no change alters
+
+kept_original : (name : Name) (change : Change) (jar : JarState) → alters_original name change ≡ false → get (after change jar).originals name ≡ get jar.originals name
+kept_original name (AddOriginal cookie) jar e = get_inserted jar.originals cookie.name cookie name ∙ ap (λ b. cond b (Some cookie) (get jar.originals name)) e
+kept_original name (Add cookie) jar e = refl
+kept_original name (Remove cookie now) jar e = refl
+kept_original name (ForceRemove forced) jar e = get_removed jar.originals forced name ∙ ap (λ b. cond b None (get jar.originals name)) e
+kept_original name ResetDelta jar e = refl
+
+pub kept_originals : (name : Name) (changes : List Change) (jar : JarState) → list_any (alters_original name) changes ≡ false
+    → get (after_all changes jar).originals name ≡ get jar.originals name
+kept_originals name [] jar e = refl
+kept_originals name (change ∷ changes) jar e =
+    let parts = or_parts (alters_original name change) (list_any (alters_original name) changes) e in
+    kept_originals name changes (after change jar) parts.1 ∙ kept_original name change jar parts.0
+
 -- ---- the theorem
 
--- what is expected is what the jar shows, where the client held nothing but what the originals have
-expected_shown : (d : Option Marked) (o h : Option Record) → (o ≡ None → h ≡ None) → expected d o (value_of h) ≡ value_of (overlay d o)
-expected_shown None None h same = ap value_of (same refl)
-expected_shown None (Some original) h same = refl
-expected_shown (Some entry) o h same = by entry.removed
+-- what a fit entry makes of what the client held is what the jar shows
+shown : (now : DateTime) (name : Name) (d : Option Marked) (o : Option Record) (held : Option (List ℕ)) → ((entry : Marked) → d ≡ Some entry → IsFitEntry now name entry)
+    → (d ≡ None → held ≡ value_of o) → decided now d held ≡ value_of (overlay d o)
+shown now name None o held fit same = same refl
+shown now name (Some entry) o held fit same = decided_fit now name entry (fit entry refl) held ∙ by entry.removed
   where
     by : (b : Bool) → cond b None (Some entry.cookie.value) ≡ value_of (cond b None (Some entry.cookie))
     by true = refl
     by false = refl
 
-module _ (now : DateTime) (cs : List JarCall) (outcomes : List Bool) (known : All IsKnownCall cs) where
-  -- the changes that were made, and their jar
-  abbrev changes : List Change
-  changes = changes_of outcomes cs
-
-  abbrev made : JarState
-  made = after_all (changes_of outcomes cs) empty_jar
-
-  kept : AreEntries IsKept made.delta
-  kept = put_by IsKnownCall IsKept puts_kept outcomes cs (All-accepted IsKnownCall outcomes cs known)
-
-  -- the client that read these texts
-  abbrev client_of : List (List ℕ) → Values
-  client_of texts = after_texts now texts (holds_originals changes)
-
-  in_any_order : (texts others : List (List ℕ)) → AreDeltaTexts made.delta texts → AreDeltaTexts made.delta others → client_of texts ≡ client_of others
-  in_any_order texts others are also = same_client now made.delta kept texts others are also (holds_originals changes)
-
-  held : (name : Name) → get (holds_originals changes) name ≡ value_of (last_original name (reverse changes))
-  held name = held_at name changes [] empty (get-empty name_cmp name)
-
-  decided_is : All (IsFitCall now) (accepted outcomes cs) → (name : Name) (d : Option Marked) → get made.delta name ≡ d → (o : Option Record) → get made.originals name ≡ o
-      → decided now d (value_of (last_original name (reverse changes))) ≡ expected d o (value_of (last_original name (reverse changes)))
-  decided_is fits name None d None o = refl
-  decided_is fits name None d (Some original) o =
-      ap value_of (last_of_kept name (reverse changes) original (sym ((looks_back changes).originals name) ∙ o))
-  decided_is fits name (Some entry) d original o =
-      decided_fit now name entry
-      (put_by (λ call. IsKnownCall call × IsFitCall now call) (IsFitEntry now) (puts_fit now) outcomes cs (All-both IsKnownCall (IsFitCall now) (accepted outcomes cs) (All-accepted IsKnownCall outcomes cs known) fits) name entry d)
-      (value_of (last_original name (reverse changes)))
-
-  followed : (texts : List (List ℕ)) → AreDeltaTexts made.delta texts → All (IsFitCall now) (accepted outcomes cs) → (name : Name)
-      → get (client_of texts) name ≡ expected (get made.delta name) (get made.originals name) (value_of (last_original name (reverse changes)))
-  followed texts are fits name =
-      read_at now made.delta kept texts are (holds_originals changes) name
-      ∙ ap (decided now (get made.delta name)) (held name)
-      ∙ decided_is fits name (get made.delta name) refl (get made.originals name) refl
-
-  agrees : (texts : List (List ℕ)) → AreDeltaTexts made.delta texts → All (IsFitCall now) (accepted outcomes cs) → (name : Name) → is_forced name (changes_of outcomes cs) ≡ false
-      → get (client_of texts) name ≡ value_of (view made name)
-  agrees texts are fits name unforced =
-      followed texts are fits name
-      ∙ expected_shown (get made.delta name) (get made.originals name) (last_original name (reverse changes)) (λ e.
-      last_unforced name (reverse changes) (unforced_back name changes [] unforced refl)
-      ∙ sym ((looks_back changes).originals name) ∙ e)
-
-  unnamed : (texts : List (List ℕ)) → AreDeltaTexts made.delta texts → All (IsFitCall now) (accepted outcomes cs) → get (client_of texts) [] ≡ None
-  unnamed texts are fits =
-      read_at now made.delta kept texts are (holds_originals changes) []
-      ∙ decided_unnamed now made.delta kept (get made.delta []) refl (get (holds_originals changes) [])
-      ∙ held_unnamed changes empty (All-map IsNamedChange change_of (accepted outcomes cs) (All-weaker (IsFitCall now) (λ call. IsNamedChange (change_of call)) (named_change now) (accepted outcomes cs) fits))
-      ∙ get-empty name_cmp []
-
-  -- the client of the calls, whatever list of the delta's texts it read
-  pub agreement : (jar : JarState) (client : Values) (texts : List (List ℕ)) → jar ≡ made → AreDeltaTexts jar.delta texts → client ≡ client_of texts → Agrees now cs outcomes jar client
-  agreement jar client texts is are read =
-      let texts_are : AreDeltaTexts made.delta texts = subst (λ (j : JarState). AreDeltaTexts j.delta texts) is are in
-      record {
-        in_any_order = λ others also. read ∙ in_any_order texts others texts_are (subst (λ (j : JarState). AreDeltaTexts j.delta others) is also);
-        agrees = λ fits name unforced. ap (λ v. get v name) read ∙ agrees texts texts_are fits name unforced ∙ ap (λ j. value_of (view j name)) (sym is);
-        forced = λ fits name. ap (λ v. get v name) read ∙ followed texts texts_are fits name
-            ∙ ap (λ (j : JarState). expected (get j.delta name) (get j.originals name) (value_of (last_original name (reverse changes)))) (sym is);
-        named = λ fits. ap (λ v. get v []) read ∙ unnamed texts texts_are fits;
-      }
+-- the client that read the texts of the delta which the changes left, of a jar without changes before
+pub agreement : (now : DateTime) (changes : List Change) → All IsKnown changes → (start jar : JarState) → start.delta ≡ empty → jar ≡ after_all changes start
+    → (before client : Values) (texts : List (List ℕ)) → AreDeltaTexts jar.delta texts → client ≡ after_texts now texts before → Agrees now before changes jar client
+agreement now changes known start jar fresh is before client texts are read =
+    let none : (R : Name → Marked → Type 0) → AreEntries R start.delta = λ R. subst (AreEntries R) (sym fresh) (AreEntries-empty R) in
+    let kept : AreEntries IsKept jar.delta = subst (λ (j : JarState). AreEntries IsKept j.delta) (sym is) (are_kept changes known start (none IsKept)) in
+    let at : (name : Name) → get client name ≡ decided now (get jar.delta name) (get before name) =
+    λ name. ap (λ v. get v name) read ∙ read_at now jar.delta kept texts are before name in
+    record {
+      in_any_order = λ others also. read ∙ same_client now jar.delta kept texts others are also before;
+      agrees = λ fits name held.
+          let fit : AreEntries (IsFitEntry now) jar.delta =
+          subst (λ (j : JarState). AreEntries (IsFitEntry now) j.delta) (sym is) (are_fit now changes known fits start (none (IsFitEntry now))) in
+          at name ∙ shown now name (get jar.delta name) (get jar.originals name) (get before name) (fit name) held;
+      left = λ name absent. at name ∙ ap (λ d. decided now d (get before name)) absent;
+      named = λ unnamed. at [] ∙ decided_unnamed now jar.delta kept (get jar.delta []) refl (get before []) ∙ unnamed;
+    }

@@ -1,6 +1,8 @@
 pub mod AgreementLemmas
 pub mod CallLemmas
+pub mod ChangeLemmas
 pub mod DeltaTextLemmas
+pub mod EntriesLemmas
 pub mod EntryLemmas
 pub mod FitLemmas
 pub mod HeaderLemmas
@@ -9,6 +11,7 @@ pub mod LiveLemmas
 pub mod OriginalLemmas
 pub mod OutcomeLemmas
 pub mod ReadTextLemmas
+pub mod ResultLemmas
 pub mod StoredLemmas
 pub mod TextMapLemmas
 pub mod SessionLemmas

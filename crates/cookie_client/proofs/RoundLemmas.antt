@@ -1,32 +1,28 @@
 -- The client of a request agrees with its jar.
-use Rattle.std.proofs.Common.{◌≡◌, Bool, true, false, cond, T, List, [], ◌∷◌, map, All, Option, Some, None, option_map, refl, sym, ap, subst, ◌∙◌, length, ℕ, suc}
+use Rattle.std.proofs.Common.{◌≡◌, Bool, true, false, ◌||◌, cond, T, List, [], ◌∷◌, map, All, Option, Some, None, option_map, refl, sym, ap, subst, ◌∙◌, length, ℕ, suc}
 use Rattle.std.proofs.lemmas.Bool.{and_parts}
-use Rattle.std.proofs.lemmas.List.Elements.{All-head, All-tail, All-map, All-weaker}
+use Rattle.std.proofs.lemmas.List.Elements.{All-head, All-tail, All-weaker}
 use Rattle.std.proofs.lemmas.Slice.Eq.{bytes_eq-Decides}
 use Rattle.std.specs.Cmp.Lexicographic.{nat_list_cmp_total, texts_ties}
 use Rattle.std.specs.FinMap.{empty, get, insert, entries, find, is_sorted, entries_sorted, get-entries, get-empty, same_map}
 use Rattle.std.specs.FinMap.Entries.{below_all}
-use Rattle.std.specs.List.{filter_map, cons_option}
+use Rattle.std.specs.List.{filter_map, cons_option, list_any}
 use Rattle.std.specs.Option.{option_or}
-use Rattle.std.specs.Ordering.{is_lt, is_eq}
 use Rattle.std.specs.Str.{bytes_eq}
-use Rattle.std.specs.declared.cmp.Ordering.{Ordering}
-use Rattle.std.specs.declared.cmp.Ordering.TheVariants.{Less, Equal, Greater}
 use Rattle.jiff.specs.Types.{DateTime}
 use Rattle.cookie.specs.CookieOf.{cookie_of, header_cookies}
 use Rattle.cookie.specs.Header.{header_texts}
 use Rattle.cookie.specs.History.{after_all, accepted}
-use Rattle.cookie.specs.Jar.{Name, name_cmp, Marked, JarState, empty_jar, AddOriginal, after, overlay, view}
+use Rattle.cookie.specs.Jar.{Name, name_cmp, JarState, empty_jar, AddOriginal, after}
 use Rattle.cookie.specs.Keys.{encryption_half, signing_half}
 use Rattle.cookie.specs.Record.{Record, plain}
 use Rattle.cookie.specs.Sealing.{sealed}
 use Rattle.cookie.specs.Signing.{signed}
 use Rattle.cookie.proofs.NameLemmas.{get_inserted, names_apart}
-use Rattle.cookie_client.specs.Agreement.{AreDeltaTexts, value_of}
+use Rattle.cookie_client.specs.Agreement.{Agrees, HoldsOriginal, alters_original, value_of}
 use Rattle.cookie_client.specs.Calls.{change_of, child_change, changes_of, is_change, is_child_change, stored_with, IsFitCall}
-use Rattle.cookie_client.specs.Client.{Values, after_texts, header_text}
-use Rattle.cookie_client.specs.KnownCalls.{IsKnownCall}
-use Rattle.cookie_client.specs.Rounds.{jar_for, IsFitChange, RoundAgrees, AreRounds}
+use Rattle.cookie_client.specs.Client.{Values, header_text}
+use Rattle.cookie_client.specs.Rounds.{IsFitChange, IsVisit, IsRound, AreRounds}
 use Rattle.cookie_client.specs.Session.{with_originals, holding}
 use Rattle.cookie_client.specs.Steps.{IsHeaderOf}
 use Rattle.cookie_client.specs.declared.call.JarCall.{JarCall}
@@ -35,11 +31,8 @@ use Rattle.cookie_client.specs.declared.child_call.ChildCall.{ChildCall}
 use Rattle.cookie_client.specs.declared.child_call.ChildCall.TheVariants as child
 use Rattle.cookie_client.specs.declared.exchange.Played.{Played}
 use Rattle.cookie_client.specs.declared.request.Request.{Request}
-use Rattle.cookie_client.proofs.AgreementLemmas.{puts_kept, puts_fit, All-accepted, All-both, decided_unnamed}
-use Rattle.cookie_client.proofs.EntryLemmas.{AreEntries, Puts, AreEntries-empty, AreEntries-after_all}
-use Rattle.cookie_client.proofs.FitLemmas.{IsFitEntry, decided_fit}
+use Rattle.cookie_client.proofs.EntriesLemmas.{T-true, find_below}
 use Rattle.cookie_client.proofs.HeaderLemmas.{Pair, plain_of}
-use Rattle.cookie_client.proofs.ReadTextLemmas.{IsKept, decided, read_at, same_client}
 
 -- ---- the cookies of a client's header
 
@@ -69,22 +62,6 @@ header-cookies : (client : Values) (header : List ℕ) → IsHeaderOf client hea
 header-cookies client header is = ap (header_cookies true) (sym is.text) ∙ header-pairs client header is
 
 -- ---- the originals of a new jar
-
-T-true : (b : Bool) → T b → b ≡ true
-T-true true h = refl
-T-true false h = absurd h
-
-apart : (o : Ordering) → is_lt o ≡ true → is_eq o ≡ false
-apart Less h = refl
-apart Equal h = absurd (subst T (sym h) tt)
-apart Greater h = refl
-
--- a name before all others isn't among them
-find_below : (name : Name) (es : List Pair) → below_all name_cmp name es ≡ true → find name_cmp name es ≡ None
-find_below name [] h = refl
-find_below name (e ∷ es) h =
-    let parts = and_parts (is_lt (name_cmp name e.0)) (below_all name_cmp name es) h in
-    ap (λ b. cond b (Some e.1) (find name_cmp name es)) (apart (name_cmp name e.0) parts.0) ∙ find_below name es parts.1
 
 -- what the originals have at a name, once a name and a value were added, and then others
 added_then : (b : Bool) (name key : Name) (value : List ℕ) (rest : Option (List ℕ)) (o : Option Record) → bytes_eq name key ≡ b → (b ≡ true → rest ≡ None)
@@ -152,89 +129,62 @@ held_again client header is =
     ∙ ap value_of (original_of client name)
     ∙ value_of-plain name (get client name))
 
--- ---- the delta of a request
+-- ---- the changes of a request
 
--- a change leaves the originals
-same_originals-child : (stored dropped : Record → Record) (call : ChildCall) → is_child_change call ≡ true → (jar : JarState) → (after (child_change stored dropped call) jar).originals ≡ jar.originals
-same_originals-child stored dropped (child.AddOriginal cookie) is jar = absurd (subst T (sym is) tt)
-same_originals-child stored dropped (child.Add cookie) is jar = refl
-same_originals-child stored dropped (child.Remove cookie moment) is jar = refl
+-- a change alters no original
+no_original-child : (name : Name) (stored dropped : Record → Record) (call : ChildCall) → is_child_change call ≡ true → alters_original name (child_change stored dropped call) ≡ false
+no_original-child name stored dropped (child.AddOriginal cookie) is = absurd (subst T (sym is) tt)
+no_original-child name stored dropped (child.Add cookie) is = refl
+no_original-child name stored dropped (child.Remove cookie moment) is = refl
 
-same_originals : (call : JarCall) → is_change call ≡ true → (jar : JarState) → (after (change_of call) jar).originals ≡ jar.originals
-same_originals (calls.AddOriginal cookie) is jar = absurd (subst T (sym is) tt)
-same_originals (calls.Add cookie) is jar = refl
-same_originals (calls.Remove cookie moment) is jar = refl
-same_originals (calls.ForceRemove name) is jar = absurd (subst T (sym is) tt)
-same_originals calls.ResetDelta is jar = absurd (subst T (sym is) tt)
-same_originals (calls.Prefixed kind call) is jar = same_originals-child (stored_with kind) (stored_with kind) call is jar
-same_originals (calls.Signed key call) is jar = same_originals-child (signed (signing_half key.now)) (λ c. c) call is jar
-same_originals (calls.Private key nonce call) is jar = same_originals-child (sealed (encryption_half key.now) nonce) (λ c. c) call is jar
+no_original : (name : Name) (call : JarCall) → is_change call ≡ true → alters_original name (change_of call) ≡ false
+no_original name (calls.AddOriginal cookie) is = absurd (subst T (sym is) tt)
+no_original name (calls.Add cookie) is = refl
+no_original name (calls.Remove cookie moment) is = refl
+no_original name (calls.ForceRemove forced) is = absurd (subst T (sym is) tt)
+no_original name calls.ResetDelta is = absurd (subst T (sym is) tt)
+no_original name (calls.Prefixed kind call) is = no_original-child name (stored_with kind) (stored_with kind) call is
+no_original name (calls.Signed key call) is = no_original-child name (signed (signing_half key.now)) (λ c. c) call is
+no_original name (calls.Private key nonce call) is = no_original-child name (sealed (encryption_half key.now) nonce) (λ c. c) call is
 
-originals_left : (cs : List JarCall) → All (λ call. is_change call ≡ true) cs → (jar : JarState) → (after_all (map change_of cs) jar).originals ≡ jar.originals
-originals_left [] are jar = refl
-originals_left (call ∷ cs) are jar =
-    originals_left cs (All-tail (λ call. is_change call ≡ true) call cs are) (after (change_of call) jar)
-    ∙ same_originals call (All-head (λ call. is_change call ≡ true) call cs are) jar
-
-put_by : (P : JarCall → Type 0) (R : Name → Marked → Type 0) → ((call : JarCall) → P call → Puts R (change_of call)) → (outcomes : List Bool) (cs : List JarCall) → All P (accepted outcomes cs)
-    → (jar : JarState) → jar.delta ≡ empty → AreEntries R (after_all (changes_of outcomes cs) jar).delta
-put_by P R puts outcomes cs all jar fresh =
-    AreEntries-after_all R (changes_of outcomes cs) jar
-    (All-map (Puts R) change_of (accepted outcomes cs) (All-weaker P (λ call. Puts R (change_of call)) puts (accepted outcomes cs) all))
-    (subst (AreEntries R) (sym fresh) (AreEntries-empty R))
-
--- what a fit entry makes of what the client held is what the jar shows
-shown : (now : DateTime) (name : Name) (d : Option Marked) (o : Option Record) (held : Option (List ℕ)) → ((entry : Marked) → d ≡ Some entry → IsFitEntry now name entry) → held ≡ value_of o
-    → decided now d held ≡ value_of (overlay d o)
-shown now name None o held fit same = same
-shown now name (Some entry) o held fit same = decided_fit now name entry (fit entry refl) held ∙ by entry.removed
-  where
-    by : (b : Bool) → cond b None (Some entry.cookie.value) ≡ value_of (cond b None (Some entry.cookie))
-    by true = refl
-    by false = refl
+no_originals : (name : Name) (cs : List JarCall) → All (λ call. is_change call ≡ true) cs → list_any (alters_original name) (map change_of cs) ≡ false
+no_originals name [] are = refl
+no_originals name (call ∷ cs) are =
+    ap (λ b. b || list_any (alters_original name) (map change_of cs)) (no_original name call (All-head (λ call. is_change call ≡ true) call cs are))
+    ∙ no_originals name cs (All-tail (λ call. is_change call ≡ true) call cs are)
 
 -- ---- the theorem
 
-module _ (now : DateTime) (before : Values) (header : List ℕ) (is : IsHeaderOf before header) (cs : List JarCall) (outcomes : List Bool) (known : All IsKnownCall cs) where
-  -- the jar that was made
-  abbrev made : JarState
-  made = after_all (changes_of outcomes cs) (jar_for before)
+-- the new jar for a header is fresh
+pub fresh : (header : List ℕ) → (with_originals (header_cookies true header) empty_jar).delta ≡ empty
+fresh header = same_delta (header_cookies true header) empty_jar
 
-  fresh : (jar_for before).delta ≡ empty
-  fresh = same_delta (header_cookies true (header_text before)) empty_jar
+-- and the client that holds the header's cookies holds its originals
+pub holds_header : (header : List ℕ) (name : Name) → HoldsOriginal (holding (header_cookies true header) empty) (with_originals (header_cookies true header) empty_jar) name
+holds_header header name = held_values (header_cookies true header) empty empty_jar name (get-empty name_cmp name ∙ sym (ap value_of (get-empty name_cmp name)))
 
-  pub original : (name : Name) → get (jar_for before).originals name ≡ option_map (plain name) (get before name)
-  original name = ap (λ cookies. get (with_originals cookies empty_jar).originals name) (header-cookies before header is) ∙ original_of before name
-
-  kept : AreEntries IsKept made.delta
-  kept = put_by IsKnownCall IsKept puts_kept outcomes cs (All-accepted IsKnownCall outcomes cs known) (jar_for before) fresh
-
-  fit : All (IsFitChange now) (accepted outcomes cs) → AreEntries (IsFitEntry now) made.delta
-  fit fits =
-      put_by (λ call. IsKnownCall call × IsFitCall now call) (IsFitEntry now) (puts_fit now) outcomes cs
-      (All-both IsKnownCall (IsFitCall now) (accepted outcomes cs) (All-accepted IsKnownCall outcomes cs known) (All-weaker (IsFitChange now) (IsFitCall now) (λ call f. f.0) (accepted outcomes cs) fits)) (jar_for before) fresh
-
-  left : All (IsFitChange now) (accepted outcomes cs) → made.originals ≡ (jar_for before).originals
-  left fits =
-      originals_left (accepted outcomes cs)
-      (All-weaker (IsFitChange now) (λ call. is_change call ≡ true) (λ call f. f.1) (accepted outcomes cs) fits) (jar_for before)
-
-  agrees : (texts : List (List ℕ)) → AreDeltaTexts made.delta texts → All (IsFitChange now) (accepted outcomes cs) → (name : Name) → get (after_texts now texts before) name ≡ value_of (view made name)
-  agrees texts are fits name =
-      read_at now made.delta kept texts are before name
-      ∙ shown now name (get made.delta name) (get made.originals name) (get before name) (fit fits name)
-      (sym (ap (λ o. value_of (get o name)) (left fits) ∙ ap value_of (original name) ∙ value_of-plain name (get before name)))
-
-  -- what the client is after any list of the delta's texts
-  pub round_agrees : (jar : JarState) (client : Values) (texts : List (List ℕ)) → jar ≡ made → AreDeltaTexts jar.delta texts → client ≡ after_texts now texts before → RoundAgrees now before cs outcomes jar client
-  round_agrees jar client texts was are read =
-      let texts_are : AreDeltaTexts made.delta texts = subst (λ (j : JarState). AreDeltaTexts j.delta texts) was are in
-      record {
-        in_any_order = λ others also. read ∙ same_client now made.delta kept texts others texts_are (subst (λ (j : JarState). AreDeltaTexts j.delta others) was also) before;
-        agrees = λ fits name. ap (λ v. get v name) read ∙ agrees texts texts_are fits name ∙ ap (λ j. value_of (view j name)) (sym was);
-        named = ap (λ v. get v []) read ∙ read_at now made.delta kept texts texts_are before []
-            ∙ decided_unnamed now made.delta kept (get made.delta []) refl (get before []) ∙ is.named;
-      }
+-- a visit by the header of a client is a round of that client
+pub round_of : (now : DateTime) (before : Values) (header : List ℕ) (cs : List JarCall) (played : Played) → IsHeaderOf before header → IsVisit now header cs played → IsRound now before cs played
+round_of now before header cs played is visit =
+    let changes = changes_of played.outcomes.items cs in
+    let held : holding (header_cookies true header) empty ≡ before = held_again before header is in
+    let agreement : Agrees now before changes played.jar played.client = subst (λ v. Agrees now v changes played.jar played.client) held visit.agreement in
+    let originals : (name : Name) → list_any (alters_original name) changes ≡ false → HoldsOriginal before played.jar name =
+    λ name e. subst (λ v. HoldsOriginal v played.jar name) held (visit.held name e) in
+    record {
+      count = visit.count;
+      certain = visit.certain;
+      refused = visit.refused;
+      originals = λ name. ap (λ cookies. get (with_originals cookies empty_jar).originals name) (header-cookies before header is) ∙ original_of before name;
+      jar = visit.jar ∙ ap (λ h. after_all changes (with_originals (header_cookies true h) empty_jar)) is.text;
+      agreement = agreement;
+      held = originals;
+      agrees = λ fits name.
+          let made = accepted played.outcomes.items cs in
+          agreement.agrees (visit.fit (All-weaker (IsFitChange now) (IsFitCall now) (λ call f. f.0) made fits)) name (λ _.
+          originals name (no_originals name made (All-weaker (IsFitChange now) (λ call. is_change call ≡ true) (λ call f. f.1) made fits)));
+      named = agreement.named is.named;
+    }
 
 -- ---- many requests
 

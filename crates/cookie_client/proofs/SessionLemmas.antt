@@ -1,5 +1,6 @@
 -- The steps of a session.
-use Rattle.std.proofs.Common.{◌≡◌, ℕ, ◌+◌, ◌-◌, ◌≤◌, ◌==◌, ◌&&◌, Bool, true, false, cond, T, List, [], ◌∷◌, ◌++◌, map, Option, Some, None, Result, Err, length, option_map, refl, sym, ap, subst, ◌∙◌, append_assoc, arith}
+use Rattle.std.proofs.Common.{◌≡◌, ℕ, ◌+◌, ◌-◌, ◌≤◌, ◌==◌, ◌&&◌, Bool, true, false, cond, T, List, [], ◌∷◌, ◌++◌, map, Option, Some, None, Result, Ok, Err, length, option_map, refl, sym, ap, subst, ◌∙◌, append_assoc, arith}
+use mathlib.Core.Logic.{◌≢◌}
 use Rattle.std.proofs.lemmas.List.{length-map}
 use Rattle.std.proofs.lemmas.List.Splits.{length-slice_split}
 use Rattle.std.proofs.lemmas.List.Sums.{count_by-le-length}
@@ -8,17 +9,20 @@ use Rattle.std.proofs.lemmas.Map.Views.{tells_apart}
 use Rattle.std.specs.Cmp.Lexicographic.{nat_list_cmp_total, texts_ties}
 use Rattle.std.specs.FinMap.{FinMap, get, insert, entries, find as find_in, is_sorted, from_sorted, get-entries, get-from_sorted, get-insert, entries-from_sorted, entries_sorted, same_map}
 use Rattle.std.specs.FinMap.Entries.{below_all}
-use Rattle.std.specs.List.{filter_map, find, cons_option, slice_split, IsDistinct, AllByRecursion}
+use Rattle.std.specs.List.{filter_map, find, cons_option, list_all, slice_split, IsDistinct, AllByRecursion}
 use Rattle.std.specs.Map.Iter.{TakesFirst}
 use Rattle.std.specs.Option.{option_or}
+use Rattle.std.specs.Result.{result_map_both}
 use Rattle.std.specs.Ordering.{is_lt, eq_by_cmp}
 use Rattle.std.specs.Str.{bytes_eq}
 use Rattle.jiff.specs.Types.{DateTime}
-use Rattle.cookie.specs.Jar.{JarState, Marked, Name, name_cmp}
+use Rattle.cookie.specs.History.{accepted, after_all}
+use Rattle.cookie.specs.Jar.{Change, JarState, Marked, Name, name_cmp, after}
 use Rattle.cookie.specs.Record.{Record}
 use Rattle.cookie_client.specs.Client.{Values}
 use Rattle.cookie_client.specs.Lines.{lines_of, without_return}
-use Rattle.cookie_client.specs.Session.{Fault, BadLine, followed, jar_after, with_originals, holding}
+use Rattle.cookie_client.specs.Session.{Fault, BadLine, call_of, jar_after, with_originals, holding}
+use Rattle.cookie_client.specs.Run.{changes_in}
 use Rattle.cookie_client.specs.Steps.{cookies_of}
 
 -- ---- the originals
@@ -115,19 +119,77 @@ line-more front label text end rest = simp append_assoc
 
 -- ---- the lines
 
+-- the changes of a line, and of the others
+asked_next : DateTime → ℕ → List (List ℕ) → Option Change → Result (List Change) Fault
+asked_next now n lines o =
+    elim o as (λ _. Result (List Change) Fault) [
+      | None ↦ Err (BadLine n)
+      | Some change ↦ result_map_both (λ changes. change ∷ changes) (λ fault. fault) (changes_in now (n + 1) lines)
+    ]
+
+pub changes_in-empty : (now : DateTime) (n : ℕ) (line : List ℕ) (lines : List (List ℕ)) → line ≡ [] → changes_in now n (line ∷ lines) ≡ changes_in now (n + 1) lines
+changes_in-empty now n line lines e = ap (λ l. changes_in now n (l ∷ lines)) e
+
+pub changes_in-next : (now : DateTime) (n : ℕ) (line : List ℕ) (lines : List (List ℕ)) (change : Change) → line ≢ [] → call_of now line ≡ Some change
+    → changes_in now n (line ∷ lines) ≡ result_map_both (λ changes. change ∷ changes) (λ fault. fault) (changes_in now (n + 1) lines)
+unfolding asked_next
+changes_in-next now n [] lines change some e = absurd (some refl)
+changes_in-next now n (c ∷ cs) lines change some e = ap (asked_next now n lines) e
+
+pub changes_in-bad : (now : DateTime) (n : ℕ) (line : List ℕ) (lines : List (List ℕ)) → line ≢ [] → call_of now line ≡ None → changes_in now n (line ∷ lines) ≡ Err (BadLine n)
+unfolding asked_next
+changes_in-bad now n [] lines some e = absurd (some refl)
+changes_in-bad now n (c ∷ cs) lines some e = ap (asked_next now n lines) e
+
+-- a text with a byte isn't empty
+pub not_empty : (text : List ℕ) (b : Bool) → b ≡ (length text == 0) → b ≡ false → text ≢ []
+not_empty [] b is nothing = λ _. let h : false ≡ true = sym nothing ∙ is in cc
+not_empty (c ∷ cs) b is nothing = λ e. cc
+
+-- one more change in front of the others
+pub more_changes : (front : List Change) (change : Change) (r : Result (List Change) Fault)
+    → result_map_both (λ changes. (front ++ change ∷ []) ++ changes) (λ fault. fault) r
+    ≡ result_map_both (λ changes. front ++ changes) (λ fault. fault) (result_map_both (λ changes. change ∷ changes) (λ fault. fault) r)
+more_changes front change (Ok changes) = ap Ok (append_assoc front (change ∷ []) changes)
+more_changes front change (Err fault) = refl
+
+pub no_changes : (r : Result (List Change) Fault) → result_map_both (λ changes. [] ++ changes) (λ fault. fault) r ≡ r
+no_changes (Ok changes) = refl
+no_changes (Err fault) = refl
+
+-- ---- the jar that the lines lead to
+
 -- where a line leads, and then the others
 where_next : DateTime → ℕ → List (List ℕ) → Option JarState → Result JarState Fault
 where_next now n lines o = elim o as (λ _. Result JarState Fault) [ None ↦ Err (BadLine n) | Some next ↦ jar_after now (n + 1) lines next ]
 
-pub jar_after-next : (now : DateTime) (n : ℕ) (line : List ℕ) (lines : List (List ℕ)) (jar next : JarState) → followed now line jar ≡ Some next
-    → jar_after now n (line ∷ lines) jar ≡ jar_after now (n + 1) lines next
-unfolding where_next
-jar_after-next now n line lines jar next e = ap (where_next now n lines) e
+-- it is what the changes make of it
+pub jar_after-changes : (now : DateTime) (n : ℕ) (lines : List (List ℕ)) (jar : JarState)
+    → jar_after now n lines jar ≡ result_map_both (λ changes. after_all changes jar) (λ fault. fault) (changes_in now n lines)
+unfolding where_next asked_next
+jar_after-changes now n [] jar = refl
+jar_after-changes now n ([] ∷ lines) jar = jar_after-changes now (n + 1) lines jar
+jar_after-changes now n ((c ∷ cs) ∷ lines) jar = by (λ next. jar_after-changes now (n + 1) lines next) (call_of now (c ∷ cs))
+  where
+    through : (change : Change) (r : Result (List Change) Fault)
+        → result_map_both (λ changes. after_all changes (after change jar)) (λ fault. fault) r
+        ≡ result_map_both (λ changes. after_all changes jar) (λ fault. fault) (result_map_both (λ changes. change ∷ changes) (λ fault. fault) r)
+    through change (Ok changes) = refl
+    through change (Err fault) = refl
 
-pub jar_after-bad : (now : DateTime) (n : ℕ) (line : List ℕ) (lines : List (List ℕ)) (jar : JarState) → followed now line jar ≡ None
-    → jar_after now n (line ∷ lines) jar ≡ Err (BadLine n)
-unfolding where_next
-jar_after-bad now n line lines jar e = ap (where_next now n lines) e
+    by : ((next : JarState) → jar_after now (n + 1) lines next ≡ result_map_both (λ changes. after_all changes next) (λ fault. fault) (changes_in now (n + 1) lines))
+        → (o : Option Change) → where_next now n lines (option_map (λ call. after call jar) o)
+        ≡ result_map_both (λ changes. after_all changes jar) (λ fault. fault) (asked_next now n lines o)
+    by later None = refl
+    by later (Some change) = later (after change jar) ∙ through change (changes_in now (n + 1) lines)
+
+-- all calls were accepted
+pub accepted-all : {X : Type 0} (outcomes : List Bool) (xs : List X) → length outcomes ≡ length xs → list_all (λ b. b) outcomes ≡ true → accepted outcomes xs ≡ xs
+accepted-all [] [] same all = refl
+accepted-all [] (x ∷ xs) same all = absurd (omega (arith, same))
+accepted-all (b ∷ bs) [] same all = refl
+accepted-all (true ∷ bs) (x ∷ xs) same all = ap (λ ys. x ∷ ys) (accepted-all bs xs (omega (arith, same)) all)
+accepted-all (false ∷ bs) (x ∷ xs) same all = absurd (subst T (sym all) tt)
 
 -- a text has at most one line more than bytes
 pub lines_of-length : (text : List ℕ) → length (lines_of text) ≤ length text + 1

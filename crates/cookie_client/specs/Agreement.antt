@@ -1,17 +1,17 @@
 -- The client half of the main theorem: after any list of jar calls, a client that held each name's last accepted
 -- original and has read the delta's encoded texts, in any order and with any repetition, agrees with the jar. A call
 -- that was refused counts as not made: nothing is asked of it.
-use Rattle.std.specs.Prelude.{◌≡◌, ℕ, Bool, true, false, List, [], ◌∷◌, reverse, Option, Some, None, option_map, All, Contains, if◌then◌else◌}
+use Rattle.std.specs.Prelude.{◌≡◌, ℕ, Bool, true, false, List, [], ◌∷◌, reverse, Option, Some, None, option_map, All, Contains}
 use Rattle.std.specs.FinMap.{FinMap, empty, get}
+use Rattle.std.specs.Str.{bytes_eq}
 use Rattle.jiff.specs.Types.{DateTime}
-use Rattle.cookie.specs.History.{accepted, last_original, is_forced}
+use Rattle.cookie.specs.History.{last_original, is_forced}
 use Rattle.cookie.specs.Jar.{Name, name_cmp, Marked, JarState, Change, AddOriginal, Add, Remove, ForceRemove, ResetDelta, view}
 use Rattle.cookie.specs.Record.{Record}
 use Rattle.cookie.specs.Text.{cookie_text}
-use Rattle.cookie_client.specs.Calls.{changes_of, IsFitCall}
+use Rattle.cookie_client.specs.Calls.{IsFit}
 use Rattle.cookie_client.specs.Client.{Values, after_texts}
 use Rattle.cookie_client.specs.Session.{holding}
-use Rattle.cookie_client.specs.declared.call.JarCall.{JarCall}
 
 -- the cookies that changes add as originals, in their order
 abbrev pub originals_of : List Change → List Record
@@ -22,7 +22,7 @@ originals_of (Remove cookie now ∷ changes) = originals_of changes
 originals_of (ForceRemove name ∷ changes) = originals_of changes
 originals_of (ResetDelta ∷ changes) = originals_of changes
 
--- a client that holds the value of each name's last original
+-- what a client holds that was told of the value of each name's last original
 abbrev pub holds_originals : List Change → Values
 holds_originals changes = holding (originals_of changes) empty
 
@@ -42,29 +42,44 @@ pub record AreDeltaTexts (delta : FinMap name_cmp Marked) (texts : List (List �
 abbrev pub value_of : Option Record → Option (List ℕ)
 value_of cookie = option_map (λ c. c.value) cookie
 
--- the value that the jar shows; where neither map has the name, what the client held
-abbrev pub expected : Option Marked → Option Record → Option (List ℕ) → Option (List ℕ)
-expected None None held = held
-expected None (Some original) held = Some original.value
-expected (Some entry) original held = if entry.removed then None else Some entry.cookie.value
+-- at the name the client holds the value of the jar's original, or nothing where the jar has none
+abbrev pub HoldsOriginal : Values → JarState → Name → Type 0
+HoldsOriginal client jar name = get client name ≡ value_of (get jar.originals name)
 
--- The client of calls, of which the accepted ones, those with the outcome true, were made on an empty jar.
-pub record Agrees (now : DateTime) (calls : List JarCall) (outcomes : List Bool) (jar : JarState) (client : Values)
+-- the change adds an original of the name, or removes the name by force
+abbrev pub alters_original : Name → Change → Bool
+alters_original name (AddOriginal cookie) = bytes_eq name cookie.name
+alters_original name (Add cookie) = false
+alters_original name (Remove cookie now) = false
+alters_original name (ForceRemove forced) = bytes_eq name forced
+alters_original name ResetDelta = false
+
+-- The client of a jar to which these changes were made, for the client before it read the jar's delta.
+pub record Agrees (now : DateTime) (before : Values) (changes : List Change) (jar : JarState) (client : Values)
     : Type 0 where
-  -- whether the calls are fit or not, it is the one that held each name's last accepted original and read the delta's
-  -- texts: in any order, and with any repetition
+  -- whether the changes are fit or not, it is the one before, which read the delta's texts: in any order, and with any
+  -- repetition
   pub in_any_order : (texts : List (List ℕ)) → AreDeltaTexts jar.delta texts
-      → client ≡ after_texts now texts (holds_originals (changes_of outcomes calls))
-  -- where the accepted calls are fit, it has at each name that none of them removes by force the value that the jar
-  -- shows there
-  pub agrees : All (IsFitCall now) (accepted outcomes calls)
-      → (name : Name) → is_forced name (changes_of outcomes calls) ≡ false
+      → client ≡ after_texts now texts before
+  -- where the changes are fit, it has the value that the jar shows at each name that the delta has, and at each whose
+  -- original the one before held
+  pub agrees : All (IsFit now) changes → (name : Name) → (get jar.delta name ≡ None → HoldsOriginal before jar name)
       → get client name ≡ value_of (view jar name)
-  -- and so at a name that one of them removes by force, but where neither map has the name: there it has the value of
-  -- the last accepted original, if there was one
-  pub forced : All (IsFitCall now) (accepted outcomes calls) → (name : Name)
-      → get client name ≡ expected (get jar.delta name) (get jar.originals name)
-      (value_of (last_original name (reverse (changes_of outcomes calls))))
-  -- where the accepted calls are fit, it holds nothing under the empty name, so that its header reads back as its map
-  -- (`Client::header`)
-  pub named : All (IsFitCall now) (accepted outcomes calls) → get client [] ≡ None
+  -- at a name that the delta doesn't have, it has what the one before held
+  pub left : (name : Name) → get jar.delta name ≡ None → get client name ≡ get before name
+  -- it holds nothing under the empty name if the one before held nothing there, so that its header reads back as its
+  -- map (`Client::header`)
+  pub named : get before [] ≡ None → get client [] ≡ None
+
+-- What a client holds that was told of each original, for the jar that the changes made of an empty one.
+pub record HoldsOriginals (now : DateTime) (changes : List Change) (jar : JarState) : Type 0 where
+  -- at each name the value of the last original
+  pub last : (name : Name)
+      → get (holds_originals changes) name ≡ value_of (last_original name (reverse changes))
+  -- which is the jar's original, where no change removes the name by force
+  pub unforced : (name : Name) → is_forced name changes ≡ false → HoldsOriginal (holds_originals changes) jar name
+  -- and wherever the jar has an original
+  pub standing : (name : Name) (original : Record) → get jar.originals name ≡ Some original
+      → HoldsOriginal (holds_originals changes) jar name
+  -- where the changes are fit, nothing under the empty name
+  pub named : All (IsFit now) changes → get (holds_originals changes) [] ≡ None

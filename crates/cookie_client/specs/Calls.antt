@@ -115,13 +115,21 @@ pub record IsFitAddition (now : DateTime) (cookie : Record) : Type 0 where
   pub live : is_live cookie now ≡ true
   pub uncut : IsUncut cookie
 
--- the same of a child jar
+-- a change that a client can follow at the moment; the cookie is looked at as it is stored
+abbrev pub IsFit : DateTime → Change → Type 0
+IsFit now (AddOriginal cookie) = cookie.name ≢ []
+IsFit now (Add cookie) = IsFitAddition now cookie
+IsFit now (Remove cookie moment) = cookie.name ≢ []
+IsFit now (ForceRemove name) = Unit {0}
+IsFit now ResetDelta = Unit {0}
+
+-- a call on a child jar that a client can follow at the moment; the cookie is looked at as it was handed in
 abbrev pub IsFitChild : DateTime → ChildCall → Type 0
 IsFitChild now (child.AddOriginal cookie) = cookie.fields.name ≢ []
 IsFitChild now (child.Add cookie) = IsFitAddition now cookie.fields
 IsFitChild now (child.Remove cookie moment) = cookie.fields.name ≢ []
 
--- a call that a client can follow at the moment; the cookie is looked at as it was handed in
+-- the same of any call
 abbrev pub IsFitCall : DateTime → JarCall → Type 0
 IsFitCall now (calls.AddOriginal cookie) = cookie.fields.name ≢ []
 IsFitCall now (calls.Add cookie) = IsFitAddition now cookie.fields

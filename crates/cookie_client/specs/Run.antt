@@ -1,7 +1,16 @@
 -- How what a run answered and wrote fits its session.
-use Rattle.std.specs.Prelude.{◌≡◌, ℕ, ◌<◌, List, length, take, Option, Result, Ok, Err}
+use Rattle.std.specs.Prelude.{◌≡◌, ◌+◌, ℕ, true, false, List, [], ◌∷◌, ◌++◌, ◌<◌, drop, length, take, Option, Some, None, Result, Ok, Err}
+use Rattle.std.specs.FinMap.{empty}
 use Rattle.std.specs.Io.KnownBytes.{Keeps, Appends, Consumes, IsAtEnd}
-use Rattle.cookie_client.specs.Session.{Fault, BadMoment, BadInput, BadLine, session}
+use Rattle.std.specs.List.{list_any}
+use Rattle.std.specs.Result.{result_map_both}
+use Rattle.jiff.specs.Types.{DateTime}
+use Rattle.cookie.specs.CookieOf.{header_cookies}
+use Rattle.cookie.specs.History.{after_all}
+use Rattle.cookie.specs.Jar.{Name, JarState, Change, empty_jar}
+use Rattle.cookie_client.specs.Agreement.{Agrees, HoldsOriginal, alters_original}
+use Rattle.cookie_client.specs.Client.{Values}
+use Rattle.cookie_client.specs.Session.{Fault, BadMoment, BadInput, BadLine, call_of, cookie_line, delta_texts, holding, session, set_cookie_lines, with_originals}
 use Rattle.cookie_client.specs.declared.run_error.RunError.{RunError}
 use Rattle.cookie_client.specs.declared.run_error.RunError.TheVariants as errors
 
@@ -40,3 +49,35 @@ IsPlayed moment is_read old new (Err (errors.BadLine line)) =
     (bytes : List ℕ) × is_read bytes × (session moment bytes ≡ Err (BadLine line)) × Keeps old new
 IsPlayed moment is_read old new (Err errors.OutOfMemory) = Keeps old new
 IsPlayed moment is_read old new (Err errors.Input) = Keeps old new
+
+-- the changes that the lines ask for, of which the first line is number n, or the first bad line
+abbrev pub changes_in : DateTime → ℕ → List (List ℕ) → Result (List Change) Fault
+changes_in now n [] = Ok []
+changes_in now n ([] ∷ lines) = changes_in now (n + 1) lines
+changes_in now n ((c ∷ cs) ∷ lines) =
+    elim (call_of now (c ∷ cs)) as (λ _. Result (List Change) Fault) [
+      | None ↦ Err (BadLine n)
+      | Some change ↦ result_map_both (λ changes. change ∷ changes) (λ fault. fault) (changes_in now (n + 1) lines)
+    ]
+
+-- the first line, if there is one
+abbrev pub header_line : List (List ℕ) → List ℕ
+header_line [] = []
+header_line (header ∷ lines) = header
+
+-- The text is the delta of a jar and the header of a client that agrees with it (clause `agreement` of `run`).
+pub record IsOfAgreement (now : DateTime) (lines : List (List ℕ)) (text : List ℕ) : Type 0 where
+  -- what the lines behind the first ask for
+  pub changes : List Change
+  pub asked : changes_in now 2 (drop 1 lines) ≡ Ok changes
+  -- was made to a new jar, whose originals are the cookies of the first line
+  pub jar : JarState
+  pub made : jar ≡ after_all changes (with_originals (header_cookies true (header_line lines)) empty_jar)
+  -- a client that held these cookies agrees with the jar
+  pub client : Values
+  pub agreement : Agrees now (holding (header_cookies true (header_line lines)) empty) changes jar client
+  -- which held the jar's original of each name that no line removes by force
+  pub held : (name : Name) → list_any (alters_original name) changes ≡ false
+      → HoldsOriginal (holding (header_cookies true (header_line lines)) empty) jar name
+  -- and the text is the jar's delta and that client's header
+  pub written : text ≡ set_cookie_lines (delta_texts jar) ++ cookie_line client

@@ -1,11 +1,12 @@
 //! A jar, and a client that follows it.
-ghost use Rattle.std.specs.Prelude.{◌≡◌, ◌<◌, ◌∷◌, ◌++◌, ℕ, List, [], length, map, reverse, IfOk, OnOk, IsPermutation, string_bytes};
-ghost use Rattle.std.specs.FinMap.{insert};
-ghost use Rattle.cookie.specs.History.{after_all, LooksBack};
-ghost use Rattle.cookie.specs.Jar.{empty_jar};
-ghost use Rattle.cookie_client.specs.Agreement.{Agrees, AreDeltaTexts, originals_of};
-ghost use Rattle.cookie_client.specs.Calls.{AreRefused, AreTaken, changes_of};
+ghost use Rattle.std.specs.Prelude.{◌≡◌, ◌<◌, ◌∷◌, ◌++◌, false, ℕ, List, [], length, map, reverse, All, IfOk, OnOk, IsPermutation, string_bytes};
+ghost use Rattle.std.specs.FinMap.{empty, get, insert};
+ghost use Rattle.cookie.specs.History.{accepted, after_all, is_forced, LooksBack};
+ghost use Rattle.cookie.specs.Jar.{Name, empty_jar, view};
+ghost use Rattle.cookie_client.specs.Agreement.{Agrees, AreDeltaTexts, HoldsOriginals, holds_originals, originals_of, value_of};
+ghost use Rattle.cookie_client.specs.Calls.{AreRefused, AreTaken, IsFit, IsFitCall, changes_of};
 ghost use Rattle.cookie_client.specs.Client.{after_texts};
+ghost use Rattle.cookie_client.specs.Originals.{after_originals};
 ghost use Rattle.cookie_client.specs.Session.{holding};
 
 use crate::call::{JarCall, known_calls};
@@ -13,7 +14,7 @@ use crate::child_call::ChildCall;
 use crate::client::Client;
 use crate::client_error::ClientError;
 use crate::history::replay;
-use crate::originals::{hold_sealed, hold_signed};
+use crate::originals::{Originals, hold_sealed, hold_signed};
 use crate::prefix_kind::PrefixKind;
 use cookie::prefix::{Host, Prefix, Prefixing, Secure};
 use cookie::{Cookie, CookieJar};
@@ -56,19 +57,72 @@ pub fn mirror(
         p.jar ≡ after_all (changes_of p.outcomes.items calls.now) empty_jar) }
     ensures looks_back { IfOk result (λ p.
         LooksBack (reverse (changes_of p.outcomes.items calls.now)) p.jar) }
-    ensures agreement { IfOk result (λ p. Agrees now calls.now p.outcomes.items p.jar p.client) }
+
+    // The client agrees with the jar wherever it held the jar's original, whatever the order of the texts.
+    ensures agreement { IfOk result (λ p. let changes = changes_of p.outcomes.items calls.now in
+        Agrees now (holds_originals changes) changes p.jar p.client) }
+    ensures held { IfOk result (λ p.
+        HoldsOriginals now (changes_of p.outcomes.items calls.now) p.jar) }
+    ensures fit { IfOk result (λ p. All (IsFitCall now) (accepted p.outcomes.items calls.now)
+        → All (IsFit now) (changes_of p.outcomes.items calls.now)) }
+
+    // So where the accepted calls are fit, it agrees at each name that none of them removes by force.
+    ensures agrees { IfOk result (λ p. All (IsFitCall now) (accepted p.outcomes.items calls.now)
+        → (name : Name) → is_forced name (changes_of p.outcomes.items calls.now) ≡ false
+        → get p.client name ≡ value_of (view p.jar name)) }
+{
+    let jar = CookieJar::new(alloc);
+    let client = Client::new(alloc);
+    exchange(alloc, jar, client, calls, Originals::Told, pick, now)
+}
+
+/// Makes the calls on the jar, and has the client read the delta at the moment `now` in UTC, in the order that `pick`
+/// asks for. Where it is told of the originals that accepted calls add, it first holds these.
+pub(crate) fn exchange(
+    alloc: Global,
+    jar: CookieJar,
+    client: Client,
+    calls: &[JarCall<'_>],
+    originals: Originals,
+    pick: &[usize],
+    now: DateTime,
+) -> Result<Played, ClientError>
+    ensures count { IfOk result (λ p. length p.outcomes.items ≡ length calls.now) }
+    ensures certain { IfOk result (λ p. AreTaken calls.now p.outcomes.items) }
+    ensures refused { IfOk result (λ p. AreRefused calls.now p.outcomes.items) }
+    ensures jar { IfOk result (λ p. p.jar ≡ after_all (changes_of p.outcomes.items calls.now) jar) }
+    ensures agreement { jar.delta ≡ empty → IfOk result (λ p.
+        let changes = changes_of p.outcomes.items calls.now in
+        Agrees now (after_originals originals changes client) changes p.jar p.client) }
 {
     known_calls(calls);
-    let mut jar = CookieJar::new(alloc);
+    let mut jar = jar;
+    let mut client = client;
     let outcomes = replay(alloc, &mut jar, calls)?;
-    let mut client = Client::new(alloc);
-    hold_originals(alloc, &mut client, calls, &outcomes)?;
+    tell_originals(alloc, &mut client, calls, &outcomes, originals)?;
     read_delta(alloc, &mut client, &jar, pick, now)?;
     Ok(Played {
         jar,
         client,
         outcomes,
     })
+}
+
+/// Has a client hold the originals of the accepted calls, where it is told of them.
+fn tell_originals(
+    alloc: Global,
+    client: &mut Client,
+    calls: &[JarCall<'_>],
+    outcomes: &[bool],
+    originals: Originals,
+) -> Result<(), ClientError>
+    requires { length outcomes.now ≡ length calls.now }
+    ensures { OnOk result (client.new ≡ after_originals originals (changes_of outcomes.now calls.now) client.old) }
+{
+    match originals {
+        Originals::Told => hold_originals(alloc, client, calls, outcomes),
+        Originals::Untold => Ok(()),
+    }
 }
 
 /// Has a client hold what the call adds as an original, if it was accepted.
@@ -130,7 +184,7 @@ fn hold_originals(
 }
 
 /// Has a client read the delta's texts, in the order that `pick` asks for.
-pub(crate) fn read_delta(
+fn read_delta(
     alloc: Global,
     client: &mut Client,
     jar: &CookieJar,

@@ -12,6 +12,13 @@ use crate::client_error::ClientError;
 use cookie::{Cookie, CookieJar, JarError, Key};
 use std::alloc::Global;
 
+/// Whether a client is told of the originals that calls add.
+#[derive(Clone, Copy)]
+pub(crate) enum Originals {
+    Told,
+    Untold,
+}
+
 /// Has a client hold the cookie's value as the signed child jar of the key stores it.
 pub(crate) fn hold_signed(
     alloc: Global,

@@ -1,16 +1,14 @@
 //! Many requests, and one client.
 ghost use Rattle.std.specs.Prelude.{◌≡◌, length, IfOk};
 ghost use Rattle.std.specs.FinMap.{empty};
-ghost use Rattle.cookie_client.specs.Client.{Values};
-ghost use Rattle.cookie_client.specs.Rounds.{AreRounds, IsRound};
-ghost use Rattle.cookie_client.specs.Steps.{IsHeaderOf};
+ghost use Rattle.cookie_client.specs.Rounds.{AreRounds, IsVisit};
 
-use crate::call::{JarCall, known_calls};
+use crate::call::JarCall;
 use crate::client::Client;
 use crate::client_error::ClientError;
-use crate::exchange::{Played, read_delta};
+use crate::exchange::{Played, exchange};
 use crate::header::hold_header;
-use crate::history::replay;
+use crate::originals::Originals;
 use crate::request::Request;
 use cookie::CookieJar;
 use jiff::civil::DateTime;
@@ -40,33 +38,26 @@ pub fn rounds(
     let mut header = Client::new(alloc).header()?;
     let mut played = Vec::new(alloc);
     for request in requests {
-        let one = round(alloc, header.as_str(), request.calls, pick, now)?;
+        let one = visit(alloc, header.as_str(), request.calls, pick, now)?;
         header = one.client.header()?;
         played.push(one)?;
     }
     Ok(played)
 }
 
-/// Plays one request of the client that has this header. The header tells all that the client holds, so a new client
-/// that holds its cookies is that client.
-fn round(
+/// Plays one request of a client that holds what the header tells: its cookies are the originals of a new jar, and all
+/// that a new client holds.
+pub(crate) fn visit(
     alloc: Global,
     header: &str,
     calls: &[JarCall<'_>],
     pick: &[usize],
     now: DateTime,
 ) -> Result<Played, ClientError>
-    ensures { (before : Values) → IsHeaderOf before header.now → IfOk result (λ p. IsRound now before calls.now p) }
+    ensures { IfOk result (λ p. IsVisit now header.now calls.now p) }
 {
-    known_calls(calls);
     let mut jar = CookieJar::new(alloc);
     let mut client = Client::new(alloc);
     hold_header(alloc, header, &mut jar, &mut client)?;
-    let outcomes = replay(alloc, &mut jar, calls)?;
-    read_delta(alloc, &mut client, &jar, pick, now)?;
-    Ok(Played {
-        jar,
-        client,
-        outcomes,
-    })
+    exchange(alloc, jar, client, calls, Originals::Untold, pick, now)
 }

@@ -1,22 +1,23 @@
 //! The engine of the program: a session from the bytes of its input to its text.
-ghost use Rattle.std.specs.Prelude.{◌≡◌, ◌+◌, ◌++◌, ◌^◌, ◌<◌, codes, true, false, List, [], ◌∷◌, ℕ, Option, option_map, Some, None, Ok, Err, IfErr, OnOk, MatchResult, map, length, string_bytes, if◌then◌else◌};
+ghost use Rattle.std.specs.Prelude.{◌≡◌, ◌+◌, ◌++◌, ◌^◌, ◌<◌, codes, true, false, List, ℕ, option_map, None, Some, Ok, Err, IfOk, OnOk, MatchResult, drop, map, length, string_bytes};
 ghost use Rattle.std.specs.FinMap.{entries};
-ghost use Rattle.std.specs.Result.{result_map_both};
-ghost use Rattle.cookie.specs.CookieOf.{cookie_of, header_cookies};
-ghost use Rattle.cookie.specs.Decoding.{AgreesInMemory};
+ghost use Rattle.std.specs.Io.KnownBytes.{Appends};
+ghost use Rattle.std.specs.List.{list_all};
+ghost use Rattle.jiff.specs.Types.{DateTime};
+ghost use Rattle.cookie.specs.CookieOf.{cookie_of};
 ghost use Rattle.cookie.specs.Memory.{Gives};
-ghost use Rattle.cookie.specs.Record.{plain};
-ghost use Rattle.cookie.specs.Jar.{Add, Remove, after};
+ghost use Rattle.cookie.specs.Jar.{Add};
 ghost use Rattle.cookie.specs.Text.{cookie_text};
+ghost use Rattle.cookie_client.specs.Calls.{change_of};
 ghost use Rattle.cookie_client.specs.Lines.{lines_of};
-ghost use Rattle.cookie_client.specs.Run.{IsPlayed, IsRead, Refuses};
-ghost use Rattle.cookie_client.specs.Session.{BadMoment, moment_of, call_of, removal_of, forced_removal_of, discarding_of, followed, jar_after, with_originals, holding, written, played, played_bytes, session};
-ghost use Rattle.cookie_client.specs.Steps.{cookies_of};
+ghost use Rattle.cookie_client.specs.Run.{IsOfAgreement, IsPlayed, IsRead, Refuses, changes_in, header_line};
+ghost use Rattle.cookie_client.specs.Session.{moment_of, call_of, removal_of, forced_removal_of, discarding_of, set_cookie_lines, delta_texts, cookie_line, played, played_bytes};
 ghost use Rattle.cookie_client.specs.declared.run_error.RunError.TheVariants as errors;
 
+use crate::call::JarCall;
 use crate::client::Client;
-use crate::header::hold_header;
 use crate::lines::Lines;
+use crate::requests::visit;
 use crate::run_error::RunError;
 use crate::streams::{read_all, write_text};
 use crate::text_map::TextMap;
@@ -36,93 +37,86 @@ fn moment_of(text: &str) -> Option<DateTime>
     Some(moment)
 }
 
-/// Adds the cookie that the text is, or answers false where it is none.
-fn add(alloc: Global, text: &str, jar: &mut CookieJar) -> Result<bool, RunError>
-    ensures { Gives errors.OutOfMemory result (λ good.
-        option_map (λ c. after (Add c) jar.old) (cookie_of true text.now) ≡ (if good then Some jar.new else None)) }
+/// The addition of the cookie that the text is, if it is one.
+fn addition(alloc: Global, text: &str) -> Result<Option<JarCall<'static>>, RunError>
+    ensures { Gives errors.OutOfMemory result (λ call. option_map change_of call ≡ option_map Add (cookie_of true text.now)) }
 {
     match Cookie::parse_encoded(alloc, text) {
-        Ok(cookie) => {
-            jar.add(cookie.into_owned(alloc)?)?;
-            Ok(true)
-        }
+        Ok(cookie) => Ok(Some(JarCall::Add(cookie.into_owned(alloc)?))),
         Err(ParseError::OutOfMemory) => Err(RunError::OutOfMemory),
-        Err(_) => Ok(false),
+        Err(_) => Ok(None),
     }
 }
 
-/// Removes the cookie of the name, or answers false where the name is empty.
-fn remove(alloc: Global, name: &str, now: DateTime, jar: &mut CookieJar) -> Result<bool, RunError>
-    ensures { Gives errors.OutOfMemory result (λ good.
-        option_map (λ c. after c jar.old) (removal_of now name.now) ≡ (if good then Some jar.new else None)) }
+/// The removal of the name, unless it is empty.
+fn removal(alloc: Global, name: &str, now: DateTime) -> Result<Option<JarCall<'static>>, RunError>
+    ensures { Gives errors.OutOfMemory result (λ call. option_map change_of call ≡ removal_of now name.now) }
 {
     if name.is_empty() {
-        return Ok(false);
+        return Ok(None);
     }
-    jar.remove(Cookie::named(name).into_owned(alloc)?, now)?;
-    Ok(true)
+    Ok(Some(JarCall::Remove(Cookie::named(name).into_owned(alloc)?, now)))
 }
 
-/// Removes the name by force, or answers false where it is empty.
-fn force(name: &str, jar: &mut CookieJar) -> bool
-    ensures { option_map (λ c. after c jar.old) (forced_removal_of name.now) ≡ (if result then Some jar.new else None) }
+/// The forced removal of the name, unless it is empty.
+fn forced_removal(alloc: Global, name: &str) -> Result<Option<JarCall<'static>>, RunError>
+    ensures { Gives errors.OutOfMemory result (λ call. option_map change_of call ≡ forced_removal_of name.now) }
 {
     if name.is_empty() {
-        return false;
+        return Ok(None);
     }
-    jar.force_remove(name);
-    true
+    Ok(Some(JarCall::ForceRemove(String::from_str(alloc, name)?)))
 }
 
-/// Discards what a line asks for, or answers false where it asks for no such call.
-fn discard(line: &str, jar: &mut CookieJar) -> bool
-    ensures { option_map (λ c. after c jar.old) (discarding_of line.now) ≡ (if result then Some jar.new else None) }
+/// The call that a line asks for which discards cookies, if it asks for such a call.
+fn discarding(alloc: Global, line: &str) -> Result<Option<JarCall<'static>>, RunError>
+    ensures { Gives errors.OutOfMemory result (λ call. option_map change_of call ≡ discarding_of line.now) }
 {
     if let Some(name) = line.strip_prefix("force ") {
-        return force(name.trim(), jar);
+        return forced_removal(alloc, name.trim());
     }
     if line == "reset" {
-        jar.reset_delta();
-        return true;
+        return Ok(Some(JarCall::ResetDelta));
     }
-    false
+    Ok(None)
 }
 
-/// Does what a line asks for, or answers false where it is bad.
-fn follow(alloc: Global, line: &str, now: DateTime, jar: &mut CookieJar) -> Result<bool, RunError>
-    ensures { Gives errors.OutOfMemory result (λ good. followed now line.now jar.old ≡ (if good then Some jar.new else None)) }
+/// The call that a line asks for, if it asks for one.
+fn call_of(alloc: Global, line: &str, now: DateTime) -> Result<Option<JarCall<'static>>, RunError>
+    ensures { Gives errors.OutOfMemory result (λ call. option_map change_of call ≡ call_of now line.now) }
 {
-    if line.is_empty() {
-        return Ok(true);
-    }
     if let Some(text) = line.strip_prefix("add ") {
-        return add(alloc, text, jar);
+        return addition(alloc, text);
     }
     if let Some(name) = line.strip_prefix("remove ") {
-        return remove(alloc, name.trim(), now, jar);
+        return removal(alloc, name.trim(), now);
     }
-    Ok(discard(line, jar))
+    discarding(alloc, line)
 }
 
-/// Does what the lines ask for, up to the first bad one. The first line is number 2.
-fn follow_all(
+/// The calls that the lines ask for, or the first bad one. An empty line asks for none. The first line is number 2.
+fn calls_of(
     alloc: Global,
     lines: Lines<'_>,
     now: DateTime,
-    jar: &mut CookieJar,
-) -> Result<(), RunError>
+) -> Result<Vec<JarCall<'static>>, RunError>
     requires { length lines + 1 < 2 ^ 64 }
-    ensures { MatchResult result (λ _. jar_after now 2 lines.entry jar.old ≡ Ok jar.new) (Refuses (jar_after now 2 lines.entry jar.old)) }
+    ensures { MatchResult result (λ calls. changes_in now 2 lines.entry ≡ Ok (map change_of calls.items)) (Refuses (changes_in now 2 lines.entry)) }
 {
+    let mut calls = Vec::new(alloc);
     let mut lines = lines;
     let mut number = 1;
     while let Some(line) = lines.next() {
         number += 1;
-        if !follow(alloc, line, now, jar)? {
-            return Err(RunError::BadLine(number));
+        if line.is_empty() {
+            continue;
+        }
+        match call_of(alloc, line, now)? {
+            Some(call) => calls.push(call)?,
+            None => return Err(RunError::BadLine(number)),
         }
     }
-    Ok(())
+    Ok(calls)
 }
 
 /// The texts of the delta's cookies, by name.
@@ -148,38 +142,54 @@ fn push_line(written: &mut String, label: &str, text: &str) -> Result<(), AllocE
     Ok(())
 }
 
-/// What is written of a jar, and of a client that reads its delta.
-fn output(alloc: Global, now: DateTime, client: Client, jar: &CookieJar) -> Result<String, RunError>
-    ensures { Gives errors.OutOfMemory result (λ text. string_bytes text ≡ written now client jar.now) }
+/// What is written of a jar, and of a client that read its delta.
+fn output(alloc: Global, client: &Client, jar: &CookieJar) -> Result<String, RunError>
+    ensures { Gives errors.OutOfMemory result (λ text.
+        string_bytes text ≡ set_cookie_lines (delta_texts jar.now) ++ cookie_line client.now) }
 {
     let texts = delta_texts(alloc, jar)?;
-    let mut client = client;
     let mut written = String::new(alloc);
     for (_, text) in texts.pairs() {
         push_line(&mut written, "Set-Cookie: ", text)?;
-        client.read(text, now)?;
     }
     let header = client.header()?;
     push_line(&mut written, "Cookie: ", header.as_str())?;
     Ok(written)
 }
 
-/// The text of a session at a moment.
+/// The text of a session at a moment. A call that is refused ends it.
 fn played(alloc: Global, now: DateTime, text: &str) -> Result<String, RunError>
-    ensures { MatchResult result (λ answer. played now (lines_of text.now) ≡ Ok (string_bytes answer)) (Refuses (played now (lines_of text.now))) }
+    ensures played { MatchResult result (λ answer. played now (lines_of text.now) ≡ Ok (string_bytes answer)) (Refuses (played now (lines_of text.now))) }
+    ensures agreement { IfOk result (λ answer. IsOfAgreement now (lines_of text.now) (string_bytes answer)) }
 {
     let mut lines = Lines::of(text);
-    let header = lines.next().unwrap_or("");
-    let mut jar = CookieJar::new(alloc);
-    let mut client = Client::new(alloc);
-    hold_header(alloc, header, &mut jar, &mut client)?;
-    follow_all(alloc, lines, now, &mut jar)?;
-    output(alloc, now, client, &jar)
+    let header = header_of(&mut lines);
+    let calls = calls_of(alloc, lines, now)?;
+    let visited = visit(alloc, header, &calls, &[], now)?;
+    if !are_accepted(&visited.outcomes) {
+        return Err(RunError::OutOfMemory);
+    }
+    output(alloc, &visited.client, &visited.jar)
+}
+
+/// The first line, or the empty one, which is taken off.
+fn header_of<'t>(lines: &mut Lines<'t>) -> &'t str
+    ensures header { result.now ≡ header_line lines.old }
+    ensures rest { lines.new ≡ drop 1 lines.old }
+{
+    lines.next().unwrap_or("")
+}
+
+fn are_accepted(outcomes: &[bool]) -> bool
+    ensures { result ≡ list_all (λ outcome. outcome) outcomes.now }
+{
+    outcomes.iter().all(|outcome| *outcome)
 }
 
 /// The text of a session of bytes at a moment.
 fn answer(alloc: Global, now: DateTime, bytes: &[u8]) -> Result<String, RunError>
-    ensures { MatchResult result (λ text. played_bytes now bytes.now ≡ Ok (string_bytes text)) (Refuses (played_bytes now bytes.now)) }
+    ensures played { MatchResult result (λ text. played_bytes now bytes.now ≡ Ok (string_bytes text)) (Refuses (played_bytes now bytes.now)) }
+    ensures agreement { IfOk result (λ text. IsOfAgreement now (lines_of bytes.now) (string_bytes text)) }
 {
     match str::from_utf8(bytes) {
         Ok(text) => played(alloc, now, text),
@@ -202,6 +212,11 @@ pub fn run<R: Read, W: Write>(
 ) -> Result<(), RunError>
     ensures played { IsPlayed moment.now (IsRead (R.remaining input.old) (R.remaining input.new))
         (W.contents output.old) (W.contents output.new) result }
+    // The client whose header is written agrees with the jar whose delta is written.
+    ensures agreement { OnOk result ((now : DateTime) × (moment_of moment.now ≡ Some now)
+        × (bytes : List ℕ) × IsRead (R.remaining input.old) (R.remaining input.new) bytes
+        × (text : List ℕ) × IsOfAgreement now (lines_of bytes) text
+        × Appends (W.contents output.old) (W.contents output.new) text) }
     ensures bad_moment { moment_of moment.now ≡ None
         → (result ≡ Err errors.BadMoment) × (input.new ≡ input.old) × (output.new ≡ output.old) }
 {

@@ -1,20 +1,34 @@
-use Rattle.std.proofs.Common.{◌≡◌, List, ap, ◌∙◌}
+use Rattle.std.proofs.Common.{ap, subst, ◌∙◌}
+use Rattle.std.proofs.lemmas.Result.{IfOk-weaker}
 use Rattle.cookie.specs.History.{after_all}
-use Rattle.cookie.specs.Jar.{Change, empty_jar}
-use Rattle.cookie_client.specs.Agreement.{originals_of, holds_originals}
+use Rattle.cookie.specs.Jar.{JarState}
+use Rattle.cookie_client.specs.Agreement.{Agrees, originals_of}
 use Rattle.cookie_client.specs.Calls.{changes_of}
-use Rattle.cookie_client.specs.Client.{after_texts}
 use Rattle.cookie_client.specs.Session.{holding}
-use Rattle.cookie_client.proofs.AgreementLemmas.{agreement}
+use Rattle.cookie_client.proofs.AgreementLemmas.{holds_each}
+use Rattle.cookie_client.proofs.ChangeLemmas.{fit_changes}
+use Rattle.cookie_client.proofs.ResultLemmas.{IfOk-both}
 use Rattle.cookie_client.proofs.exchange.mirror.Goals as goal
 
 pub returns-clause-agreement : goal.returns-clause-agreement
 returns-clause-agreement c =
-    let outcomes = c.in_ok-outcomes.outcomes.items in
-    let changes : List Change = changes_of outcomes c.args.calls.now in
-    let (texts, are, read) = c.in_ok-read_delta.ensures in
-    let jar : c.replay.new.jar ≡ after_all changes empty_jar = c.in_ok-outcomes.ensures.jar ∙ ap (after_all changes) c.new-jar.ensures.empty in
-    let held : c.hold_originals.new.client ≡ holds_originals changes =
-    c.in_ok-hold_originals.ensures ∙ ap (λ o. holding (originals_of (changes_of o c.args.calls.now)) c.new-client.result) c.deref.ensures.value
-    ∙ ap (holding (originals_of changes)) c.new-client.ensures in
-    agreement c.args.now c.args.calls.now outcomes c.known_calls.ensures c.replay.new.jar c.read_delta.new.client texts jar are (read ∙ ap (after_texts c.args.now texts) held)
+    IfOk-weaker c.exchange.result _ _ (λ p agreement.
+    let changes = changes_of p.outcomes.items c.args.calls.now in
+    subst (λ v. Agrees c.args.now v changes p.jar p.client) (ap (holding (originals_of changes)) c.new-client.ensures) agreement)
+    (c.exchange.ensures.agreement (ap (λ (j : JarState). j.delta) c.new-jar.ensures.empty))
+
+pub returns-clause-held : goal.returns-clause-held
+returns-clause-held c =
+    IfOk-weaker c.exchange.result _ _ (λ p jar.
+    let changes = changes_of p.outcomes.items c.args.calls.now in
+    holds_each c.args.now changes p.jar (jar ∙ ap (after_all changes) c.new-jar.ensures.empty)) c.exchange.ensures.jar
+
+pub returns-clause-fit : goal.returns-clause-fit
+returns-clause-fit c =
+    IfOk-weaker c.exchange.result _ _ (λ p _. fit_changes c.args.now p.outcomes.items c.args.calls.now) c.exchange.ensures.count
+
+pub returns-clause-agrees : goal.returns-clause-agrees
+returns-clause-agrees c =
+    IfOk-weaker c.exchange.result _ _ (λ p (agreement, held) fits name unforced.
+    agreement.agrees (fit_changes c.args.now p.outcomes.items c.args.calls.now fits) name (λ _. held.unforced name unforced))
+    (IfOk-both c.exchange.result _ _ (returns-clause-agreement c) (returns-clause-held c))

@@ -4,7 +4,7 @@ use Rattle.std.specs.FinMap.{empty, get, get-empty}
 use Rattle.cookie.specs.Jar.{name_cmp}
 use Rattle.cookie_client.specs.Rounds.{AreRounds, IsRound}
 use Rattle.cookie_client.specs.Steps.{IsHeaderOf}
-use Rattle.cookie_client.proofs.RoundLemmas.{rounds-length, told}
+use Rattle.cookie_client.proofs.RoundLemmas.{round_of, rounds-length, told}
 use Rattle.cookie_client.proofs.requests.rounds.Goals as goal
 
 pub loop-request-init : goal.loop-request-init
@@ -22,11 +22,12 @@ loop-request-preserved c =
     let one = c.in_ok-one.one in
     let requests = c.args.requests.now in
     let later = drop (c.loop-request.request-index + 1) requests in
-    let this : IsRound c.args.now client c.request-item.result.calls.now one = c.in_ok-one.ensures client (subst (IsHeaderOf client) (sym c.as_str.ensures.value) is) in
+    let this : IsRound c.args.now client c.request-item.result.calls.now one =
+    round_of c.args.now client _ c.request-item.result.calls.now one (subst (IsHeaderOf client) (sym c.as_str.ensures.value) is) c.in_ok-one.ensures in
     let first : drop c.loop-request.request-index requests ≡ c.request-item.result ∷ later =
     drop_more requests c.loop-request.request-index c.request-item.result c.loop-request-test.true ∙ ap (λ r. r ∷ later) (sym c.request-item.is) in (
       one.client,
-      told one.client _ this.agreement.named c.in_ok-header-2.ensures.text c.in_ok-header-2.ensures.reads_back,
+      told one.client _ this.named c.in_ok-header-2.ensures.text c.in_ok-header-2.ensures.reads_back,
       λ rest h.
           subst (AreRounds c.args.now empty requests)
           (sym (append_assoc c.loop-request.played.items (one ∷ []) rest) ∙ ap (λ ps. ps ++ rest) (sym c.in_ok-push.ensures.items))

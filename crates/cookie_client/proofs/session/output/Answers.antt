@@ -5,7 +5,6 @@ use Rattle.std.specs.Prelude.{codes}
 use Rattle.std.specs.String.{string_bytes}
 use Rattle.cookie.specs.Jar.{Marked, Name}
 use Rattle.cookie.specs.Text.{cookie_text}
-use Rattle.cookie_client.specs.Client.{after_texts}
 use Rattle.cookie_client.specs.Session.{cookie_line, delta_texts, set_cookie_lines}
 use Rattle.cookie_client.proofs.SessionLemmas.{line-more, map_map}
 use Rattle.cookie_client.proofs.session.output.Goals as goal
@@ -15,34 +14,24 @@ loop-text-init c =
     let all : map (λ e. e.1) c.into_iter-text-iterator.result ≡ delta_texts c.args.jar.now =
     ap (map (λ e. e.1)) (c.into_iter-text-iterator.ensures.into_iter_gives ∙ c.pairs-text-items.ensures ∙ c.in_ok-texts.ensures)
     ∙ map_map (λ (e : Name × Marked). (e.0, cookie_text true false e.1.cookie)) (λ e. e.1) (entries c.args.jar.now.delta) in
-    record {
-      lines = ap (λ b. b ++ set_cookie_lines (map (λ e. e.1) c.into_iter-text-iterator.result)) c.new-written.ensures.bytes ∙ ap set_cookie_lines all;
-      client = ap (λ texts. after_texts c.args.now texts c.args.client) all;
-    }
+    ap (λ b. b ++ set_cookie_lines (map (λ e. e.1) c.into_iter-text-iterator.result)) c.new-written.ensures.bytes ∙ ap set_cookie_lines all
 
 pub loop-text-preserved : goal.loop-text-preserved
 loop-text-preserved c =
     let s = c.in-Some.ensures.steps in
     let left = map (λ e. e.1) c.next.new.self in
-    record {
-      lines = ap (λ b. b ++ set_cookie_lines left) c.in_ok-push_line.ensures
-          ∙ line-more (string_bytes c.loop-text.written) (codes "Set-Cookie: ") c.in-Some.text.now (codes "\n") (set_cookie_lines left)
-          ∙ ap (λ es. string_bytes c.loop-text.written ++ set_cookie_lines (map (λ e. e.1) es)) (sym s)
-          ∙ c.loop-text.invariant.lines;
-      client = ap (after_texts c.args.now left) c.in_ok-read.ensures.gives.0
-          ∙ ap (λ es. after_texts c.args.now (map (λ e. e.1) es) c.loop-text.client) (sym s)
-          ∙ c.loop-text.invariant.client;
-    }
+    ap (λ b. b ++ set_cookie_lines left) c.in_ok-push_line.ensures
+    ∙ line-more (string_bytes c.loop-text.written) (codes "Set-Cookie: ") c.in-Some.text.now (codes "\n") (set_cookie_lines left)
+    ∙ ap (λ es. string_bytes c.loop-text.written ++ set_cookie_lines (map (λ e. e.1) es)) (sym s)
+    ∙ c.loop-text.invariant
 
 pub returns : goal.returns
 returns c =
     let none = c.in-None.ensures.steps.0 in
     let lines : string_bytes c.loop-text.written ≡ set_cookie_lines (delta_texts c.args.jar.now) =
     sym (append-nil (string_bytes c.loop-text.written))
-    ∙ ap (λ es. string_bytes c.loop-text.written ++ set_cookie_lines (map (λ e. e.1) es)) (sym none) ∙ c.loop-text.invariant.lines in
-    let client : c.loop-text.client ≡ after_texts c.args.now (delta_texts c.args.jar.now) c.args.client =
-    ap (λ es. after_texts c.args.now (map (λ e. e.1) es) c.loop-text.client) (sym none) ∙ c.loop-text.invariant.client in
+    ∙ ap (λ es. string_bytes c.loop-text.written ++ set_cookie_lines (map (λ e. e.1) es)) (sym none) ∙ c.loop-text.invariant in
     let header = c.as_str.ensures.value ∙ c.in_ok-header.ensures.text in
     c.in_ok-push_line-2.ensures
     ∙ ap (λ h. string_bytes c.loop-text.written ++ (codes "Cookie: " ++ (h ++ codes "\n"))) header
-    ∙ (λ i. lines i ++ cookie_line (client i))
+    ∙ ap (λ b. b ++ cookie_line c.args.client.now) lines
