@@ -1,0 +1,4 @@
+pub mod KeyLemmas
+pub mod OrderLemmas
+pub mod PutLemmas
+pub mod SiteLemmas

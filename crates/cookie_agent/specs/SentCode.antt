@@ -1,0 +1,16 @@
+-- The cookies that are sent, as the code orders them. These are words of private code.
+use Rattle.std.specs.Prelude.{List, map, IsPermutation, IsSortedByKey}
+use denote.Ref.{Bor}
+use Rattle.std.specs.List.Sorted.{IsStableByKey}
+use Rattle.cookie_agent.specs.Sent.{path_length, greater_first}
+use Rattle.cookie_agent.specs.Store.{Store, Stored}
+
+-- the cookies that are lent
+abbrev pub targets : List (Bor Stored) → Store
+targets lent = map (λ c. c.now) lent
+
+-- the same cookies with longer paths first, and else in the order that they had
+pub record IsByPath (created ordered : Store) : Type 0 where
+  pub moved : IsPermutation created ordered
+  pub longer_first : IsSortedByKey path_length greater_first ordered
+  pub earlier_first : IsStableByKey path_length greater_first created ordered
