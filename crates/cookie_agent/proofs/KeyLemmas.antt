@@ -1,10 +1,10 @@
 -- The keys of stored cookies.
-use Rattle.std.proofs.Common.{◌≡◌, ℕ, ◌&&◌, not, Bool, true, false, List, refl, sym, ap, ◌∙◌}
+use Rattle.std.proofs.Common.{◌≡◌, ℕ, ◌&&◌, Bool, true, false, List, refl, sym, ap, ◌∙◌}
 use Rattle.std.proofs.lemmas.Bool.{and_parts, false≢true}
 use Rattle.std.proofs.lemmas.Slice.Eq.{bytes_eq-Decides}
 use Rattle.std.specs.Str.{bytes_eq}
 use Rattle.cookie_agent.specs.Scopes.{ScopeView}
-use Rattle.cookie_agent.specs.Store.{Stored, SameKey, standard_key, browser_key, same_flag, IsKey}
+use Rattle.cookie_agent.specs.Store.{Stored, standard_key, browser_key, same_flag, IsKey}
 
 -- a test of two texts answers the same with the texts turned
 pub turned_test : (a b : List ℕ) → bytes_eq a b ≡ bytes_eq b a
@@ -19,7 +19,7 @@ turned_test a b = by (bytes_eq a b) (bytes_eq b a) refl refl
 equal_texts : (a b : List ℕ) → a ≡ b → bytes_eq a b ≡ true
 equal_texts a b e = (bytes_eq-Decides a b).1 e
 
-both : (a b : Bool) → a ≡ true → b ≡ true → a && b ≡ true
+pub both : (a b : Bool) → a ≡ true → b ≡ true → a && b ≡ true
 both a b e f = ap (λ x. x && b) e ∙ f
 
 same_flag-same : (a b : Bool) → a ≡ b → same_flag a b ≡ true

@@ -1,5 +1,5 @@
 -- Paths that begin with `/`, and what stands before the last one.
-use Rattle.std.proofs.Common.{◌≡◌, ◌≢◌, ℕ, zero, suc, ◌<◌, ◌+◌, ◌-◌, Bool, true, false, not, cond, List, [], ◌∷◌, ◌++◌, length, take, drop, get_or, map, reverse, codes, eqb, ◌==◌, refl, sym, ap, subst, ◌∙◌, append_assoc, All, arith}
+use Rattle.std.proofs.Common.{◌≡◌, ◌≢◌, ℕ, suc, ◌<◌, ◌+◌, ◌-◌, Bool, true, false, not, cond, List, [], ◌∷◌, ◌++◌, length, take, get_or, reverse, codes, eqb, ◌==◌, refl, sym, ap, ◌∙◌, append_assoc, All, arith}
 use Rattle.std.proofs.lemmas.Bool.{false≢true}
 use Rattle.std.proofs.lemmas.Bool.Decides.{nat_tests}
 use Rattle.std.proofs.Math.Seq.{take-append_seam}

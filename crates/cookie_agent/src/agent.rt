@@ -3,8 +3,10 @@ ghost use Rattle.std.specs.Prelude.{◌≡◌, [], false, Some, IfOk, OnOk, OnEr
 ghost use Rattle.cookie.specs.CookieOf.{cookie_of};
 ghost use Rattle.cookie.specs.Memory.{Gives};
 ghost use Rattle.cookie_agent.specs.Apart.{IsApart};
+ghost use Rattle.cookie_agent.specs.Keys.{IsFollowedByAnyKey};
+ghost use Rattle.cookie_agent.specs.Removals.{IsMissed};
 ghost use Rattle.cookie_agent.specs.Sent.{IsOrderedHeader};
-ghost use Rattle.cookie_agent.specs.Store.{after_cookie, after_text, put, standard_key, unexpired};
+ghost use Rattle.cookie_agent.specs.Store.{IsKey, after_cookie, after_text, browser_key, put, standard_key, unexpired};
 ghost use Rattle.cookie_agent.specs.declared.agent_error.AgentError.TheVariants.{OutOfMemory};
 
 use crate::agent_error::AgentError;
@@ -37,7 +39,9 @@ impl Model for Agent {
 impl Agent {
     /// A user agent that stores nothing.
     pub fn new(alloc: Global) -> Agent
-        ensures { result ≡ [] }
+        ensures empty { result ≡ [] }
+        ensures keys { IsKey standard_key × IsKey browser_key }
+        ensures any_key { IsFollowedByAnyKey }
     {
         Agent {
             alloc,
@@ -56,6 +60,7 @@ impl Agent {
             (self.new ≡ after_text standard_key site.now now text.now self.old)
             × (is_cookie ≡ is_some (cookie_of false text.now))) }
         ensures err { OnErr result (self.new ≡ self.old) }
+        ensures missed { OnOk result (IsMissed standard_key site.now now text.now self.old self.new) }
     {
         match Cookie::parse(text) {
             Ok(cookie) => {

@@ -1,6 +1,7 @@
 //! Why a call of a user agent fails.
 ghost use Rattle.std.specs.Prelude.{◌≡◌};
 
+use cookie_client::ClientError;
 use std::alloc::{AllocError, AllocFailed};
 use std::error::Error;
 use std::fmt;
@@ -40,6 +41,16 @@ impl<T: Drop> From<AllocFailed<T>> for AgentError {
     ghost from_gives = { λ _ e. e ≡ OutOfMemory };
 
     fn from(_error: AllocFailed<T>) -> AgentError {
+        AgentError::OutOfMemory
+    }
+}
+
+impl From<ClientError> for AgentError {
+    ghost use Rattle.cookie_agent.specs.declared.agent_error.AgentError.TheVariants.{OutOfMemory};
+
+    ghost from_gives = { λ _ e. e ≡ OutOfMemory };
+
+    fn from(_error: ClientError) -> AgentError {
         AgentError::OutOfMemory
     }
 }

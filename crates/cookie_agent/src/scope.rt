@@ -1,5 +1,6 @@
 //! Where a cookie is sent (RFC 6265 5.3).
 ghost use Rattle.std.specs.Prelude.{◌≡◌, IfOk};
+ghost use Rattle.std.specs.Str.{bytes_eq, str_to_ascii_lowercase};
 
 use std::alloc::{AllocError, Global};
 use std::marker::Model;
@@ -39,6 +40,13 @@ impl Scope {
         self.is_host_only
     }
 
+    /// Whether its domain is this one in lower case.
+    pub(crate) fn is_domain(&self, domain: &str) -> bool
+        ensures { result ≡ bytes_eq (str_to_ascii_lowercase domain.now) self.now.domain }
+    {
+        domain.eq_ignore_ascii_case(self.domain.as_str())
+    }
+
     /// A copy of it.
     pub(crate) fn clone(&self, alloc: Global) -> Result<Scope, AllocError>
         ensures { IfOk result (λ made. made ≡ self.now) }
@@ -46,7 +54,7 @@ impl Scope {
         Ok(Scope {
             domain: String::from_str(alloc, self.domain.as_str())?,
             is_host_only: self.is_host_only,
-            path: String::from_str(alloc, self.path.as_str())?,
+            path: String::from_str(alloc, self.path())?,
         })
     }
 

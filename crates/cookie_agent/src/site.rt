@@ -1,7 +1,9 @@
 //! Where a request goes (RFC 6265 5.1.2 to 5.1.4).
 ghost use Rattle.std.specs.Prelude.{◌≡◌, true, false, IfOk, string_bytes};
 ghost use Rattle.cookie.specs.Memory.{Gives};
+ghost use Rattle.cookie_agent.specs.Prefixes.{AreHostBound, AreSecured, IsScopedWhole, host_scope};
 ghost use Rattle.cookie_agent.specs.Scopes.{own_scope, path_of, reaches, scope_by, text_of, wide_scope};
+ghost use Rattle.cookie_agent.specs.ScopedCode.{gives_own, gives_scope, gives_wide};
 ghost use Rattle.cookie_agent.specs.Site.{default_path, domain_matches, path_matches, request_path, site_of};
 ghost use Rattle.cookie_agent.specs.declared.agent_error.AgentError.TheVariants.{OutOfMemory};
 
@@ -111,6 +113,26 @@ impl Site {
         Ok(self.wide_scope(alloc, domain, path)?)
     }
 
+    /// The whole host of the site and no other, which is the scope of each cookie with the path `/` and without a domain,
+    /// and so of all that a jar with the prefix `__Host-` stores and removes (RFC 6265bis 4.1.3).
+    pub fn host_scope(&self, alloc: Global) -> Result<Scope, AgentError>
+        ensures { Gives OutOfMemory result (λ scope. scope ≡ host_scope self.now) }
+    {
+        Ok(self.own_scope(alloc, Some("/"))?)
+    }
+
+    /// What holds at every site: it sees its whole host, which is the scope of each cookie with the path `/` and without
+    /// a domain; and what jars with the prefixes `__Host-` and `__Secure-` store and remove meets what a browser asks of
+    /// such names (RFC 6265bis 5.7). It does nothing.
+    pub fn known(&self)
+        ensures reaches { reaches self.now (host_scope self.now) ≡ true }
+        ensures whole { IsScopedWhole self.now }
+        ensures host_bound { AreHostBound self.now }
+        ensures secured { AreSecured }
+    {
+        let _path = self.path.as_str();
+    }
+
     fn own_scope(&self, alloc: Global, path: Option<&str>) -> Result<Scope, AllocError>
         ensures { IfOk result (λ scope. scope ≡ own_scope self.now (text_of path.entry)) }
     {
@@ -148,6 +170,41 @@ impl Site {
             Some(path) if path.as_bytes().starts_with(b"/") => path,
             _ => self.default_path(),
         }
+    }
+
+    /// Whether the site gives the scope to a cookie with this domain and this path.
+    pub(crate) fn gives_scope(
+        &self,
+        scope: &Scope,
+        domain: Option<&str>,
+        path: Option<&str>,
+    ) -> bool
+        ensures { result ≡ gives_scope self.now scope.now (text_of domain.entry) (text_of path.entry) }
+    {
+        let Some(domain) = domain else {
+            return self.gives_own(scope, path);
+        };
+        if domain.is_empty() {
+            return self.gives_own(scope, path);
+        }
+        self.gives_wide(scope, domain, path)
+    }
+
+    fn gives_own(&self, scope: &Scope, path: Option<&str>) -> bool
+        ensures { result ≡ gives_own self.now scope.now (text_of path.entry) }
+    {
+        scope.is_host_only()
+            && scope.domain() == self.host.as_str()
+            && scope.path() == self.path_of(path)
+    }
+
+    fn gives_wide(&self, scope: &Scope, domain: &str, path: Option<&str>) -> bool
+        ensures { result ≡ gives_wide self.now scope.now domain.now (text_of path.entry) }
+    {
+        !scope.is_host_only()
+            && scope.is_domain(domain)
+            && self.matches_domain(scope.domain())
+            && scope.path() == self.path_of(path)
     }
 
     /// Whether a cookie of this scope is sent to the site, if its connection serves (RFC 6265 5.4).

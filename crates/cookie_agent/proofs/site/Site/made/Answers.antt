@@ -1,5 +1,5 @@
 -- The host was lowered, and the path begins with `/`.
-use Rattle.std.proofs.Common.{◌≡◌, true, codes, eqb, sym, ap, subst, ◌∙◌, string_bytes}
+use Rattle.std.proofs.Common.{codes, eqb, sym, ap, ◌∙◌}
 use Rattle.std.specs.List.{starts_with}
 use Rattle.std.specs.Str.{str_to_ascii_lowercase}
 use Rattle.cookie_agent.proofs.SiteLemmas.{lowered_twice, request_path-begins}

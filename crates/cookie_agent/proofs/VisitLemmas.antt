@@ -1,0 +1,217 @@
+-- What a request keeps, and what its header is read as.
+use Rattle.std.proofs.Common.{◌≡◌, ℕ, ◌≤◌, Bool, true, false, cond, List, [], ◌∷◌, length, map, refl, sym, ap, subst, ◌∙◌, All, Option, Some, None, option_map, arith}
+use Rattle.std.proofs.lemmas.Bool.{false≢true}
+use Rattle.std.proofs.lemmas.List.Elements.{All-nil, All-head, All-tail, All-filter, All-weaker, All-map}
+use Rattle.std.proofs.lemmas.List.Sorted.{All-permutation}
+use Rattle.std.proofs.lemmas.Slice.Eq.{bytes_eq-Decides}
+use Rattle.std.specs.FinMap.{get, get-empty}
+use Rattle.std.specs.List.{filter}
+use Rattle.std.specs.Option.{option_to_list}
+use Rattle.std.specs.Str.{bytes_eq}
+use Rattle.jiff.specs.Types.{DateTime}
+use Rattle.cookie.specs.CookieOf.{header_cookies}
+use Rattle.cookie.specs.Escapes.{escape, unescape}
+use Rattle.cookie.specs.Header.{joined_texts}
+use Rattle.cookie.specs.Jar.{Name, name_cmp, Marked, JarState, AddOriginal, after, empty_jar}
+use Rattle.cookie.specs.Record.{Record}
+use Rattle.cookie.specs.Text.{cookie_text}
+use Rattle.cookie.proofs.HeaderLemmas.{header_form}
+use Rattle.cookie.proofs.NameLemmas.{get_inserted}
+use Rattle.cookie_client.specs.Session.{with_originals}
+use Rattle.cookie_client.specs.Agreement.{value_of, IsDeltaText, AreDeltaTexts}
+use Rattle.cookie_agent.specs.Agreement.{IsOurs, IsOurStore, IsKnownView, IsScopedStore, seen, Mirrors, values_of, IsScopedEntry, IsScopedDelta, SiteAgrees}
+use Rattle.cookie_agent.specs.Site.{SiteView}
+use Rattle.cookie_agent.specs.Scopes.{ScopeView}
+use Rattle.cookie_agent.specs.Sent.{is_visible, visible, IsHeader}
+use Rattle.cookie_agent.specs.Store.{SameKey, IsKey, Stored, Store, is_later, unexpired, put, after_text, after_texts}
+use Rattle.cookie_agent.proofs.FollowLemmas.{escape_injective, is_ours, text_stored, x, followed}
+use Rattle.cookie_agent.proofs.KeyLemmas.{turned_test}
+use Rattle.cookie_agent.proofs.PutLemmas.{All-put}
+use Rattle.cookie_agent.proofs.StoreLemmas.{put_own, put_other}
+use Rattle.cookie_agent.proofs.HeaderLemmas.{plain_of, back, named_of, texts_same, plain_same, values_read, any_order, sent}
+
+-- ---- no two cookies of one name
+
+abbrev under : List ℕ → Store → Store
+under name store = filter (λ c. bytes_eq c.name name) store
+
+abbrev Once : Store → Type 0
+Once store = (name : List ℕ) → length (under name store) ≤ 1
+
+grown : (b : Bool) (c : Stored) (s t : Store) → length s ≤ length t → length (cond b (c ∷ s) s) ≤ length (cond b (c ∷ t) t)
+grown true c s t h = omega arith
+grown false c s t h = h
+
+kept_below : (b : Bool) (c : Stored) (s t : Store) → length s ≤ length t → length s ≤ length (cond b (c ∷ t) t)
+kept_below true c s t h = omega arith
+kept_below false c s t h = h
+
+fewer : (p q : Stored → Bool) (xs : Store) → length (filter q (filter p xs)) ≤ length (filter q xs)
+fewer p q [] = omega arith
+fewer p q (c ∷ xs) = by (fewer p q xs) (p c)
+  where
+    by : length (filter q (filter p xs)) ≤ length (filter q xs) → (a : Bool)
+        → length (filter q (cond a (c ∷ filter p xs) (filter p xs))) ≤ length (cond (q c) (c ∷ filter q xs) (filter q xs))
+    by h true = grown (q c) c (filter q (filter p xs)) (filter q xs) h
+    by h false = kept_below (q c) c (filter q (filter p xs)) (filter q xs) h
+
+Once-unexpired : (now : DateTime) (store : Store) → Once store → Once (unexpired now store)
+Once-unexpired now store once name =
+    let h = fewer (λ c. is_later c.expiry now) (λ c. bytes_eq c.name name) store in
+    let k = once name in
+    omega arith
+
+length-values : (zs : Store) → length (map (λ (c : Stored). c.value) zs) ≡ length zs
+length-values [] = refl
+length-values (c ∷ zs) = let h = length-values zs in omega arith
+
+-- every cookie, as if all were visible
+abbrev all : Stored → Bool
+all c = true
+
+Once-put : (same : SameKey) → IsKey same → (scopes : Name → ScopeView) (y : Stored) → ((d : Stored) → IsOurs scopes d → d.name ≡ y.name → same d y ≡ true)
+    → (store : Store) → All (IsOurs scopes) store → Once store → Once (put same y store)
+Once-put same key scopes y alone store ours once name = by (bytes_eq y.name name) refl
+  where
+    own : map (λ (c : Stored). c.value) (under y.name (put same y store)) ≡ map (λ (c : Stored). c.value) (under y.name (y ∷ []))
+    own = put_own all same key y store (All-weaker (IsOurs scopes) (λ d. all d ≡ true → d.name ≡ y.name → same d y ≡ true) (λ d o _ e. alone d o e) store ours)
+
+    by : (b : Bool) → bytes_eq y.name name ≡ b → length (under name (put same y store)) ≤ 1
+    by true e =
+        let at : y.name ≡ name = (bytes_eq-Decides y.name name).0 e in
+        let one : length (under y.name (y ∷ [])) ≡ 1 = ap (λ b. length (cond b (y ∷ []) [])) ((bytes_eq-Decides y.name y.name).1 refl) in
+        let level : length (under y.name (put same y store)) ≡ length (under y.name (y ∷ []))
+        = sym (length-values (under y.name (put same y store))) ∙ ap length own ∙ length-values (under y.name (y ∷ [])) in
+        subst (λ n. length (under n (put same y store)) ≤ 1) at (omega arith)
+    by false e =
+        let level : length (under name (put same y store)) ≡ length (under name store)
+        = sym (length-values (under name (put same y store))) ∙ ap length (put_other all same key y name (λ f. false≢true (sym e ∙ (bytes_eq-Decides y.name name).1 f)) store) ∙ length-values (under name store) in
+        let k = once name in
+        omega arith
+
+-- ---- a text of the delta keeps the store ours
+
+module _ (same : SameKey) (key : IsKey same) (site : SiteView) (now : DateTime) (scopes : Name → ScopeView) where
+  ours_after : (name : Name) (entry : Marked) (is : IsScopedEntry site now scopes name entry) (store : Store) → IsOurStore scopes store
+      → IsOurStore scopes (after_text same site now (cookie_text true false entry.cookie) store)
+  ours_after name entry is store ours =
+      let y : Stored = x same key site now scopes name entry is in
+      let alone = λ (d : Stored) (o : IsOurs scopes d) (e : d.name ≡ escape entry.cookie.name).
+      key.settled d y e (o.scope ∙ ap scopes (escape_injective o.name entry.cookie.name o.named.cookie.name is.cookie.cookie.name (sym o.names ∙ e))) in
+      let fresh : All (IsOurs scopes) (unexpired now store) = All-filter (λ d. is_later d.expiry now) (IsOurs scopes) store ours.each in
+      let put_in : All (IsOurs scopes) (put same y (unexpired now store)) = All-put same (IsOurs scopes) y (is_ours same key site now scopes name entry is) (unexpired now store) fresh in
+      subst (IsOurStore scopes) (sym (text_stored same key site now scopes name entry is store))
+      (record {
+        each = All-filter (λ d. is_later d.expiry now) (IsOurs scopes) (put same y (unexpired now store)) put_in;
+        once = Once-unexpired now (put same y (unexpired now store)) (Once-put same key scopes y alone (unexpired now store) fresh (Once-unexpired now store ours.once));
+      })
+
+  all_after : (jar : JarState) → IsScopedDelta site now scopes jar.delta → (texts : List (List ℕ)) → All (IsDeltaText jar.delta) texts → (store : Store) → IsOurStore scopes store
+      → IsOurStore scopes (after_texts same site now texts store)
+  all_after jar scoped [] are store ours = ours
+  all_after jar scoped (text ∷ texts) are store ours =
+      let is = All-head (IsDeltaText jar.delta) text texts are in
+      all_after jar scoped texts (All-tail (IsDeltaText jar.delta) text texts are) (after_text same site now text store)
+      (subst (λ t. IsOurStore scopes (after_text same site now t store)) (sym is.is) (ours_after is.name is.entry (scoped is.name is.entry is.stands) store ours))
+
+-- ---- the jar's originals are what the site sees
+
+abbrev first_some : Option (List ℕ) → Option (List ℕ) → Option (List ℕ)
+first_some None o = o
+first_some (Some v) o = Some v
+
+put_original : (name : Name) (c : Record) (jar : JarState) (r : Bool) → bytes_eq c.name name ≡ r
+    → value_of (get (after (AddOriginal c) jar).originals name) ≡ value_of (cond r (Some c) (get jar.originals name))
+put_original name c jar r e =
+    ap value_of (get_inserted jar.originals c.name c name ∙ ap (λ b. cond b (Some c) (get jar.originals name)) (turned_test name c.name ∙ e))
+
+original_at : (name : Name) (cs : List Record) (jar : JarState) (w : Option (List ℕ)) → values_of name cs ≡ option_to_list w
+    → value_of (get (with_originals cs jar).originals name) ≡ first_some w (value_of (get jar.originals name))
+original_at name [] jar None e = refl
+original_at name [] jar (Some v) e = cc
+original_at name (c ∷ cs) jar w e = by (original_at name cs (after (AddOriginal c) jar)) (bytes_eq c.name name) refl w e
+  where
+    by : ((w : Option (List ℕ)) → values_of name cs ≡ option_to_list w → value_of (get (with_originals cs (after (AddOriginal c) jar)).originals name) ≡ first_some w (value_of (get (after (AddOriginal c) jar).originals name)))
+        → (r : Bool) → bytes_eq c.name name ≡ r → (w : Option (List ℕ)) → map (λ (d : Record). d.value) (cond r (c ∷ filter (λ d. bytes_eq d.name name) cs) (filter (λ d. bytes_eq d.name name) cs)) ≡ option_to_list w
+        → value_of (get (with_originals cs (after (AddOriginal c) jar)).originals name) ≡ first_some w (value_of (get jar.originals name))
+    by more true f None g = cc
+    by more true f (Some v) g =
+        let first : c.value ≡ v = cc in
+        let rest : values_of name cs ≡ [] = cc in
+        more None rest ∙ put_original name c jar true f ∙ ap Some first
+    by more false f w g = more w g ∙ ap (first_some w) (put_original name c jar false f)
+
+at_most_one : (l : List (List ℕ)) → length l ≤ 1 → (o : Option (List ℕ)) × (l ≡ option_to_list o)
+at_most_one [] h = (None, refl)
+at_most_one (v ∷ []) h = (Some v, refl)
+at_most_one (v ∷ w ∷ l) h = absurd (omega arith)
+
+unescape_list : (o : Option (List ℕ)) → map unescape (option_to_list o) ≡ option_to_list (option_map unescape o)
+unescape_list None = refl
+unescape_list (Some v) = refl
+
+escaped_again : (o : Option (List ℕ)) → All (λ v. escape (unescape v) ≡ v) (option_to_list o) → option_to_list o ≡ option_to_list (option_map escape (option_map unescape o))
+escaped_again None all = refl
+escaped_again (Some v) all = ap (λ w. w ∷ []) (sym (All-head (λ w. escape (unescape w) ≡ w) v [] all))
+
+values_all : (P : List ℕ → Type 0) (cs : Store) → All (λ c. P c.value) cs → All P (map (λ c. c.value) cs)
+values_all P cs h = All-map P (λ (c : Stored). c.value) cs h
+
+-- a request: its header, and its jar, whose originals are the header's cookies and whose delta is scoped
+pub record IsFollowable (scopes : Name → ScopeView) (before : Store) (site : SiteView) (now : DateTime) (header : List ℕ) (jar : JarState) : Type 0 where
+  pub sent : IsHeader site now before header
+  pub originals : jar.originals ≡ (with_originals (header_cookies true header) empty_jar).originals
+  pub scoped : IsScopedDelta site now scopes jar.delta
+  pub known : IsKnownView jar
+
+module _ (same : SameKey) (key : IsKey same) (scopes : Name → ScopeView) (before : Store) (ours : IsOurStore scopes before) (site : SiteView) (now : DateTime)
+    (header : List ℕ) (jar : JarState) (is : IsFollowable scopes before site now header jar) where
+  cookies_read : header_cookies true header ≡ map plain_of is.sent.cookies
+  cookies_read =
+      let every : All (IsOurs scopes) is.sent.cookies
+      = All-permutation (IsOurs scopes) (visible site now before) is.sent.cookies is.sent.sent (All-filter (is_visible site now) (IsOurs scopes) before ours.each) in
+      ap (header_cookies true) (is.sent.text ∙ ap joined_texts (texts_same scopes is.sent.cookies every))
+      ∙ header_form (map plain_of is.sent.cookies) (named_of scopes is.sent.cookies every) ∙ plain_same scopes is.sent.cookies
+
+  originals_known : Mirrors site now before (λ name. value_of (get jar.originals name))
+  originals_known name u =
+      let every : All (IsOurs scopes) (visible site now before) = All-filter (is_visible site now) (IsOurs scopes) before ours.each in
+      let sent_all : All (IsOurs scopes) is.sent.cookies
+      = All-permutation (IsOurs scopes) (visible site now before) is.sent.cookies is.sent.sent every in
+      let few = fewer (is_visible site now) (λ c. bytes_eq c.name (escape name)) before in
+      let once = ours.once (escape name) in
+      let size = length-values (under (escape name) (visible site now before)) in
+      let small : length (seen site now before (escape name)) ≤ 1 = omega arith in
+      let (o, e) = at_most_one (seen site now before (escape name)) small in
+      let moved = any_order (λ c. bytes_eq c.name (escape name)) (visible site now before) is.sent.cookies is.sent.sent o e in
+      let read : values_of name (header_cookies true header) ≡ option_to_list (option_map unescape o)
+      = ap (values_of name) cookies_read ∙ values_read scopes name u is.sent.cookies sent_all ∙ ap (map unescape) moved ∙ unescape_list o in
+      let got : value_of (get jar.originals name) ≡ first_some (option_map unescape o) (value_of (get empty_jar.originals name))
+      = ap (λ m. value_of (get m name)) is.originals ∙ original_at name (header_cookies true header) empty_jar (option_map unescape o) read in
+      let none : value_of (get empty_jar.originals name) ≡ None = ap value_of (get-empty name_cmp name) in
+      let value : value_of (get jar.originals name) ≡ option_map unescape o = got ∙ ap (first_some (option_map unescape o)) none ∙ first_none (option_map unescape o) in
+      let escapes : All (λ v. escape (unescape v) ≡ v) (option_to_list o)
+      = subst (All (λ v. escape (unescape v) ≡ v)) e
+      (values_all (λ v. escape (unescape v) ≡ v) (under (escape name) (visible site now before))
+      (All-weaker (IsOurs scopes) (λ c. escape (unescape c.value) ≡ c.value) escaped_value (under (escape name) (visible site now before))
+      (All-filter (λ c. bytes_eq c.name (escape name)) (IsOurs scopes) (visible site now before) every))) in
+      e ∙ escaped_again o escapes ∙ ap (λ w. option_to_list (option_map escape w)) (sym value)
+    where
+      first_none : (w : Option (List ℕ)) → first_some w None ≡ w
+      first_none None = refl
+      first_none (Some v) = refl
+
+      escaped_value : (c : Stored) → IsOurs scopes c → escape (unescape c.value) ≡ c.value
+      escaped_value c o = ap escape (back o.value c.value o.named.cookie.value o.values) ∙ sym o.values
+
+  pub agreed : (texts : List (List ℕ)) → AreDeltaTexts jar.delta texts → (next : List ℕ) → IsHeader site now (after_texts same site now texts before) next → SiteAgrees jar next
+  agreed texts are next h =
+      let scoped : IsScopedStore site now scopes before = All-weaker (IsOurs scopes) (λ c. is_visible site now c ≡ true → IsOurs scopes c) (λ c o _. o) before ours.each in
+      let (kept, mirrors) = followed same key site now scopes before jar texts scoped is.scoped (record { known = originals_known }) are in
+      sent site now scopes (after_texts same site now texts before) jar next is.known kept mirrors h
+
+  pub stays : (texts : List (List ℕ)) → AreDeltaTexts jar.delta texts → IsOurStore scopes (after_texts same site now texts before)
+  stays texts are = all_after same key site now scopes jar is.scoped texts are.only before ours
+
+pub none_stored : (scopes : Name → ScopeView) → IsOurStore scopes []
+none_stored scopes = record { each = All-nil (IsOurs scopes); once = λ name. omega arith }

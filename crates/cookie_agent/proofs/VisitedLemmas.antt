@@ -1,0 +1,93 @@
+-- What a request came to is what its definition says, and so is what many came to.
+use Rattle.std.proofs.Common.{◌≡◌, ℕ, Bool, true, List, [], ◌∷◌, length, refl, sym, subst, All, string_bytes, arith}
+use Rattle.std.proofs.lemmas.List.Elements.{All-map, All-weaker}
+use Rattle.cookie.specs.CookieOf.{header_cookies}
+use Rattle.cookie.specs.History.{accepted, after_all}
+use Rattle.cookie.specs.Jar.{Name, empty_jar}
+use Rattle.cookie_client.specs.Agreement.{AreDeltaTexts}
+use Rattle.cookie_client.specs.Calls.{AreRefused, AreTaken, change_of, changes_of}
+use Rattle.cookie_client.specs.KnownCalls.{IsKnownCall}
+use Rattle.cookie_client.specs.Session.{with_originals}
+use Rattle.cookie_client.specs.declared.call.JarCall.{JarCall}
+use Rattle.cookie_client.proofs.AgreementLemmas.{All-accepted}
+use Rattle.cookie_agent.specs.Agreement.{IsOurStore}
+use Rattle.cookie_agent.specs.Calls.{IsScopedChange, IsKnownChange}
+use Rattle.cookie_agent.specs.Scopes.{ScopeView}
+use Rattle.cookie_agent.specs.Sent.{IsHeader}
+use Rattle.cookie_agent.specs.Store.{Store, standard_key, after_texts}
+use Rattle.cookie_agent.specs.Visits.{IsVisited, AreScoped, AreVisited, AreAllScoped, AllAgree}
+use Rattle.cookie_agent.specs.declared.request.AgentRequest.{AgentRequest}
+use Rattle.cookie_agent.specs.declared.visited.Visited.{Visited}
+use Rattle.cookie_agent.proofs.CallLemmas.{known_change}
+use Rattle.cookie_agent.proofs.KeyLemmas.{IsKey-standard}
+use Rattle.cookie_agent.proofs.VisitCallLemmas.{followable}
+use Rattle.cookie_agent.proofs.VisitLemmas.{IsFollowable, agreed, stays, none_stored}
+
+known_changes : (outcomes : List Bool) (calls : List JarCall) → All IsKnownCall calls → All IsKnownChange (changes_of outcomes calls)
+known_changes outcomes calls known =
+    All-map IsKnownChange change_of (accepted outcomes calls)
+    (All-weaker IsKnownCall (λ call. IsKnownChange (change_of call)) known_change (accepted outcomes calls) (All-accepted IsKnownCall outcomes calls known))
+
+-- what the code knows of a request
+pub record IsPlayed (before : Store) (request : AgentRequest) (visited : Visited) : Type 0 where
+  pub count : length visited.outcomes.items ≡ length request.calls.now
+  pub certain : AreTaken request.calls.now visited.outcomes.items
+  pub refused : AreRefused request.calls.now visited.outcomes.items
+  pub known : All IsKnownCall request.calls.now
+  pub sent : IsHeader request.site.now request.moment before (string_bytes visited.header)
+  pub jar : visited.jar ≡ after_all (changes_of visited.outcomes.items request.calls.now) (with_originals (header_cookies true (string_bytes visited.header)) empty_jar)
+  pub texts : List (List ℕ)
+  pub are : AreDeltaTexts visited.jar.delta texts
+  pub read : visited.agent ≡ after_texts standard_key request.site.now request.moment texts before
+
+module _ (before : Store) (request : AgentRequest) (visited : Visited) (is : IsPlayed before request visited) where
+  abbrev header : List ℕ
+  header = string_bytes visited.header
+
+  can_follow : (scopes : Name → ScopeView) → IsOurStore scopes before → AreScoped scopes request visited → IsFollowable scopes before request.site.now request.moment header visited.jar
+  can_follow scopes ours scoped =
+      subst (IsFollowable scopes before request.site.now request.moment header) (sym is.jar)
+      (followable scopes before ours request.site.now request.moment header is.sent (changes_of visited.outcomes.items request.calls.now)
+      (known_changes visited.outcomes.items request.calls.now is.known)
+      (All-map (IsScopedChange request.site.now request.moment scopes) change_of (accepted visited.outcomes.items request.calls.now) scoped))
+
+  pub is_visited : IsVisited before request visited
+  is_visited =
+      record {
+        count = is.count;
+        certain = is.certain;
+        refused = is.refused;
+        sent = is.sent;
+        jar = is.jar;
+        read = (is.texts, is.are, is.read);
+        agrees = λ scopes ours scoped.
+            agreed standard_key IsKey-standard scopes before ours request.site.now request.moment header visited.jar (can_follow scopes ours scoped);
+        ours = λ scopes ours scoped.
+            subst (IsOurStore scopes) (sym is.read)
+            (stays standard_key IsKey-standard scopes before ours request.site.now request.moment header visited.jar (can_follow scopes ours scoped) is.texts is.are);
+      }
+
+-- ---- many requests
+
+pub visited-length : (before : Store) (requests : List AgentRequest) (visits : List Visited) → AreVisited before requests visits → length visits ≡ length requests
+visited-length before [] [] are = refl
+visited-length before [] (visited ∷ visits) are = absurd are
+visited-length before (request ∷ requests) [] are = absurd are
+visited-length before (request ∷ requests) (visited ∷ visits) are =
+    let h = visited-length visited.agent requests visits are.1 in
+    omega arith
+
+agree_from : (scopes : Name → ScopeView) (before : Store) → IsOurStore scopes before → (requests : List AgentRequest) (visits : List Visited)
+    → AreVisited before requests visits → AreAllScoped scopes requests visits → AllAgree requests visits
+agree_from scopes before ours [] visits are scoped = tt
+agree_from scopes before ours (request ∷ requests) [] are scoped = tt
+agree_from scopes before ours (request ∷ requests) (visited ∷ visits) are scoped =
+    let is = are.0 in
+    let (texts, deltas, read) = is.read in (
+      λ header h. is.agrees scopes ours scoped.0 texts deltas header (subst (λ store. IsHeader request.site.now request.moment store header) read h),
+      agree_from scopes visited.agent (is.ours scopes ours scoped.0) requests visits are.1 scoped.1,
+    )
+
+pub all_agree : (requests : List AgentRequest) (visits : List Visited) → AreVisited [] requests visits
+    → (scopes : Name → ScopeView) → AreAllScoped scopes requests visits → AllAgree requests visits
+all_agree requests visits are scopes scoped = agree_from scopes [] (none_stored scopes) requests visits are scoped

@@ -1,0 +1,40 @@
+-- The header tells the jar's originals, and the agent follows what the calls made of them.
+use Rattle.std.proofs.Common.{◌≡◌, ℕ, List, true, map, ap, ◌∙◌, string_bytes}
+use Rattle.cookie.specs.CookieOf.{header_cookies}
+use Rattle.cookie.specs.History.{after_all}
+use Rattle.cookie.specs.Jar.{Change, JarState, empty_jar}
+use Rattle.cookie_client.specs.Calls.{changes_of}
+use Rattle.cookie_client.specs.Session.{with_originals}
+use Rattle.cookie_agent.specs.Store.{after_texts, standard_key}
+use Rattle.cookie_agent.proofs.VisitedLemmas.{is_visited}
+use Rattle.cookie_agent.proofs.requests.visit.Goals as goal
+
+pub returns : goal.returns
+returns c =
+    let request = c.args.request.now in
+    let before = c.args.agent.now in
+    let outcomes = c.in_ok-outcomes.outcomes.items in
+    let changes : List Change = changes_of outcomes request.calls.now in
+    let header : List ℕ = string_bytes c.in_ok-header.header in
+    let start : JarState = with_originals (header_cookies true header) empty_jar in
+    let begun : c.add_originals.new.jar ≡ start =
+    c.in_ok-add_originals.ensures ∙ ap (with_originals (header_cookies true c.as_str.result.now)) c.new-jar.ensures.empty
+    ∙ ap (λ h. with_originals (header_cookies true h) empty_jar) c.as_str.ensures.value in
+    let jar : c.replay.new.jar ≡ after_all changes start = c.in_ok-outcomes.ensures.jar ∙ ap (after_all changes) begun in
+    let texts : List (List ℕ) = map string_bytes c.in_ok-texts.texts.items in
+    let read : c.read_texts.new.agent ≡ after_texts standard_key request.site.now request.moment texts before =
+    c.in_ok-read_texts.ensures
+    ∙ ap (λ ts. after_texts standard_key request.site.now request.moment (map string_bytes ts) c.in_ok-agent.agent) c.deref.ensures.value
+    ∙ ap (after_texts standard_key request.site.now request.moment texts) c.in_ok-agent.ensures in
+    is_visited before request _
+    (record {
+      count = c.in_ok-outcomes.ensures.count;
+      certain = c.in_ok-outcomes.ensures.certain;
+      refused = c.in_ok-outcomes.ensures.refused;
+      known = c.known_calls.ensures;
+      sent = c.in_ok-header.ensures.is;
+      jar = jar;
+      texts = texts;
+      are = c.in_ok-texts.ensures;
+      read = read;
+    })

@@ -1,0 +1,29 @@
+//! Whether a cookie that is added is live (RFC 6265 5.3).
+ghost use Rattle.std.specs.Prelude.{◌≡◌};
+ghost use Rattle.cookie_client.specs.Live.{is_live, is_later};
+
+use cookie::{Cookie, Expiration};
+use jiff::civil::DateTime;
+
+/// Whether the expiry, without its fraction of a second, is later than `now`.
+fn is_later(expires: Option<Expiration>, now: DateTime) -> bool
+    ensures { result ≡ is_later expires now }
+{
+    match expires {
+        Some(expiration) => match expiration.datetime() {
+            Some(moment) => moment.to_plain().to_second() > now.to_plain().to_second(),
+            None => true,
+        },
+        None => true,
+    }
+}
+
+/// Whether the cookie is live at a moment: by its age, or else by its expiry.
+pub(crate) fn is_live(cookie: &Cookie<'_>, now: DateTime) -> bool
+    ensures { result ≡ is_live cookie.now.fields now }
+{
+    match cookie.max_age() {
+        Some(age) => age.as_secs() > 0,
+        None => is_later(cookie.expires(), now),
+    }
+}

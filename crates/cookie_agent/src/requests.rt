@@ -1,0 +1,86 @@
+//! Many requests of one user agent.
+ghost use Rattle.std.specs.Prelude.{◌≡◌, ℕ, List, [], length, map, IfOk, OnOk, string_bytes};
+ghost use Rattle.cookie.specs.Jar.{Name};
+ghost use Rattle.cookie_client.specs.Agreement.{AreDeltaTexts};
+ghost use Rattle.cookie_agent.specs.Scopes.{ScopeView};
+ghost use Rattle.cookie_agent.specs.Store.{after_texts, standard_key};
+ghost use Rattle.cookie_agent.specs.Visits.{AllAgree, AreAllScoped, AreVisited, IsVisited};
+
+use crate::agent::Agent;
+use crate::agent_error::AgentError;
+use crate::known::known_calls;
+use crate::originals::add_originals;
+use crate::request::AgentRequest;
+use crate::site::Site;
+use crate::texts::picked_texts;
+use crate::visited::Visited;
+use cookie::CookieJar;
+use cookie_client::replay;
+use jiff::civil::DateTime;
+use std::alloc::Global;
+
+/// Makes the requests in order with one user agent, which stores nothing at first.
+///
+/// Each request sends the agent's header. Its jar is new, with the header's cookies, split and decoded, as its
+/// originals; the calls are made on it as by `replay`; and the encoded texts of its delta come back as the response,
+/// which the agent reads. The text that is read as the i-th is number `pick[i]` of those that are left, modulo their
+/// count, or number 0 where `pick` has ended. It fails for want of memory alone, where that is wanted outside the calls.
+pub fn visits(
+    alloc: Global,
+    requests: &[AgentRequest<'_, '_>],
+    pick: &[usize],
+) -> Result<Vec<Visited>, AgentError>
+    ensures count { IfOk result (λ visited. length visited.items ≡ length requests.now) }
+    ensures visits { IfOk result (λ visited. AreVisited [] requests.now visited.items) }
+    ensures agreement { (scopes : Name → ScopeView) → IfOk result (λ visited.
+        AreAllScoped scopes requests.now visited.items → AllAgree requests.now visited.items) }
+{
+    let mut agent = Agent::new(alloc);
+    let mut visited = Vec::new(alloc);
+    for request in requests {
+        let one = visit(alloc, &agent, request, pick)?;
+        agent = one.agent.clone()?;
+        visited.push(one)?;
+    }
+    Ok(visited)
+}
+
+/// Makes one request.
+fn visit(
+    alloc: Global,
+    agent: &Agent,
+    request: &AgentRequest<'_, '_>,
+    pick: &[usize],
+) -> Result<Visited, AgentError>
+    ensures { IfOk result (λ visited. IsVisited agent.now request.now visited) }
+{
+    known_calls(request.calls);
+    let header = agent.header(request.site, request.moment)?;
+    let mut jar = CookieJar::new(alloc);
+    add_originals(alloc, header.as_str(), &mut jar)?;
+    let outcomes = replay(alloc, &mut jar, request.calls)?;
+    let texts = picked_texts(alloc, &jar, pick)?;
+    let mut agent = agent.clone()?;
+    read_texts(&mut agent, request.site, &texts, request.moment)?;
+    Ok(Visited {
+        header,
+        jar,
+        agent,
+        outcomes,
+    })
+}
+
+/// Has the agent read texts in order.
+fn read_texts(
+    agent: &mut Agent,
+    site: &Site,
+    texts: &[String],
+    now: DateTime,
+) -> Result<(), AgentError>
+    ensures { OnOk result (agent.new ≡ after_texts standard_key site.now now (map string_bytes texts.now) agent.old) }
+{
+    for text in texts {
+        agent.read(site, text.as_str(), now)?;
+    }
+    Ok(())
+}

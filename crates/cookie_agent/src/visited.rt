@@ -1,0 +1,16 @@
+//! What a request of a user agent came to.
+use crate::agent::Agent;
+use cookie::CookieJar;
+
+/// What a request of a user agent came to.
+#[derive(Drop)]
+pub struct Visited {
+    /// The value of the `Cookie` header that it sent.
+    pub header: String,
+    /// Its jar after the calls.
+    pub jar: CookieJar,
+    /// The user agent after the response.
+    pub agent: Agent,
+    /// Which of the calls were accepted.
+    pub outcomes: Vec<bool>,
+}
