@@ -60,7 +60,8 @@ impl Agent {
             (self.new ≡ after_text standard_key site.now now text.now self.old)
             × (is_cookie ≡ is_some (cookie_of false text.now))) }
         ensures err { OnErr result (self.new ≡ self.old) }
-        ensures missed { OnOk result (IsMissed standard_key site.now now text.now self.old self.new) }
+        ensures missed { OnOk result (
+            IsMissed standard_key site.now now text.now self.old self.new) }
     {
         match Cookie::parse(text) {
             Ok(cookie) => {
@@ -99,7 +100,8 @@ impl Agent {
     /// The value of the `Cookie` header of a request to the site at a moment in UTC (RFC 6265 5.4): longer paths first,
     /// and the earlier creation first among equals.
     pub fn header(&self, site: &Site, now: DateTime) -> Result<String, AgentError>
-        ensures { Gives OutOfMemory result (λ header. IsOrderedHeader site.now now self.now (string_bytes header)) }
+        ensures { Gives OutOfMemory result (λ header.
+            IsOrderedHeader site.now now self.now (string_bytes header)) }
     {
         let sent = visible(self.alloc, &self.cookies, site, now)?;
         let sent = by_path(sent)?;

@@ -39,7 +39,8 @@ impl Site {
     /// The site of a host name, without its port, and of a request's path, without its query. The host is taken in
     /// lower case; a path that doesn't begin with `/` gets one, so an empty one is `/`. It fails for want of memory alone.
     pub fn new(alloc: Global, host: &str, path: &str, is_secure: bool) -> Result<Site, AgentError>
-        ensures { Gives OutOfMemory result (λ site. site ≡ site_of host.now false path.now is_secure) }
+        ensures { Gives OutOfMemory result (λ site.
+            site ≡ site_of host.now false path.now is_secure) }
     {
         Site::made(alloc, host, false, path, is_secure)
     }
@@ -51,7 +52,8 @@ impl Site {
         path: &str,
         is_secure: bool,
     ) -> Result<Site, AgentError>
-        ensures { Gives OutOfMemory result (λ site. site ≡ site_of host.now true path.now is_secure) }
+        ensures { Gives OutOfMemory result (λ site.
+            site ≡ site_of host.now true path.now is_secure) }
     {
         Site::made(alloc, host, true, path, is_secure)
     }
@@ -102,7 +104,8 @@ impl Site {
         path: Option<&str>,
         domain: Option<&str>,
     ) -> Result<Option<Scope>, AgentError>
-        ensures { Gives OutOfMemory result (λ scope. scope ≡ scope_by self.now (text_of domain.entry) (text_of path.entry)) }
+        ensures { Gives OutOfMemory result (λ scope.
+            scope ≡ scope_by self.now (text_of domain.entry) (text_of path.entry)) }
     {
         let Some(domain) = domain else {
             return Ok(Some(self.own_scope(alloc, path)?));
