@@ -1,4 +1,4 @@
--- Stored cookies of different keys, and where a cookie is put among them. These are words of private code.
+-- Mirrors private code: stored cookies of different keys, and where a cookie is put among them.
 use Rattle.std.specs.Prelude.{◌≡◌, ◌&&◌, false, Bool, [], ◌∷◌, All}
 use Rattle.jiff.specs.Types.{DateTime}
 use Rattle.cookie_agent.specs.Store.{Stored, Store, is_later, standard_key}

@@ -1,4 +1,4 @@
--- When a stored cookie expires, as the code keeps it. These are words of private code.
+-- Mirrors private code: when a stored cookie expires, as the code keeps it.
 use Rattle.std.specs.Prelude.{ℤ, ◌+ℤ◌, Option, Some, None}
 use Rattle.jiff.specs.Words.{civil_nanos, signed_nanos}
 use Rattle.cookie_agent.specs.declared.expiry.Expiry.{Expiry}

@@ -1,4 +1,4 @@
--- Whether a change is in a scope, as a test. These are words of private code.
+-- Mirrors private code: whether a change is in a scope, as a test.
 use Rattle.std.specs.Prelude.{ℕ, ◌==◌, ◌&&◌, ◌||◌, not, true, false, Bool, List, [], ◌∷◌, Option, Some, None}
 use Rattle.std.specs.List.{list_all}
 use Rattle.std.specs.Str.{bytes_eq, trim, str_to_ascii_lowercase}

@@ -1,4 +1,4 @@
--- The cookies that are sent, as the code orders them. These are words of private code.
+-- Mirrors private code: the cookies that are sent, as the code orders them.
 use Rattle.std.specs.Prelude.{List, map, IsPermutation, IsSortedByKey}
 use denote.Ref.{Bor}
 use Rattle.std.specs.List.Sorted.{IsStableByKey}

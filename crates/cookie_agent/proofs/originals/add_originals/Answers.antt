@@ -25,7 +25,7 @@ loop-outcome-preserved c =
     let steps = c.in-Some.ensures.steps in
     let (text, first, agrees) = NextCookie-decodes c.loop-outcome.outcome-iterator c.next.new.self c.in-Some.outcome before.is_decoded steps in
     record {
-      is_decoded = steps.4.is_decoded ∙ before.is_decoded;
+      is_decoded = steps.3.is_decoded ∙ before.is_decoded;
       jar = ap (with_originals (filter_map (cookie_of true) c.next.new.self.texts)) (c.in_ok-add_one.ensures text agrees)
           ∙ with_originals-next (cookie_of true) text c.next.new.self.texts _ c.loop-outcome.jar refl
           ∙ ap (λ texts. with_originals (filter_map (cookie_of true) texts) c.loop-outcome.jar) (sym first)
