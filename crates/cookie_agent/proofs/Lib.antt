@@ -8,6 +8,7 @@ pub mod OrderLemmas
 pub mod PlainTextLemmas
 pub mod PrefixLemmas
 pub mod PutLemmas
+pub mod RowFacts
 pub mod ScopedLemmas
 pub mod SiteLemmas
 pub mod StoreLemmas

@@ -13,7 +13,7 @@ use Rattle.cookie_client.proofs.AgreementLemmas.{All-accepted}
 use Rattle.cookie_agent.specs.Agreement.{IsOurStore}
 use Rattle.cookie_agent.specs.Calls.{IsScopedChange, IsKnownChange}
 use Rattle.cookie_agent.specs.Scopes.{ScopeView}
-use Rattle.cookie_agent.specs.Sent.{IsHeader}
+use Rattle.cookie_agent.specs.Sent.{IsHeader, IsOrderedHeader}
 use Rattle.cookie_agent.specs.Store.{Store, standard_key, after_texts}
 use Rattle.cookie_agent.specs.Visits.{IsVisited, AreScoped, AreVisited, AreAllScoped, AllAgree}
 use Rattle.cookie_agent.specs.declared.request.AgentRequest.{AgentRequest}
@@ -34,7 +34,7 @@ pub record IsPlayed (before : Store) (request : AgentRequest) (visited : Visited
   pub certain : AreTaken request.calls.now visited.outcomes.items
   pub refused : AreRefused request.calls.now visited.outcomes.items
   pub known : All IsKnownCall request.calls.now
-  pub sent : IsHeader request.site.now request.moment before (string_bytes visited.header)
+  pub sent : IsOrderedHeader request.site.now request.moment before (string_bytes visited.header)
   pub jar : visited.jar ≡ after_all (changes_of visited.outcomes.items request.calls.now) (with_originals (header_cookies true (string_bytes visited.header)) empty_jar)
   pub texts : List (List ℕ)
   pub are : AreDeltaTexts visited.jar.delta texts
@@ -47,7 +47,7 @@ module _ (before : Store) (request : AgentRequest) (visited : Visited) (is : IsP
   can_follow : (scopes : Name → ScopeView) → IsOurStore scopes before → AreScoped scopes request visited → IsFollowable scopes before request.site.now request.moment header visited.jar
   can_follow scopes ours scoped =
       subst (IsFollowable scopes before request.site.now request.moment header) (sym is.jar)
-      (followable scopes before ours request.site.now request.moment header is.sent (changes_of visited.outcomes.items request.calls.now)
+      (followable scopes before ours request.site.now request.moment header is.sent.is (changes_of visited.outcomes.items request.calls.now)
       (known_changes visited.outcomes.items request.calls.now is.known)
       (All-map (IsScopedChange request.site.now request.moment scopes) change_of (accepted visited.outcomes.items request.calls.now) scoped))
 

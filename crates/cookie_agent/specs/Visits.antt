@@ -9,7 +9,7 @@ use Rattle.cookie_client.specs.Session.{with_originals}
 use Rattle.cookie_agent.specs.Agreement.{IsOurStore, SiteAgrees}
 use Rattle.cookie_agent.specs.Calls.{IsScopedCall}
 use Rattle.cookie_agent.specs.Scopes.{ScopeView}
-use Rattle.cookie_agent.specs.Sent.{IsHeader}
+use Rattle.cookie_agent.specs.Sent.{IsHeader, IsOrderedHeader}
 use Rattle.cookie_agent.specs.Store.{Store, standard_key, after_texts}
 use Rattle.cookie_agent.specs.declared.request.AgentRequest.{AgentRequest}
 use Rattle.cookie_agent.specs.declared.visited.Visited.{Visited}
@@ -26,7 +26,7 @@ pub record IsVisited (before : Store) (request : AgentRequest) (visited : Visite
   pub certain : AreTaken request.calls.now visited.outcomes.items
   pub refused : AreRefused request.calls.now visited.outcomes.items
   -- it sent the agent's header
-  pub sent : IsHeader request.site.now request.moment before (string_bytes visited.header)
+  pub sent : IsOrderedHeader request.site.now request.moment before (string_bytes visited.header)
   -- its jar is what the accepted calls made of a new one with the header's cookies as its originals
   pub jar : visited.jar ≡ after_all (changes_of visited.outcomes.items request.calls.now) (with_originals (header_cookies true (string_bytes visited.header)) empty_jar)
   -- its agent is the one before, which read the delta's texts in some order
