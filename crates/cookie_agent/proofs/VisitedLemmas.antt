@@ -9,7 +9,7 @@ use Rattle.cookie_client.specs.Calls.{AreRefused, AreTaken, change_of, changes_o
 use Rattle.cookie_client.specs.KnownCalls.{IsKnownCall}
 use Rattle.cookie_client.specs.Session.{with_originals}
 use Rattle.cookie_client.specs.declared.call.JarCall.{JarCall}
-use Rattle.cookie_client.proofs.AgreementLemmas.{All-accepted}
+use Rattle.cookie_client.proofs.ChangeLemmas.{All-accepted}
 use Rattle.cookie_agent.specs.Agreement.{IsOurStore}
 use Rattle.cookie_agent.specs.Calls.{IsScopedChange, IsKnownChange}
 use Rattle.cookie_agent.specs.Scopes.{ScopeView}
