@@ -117,7 +117,8 @@ fn tell_originals(
     originals: Originals,
 ) -> Result<(), ClientError>
     requires { length outcomes.now ≡ length calls.now }
-    ensures { OnOk result (client.new ≡ after_originals originals (changes_of outcomes.now calls.now) client.old) }
+    ensures { OnOk result (
+        client.new ≡ after_originals originals (changes_of outcomes.now calls.now) client.old) }
 {
     match originals {
         Originals::Told => hold_originals(alloc, client, calls, outcomes),

@@ -39,7 +39,8 @@ fn moment_of(text: &str) -> Option<DateTime>
 
 /// The addition of the cookie that the text is, if it is one.
 fn addition(alloc: Global, text: &str) -> Result<Option<JarCall<'static>>, RunError>
-    ensures { Gives errors.OutOfMemory result (λ call. option_map change_of call ≡ option_map Add (cookie_of true text.now)) }
+    ensures { Gives errors.OutOfMemory result (λ call.
+        option_map change_of call ≡ option_map Add (cookie_of true text.now)) }
 {
     match Cookie::parse_encoded(alloc, text) {
         Ok(cookie) => Ok(Some(JarCall::Add(cookie.into_owned(alloc)?))),
@@ -50,7 +51,8 @@ fn addition(alloc: Global, text: &str) -> Result<Option<JarCall<'static>>, RunEr
 
 /// The removal of the name, unless it is empty.
 fn removal(alloc: Global, name: &str, now: DateTime) -> Result<Option<JarCall<'static>>, RunError>
-    ensures { Gives errors.OutOfMemory result (λ call. option_map change_of call ≡ removal_of now name.now) }
+    ensures { Gives errors.OutOfMemory result (λ call.
+        option_map change_of call ≡ removal_of now name.now) }
 {
     if name.is_empty() {
         return Ok(None);
@@ -60,7 +62,8 @@ fn removal(alloc: Global, name: &str, now: DateTime) -> Result<Option<JarCall<'s
 
 /// The forced removal of the name, unless it is empty.
 fn forced_removal(alloc: Global, name: &str) -> Result<Option<JarCall<'static>>, RunError>
-    ensures { Gives errors.OutOfMemory result (λ call. option_map change_of call ≡ forced_removal_of name.now) }
+    ensures { Gives errors.OutOfMemory result (λ call.
+        option_map change_of call ≡ forced_removal_of name.now) }
 {
     if name.is_empty() {
         return Ok(None);
@@ -70,7 +73,8 @@ fn forced_removal(alloc: Global, name: &str) -> Result<Option<JarCall<'static>>,
 
 /// The call that a line asks for which discards cookies, if it asks for such a call.
 fn discarding(alloc: Global, line: &str) -> Result<Option<JarCall<'static>>, RunError>
-    ensures { Gives errors.OutOfMemory result (λ call. option_map change_of call ≡ discarding_of line.now) }
+    ensures { Gives errors.OutOfMemory result (λ call.
+        option_map change_of call ≡ discarding_of line.now) }
 {
     if let Some(name) = line.strip_prefix("force ") {
         return forced_removal(alloc, name.trim());
@@ -83,7 +87,8 @@ fn discarding(alloc: Global, line: &str) -> Result<Option<JarCall<'static>>, Run
 
 /// The call that a line asks for, if it asks for one.
 fn call_of(alloc: Global, line: &str, now: DateTime) -> Result<Option<JarCall<'static>>, RunError>
-    ensures { Gives errors.OutOfMemory result (λ call. option_map change_of call ≡ call_of now line.now) }
+    ensures { Gives errors.OutOfMemory result (λ call.
+        option_map change_of call ≡ call_of now line.now) }
 {
     if let Some(text) = line.strip_prefix("add ") {
         return addition(alloc, text);
@@ -101,7 +106,9 @@ fn calls_of(
     now: DateTime,
 ) -> Result<Vec<JarCall<'static>>, RunError>
     requires { length lines + 1 < 2 ^ 64 }
-    ensures { MatchResult result (λ calls. changes_in now 2 lines.entry ≡ Ok (map change_of calls.items)) (Refuses (changes_in now 2 lines.entry)) }
+    ensures { MatchResult result
+        (λ calls. changes_in now 2 lines.entry ≡ Ok (map change_of calls.items))
+        (Refuses (changes_in now 2 lines.entry)) }
 {
     let mut calls = Vec::new(alloc);
     let mut lines = lines;
@@ -159,8 +166,11 @@ fn output(alloc: Global, client: &Client, jar: &CookieJar) -> Result<String, Run
 
 /// The text of a session at a moment. A call that is refused ends it.
 fn played(alloc: Global, now: DateTime, text: &str) -> Result<String, RunError>
-    ensures played { MatchResult result (λ answer. played now (lines_of text.now) ≡ Ok (string_bytes answer)) (Refuses (played now (lines_of text.now))) }
-    ensures agreement { IfOk result (λ answer. IsOfAgreement now (lines_of text.now) (string_bytes answer)) }
+    ensures played { MatchResult result
+        (λ answer. played now (lines_of text.now) ≡ Ok (string_bytes answer))
+        (Refuses (played now (lines_of text.now))) }
+    ensures agreement { IfOk result (λ answer.
+        IsOfAgreement now (lines_of text.now) (string_bytes answer)) }
 {
     let mut lines = Lines::of(text);
     let header = header_of(&mut lines);
@@ -188,8 +198,11 @@ fn are_accepted(outcomes: &[bool]) -> bool
 
 /// The text of a session of bytes at a moment.
 fn answer(alloc: Global, now: DateTime, bytes: &[u8]) -> Result<String, RunError>
-    ensures played { MatchResult result (λ text. played_bytes now bytes.now ≡ Ok (string_bytes text)) (Refuses (played_bytes now bytes.now)) }
-    ensures agreement { IfOk result (λ text. IsOfAgreement now (lines_of bytes.now) (string_bytes text)) }
+    ensures played { MatchResult result
+        (λ text. played_bytes now bytes.now ≡ Ok (string_bytes text))
+        (Refuses (played_bytes now bytes.now)) }
+    ensures agreement { IfOk result (λ text.
+        IsOfAgreement now (lines_of bytes.now) (string_bytes text)) }
 {
     match str::from_utf8(bytes) {
         Ok(text) => played(alloc, now, text),
