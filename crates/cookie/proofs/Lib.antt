@@ -3,6 +3,7 @@ pub mod HistoryLemmas
 pub mod JarLemmas
 pub mod KeyLemmas
 pub mod MetLemmas
+pub mod NameHashLemmas
 pub mod NameLemmas
 pub mod PrefixLemmas
 pub mod SealingLemmas

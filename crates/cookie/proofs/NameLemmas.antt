@@ -1,5 +1,5 @@
 -- The finite map that a table with text keys shows, through the table's calls.
-use Rattle.std.proofs.Common.{◌≡◌, ℕ, Bool, true, false, cond, Bor, List, [], ◌∷◌, map, Option, None, Some, IfSome, String, refl, sym, ap, subst, ◌∙◌}
+use Rattle.std.proofs.Common.{◌≡◌, ℕ, Bool, true, false, cond, Bor, List, [], ◌∷◌, map, Option, None, Some, IfSome, String, length, arith, refl, sym, ap, subst, ◌∙◌}
 use Rattle.std.proofs.lemmas.Map.Text.{is_eq-slice_cmp, hash_map_updates_text}
 use Rattle.std.proofs.lemmas.Slice.Eq.{bytes_eq-Decides}
 use Rattle.std.specs.Cmp.{eq_by_cmp_equiv}
@@ -48,6 +48,11 @@ module _ {X Z : Type 0} (shows : X → Z) where
     -- what the finite map has at a name
     pub get-by_name : (es : List (String Y × X)) (q : List ℕ) → get (by_name shows es) q ≡ option_map shows (at_text es q)
     get-by_name es q = get-from_entries nat_list_cmp_total (map (λ e. (string_bytes e.0, shows e.1)) es) q ∙ find_text es q
+
+    -- no entry, nothing at any name
+    pub get-by_name-none : (es : List (String Y × X)) (q : List ℕ) → length es ≡ 0 → None ≡ get (by_name shows es) q
+    get-by_name-none [] q none = sym (get-by_name [] q)
+    get-by_name-none (e ∷ es) q none = absurd (omega (arith, none))
 
     module _ {S : Type 0} (m n : HashMap (String Y) X S) where
       -- a changed table's look-up, over the one before

@@ -6,6 +6,7 @@ pub mod JarError
 pub mod KeyError
 pub mod KeyedJars
 pub mod Keys
+pub mod NameHash
 pub mod Opening
 pub mod PrefixedJars
 pub mod Prefixes

@@ -8,6 +8,7 @@ ghost use Rattle.cookie_core.specs.Record.{Record};
 ghost use Rattle.cookie.specs.Jar.{Marked};
 
 use crate::delta::DeltaCookie;
+use crate::name_hash::NameHash;
 use crate::original::Original;
 use indexmap::IndexMap;
 use std::alloc::{AllocError, Global};
@@ -67,16 +68,25 @@ impl Entry for DeltaCookie {
     }
 }
 
-// The entry at a name.
-pub(crate) fn find<'a, X: Entry>(table: &'a IndexMap<String, X>, name: &str) -> Option<&'a X>
+// The entry at a name. An empty table isn't hashed for.
+pub(crate) fn find<'a, X: Entry>(
+    table: &'a IndexMap<String, X, NameHash>,
+    name: &str,
+) -> Option<&'a X>
     ensures { option_map (λ x. X.shows x.now) result
         ≡ map.get (by_name X.shows table.now.entries) name.now }
 {
+    if table.is_empty() {
+        return None;
+    }
     table.get(name)
 }
 
 // Puts an entry at its name. On an error the table stays as it was.
-pub(crate) fn put<X: Entry>(table: &mut IndexMap<String, X>, entry: X) -> Result<(), AllocError>
+pub(crate) fn put<X: Entry>(
+    table: &mut IndexMap<String, X, NameHash>,
+    entry: X,
+) -> Result<(), AllocError>
     ensures ok { OnOk result (by_name X.shows table.new.entries
         ≡ map.insert (by_name X.shows table.old.entries)
         (X.name_of (X.shows entry)) (X.shows entry)) }
@@ -91,7 +101,11 @@ pub(crate) fn put<X: Entry>(table: &mut IndexMap<String, X>, entry: X) -> Result
 }
 
 // Puts an entry at a key. On an error the table stays as it was.
-fn set<X: Entry>(table: &mut IndexMap<String, X>, key: String, entry: X) -> Result<(), AllocError>
+fn set<X: Entry>(
+    table: &mut IndexMap<String, X, NameHash>,
+    key: String,
+    entry: X,
+) -> Result<(), AllocError>
     ensures ok { OnOk result (by_name X.shows table.new.entries
         ≡ map.insert (by_name X.shows table.old.entries) (string_bytes key) (X.shows entry)) }
     ensures err { OnErr result (by_name X.shows table.new.entries
@@ -102,7 +116,7 @@ fn set<X: Entry>(table: &mut IndexMap<String, X>, key: String, entry: X) -> Resu
 }
 
 // Drops the entry at a name.
-pub(crate) fn discard<X: Entry>(table: &mut IndexMap<String, X>, name: &str)
+pub(crate) fn discard<X: Entry>(table: &mut IndexMap<String, X, NameHash>, name: &str)
     ensures removed { by_name X.shows table.new.entries
         ≡ map.remove (by_name X.shows table.old.entries) name.now }
     ensures named { IsNamed X.name_of (by_name X.shows table.old.entries)
@@ -113,13 +127,13 @@ pub(crate) fn discard<X: Entry>(table: &mut IndexMap<String, X>, name: &str)
 
 // A table that shows the same.
 pub(crate) fn copy<X: Entry>(
-    table: &IndexMap<String, X>,
+    table: &IndexMap<String, X, NameHash>,
     alloc: Global,
-) -> Result<IndexMap<String, X>, AllocError>
+) -> Result<IndexMap<String, X, NameHash>, AllocError>
     ensures { IfOk result (λ made.
         by_name X.shows made.entries ≡ by_name X.shows table.now.entries) }
 {
-    let mut made = IndexMap::new(alloc);
+    let mut made = IndexMap::with_capacity_and_hasher(alloc, table.len(), *table.hasher())?;
     for (key, entry) in table {
         let key = String::from_str(alloc, key.as_str())?;
         set(&mut made, key, entry.copied(alloc)?)?;

@@ -7,6 +7,7 @@ ghost use Rattle.cookie.specs.Table.{by_name, marked, unmarked};
 
 use crate::delta::DeltaCookie;
 use crate::entry::find;
+use crate::name_hash::NameHash;
 use crate::original::Original;
 use cookie_core::Cookie;
 use indexmap::IndexMap;
@@ -58,7 +59,7 @@ impl<'a> Iterator for Delta<'a> {
 /// The cookies that a jar shows, seen as the list of the records of those that are left.
 #[derive(Drop)]
 pub struct Iter<'a> {
-    delta: &'a IndexMap<String, DeltaCookie>,
+    delta: &'a IndexMap<String, DeltaCookie, NameHash>,
     changes: Values<'a, String, DeltaCookie>,
     originals: Values<'a, String, Original>,
 }
@@ -77,8 +78,8 @@ impl<'a> Model for Iter<'a> {
 impl<'a> Iter<'a> {
     // The cookies that were added, and then the originals whose names were left alone.
     pub(crate) fn new(
-        delta: &'a IndexMap<String, DeltaCookie>,
-        originals: &'a IndexMap<String, Original>,
+        delta: &'a IndexMap<String, DeltaCookie, NameHash>,
+        originals: &'a IndexMap<String, Original, NameHash>,
     ) -> Iter<'a>
         ensures { result ≡ additions (map marked (values_of delta.now.entries))
             ++ uncovered (by_name marked delta.now.entries)
@@ -126,7 +127,7 @@ fn next_added<'a>(changes: &mut Values<'a, String, DeltaCookie>) -> Option<&'a C
 
 // The next original under whose name the delta has nothing.
 fn next_uncovered<'a>(
-    delta: &IndexMap<String, DeltaCookie>,
+    delta: &IndexMap<String, DeltaCookie, NameHash>,
     originals: &mut Values<'a, String, Original>,
 ) -> Option<&'a Cookie<'static>>
     ensures { TakesFirst (λ c. c.now.fields)

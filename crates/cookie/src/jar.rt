@@ -12,18 +12,20 @@ use crate::delta::DeltaCookie;
 use crate::entry::{copy, discard, find, put};
 use crate::iter::{Delta, Iter};
 use crate::jar_error::JarError;
+use crate::name_hash::NameHash;
 use crate::original::Original;
 use cookie_core::Cookie;
 use indexmap::IndexMap;
 use jiff::civil::DateTime;
 use std::alloc::Global;
+use std::hash::RandomState;
 use std::marker::Model;
 
 /// Cookies by their names, and which of them were changed since they came (RFC 6265 5.3).
 #[derive(Drop)]
 pub struct CookieJar {
-    originals: IndexMap<String, Original>,
-    delta: IndexMap<String, DeltaCookie>,
+    originals: IndexMap<String, Original, NameHash>,
+    delta: IndexMap<String, DeltaCookie, NameHash>,
 }
 
 // Contracts see the jar as two finite maps from names to the records of cookies.
@@ -50,9 +52,30 @@ impl CookieJar {
         ensures history { (changes : List Change)
             → LooksBack (reverse changes) (after_all changes result) }
     {
+        CookieJar::hashing(alloc, NameHash::Fixed)
+    }
+
+    /// A jar with no cookie, for names that strangers choose: it hashes them with the keys of `state`, and so do
+    /// its copies. It takes no memory.
+    ///
+    /// After any changes of it, each map has at each name what looking back through the changes finds.
+    pub fn with_hasher(alloc: Global, state: RandomState) -> CookieJar
+        ensures empty { result ≡ empty_jar }
+        ensures history { (changes : List Change)
+            → LooksBack (reverse changes) (after_all changes result) }
+    {
+        CookieJar::hashing(alloc, NameHash::Keyed(state))
+    }
+
+    // A jar with no cookie, which hashes names this way.
+    fn hashing(alloc: Global, hash: NameHash) -> CookieJar
+        ensures empty { result ≡ empty_jar }
+        ensures history { (changes : List Change)
+            → LooksBack (reverse changes) (after_all changes result) }
+    {
         CookieJar {
-            originals: IndexMap::new(alloc),
-            delta: IndexMap::new(alloc),
+            originals: IndexMap::with_hasher(alloc, hash),
+            delta: IndexMap::with_hasher(alloc, hash),
         }
     }
 
@@ -126,7 +149,7 @@ impl CookieJar {
         ensures change { self.new ≡ after ResetDelta self.old }
         ensures originals { (name : Name) → view self.new name ≡ get self.old.originals name }
     {
-        self.delta.clear();
+        self.delta.truncate(0);
     }
 
     // What the jar and its child jars ask for memory.

@@ -6,6 +6,7 @@ mod entry;
 mod iter;
 mod jar;
 mod jar_error;
+mod name_hash;
 mod original;
 pub mod prefix;
 mod secure;

@@ -2,6 +2,7 @@
 use crate::{Cookie, CookieJar};
 use base64::engine::general_purpose::STANDARD;
 use jiff::civil::DateTime;
+use std::hash::RandomState;
 use std::test::Fail;
 
 #[test]
@@ -19,6 +20,16 @@ fn a_jar_shows_its_cookies_and_keeps_its_changes(rt: HostRuntime) -> Result<(), 
         shown = shown.saturating_add(1);
     }
     assert_eq!(rt; shown, 1);
+    Ok(())
+}
+
+#[test]
+fn a_jar_with_drawn_keys_answers_as_any_other(rt: HostRuntime) -> Result<(), Fail> {
+    let mut jar = CookieJar::with_hasher(rt.alloc(), RandomState::new(&rt)?);
+    jar.add_original(Cookie::new("name", "val"))?;
+    jar.add(Cookie::new("name", "new"))?;
+    let copy = jar.clone()?;
+    assert!(rt; copy.get("name").map(|c| c.value()) == Some("new"));
     Ok(())
 }
 

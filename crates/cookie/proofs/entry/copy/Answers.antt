@@ -8,8 +8,8 @@ use Rattle.cookie.proofs.entry.copy.Goals as goal
 
 pub loop-key-init : goal.loop-key-init
 loop-key-init g c =
-    none_copied g.X.Entry.shows c.args.table.now.entries c.into_iter-key-iterator.result c.new-made.result.entries
-    c.new-made.ensures.empty c.into_iter-key-iterator.ensures.into_iter_gives.0
+    none_copied g.X.Entry.shows c.args.table.now.entries c.into_iter-key-iterator.result c.in_ok-made.made.entries
+    c.in_ok-made.ensures.empty c.into_iter-key-iterator.ensures.into_iter_gives.0
 
 pub loop-key-preserved : goal.loop-key-preserved
 loop-key-preserved g c =

@@ -8,12 +8,12 @@ use Rattle.cookie.proofs.jar.CookieJar.reset_delta.Goals as goal
 pub invariant_of-self : goal.invariant_of-self
 invariant_of-self c = record {
   originals = c.self.invariant.originals;
-  delta = rw c.clear.ensures.empty (IsNamed-empty _);
+  delta = rw c.truncate.ensures.entries (IsNamed-empty _);
 }
 
 pub returns-clause-originals : goal.returns-clause-originals
 returns-clause-originals c = λ name.
     let original = get (by_name unmarked c.self.inside.originals.entries) name in
-    ap (λ es. overlay (get (by_name marked es) name) original) c.clear.ensures.empty
+    ap (λ es. overlay (get (by_name marked es) name) original) c.truncate.ensures.entries
     ∙ ap (λ entry. overlay entry original) (get-by_name marked {Y = Global} [] name)
     ∙ ap (λ (jar : JarState). get jar.originals name) c.self.view_is
