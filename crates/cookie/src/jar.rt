@@ -86,11 +86,16 @@ impl CookieJar {
         match find(&self.delta, name) {
             Some(entry) if entry.removed => None,
             Some(entry) => Some(&entry.cookie),
-            None => match find(&self.originals, name) {
-                Some(entry) => Some(&entry.cookie),
-                None => None,
-            },
+            None => self.original(name),
         }
+    }
+
+    /// The original stored under `name`, whatever the delta has there. It takes no memory.
+    pub fn original(&self, name: &str) -> Option<&Cookie<'static>>
+        ensures { option_map (λ c. c.now.fields) result ≡ get self.now.originals name.now }
+    {
+        let entry = find(&self.originals, name)?;
+        Some(&entry.cookie)
     }
 
     /// Adds an original cookie, in the place of the one of its name. It is no change: the delta stays.

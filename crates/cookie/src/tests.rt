@@ -30,6 +30,8 @@ fn a_jar_with_drawn_keys_answers_as_any_other(rt: HostRuntime) -> Result<(), Fai
     jar.add(Cookie::new("name", "new"))?;
     let copy = jar.clone()?;
     assert!(rt; copy.get("name").map(|c| c.value()) == Some("new"));
+    assert!(rt; copy.original("name").map(|c| c.value()) == Some("val"));
+    assert!(rt; copy.original("new").is_none());
     Ok(())
 }
 
