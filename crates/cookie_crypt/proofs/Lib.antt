@@ -2,6 +2,7 @@ mod AesLemmas
 pub mod BytesLemmas
 pub mod GcmLemmas
 pub mod HornerLemmas
+mod LaneLemmas
 pub mod MacLemmas
 mod Made
 mod MixingLemmas

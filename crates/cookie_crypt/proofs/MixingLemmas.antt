@@ -6,7 +6,6 @@ use Rattle.std.proofs.lemmas.List.FromFn.{get_or-map-range_with_len}
 use Rattle.cookie_crypt.specs.Bytes.{IsBytes}
 use Rattle.cookie_crypt.specs.ByteField.{byte_times_x, byte_times_power, byte_product_below, byte_product}
 use Rattle.cookie_crypt.specs.Aes.{cell, mixed_cell}
-use Rattle.cookie_crypt.specs.Code.{doubled}
 use Rattle.cookie_crypt.proofs.SboxLemmas.{on_bytes}
 
 -- two functions that agree on all pairs of bytes
@@ -21,11 +20,11 @@ on_pairs f g same a b p q =
 
 -- a column's byte, from its own place on
 mixed : ℕ → ℕ → ℕ → ℕ → ℕ
-mixed a b c d = bit_xor (bit_xor (bit_xor (bit_xor (byte_times_x a) (byte_times_x b)) b) c) d
+mixed a b c d = bit_xor (bit_xor (byte_times_x (bit_xor a b)) b) (bit_xor c d)
 
-two_and_three : (a b : ℕ) → a < 256 → b < 256 → bit_xor (bit_xor (byte_times_x a) (byte_times_x b)) b ≡ bit_xor (byte_product 2 a) (byte_product 3 b)
+two_and_three : (a b : ℕ) → a < 256 → b < 256 → bit_xor (byte_times_x (bit_xor a b)) b ≡ bit_xor (byte_product 2 a) (byte_product 3 b)
 unfolding byte_product byte_product_below byte_times_power byte_times_x
-two_and_three = on_pairs (λ a b. bit_xor (bit_xor (byte_times_x a) (byte_times_x b)) b) (λ a b. bit_xor (byte_product 2 a) (byte_product 3 b)) refl
+two_and_three = on_pairs (λ a b. bit_xor (byte_times_x (bit_xor a b)) b) (λ a b. bit_xor (byte_product 2 a) (byte_product 3 b)) refl
 
 one : (a : ℕ) → a < 256 → a ≡ byte_product 1 a
 unfolding byte_product byte_product_below byte_times_power byte_times_x
@@ -35,7 +34,8 @@ mixed_is : (a b c d : ℕ) → a < 256 → b < 256 → c < 256 → d < 256
     → mixed a b c d ≡ bit_xor (bit_xor (bit_xor (byte_product 2 a) (byte_product 3 b)) (byte_product 1 c)) (byte_product 1 d)
 unfolding mixed
 mixed_is a b c d p q r s =
-    ap (λ x. bit_xor (bit_xor x c) d) (two_and_three a b p q)
+    sym (xor_assoc (bit_xor (byte_times_x (bit_xor a b)) b) c d)
+    ∙ ap (λ x. bit_xor (bit_xor x c) d) (two_and_three a b p q)
     ∙ ap (λ x. bit_xor (bit_xor (bit_xor (byte_product 2 a) (byte_product 3 b)) x) d) (one c r)
     ∙ ap (λ x. bit_xor (bit_xor (bit_xor (byte_product 2 a) (byte_product 3 b)) (byte_product 1 c)) x) (one d s)
 
@@ -66,24 +66,17 @@ mixed_from s (suc (suc (suc zero))) c h p =
     ∙ from_fourth (byte_product 3 (cell s 0 c)) (byte_product 1 (cell s 1 c)) (byte_product 1 (cell s 2 c)) (byte_product 2 (cell s 3 c))
 mixed_from s (suc (suc (suc (suc r)))) c h p = absurd (omega arith)
 
-doubled_at : (s : List ℕ) (k : ℕ) → k < 16 → slice_index (doubled s) k ≡ byte_times_x (slice_index s k)
-unfolding doubled
-doubled_at s k h = get_or-map-range_with_len (λ i. byte_times_x (slice_index s i)) 0 16 k k 0 h (omega arith)
-
--- the byte at a place, by the bytes multiplied by x
-pub mixed_at : (s d : List ℕ) (i : ℕ) → i < 16 → IsBytes s → d ≡ doubled s
-    → bit_xor (bit_xor (bit_xor (bit_xor (slice_index d i) (slice_index d (4 * (i / 4) + (i + 1) % 4))) (slice_index s (4 * (i / 4) + (i + 1) % 4))) (slice_index s (4 * (i / 4) + (i + 2) % 4))) (slice_index s (4 * (i / 4) + (i + 3) % 4)) ≡ mixed_cell s (i % 4) (i / 4)
+-- the byte at a place
+pub mixed_at : (s : List ℕ) (i : ℕ) → i < 16 → IsBytes s
+    → bit_xor (bit_xor (byte_times_x (bit_xor (slice_index s i) (slice_index s (4 * (i / 4) + (i + 1) % 4)))) (slice_index s (4 * (i / 4) + (i + 1) % 4))) (bit_xor (slice_index s (4 * (i / 4) + (i + 2) % 4)) (slice_index s (4 * ((4 * (i / 4) + (i + 2) % 4) / 4) + ((4 * (i / 4) + (i + 2) % 4) + 1) % 4))) ≡ mixed_cell s (i % 4) (i / 4)
 unfolding mixed
-mixed_at s d i h p e =
+mixed_at s i h p =
     let place : i ≡ 4 * (i / 4) + i % 4 = omega arith in
     let second : (i + 1) % 4 ≡ (i % 4 + 1) % 4 = omega arith in
     let third : (i + 2) % 4 ≡ (i % 4 + 2) % 4 = omega arith in
-    let fourth : (i + 3) % 4 ≡ (i % 4 + 3) % 4 = omega arith in
-    let a : slice_index d i ≡ byte_times_x (cell s (i % 4) (i / 4)) = ap (λ xs. slice_index xs i) e ∙ doubled_at s i h ∙ ap (λ k. byte_times_x (slice_index s k)) place in
-    let b : slice_index d (4 * (i / 4) + (i + 1) % 4) ≡ byte_times_x (cell s ((i + 1) % 4) (i / 4)) = ap (λ xs. slice_index xs (4 * (i / 4) + (i + 1) % 4)) e ∙ doubled_at s (4 * (i / 4) + (i + 1) % 4) (omega arith) in
-    ap (λ x. bit_xor (bit_xor (bit_xor (bit_xor x (slice_index d (4 * (i / 4) + (i + 1) % 4))) (cell s ((i + 1) % 4) (i / 4))) (cell s ((i + 2) % 4) (i / 4))) (cell s ((i + 3) % 4) (i / 4))) a
-    ∙ ap (λ x. bit_xor (bit_xor (bit_xor (bit_xor (byte_times_x (cell s (i % 4) (i / 4))) x) (cell s ((i + 1) % 4) (i / 4))) (cell s ((i + 2) % 4) (i / 4))) (cell s ((i + 3) % 4) (i / 4))) b
-    ∙ ap (λ j. mixed (cell s (i % 4) (i / 4)) (cell s j (i / 4)) (cell s ((i + 2) % 4) (i / 4)) (cell s ((i + 3) % 4) (i / 4))) second
-    ∙ ap (λ j. mixed (cell s (i % 4) (i / 4)) (cell s ((i % 4 + 1) % 4) (i / 4)) (cell s j (i / 4)) (cell s ((i + 3) % 4) (i / 4))) third
-    ∙ ap (λ j. mixed (cell s (i % 4) (i / 4)) (cell s ((i % 4 + 1) % 4) (i / 4)) (cell s ((i % 4 + 2) % 4) (i / 4)) (cell s j (i / 4))) fourth
+    let fourth : 4 * ((4 * (i / 4) + (i + 2) % 4) / 4) + ((4 * (i / 4) + (i + 2) % 4) + 1) % 4 ≡ 4 * (i / 4) + (i % 4 + 3) % 4 = omega arith in
+    ap (λ k. mixed (slice_index s k) (cell s ((i + 1) % 4) (i / 4)) (cell s ((i + 2) % 4) (i / 4)) (slice_index s (4 * ((4 * (i / 4) + (i + 2) % 4) / 4) + ((4 * (i / 4) + (i + 2) % 4) + 1) % 4))) place
+    ∙ ap (λ k. mixed (cell s (i % 4) (i / 4)) (cell s ((i + 1) % 4) (i / 4)) (cell s ((i + 2) % 4) (i / 4)) (slice_index s k)) fourth
+    ∙ ap (λ j. mixed (cell s (i % 4) (i / 4)) (cell s j (i / 4)) (cell s ((i + 2) % 4) (i / 4)) (cell s ((i % 4 + 3) % 4) (i / 4))) second
+    ∙ ap (λ j. mixed (cell s (i % 4) (i / 4)) (cell s ((i % 4 + 1) % 4) (i / 4)) (cell s j (i / 4)) (cell s ((i % 4 + 3) % 4) (i / 4))) third
     ∙ mixed_from s (i % 4) (i / 4) (omega arith) p

@@ -290,7 +290,7 @@ times_x-shifted q j =
     ap (λ x. bit_xor x (q * 2 ^ suc j % 2 * reduction)) (shifted_half q j)
     ∙ ap (λ x. bit_xor (q * 2 ^ j) (x * reduction)) (shifted_even q j) ∙ xor_zero_r (q * 2 ^ j)
 
-times_power-shifted : (i q j k : ℕ) → i + j ≡ k → times_power i (q * 2 ^ k) ≡ q * 2 ^ j
+pub times_power-shifted : (i q j k : ℕ) → i + j ≡ k → times_power i (q * 2 ^ k) ≡ q * 2 ^ j
 unfolding times_power
 times_power-shifted zero q j k e = let s : k ≡ j = omega arith in ap (λ x. q * 2 ^ x) s
 times_power-shifted (suc i) q j k e = ap times_x (times_power-shifted i q (suc j) k (omega arith)) ∙ times_x-shifted q j

@@ -1,19 +1,9 @@
--- The table of S is S, and a byte has one inverse, by computing over all bytes.
-use Rattle.std.proofs.Common.{◌≡◌, ℕ, zero, suc, map, refl, ◌<◌, ◌≤◌, ap, sym, ◌∙◌, slice_index, arith, get_or, min, cond, ◌==◌, ◌+◌, ◌/◌, ⊎_elim, true}
+-- A byte has one inverse, by computing over all bytes.
+use Rattle.std.proofs.Common.{◌≡◌, ℕ, zero, suc, map, refl, ◌<◌, ◌≤◌, ap, sym, ◌∙◌, arith, get_or, min, cond, ◌==◌, ◌+◌, ◌/◌, ⊎_elim, true}
 use Rattle.std.specs.List.{range_with_len}
 use Rattle.std.proofs.lemmas.Bool.{cases_lt}
 use Rattle.std.proofs.lemmas.List.FromFn.{get_or-map-range_with_len}
-use Rattle.cookie_crypt.specs.declared.sbox.TheConstants.{S_BOX}
 use Rattle.cookie_crypt.specs.ByteField.{byte_times_x, byte_times_power, byte_product_below, byte_product, inverse_in_last, inverse, IsInverse}
-use Rattle.cookie_crypt.specs.Sbox.{affine_below, s_box}
-
-pub table_is : map s_box (range_with_len 0 256) ≡ S_BOX
-unfolding s_box affine_below inverse inverse_in_last byte_product byte_product_below byte_times_power byte_times_x
-table_is = refl
-
--- what is looked up
-pub table_at : (b : ℕ) → b < 256 → slice_index S_BOX b ≡ s_box b
-table_at b h = ap (λ xs. slice_index xs b) (sym table_is) ∙ get_or-map-range_with_len s_box 0 256 b b 0 h (omega arith)
 
 -- two functions that agree on all bytes
 pub on_bytes : (f g : ℕ → ℕ) → map f (range_with_len 0 256) ≡ map g (range_with_len 0 256) → (b : ℕ) → b < 256 → f b ≡ g b

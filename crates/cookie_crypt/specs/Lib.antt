@@ -1,4 +1,5 @@
 pub mod Hmac
+pub mod Lanes
 pub mod Expand
 pub mod ByteField
 pub mod Sbox

@@ -1,75 +1,44 @@
 //! AES-256, forward (FIPS 197).
 ghost use Rattle.std.specs.Prelude.{◌≡◌, ◌<◌, ◌≤◌, List, ℕ, take};
 ghost use Rattle.cookie_crypt.specs.Aes.{sub_bytes, shift_rows, mix_columns, word, word_sum, sub_word, added_word, key_expansion, add_round_key, cipher, encrypt_block};
-ghost use Rattle.cookie_crypt.specs.Code.{doubled};
 ghost use Rattle.cookie_crypt.specs.ByteField.{IsInverse, inverse};
 
-use crate::byte_field::times_x;
-use crate::sbox::substitute;
+use crate::lanes::{doubled, next_in_column, second_in_column, substituted, sum};
 use std::marker::Model;
+use std::simd::prelude::*;
 
 const ROUND_CONSTANTS: [u8; 7] = [0x01, 0x02, 0x04, 0x08, 0x10, 0x20, 0x40];
 
-fn sub_bytes(state: [u8; 16]) -> [u8; 16]
+#[inline(always)]
+fn sub_bytes(state: u8x16) -> u8x16
     ensures { result ≡ sub_bytes state }
 {
-    let mut bytes = [0; 16];
-    for i in 0..16usize {
-        bytes[i] = substitute(state[i]);
-    }
-    bytes
+    substituted(state)
 }
 
-fn shift_rows(state: [u8; 16]) -> [u8; 16]
+#[inline(always)]
+fn shift_rows(state: u8x16) -> u8x16
     ensures { result ≡ shift_rows state }
 {
-    let mut bytes = [0; 16];
-    for i in 0..16usize {
-        bytes[i] = state[4 * ((i / 4 + i % 4) % 4) + i % 4];
-    }
-    bytes
+    state.swizzle([0, 5, 10, 15, 4, 9, 14, 3, 8, 13, 2, 7, 12, 1, 6, 11])
 }
 
-// `x` times each byte.
-fn doubled(state: &[u8; 16]) -> [u8; 16]
-    ensures { result ≡ doubled state.now }
+// A row takes its own byte twice, the next row's three times, which is 2 + 1, and the others once.
+#[inline(always)]
+fn mix_columns(state: u8x16) -> u8x16
+    ensures { result ≡ mix_columns state }
 {
-    let mut bytes = [0; 16];
-    for i in 0..16usize {
-        bytes[i] = times_x(state[i]);
-    }
-    bytes
+    let next = next_in_column(state);
+    let pair = sum(state, next);
+    sum(sum(doubled(pair), next), second_in_column(pair))
 }
 
-// A row takes its own byte twice, the next row's three times, which is 2 + 1, and the others once. As a function of its
-// own this is compiled to a few instructions on all sixteen bytes.
-#[inline(never)]
-fn mix_columns(state: &[u8; 16]) -> [u8; 16]
-    ensures { result ≡ mix_columns state.now }
-{
-    let doubled = doubled(state);
-    let mut bytes = [0; 16];
-    for i in 0..16usize {
-        let column = 4 * (i / 4);
-        let (second, third, fourth) = ((i + 1) % 4, (i + 2) % 4, (i + 3) % 4);
-        bytes[i] = doubled[i]
-            ^ doubled[column + second]
-            ^ state[column + second]
-            ^ state[column + third]
-            ^ state[column + fourth];
-    }
-    bytes
-}
-
-fn add_round_key(words: &[u8; 240], round: usize, state: [u8; 16]) -> [u8; 16]
+#[inline(always)]
+fn add_round_key(words: &[u8; 240], round: usize, state: u8x16) -> u8x16
     requires { round ≤ 14 }
     ensures { result ≡ add_round_key words.now round state }
 {
-    let mut bytes = [0; 16];
-    for i in 0..16usize {
-        bytes[i] = state[i] ^ words[16 * round + i];
-    }
-    bytes
+    state ^ u8x16::from_slice(&words[16 * round..])
 }
 
 fn word(words: &[u8; 240], i: usize) -> [u8; 4]
@@ -93,12 +62,11 @@ fn word_sum(x: [u8; 4], y: [u8; 4]) -> [u8; 4]
 fn sub_word(x: [u8; 4]) -> [u8; 4]
     ensures { result ≡ sub_word x }
 {
-    [
-        substitute(x[0]),
-        substitute(x[1]),
-        substitute(x[2]),
-        substitute(x[3]),
-    ]
+    let [a, b, c, d] = x;
+    let bytes = substituted(u8x16::from_array([
+        a, b, c, d, 0, 0, 0, 0, 0, 0, 0, 0, 0, 0, 0, 0,
+    ])).to_array();
+    [bytes[0], bytes[1], bytes[2], bytes[3]]
 }
 
 fn added_word(x: [u8; 4], i: usize) -> [u8; 4]
@@ -136,11 +104,11 @@ fn key_expansion(key: &[u8; 32]) -> [u8; 240]
 fn cipher(words: &[u8; 240], block: [u8; 16]) -> [u8; 16]
     ensures { result ≡ cipher words.now block }
 {
-    let mut state = add_round_key(words, 0, block);
+    let mut state = add_round_key(words, 0, u8x16::from_array(block));
     for round in 1..14usize {
-        state = add_round_key(words, round, mix_columns(&shift_rows(sub_bytes(state))));
+        state = add_round_key(words, round, mix_columns(shift_rows(sub_bytes(state))));
     }
-    add_round_key(words, 14, shift_rows(sub_bytes(state)))
+    add_round_key(words, 14, shift_rows(sub_bytes(state))).to_array()
 }
 
 /// AES-256 under a key, which is what a clause sees.

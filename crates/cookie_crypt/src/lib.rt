@@ -4,12 +4,11 @@
 mod aes;
 mod block;
 mod block_field;
-mod byte_field;
 mod expand;
 mod gcm;
 mod ghash;
+mod lanes;
 mod mac;
-mod sbox;
 mod steps;
 
 pub use aes::Aes256;

@@ -1,7 +1,8 @@
 //! The examples of the standards, and the counts.
 use super::hex::{block_of, fill, key_of};
-use crate::sbox::substitute;
+use crate::lanes::substituted;
 use crate::{Aes256, Gcm, Steps, expand64, hmac};
+use std::simd::prelude::*;
 use std::test::Fail;
 
 const QUESTION: &[u8; 28] = b"what do ya want for nothing?";
@@ -11,10 +12,9 @@ const ANSWER: &str = "5bdcc146bf60754e6a042426089575c75a003f089d2739839dec58b964
 
 #[test]
 fn s_of_three_bytes(rt: HostRuntime) {
-    assert_eq!(rt;
-        (substitute(0x00), substitute(0x01), substitute(0x53)),
-        (0x63, 0x7c, 0xed)
-    );
+    let bytes = [0x00, 0x01, 0x53, 0, 0, 0, 0, 0, 0, 0, 0, 0, 0, 0, 0, 0];
+    let values = substituted(u8x16::from_array(bytes)).to_array();
+    assert_eq!(rt; (values[0], values[1], values[2]), (0x63, 0x7c, 0xed));
 }
 
 // FIPS 197, C.3.
