@@ -1,5 +1,4 @@
-//! The tests that stand on every crate: rows whose answers come from elsewhere, carried tests of the crate `cookie`, and
-//! a second body of the jar.
+//! Tests of one cookie, whose answers come from elsewhere: its texts, its dates and its fields.
 #![tactic(auto)]
 
 #[cfg(test)]

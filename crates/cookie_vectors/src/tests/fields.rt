@@ -3,7 +3,6 @@ use cookie::{
     Cookie, CookieBuilder, Expiration, JarError, KeyError, ParseError, SameSite, days_after,
     read_date,
 };
-use cookie_client::ClientError;
 use jiff::SignedDuration;
 use jiff::civil::DateTime;
 use std::hash::{FoldHasher, Hash, Hasher};
@@ -197,7 +196,6 @@ fn small_values_are_cloned_and_compared(rt: HostRuntime) -> Result<(), Fail> {
     assert!(rt; is_cloned(&ParseError::EmptyName, &ParseError::MissingPair)?);
     assert!(rt; is_cloned(&JarError::TooLong, &JarError::Generator)?);
     assert!(rt; is_cloned(&KeyError::TooShort(6), &KeyError::TooShort(7))?);
-    assert!(rt; ClientError::OutOfMemory.clone()? == ClientError::OutOfMemory);
     Ok(())
 }
 

@@ -1,0 +1,17 @@
+//! Rows whose answers come from the rules of the program, from the standards, and from a second body of the jar.
+mod calls;
+mod clients;
+mod comparison;
+mod devices;
+mod exchanges;
+mod flat_jar;
+mod prefixed_calls;
+mod private_calls;
+mod rounds;
+mod sessions;
+mod signed_calls;
+mod step_calls;
+mod streams;
+
+// The moment of most rows, as the argument of the program.
+const MOMENT: &str = "Wed, 21 Oct 2015 07:28:00 GMT";

@@ -1,0 +1,88 @@
+//! What a client holds, reads and sends back.
+use cookie_client::{Client, ClientError};
+use jar_steps::moment;
+use std::test::Fail;
+
+// Each call stands in a function of its own, so that a test's proof needn't know what it says of the client.
+fn reads(client: &mut Client, text: &str) -> Result<bool, Fail> {
+    Ok(client.read(text, moment()?)?)
+}
+
+fn holds(client: &mut Client, name: &str, value: &str) -> Result<(), Fail> {
+    client.hold(name, value)?;
+    Ok(())
+}
+
+fn has_header(client: &Client, header: &str) -> Result<bool, Fail> {
+    Ok(client.header()?.as_str() == header)
+}
+
+#[test]
+fn a_client_follows_what_it_reads(rt: HostRuntime) -> Result<(), Fail> {
+    let mut client = Client::new(rt.alloc());
+    assert!(rt; has_header(&client, "")?);
+    holds(&mut client, "c", "3")?;
+    for (text, is_cookie, header) in [
+        (
+            "b=2; Max-Age=1; Expires=Wed, 21 Oct 2015 07:28:00 GMT",
+            true,
+            "b=2; c=3",
+        ),
+        (
+            "a=1; Expires=Wed, 21 Oct 2015 07:28:01 GMT",
+            true,
+            "a=1; b=2; c=3",
+        ),
+        ("bar", false, "a=1; b=2; c=3"),
+        ("=bar", false, "a=1; b=2; c=3"),
+        ("c=%FF", false, "a=1; b=2; c=3"),
+        (
+            "a=9; Expires=Wed, 21 Oct 2015 07:28:00 GMT",
+            true,
+            "b=2; c=3",
+        ),
+        ("b=9; Max-Age=0", true, "c=3"),
+    ] {
+        assert!(rt; reads(&mut client, text)? == is_cookie, "{text}");
+        assert!(rt; has_header(&client, header)?, "{text}");
+    }
+    assert!(rt; client.get("c") == Some("3") && client.get("a").is_none());
+    Ok(())
+}
+
+#[test]
+fn a_client_undoes_and_writes_escapes(rt: HostRuntime) -> Result<(), Fail> {
+    let mut client = Client::new(rt.alloc());
+    let text = "foo%20!%25%3F%3D=bar%3B%3B%2C%20a; Path=/";
+    assert!(rt; reads(&mut client, text)?);
+    assert_eq!(rt; client.get("foo !%?="), Some("bar;;, a"));
+    assert!(rt; has_header(&client, "foo%20!%25%3F%3D=bar%3B%3B%2C%20a")?);
+    Ok(())
+}
+
+// A clone of a client with two cookies, once that client holds another value.
+fn copied(client: &mut Client) -> Result<Client, Fail> {
+    holds(client, "a", "1")?;
+    holds(client, "b", "2")?;
+    let copy = client.clone()?;
+    holds(client, "a", "3")?;
+    Ok(copy)
+}
+
+#[test]
+fn a_copy_of_a_client_goes_its_own_way(rt: HostRuntime) -> Result<(), Fail> {
+    let mut client = Client::new(rt.alloc());
+    let mut copy = copied(&mut client)?;
+    holds(&mut copy, "c", "4")?;
+    assert!(rt; has_header(&client, "a=3; b=2")?);
+    assert!(rt; has_header(&copy, "a=1; b=2; c=4")?);
+    Ok(())
+}
+
+#[test]
+fn a_refusal_has_its_text(rt: HostRuntime) -> Result<(), Fail> {
+    let text = ClientError::OutOfMemory.to_string(rt.alloc())?;
+    assert_eq!(rt; text.as_str(), "out of memory");
+    assert!(rt; ClientError::OutOfMemory.clone()? == ClientError::OutOfMemory);
+    Ok(())
+}

@@ -1,0 +1,139 @@
+//! Sessions of the program, over bytes in memory.
+use super::MOMENT;
+use cookie::JarError;
+use cookie_client::{ClientError, RunError, run};
+use std::alloc::Global;
+use std::test::Fail;
+
+// The text of a session.
+fn text_of(alloc: Global, moment: &str, input: &[u8]) -> Result<Vec<u8>, RunError> {
+    let mut reader = input;
+    let mut written = Vec::new(alloc);
+    run(alloc, moment, &mut reader, &mut written)?;
+    Ok(written)
+}
+
+#[test]
+fn sessions_have_their_texts(rt: HostRuntime) -> Result<(), Fail> {
+    for (input, wanted) in [
+        (
+            "name=val\nadd a=1\nremove name\n",
+            "Set-Cookie: a=1\nSet-Cookie: name=; Max-Age=0; Expires=Tue, 21 Oct 2014 07:28:00 GMT\nCookie: a=1\n",
+        ),
+        (
+            " x = 1 ;y=2; =3\nremove y\nadd x=5",
+            "Set-Cookie: x=5\nSet-Cookie: y=; Max-Age=0; Expires=Tue, 21 Oct 2014 07:28:00 GMT\nCookie: x=5\n",
+        ),
+        ("a=1\nremove b\n", "Cookie: a=1\n"),
+        ("", "Cookie: \n"),
+        (
+            "a=1\r\n\r\n\nadd b=2\r\n",
+            "Set-Cookie: b=2\nCookie: a=1; b=2\n",
+        ),
+        (
+            "\nadd b=2; Max-Age=0",
+            "Set-Cookie: b=2; Max-Age=0\nCookie: \n",
+        ),
+        ("\nadd b=2; Max-Age=", "Set-Cookie: b=2\nCookie: b=2\n"),
+        ("\nadd c=3; Max-Age=-", "Set-Cookie: c=3\nCookie: c=3\n"),
+        (
+            "a=x%20y\nadd b=1%3B2",
+            "Set-Cookie: b=1%3B2\nCookie: a=x%20y; b=1%3B2\n",
+        ),
+    ] {
+        let text = text_of(rt.alloc(), MOMENT, input.as_bytes())?;
+        assert!(rt; text.as_slice() == wanted.as_bytes(), "{input}");
+    }
+    Ok(())
+}
+
+#[test]
+fn sessions_force_and_reset(rt: HostRuntime) -> Result<(), Fail> {
+    for (input, wanted) in [
+        (
+            "n=1\nadd n=2\nforce n\nadd a=1\n",
+            "Set-Cookie: a=1\nCookie: a=1; n=1\n",
+        ),
+        ("x=1\nadd y=2\nremove x\nreset\n", "Cookie: x=1\n"),
+    ] {
+        let text = text_of(rt.alloc(), MOMENT, input.as_bytes())?;
+        assert!(rt; text.as_slice() == wanted.as_bytes(), "{input}");
+    }
+    Ok(())
+}
+
+// Why a session has no text, and the text of that.
+fn refusal_of(alloc: Global, moment: &str, input: &[u8]) -> Result<(u8, String), Fail> {
+    let error = text_of(alloc, moment, input).err().ok_or("a text")?;
+    let text = error.to_string(alloc)?;
+    Ok((error.status(), text))
+}
+
+#[test]
+fn the_first_bad_line_is_told(rt: HostRuntime) -> Result<(), Fail> {
+    let (status, text) = refusal_of(rt.alloc(), MOMENT, b"x=1\nadd a=1\nadd bar\nadd")?;
+    assert_eq!(rt; status, 2);
+    assert_eq!(rt; text.as_str(), "cookiejar: bad line 3");
+    for input in [
+        "x=1\nadd=1",
+        "\nadd ",
+        "\nadd %FF=1",
+        "\nremove  \n",
+        "\nforce  \n",
+        "\nreset \n",
+        "\n ",
+    ] {
+        let (status, text) = refusal_of(rt.alloc(), MOMENT, input.as_bytes())?;
+        assert_eq!(rt; status, 2);
+        assert_eq!(rt; text.as_str(), "cookiejar: bad line 2", "{input}");
+    }
+    Ok(())
+}
+
+#[test]
+fn faults_are_told_in_their_order(rt: HostRuntime) -> Result<(), Fail> {
+    let (status, text) = refusal_of(rt.alloc(), MOMENT, b"\xff\nbad")?;
+    assert_eq!(rt; status, 2);
+    assert_eq!(rt; text.as_str(), "cookiejar: bad input");
+    for moment in ["now", "Wed, 21 Oct -15 07:28:00 GMT"] {
+        let (status, text) = refusal_of(rt.alloc(), moment, b"\xff")?;
+        assert_eq!(rt; status, 2);
+        assert_eq!(rt; text.as_str(), "cookiejar: bad moment");
+    }
+    Ok(())
+}
+
+#[test]
+fn other_faults_have_their_texts(rt: HostRuntime) -> Result<(), Fail> {
+    for (error, wanted) in [
+        (RunError::OutOfMemory, "cookiejar: out of memory"),
+        (
+            RunError::from(ClientError::OutOfMemory),
+            "cookiejar: out of memory",
+        ),
+        (
+            RunError::from(JarError::OutOfMemory),
+            "cookiejar: out of memory",
+        ),
+        (RunError::Input, "cookiejar: input or output failed"),
+        (RunError::Output, "cookiejar: input or output failed"),
+    ] {
+        assert_eq!(rt; error.status(), 1);
+        assert_eq!(rt; error.to_string(rt.alloc())?.as_str(), wanted);
+    }
+    Ok(())
+}
+
+#[test]
+fn neither_width_nor_precision_changes_a_refusal(rt: HostRuntime) -> Result<(), Fail> {
+    let shown = ClientError::OutOfMemory;
+    let text = format!(in rt.alloc(); "{shown}|{shown:>60}|{shown:*^+60}|{shown:060}|{shown:.3}")?;
+    let wanted = "out of memory|out of memory|out of memory|out of memory|out of memory";
+    assert_eq!(rt; text.as_str(), wanted);
+    let shown = RunError::BadLine(3);
+    let text = format!(in rt.alloc(); "{shown}|{shown:>60}|{shown:060}|{shown:.3}")?;
+    let wanted =
+        "cookiejar: bad line 3|cookiejar: bad line 3|cookiejar: bad line 3|cookiejar: bad line 3";
+    assert_eq!(rt; text.as_str(), wanted);
+    Ok(())
+}

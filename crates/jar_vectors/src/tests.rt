@@ -1,0 +1,3 @@
+//! Rows whose answers come from the crate `cookie` and from the standards.
+mod jars;
+mod prefixes;

@@ -1,0 +1,56 @@
+//! Rows whose answers come from the crate `cookie`, from OpenSSL and from Python's hmac.
+mod generators;
+mod keyed_step;
+mod keys;
+mod private;
+mod signed;
+
+use cookie::{Cookie, CookieBuilder, CookieJar, Expiration, SameSite};
+use jar_steps::shown;
+use jiff::SignedDuration;
+use std::alloc::Global;
+use std::test::Fail;
+
+// Whether the jar shows another value under the name.
+fn is_hidden(jar: &CookieJar, name: &str, value: &str) -> bool {
+    match shown(jar, name) {
+        Some(text) => text != value,
+        None => false,
+    }
+}
+
+// A cookie with every attribute.
+fn with_all_fields(name: &'static str, value: &'static str) -> Cookie<'static> {
+    CookieBuilder::new(name, value)
+        .http_only(true)
+        .secure(false)
+        .partitioned(true)
+        .same_site(SameSite::Lax)
+        .path("/a")
+        .domain("b.c")
+        .max_age(SignedDuration::from_secs(5))
+        .expires(Expiration::Session)
+        .build()
+}
+
+// Whether a cookie has them all.
+fn has_all_fields(cookie: &Cookie<'_>) -> bool {
+    cookie.http_only() == Some(true)
+        && cookie.secure() == Some(false)
+        && cookie.partitioned() == Some(true)
+        && cookie.same_site() == Some(SameSite::Lax)
+        && cookie.path() == Some("/a")
+        && cookie.domain() == Some("b.c")
+        && cookie.max_age() == Some(SignedDuration::from_secs(5))
+        && cookie.expires() == Some(Expiration::Session)
+}
+
+// Puts one more character behind the value that the jar shows.
+fn lengthen(alloc: Global, jar: &mut CookieJar, name: &'static str) -> Result<(), Fail> {
+    let mut value = String::from_str(alloc, shown(jar, name).ok_or("a value")?)?;
+    value.push_str("l")?;
+    let mut cookie = Cookie::named(name);
+    cookie.set_value_owned(value);
+    jar.add(cookie)?;
+    Ok(())
+}
