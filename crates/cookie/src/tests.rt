@@ -1,4 +1,4 @@
-//! A jar and its changes: the rows stand in the crate `cookie_vectors`.
+//! A jar and its changes: the rows stand in the crates `jar_vectors` and `key_vectors`.
 use crate::{Cookie, CookieJar};
 use base64::engine::general_purpose::STANDARD;
 use jiff::civil::DateTime;
