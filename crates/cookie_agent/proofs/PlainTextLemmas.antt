@@ -8,7 +8,7 @@ use Rattle.cookie.specs.Pieces.{Lacks}
 use Rattle.cookie.specs.Reads.{Reads}
 use Rattle.cookie.specs.Record.{Record, without_leading_dot}
 use Rattle.cookie.specs.Text.{attributes_text, cookie_text}
-use Rattle.cookie.proofs.CookieOfLemmas.{some-filled, cookie_of-Reads}
+use Rattle.cookie.proofs.CookieOfLemmas.{some-unless_empty, cookie_of-Reads}
 use Rattle.cookie.proofs.DotLemmas.{without_leading_dot-same}
 use Rattle.cookie.proofs.EscapeTextLemmas.{escape_some}
 use Rattle.cookie.proofs.NormalFormLemmas.{escaped_pair, escaped_pair-apart, escaped_pair-pair, cookie_text-pair}
@@ -50,4 +50,4 @@ path_same (Some p) h = ap Some h.plain.trimmed
 pub domain_same : (o : Option (List ℕ)) → IfSome o IsScopedDomain → read_domain o ≡ o
 domain_same None h = refl
 domain_same (Some d) h =
-    ap domain_of h.plain.text.trimmed ∙ ap (option_map without_leading_dot) (some-filled d h.plain.some) ∙ ap Some (sym (without_leading_dot-same d h.plain.no_dot))
+    ap domain_of h.plain.text.trimmed ∙ ap (option_map without_leading_dot) (some-unless_empty d h.plain.some) ∙ ap Some (sym (without_leading_dot-same d h.plain.no_dot))

@@ -18,10 +18,10 @@ use Rattle.jiff.specs.Types.{DateTime}
 use Rattle.cookie_date.specs.Moments.{date_of}
 use Rattle.cookie_date.proofs.DateLemmas.{date_of-is}
 use Rattle.cookie_date.proofs.OptionLemmas.{through}
-use Rattle.cookie_core.specs.Attributes.{IsPair, IsAttribute, Setting, key_of, same_site_key, nanos_of_seconds, max_age_seconds, GivesExpiry, Gives, Sets, Skips, IsLastSet, SetsAttributes, http_only, secure, partitioned, same_site, path, domain, max_age, expires}
-use Rattle.cookie_core.specs.CookieOf.{key_text, value_text, set_by, filled, same_site_named, http_only_in, secure_in, partitioned_in, same_site_in, path_in, domain_in, max_age_in, expires_in, last_set, record_in, decoded, cookie_in, cookie_of, header_cookies}
+use Rattle.cookie_core.specs.Attributes.{IsPair, IsAttribute, Setting, key_of, same_site_key, nanos_of_seconds, max_age_seconds, GivesExpiry, GivesSetting, Sets, Skips, IsLastSet, SetsAttributes, http_only, secure, partitioned, same_site, path, domain, max_age, expires}
+use Rattle.cookie_core.specs.CookieOf.{key_text, value_text, set_by, unless_empty, same_site_named, http_only_in, secure_in, partitioned_in, same_site_in, path_in, domain_in, max_age_in, expires_in, last_set, record_in, decoded_text, cookie_in, cookie_of, header_cookies}
 use Rattle.cookie_core.specs.Escapes.{unescape}
-use Rattle.cookie_core.specs.Header.{kept, IsHeaderTexts}
+use Rattle.cookie_core.specs.Header.{kept_texts, IsHeaderTexts}
 use Rattle.cookie_core.specs.Pieces.{IsPieces}
 use Rattle.cookie_core.specs.Reads.{IsDecoded, IsUndecodable, ReadsPieces, Reads}
 use Rattle.cookie_core.specs.Record.{Record, without_leading_dot}
@@ -81,7 +81,7 @@ IsSetter {X} field f = (p : List ℕ) (x : X) → (f p ≡ Some x) ↔ Sets p (f
 
 -- g gives exactly what the value of an attribute sets the field to
 abbrev IsGiver : {X : Type 0} → (X → Setting) → (Option (List ℕ) → Option X) → Type 0
-IsGiver {X} field g = (v : Option (List ℕ)) (x : X) → (g v ≡ Some x) ↔ Gives v (field x)
+IsGiver {X} field g = (v : Option (List ℕ)) (x : X) → (g v ≡ Some x) ↔ GivesSetting v (field x)
 
 IsSetter-set_by : {X : Type 0} (field : X → Setting) (word : List ℕ) (g : Option (List ℕ) → Option X) → ((x : X) → key_of (field x) ≡ word) → IsGiver field g → IsSetter field (set_by word g)
 IsSetter-set_by {X} field word g keys gives p x = (sound, complete)
@@ -95,7 +95,7 @@ IsSetter-set_by {X} field word g keys gives p x = (sound, complete)
     complete (k, v, is, named, given) =
         let (same_key, same_value) = IsAttribute-unique p k v (key_text p) (value_text p) is (IsAttribute-texts p) in
         let test : bytes_eq (str_to_ascii_lowercase (key_text p)) word ≡ true = (bytes_eq-Decides _ word).1 (ap str_to_ascii_lowercase (sym same_key) ∙ named ∙ keys x) in
-        ap (λ b. cond b (g (value_text p)) None) test ∙ (gives (value_text p) x).1 (subst (λ w. Gives w (field x)) same_value given)
+        ap (λ b. cond b (g (value_text p)) None) test ∙ (gives (value_text p) x).1 (subst (λ w. GivesSetting w (field x)) same_value given)
 
 flag : (x : Bool) → (Some true ≡ Some x) ↔ (x ≡ true)
 flag x = (λ e. sym (same_Some _ _ e), λ e. ap Some (sym e))
@@ -131,7 +131,7 @@ path-gives : IsGiver path (λ v. v)
 path-gives None x = (none-some x, absurd)
 path-gives (Some v) x = (same_Some v x, ap Some)
 
-domain-gives : IsGiver domain (option_and_then (λ v. option_map without_leading_dot (filled v)))
+domain-gives : IsGiver domain (option_and_then (λ v. option_map without_leading_dot (unless_empty v)))
 domain-gives None x = (none-some x, absurd)
 domain-gives (Some []) x = (λ e. absurd (none-some x e), λ h. absurd (h.0 refl))
 domain-gives (Some (c ∷ cs)) x = (λ e. ((λ n. cc), sym (same_Some _ _ e)), λ h. ap Some (sym h.1))
@@ -234,26 +234,26 @@ record_in-SetsAttributes ps r h =
 
 -- ---- the pair, and decoding
 
-filled-some : (t u : List ℕ) → filled t ≡ Some u → (t ≡ u) × (u ≢ [])
-filled-some [] u e = absurd (none-some u e)
-filled-some (c ∷ cs) u e = (same_Some _ u e, λ n. let f : Some (c ∷ cs) ≡ Some [] = e ∙ ap Some n in cc)
+unless_empty-some : (t u : List ℕ) → unless_empty t ≡ Some u → (t ≡ u) × (u ≢ [])
+unless_empty-some [] u e = absurd (none-some u e)
+unless_empty-some (c ∷ cs) u e = (same_Some _ u e, λ n. let f : Some (c ∷ cs) ≡ Some [] = e ∙ ap Some n in cc)
 
-pub some-filled : (t : List ℕ) → t ≢ [] → filled t ≡ Some t
-some-filled [] h = absurd (h refl)
-some-filled (c ∷ cs) h = refl
+pub some-unless_empty : (t : List ℕ) → t ≢ [] → unless_empty t ≡ Some t
+some-unless_empty [] h = absurd (h refl)
+some-unless_empty (c ∷ cs) h = refl
 
 -- `decoded` gives the text that another is read as, and that one alone
-pub decoded-IsDecoded : (decode : Bool) (t u : List ℕ) → (decoded decode t ≡ Some u) ↔ IsDecoded decode t u
-decoded-IsDecoded false t u = (λ e. sym (same_Some t u e), λ e. ap Some (sym e))
-decoded-IsDecoded true t u = (sound, complete)
+pub decoded_text-IsDecoded : (decode : Bool) (t u : List ℕ) → (decoded_text decode t ≡ Some u) ↔ IsDecoded decode t u
+decoded_text-IsDecoded false t u = (λ e. sym (same_Some t u e), λ e. ap Some (sym e))
+decoded_text-IsDecoded true t u = (sound, complete)
   where
-    sound : decoded true t ≡ Some u → IsDecoded true t u
+    sound : decoded_text true t ≡ Some u → IsDecoded true t u
     sound e =
         let (test, same) = cond-some (is_utf8 (unescape t)) (Some (unescape t)) u e in
         let q : unescape t ≡ u = same_Some _ u same in
         (sym q, subst IsUtf8 q (IsUtf8-from_is_utf8 (unescape t) test))
 
-    complete : IsDecoded true t u → decoded true t ≡ Some u
+    complete : IsDecoded true t u → decoded_text true t ≡ Some u
     complete (q, h) =
         ap (λ b. cond b (Some (unescape t)) None) (is_utf8-from_IsUtf8 (unescape t) (subst IsUtf8 q h)) ∙ ap Some (sym q)
 
@@ -262,18 +262,18 @@ decoded-IsDecoded true t u = (sound, complete)
 cookie_in-sound : (decode : Bool) (p : List ℕ) (ps : List (List ℕ)) (r : Record) → cookie_in decode (p ∷ ps) ≡ Some r → ReadsPieces decode p ps (Ok r)
 cookie_in-sound decode p ps r e₀ =
     let (v, is_value, e₁) = through _ (value_text p) r e₀ in
-    let (n, is_name, e₂) = through _ (filled (key_text p)) r e₁ in
-    let (name, is_decoded_name, e₃) = through _ (decoded decode n) r e₂ in
-    let (value, is_decoded_value, e₄) = through _ (decoded decode v) r e₃ in
-    let (same_name, some) = filled-some (key_text p) n is_name in
+    let (n, is_name, e₂) = through _ (unless_empty (key_text p)) r e₁ in
+    let (name, is_decoded_name, e₃) = through _ (decoded_text decode n) r e₂ in
+    let (value, is_decoded_value, e₄) = through _ (decoded_text decode v) r e₃ in
+    let (same_name, some) = unless_empty-some (key_text p) n is_name in
     let pair : IsPair p n v = subst (λ k. IsPair p k v) same_name (subst (IsAttribute p (key_text p)) is_value (IsAttribute-texts p)) in
-    subst (λ q. ReadsPieces decode p ps (Ok q)) (same_Some _ r e₄) (n, v, pair, some, (decoded-IsDecoded decode n name).0 is_decoded_name, (decoded-IsDecoded decode v value).0 is_decoded_value, SetsAttributes-record_in name value ps)
+    subst (λ q. ReadsPieces decode p ps (Ok q)) (same_Some _ r e₄) (n, v, pair, some, (decoded_text-IsDecoded decode n name).0 is_decoded_name, (decoded_text-IsDecoded decode v value).0 is_decoded_value, SetsAttributes-record_in name value ps)
 
 cookie_in-complete : (decode : Bool) (p : List ℕ) (ps : List (List ℕ)) (r : Record) → ReadsPieces decode p ps (Ok r) → cookie_in decode (p ∷ ps) ≡ Some r
 cookie_in-complete decode p ps r (n, v, pair, some, name, value, sets) =
     let (same_name, same_value) = IsAttribute-unique p n (Some v) (key_text p) (value_text p) pair (IsAttribute-texts p) in
-    let is_name : filled (key_text p) ≡ Some n = ap filled (sym same_name) ∙ some-filled n some in
-    onward _ (value_text p) v r (sym same_value) (onward _ (filled (key_text p)) n r is_name (onward _ (decoded decode n) r.name r ((decoded-IsDecoded decode n r.name).1 name) (onward _ (decoded decode v) r.value r ((decoded-IsDecoded decode v r.value).1 value) (ap Some (record_in-SetsAttributes ps r sets)))))
+    let is_name : unless_empty (key_text p) ≡ Some n = ap unless_empty (sym same_name) ∙ some-unless_empty n some in
+    onward _ (value_text p) v r (sym same_value) (onward _ (unless_empty (key_text p)) n r is_name (onward _ (decoded_text decode n) r.name r ((decoded_text-IsDecoded decode n r.name).1 name) (onward _ (decoded_text decode v) r.value r ((decoded_text-IsDecoded decode v r.value).1 value) (ap Some (record_in-SetsAttributes ps r sets)))))
 
 not_undecodable : (decode : Bool) (n v n' v' : List ℕ) → IsDecoded decode n n' → IsDecoded decode v v' → ¬ (IsUndecodable decode n v)
 not_undecodable false n v n' v' h k u = u
@@ -307,9 +307,6 @@ cookie_of-Reads decode t r = (sound, complete)
     complete : Reads decode t (Ok r) → cookie_of decode t ≡ Some r
     complete (p, ps, h, k) = cookie_of-pieces decode t p ps h ∙ cookie_in-complete decode p ps r k
 
-pub Reads-same : (decode : Bool) (t : List ℕ) (r r' : Record) → Reads decode t (Ok r) → Reads decode t (Ok r') → r ≡ r'
-Reads-same decode t r r' h k = same_Some r r' (sym ((cookie_of-Reads decode t r).1 h) ∙ (cookie_of-Reads decode t r').1 k)
-
 -- a text that is refused is read as no record
 pub Reads-one : (decode : Bool) (t : List ℕ) (r : Record) (e : ParseError) → Reads decode t (Ok r) → ¬ (Reads decode t (Err e))
 Reads-one decode t r e (p, ps, h, k) (q, qs, h', k') =
@@ -325,24 +322,8 @@ pub cookie_of-result : (decode : Bool) (t : List ℕ) (o : Result Record ParseEr
 cookie_of-result decode t (Ok r) h = sym ((cookie_of-Reads decode t r).1 h)
 cookie_of-result decode t (Err e) h = sym (cookie_of-refused decode t e h)
 
-refused_pieces : (p : List ℕ) (ps : List (List ℕ)) (k : List ℕ) (v : Option (List ℕ)) → IsAttribute p k v → ((r : Record) → ¬ (ReadsPieces false p ps (Ok r))) → ReadsPieces false p ps (Err MissingPair) ⊎ ReadsPieces false p ps (Err EmptyName)
-refused_pieces p ps k None is none = inl is.0
-refused_pieces p ps [] (Some v) is none = inr (v, is)
-refused_pieces p ps (c ∷ cs) (Some v) is none =
-    absurd (none (record_in (c ∷ cs) v ps) (c ∷ cs, v, is, (λ n. cc), refl, refl, SetsAttributes-record_in (c ∷ cs) v ps))
-
--- without decoding, a text that is read as no record has no `=` in its first piece, or an empty name
-pub cookie_of-none : (t : List ℕ) → cookie_of false t ≡ None → Reads false t (Err MissingPair) ⊎ Reads false t (Err EmptyName)
-cookie_of-none t e =
-    let (p, ps, h) = IsPieces-some t in
-    let none = λ (r : Record) (k : ReadsPieces false p ps (Ok r)). none-some r (sym e ∙ (cookie_of-Reads false t r).1 (p, ps, h, k)) in
-    elim (refused_pieces p ps (key_text p) (value_text p) (IsAttribute-texts p) none) [
-      | inl k ↦ inl (p, ps, h, k)
-      | inr k ↦ inr (p, ps, h, k)
-    ]
-
 -- the records of a header are those of its texts
 pub header_cookies-texts : (decode : Bool) (header : List ℕ) (texts : List (List ℕ)) → IsHeaderTexts header texts → header_cookies decode header ≡ filter_map (cookie_of decode) texts
 unfolding header_cookies
 header_cookies-texts decode header texts (p, ps, h, e) =
-    ap (λ qs. filter_map (cookie_of decode) (kept qs)) (IsPieces-pieces header p ps h) ∙ ap (filter_map (cookie_of decode)) (sym e)
+    ap (λ qs. filter_map (cookie_of decode) (kept_texts qs)) (IsPieces-pieces header p ps h) ∙ ap (filter_map (cookie_of decode)) (sym e)

@@ -3,7 +3,7 @@ use Rattle.std.proofs.Common.{◌≡◌, ℕ, List, Option, Some, None, refl, ap
 use Rattle.std.specs.Option.{option_and_then}
 use Rattle.cookie_core.specs.Record.{no_raw_forms}
 use Rattle.cookie_core.specs.CookieStr.{source_bytes, text_bytes, raw_bytes, IsNotLent, IsSameSource, IsSameText, IsSameOptionalText}
-use Rattle.cookie_core.specs.Cookie.{view_of, HasFittingSpans}
+use Rattle.cookie_core.specs.Cookie.{cookie_view, HasFittingSpans}
 use Rattle.cookie_core.specs.declared.cookie_str.CookieStr.{CookieStr}
 use Rattle.cookie_core.specs.declared.cookie.Cookie.TheInside.{Inside}
 
@@ -34,7 +34,7 @@ HasFittingSpans-copied a b k h =
       domain = rw k.source (k.domain.fits _ h.domain);
     }
 
-pub fields-copied : (a b : Inside) → Copied a b → (view_of b).fields ≡ (view_of a).fields
+pub fields-copied : (a b : Inside) → Copied a b → (cookie_view b).fields ≡ (cookie_view a).fields
 fields-copied a b k =
     let n : text_bytes (source_bytes b.source) b.name ≡ text_bytes (source_bytes a.source) a.name = rw k.source (k.name.bytes _) in
     let v : text_bytes (source_bytes b.source) b.value ≡ text_bytes (source_bytes a.source) a.value = rw k.source (k.value.bytes _) in
@@ -46,7 +46,7 @@ option_and_then-same : (f g : CookieStr → Option (List ℕ)) → ((t : CookieS
 option_and_then-same f g h None = refl
 option_and_then-same f g h (Some t) = h t
 
-pub raw-copied : (a b : Inside) → Copied a b → IsSameSource a.source b.source → (view_of b).raw ≡ (view_of a).raw
+pub raw-copied : (a b : Inside) → Copied a b → IsSameSource a.source b.source → (cookie_view b).raw ≡ (cookie_view a).raw
 raw-copied a b k s =
     let n : raw_bytes b.source b.name ≡ raw_bytes a.source a.name = s.lent b.name ∙ k.name.lent a.source in
     let v : raw_bytes b.source b.value ≡ raw_bytes a.source a.value = s.lent b.value ∙ k.value.lent a.source in
@@ -60,12 +60,12 @@ option_and_then-none : (f : CookieStr → Option (List ℕ)) → ((t : CookieStr
 option_and_then-none f h None = refl
 option_and_then-none f h (Some t) = h t
 
-pub raw-not_lent : (a : Inside) → IsNotLent a.source → (view_of a).raw ≡ no_raw_forms
+pub raw-not_lent : (a : Inside) → IsNotLent a.source → (cookie_view a).raw ≡ no_raw_forms
 raw-not_lent a h =
     rw (h a.name, h a.value, option_and_then-none _ h a.path, option_and_then-none _ h a.domain)
 
-pub view-copied : (a b : Inside) → Copied a b → IsSameSource a.source b.source → view_of b ≡ view_of a
+pub view-copied : (a b : Inside) → Copied a b → IsSameSource a.source b.source → cookie_view b ≡ cookie_view a
 view-copied a b k s = rw (fields-copied a b k, raw-copied a b k s)
 
-pub view-copied-own : (a b : Inside) → Copied a b → IsNotLent b.source → view_of b ≡ record { fields = (view_of a).fields; raw = no_raw_forms }
+pub view-copied-own : (a b : Inside) → Copied a b → IsNotLent b.source → cookie_view b ≡ record { fields = (cookie_view a).fields; raw = no_raw_forms }
 view-copied-own a b k s = rw (fields-copied a b k, raw-not_lent b s)

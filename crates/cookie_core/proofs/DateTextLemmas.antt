@@ -9,7 +9,7 @@ use Rattle.jiff.proofs.SpanFacts.{signed_arith}
 use Rattle.jiff.specs.Types.{DateTime, Time}
 use Rattle.jiff.specs.Words.{weekday_of}
 use Rattle.cookie_date.specs.Names.{weekday_text, month_text}
-use Rattle.cookie_date.specs.Text.{two_digits, clock_text, date_text}
+use Rattle.cookie_date.specs.Text.{two_digits, clock_text, moment_text}
 use Rattle.cookie_date.proofs.CalendarLemmas.{day_bound}
 use Rattle.cookie_core.specs.Pieces.{Lacks}
 use Rattle.cookie_core.proofs.AgeTextLemmas.{decimal_is_tokens}
@@ -71,7 +71,7 @@ year_passes : (y : ℤ) → signed_small y → list_all is_date_byte (signed_dec
 year_passes (pos n) h = all-weaker is_token is_date_byte token_is_date_byte (decimal n) (decimal_is_tokens n h)
 year_passes (negsuc n) h = all-weaker is_token is_date_byte token_is_date_byte (decimal (suc n)) (decimal_is_tokens (suc n) h)
 
-date_passes : (m : DateTime) → list_all is_date_byte (date_text m) ≡ true
+date_passes : (m : DateTime) → list_all is_date_byte (moment_text m) ≡ true
 date_passes m =
     let p = is_date_byte in
     let day : m.date.day < 100 = omega (arith, m.date.day_in, day_bound m.date.year m.date.month) in
@@ -92,8 +92,8 @@ date_byte_is_low b h = grind (arith, nat_tests)
 date_byte_is_other : (b : ℕ) → is_date_byte b ≡ true → is_other 59 b ≡ true
 date_byte_is_other b h = grind (arith, nat_tests)
 
-pub date_lacks_semicolon : (m : DateTime) → Lacks 59 (date_text m)
-date_lacks_semicolon m = Lacks-from_test 59 (date_text m) (all-weaker is_date_byte (is_other 59) date_byte_is_other (date_text m) (date_passes m))
+pub date_lacks_semicolon : (m : DateTime) → Lacks 59 (moment_text m)
+date_lacks_semicolon m = Lacks-from_test 59 (moment_text m) (all-weaker is_date_byte (is_other 59) date_byte_is_other (moment_text m) (date_passes m))
 
 -- no weekday's text begins with white space, and nor does the `,` behind it
 weekday_skips : (n : ℕ) (t : List ℕ) → skip_leading_whitespace (weekday_text n ++ 44 ∷ t) ≡ weekday_text n ++ 44 ∷ t
@@ -114,7 +114,7 @@ ends-append : (a b : List ℕ) → Ends b → Ends (a ++ b)
 ends-append a b h = (omega (arith, length-append a b), drop_trailing-append a b h.0 h.1)
 
 -- the date ends as its zone does
-date_drops : (m : DateTime) → drop_trailing_whitespace (date_text m) ≡ date_text m
+date_drops : (m : DateTime) → drop_trailing_whitespace (moment_text m) ≡ moment_text m
 date_drops m =
     let e : Ends (codes " GMT") = (omega arith, refl) in
     let c : List ℕ = clock_text m.time.hour m.time.minute m.time.second ++ codes " GMT" in
@@ -127,6 +127,6 @@ date_drops m =
     let ed : Ends d = ends-append (two_digits m.date.day) (codes " " ++ o) (ends-append (codes " ") o eo) in
     (ends-append (weekday_text (weekday_of m.date)) (codes ", " ++ d) (ends-append (codes ", ") d ed)).1
 
-pub trim-date : (m : DateTime) → trim (date_text m) ≡ date_text m
+pub trim-date : (m : DateTime) → trim (moment_text m) ≡ moment_text m
 trim-date m =
-    trim-same (date_text m) (IsAscii-from_test (date_text m) (all-weaker is_date_byte is_low date_byte_is_low (date_text m) (date_passes m))) (weekday_skips (weekday_of m.date) _) (date_drops m)
+    trim-same (moment_text m) (IsAscii-from_test (moment_text m) (all-weaker is_date_byte is_low date_byte_is_low (moment_text m) (date_passes m))) (weekday_skips (weekday_of m.date) _) (date_drops m)

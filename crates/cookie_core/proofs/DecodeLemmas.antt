@@ -3,18 +3,17 @@ use Rattle.std.proofs.Common.{◌≡◌, ℕ, List, Bool, cond, true, false, Opt
 use Rattle.std.proofs.lemmas.Option.{none-some}
 use Rattle.std.proofs.lemmas.Str.{is_utf8-from_IsUtf8, IsUtf8-from_is_utf8}
 use Rattle.std.specs.Option.{option_and_then}
-use Rattle.std.specs.Result.{result_map_both}
 use Rattle.std.specs.Str.{IsUtf8, is_utf8}
 use Rattle.cookie_core.specs.CookieOf.{cookie_of}
 use Rattle.cookie_core.specs.CookieStr.{IsSpanOf, IsOptionalSpanOf, source_bytes, raw_bytes, lent}
-use Rattle.cookie_core.specs.Cookie.{view_of}
-use Rattle.cookie_core.specs.Decoding.{HasPair, ReadsInMemory, ReadsDecoded, AgreesInMemory, are_decoded, lent_decoded, LendsDecoded, NamesFault, blamed}
+use Rattle.cookie_core.specs.Cookie.{cookie_view}
+use Rattle.cookie_core.specs.Decoding.{HasPair, ReadsInMemory, AgreesInMemory, are_decoded, lent_decoded, LendsDecoded, NamesFault, blamed_text}
 use Rattle.cookie_core.specs.DecodingCode.{IsRefusedFor, IsRefusedForPair, IsDecodedIn, lent_decoded_forms}
 use Rattle.cookie_core.specs.EscapeTest.{has_escape}
 use Rattle.cookie_core.specs.Escapes.{unescape}
 use Rattle.cookie_core.specs.OwnedCode.{IsMadeOwn}
 use Rattle.cookie_core.specs.Place.{IsPartAt}
-use Rattle.cookie_core.specs.Reads.{Reads, IsUndecodable}
+use Rattle.cookie_core.specs.Reads.{Reads, IsUndecodable, fields_of}
 use Rattle.cookie_core.specs.Record.{Record, CookieView, RawForms, no_raw_forms}
 use Rattle.cookie_core.specs.Settings.{ReadsParts, layout_record}
 use Rattle.cookie_core.specs.declared.cookie_str.CookieStr.{CookieStr}
@@ -57,8 +56,8 @@ blamed-undecodable : (n v : List ℕ) (b : Bool) → is_utf8 (unescape n) ≡ b 
 blamed-undecodable n v true e h = inr h
 blamed-undecodable n v false e h = inl h
 
-IsUndecodable-blamed : (n v : List ℕ) → ¬ (IsUtf8 (blamed n v)) → IsUndecodable true n v
-IsUndecodable-blamed n v h = blamed-undecodable n v (is_utf8 (unescape n)) refl h
+IsUndecodable-blamed_text : (n v : List ℕ) → ¬ (IsUtf8 (blamed_text n v)) → IsUndecodable true n v
+IsUndecodable-blamed_text n v h = blamed-undecodable n v (is_utf8 (unescape n)) refl h
 
 -- the name is blamed where it can't be decoded, and else the value
 pub blamed-name : (n v : List ℕ) (e : ParseError) → IsRefusedFor n e → IsRefusedForPair n v e
@@ -82,17 +81,17 @@ pub NamesFault-error : (t : List ℕ) (e : ParseError) → ReadsParts t (Err e) 
 NamesFault-error t (Utf8Error x) h = let (p, ps, pieces, (n, v, pair, filled, bad)) = h false in absurd bad
 NamesFault-error t _ h = tt
 
-pub ReadsDecoded-refused : (t : List ℕ) (r : Record) (e : ParseError) → ReadsParts t (Ok r) → IsRefusedForPair r.name r.value e → ReadsDecoded t (Err e)
-ReadsDecoded-refused t r (Utf8Error x) (p, ps, pieces, pair, filled, sets) h = (p, ps, pieces, (r.name, r.value, pair, filled, IsUndecodable-blamed r.name r.value h.faulty))
+pub ReadsDecoded-refused : (t : List ℕ) (r : Record) (e : ParseError) → ReadsParts t (Ok r) → IsRefusedForPair r.name r.value e → ReadsInMemory true t (Err e)
+ReadsDecoded-refused t r (Utf8Error x) (p, ps, pieces, pair, filled, sets) h = (p, ps, pieces, (r.name, r.value, pair, filled, IsUndecodable-blamed_text r.name r.value h.faulty))
 ReadsDecoded-refused t r OutOfMemory (p, ps, pieces, pair, filled, sets) h = (p, ps, r.name, r.value, pieces, pair, filled)
 ReadsDecoded-refused t r MissingPair h k = absurd k
 ReadsDecoded-refused t r EmptyName h k = absurd k
 
-pub ReadsDecoded-error : (t : List ℕ) (e : ParseError) → ReadsParts t (Err e) → ReadsDecoded t (Err e)
+pub ReadsDecoded-error : (t : List ℕ) (e : ParseError) → ReadsParts t (Err e) → ReadsInMemory true t (Err e)
 ReadsDecoded-error t OutOfMemory h = absurd (h true).3
 ReadsDecoded-error t e h = h true
 
-pub ReadsDecoded-record : (a b : Bool) (s t : List ℕ) (r : Record) (n v : CookieStr) → ReadsParts t (Ok r) → IsDecodedIn a s r.name n → IsDecodedIn b s r.value v → ReadsDecoded t (Ok (record r { name = unescape r.name; value = unescape r.value }))
+pub ReadsDecoded-record : (a b : Bool) (s t : List ℕ) (r : Record) (n v : CookieStr) → ReadsParts t (Ok r) → IsDecodedIn a s r.name n → IsDecodedIn b s r.value v → ReadsInMemory true t (Ok (record r { name = unescape r.name; value = unescape r.value }))
 ReadsDecoded-record a b s t r n v (p, ps, pieces, pair, filled, sets) h k =
     (p, ps, pieces, (r.name, r.value, pair, filled, (refl, h.utf8), (refl, k.utf8), SetsAttributes-named ps r (unescape r.name) (unescape r.value) sets))
 
@@ -112,7 +111,7 @@ cond-forms : (own : Bool) (n v p d : Option (List ℕ)) → forms (cond own None
 cond-forms true n v p d = refl
 cond-forms false n v p d = refl
 
-pub raw-inside : (o : Source) (n v : CookieStr) (p d : Option CookieStr) (l : Layout) → raw_bytes o n ≡ (if are_decoded (layout_record l) then None else lent o l.name.text.now) → raw_bytes o v ≡ (if are_decoded (layout_record l) then None else lent o l.value.text.now) → IsOptionalSpanOf (source_bytes o) (option_map (λ p. p.text.now) l.attributes.path) p → IsOptionalSpanOf (source_bytes o) (option_map (λ p. p.text.now) l.attributes.domain) d → (view_of (inside o n v p d l)).raw ≡ lent_decoded_forms o (layout_record l)
+pub raw-inside : (o : Source) (n v : CookieStr) (p d : Option CookieStr) (l : Layout) → raw_bytes o n ≡ (if are_decoded (layout_record l) then None else lent o l.name.text.now) → raw_bytes o v ≡ (if are_decoded (layout_record l) then None else lent o l.value.text.now) → IsOptionalSpanOf (source_bytes o) (option_map (λ p. p.text.now) l.attributes.path) p → IsOptionalSpanOf (source_bytes o) (option_map (λ p. p.text.now) l.attributes.domain) d → (cookie_view (inside o n v p d l)).raw ≡ lent_decoded_forms o (layout_record l)
 raw-inside o n v p d l a b e f =
     rw (a, b, optional_raw _ _ _ o refl e, optional_raw _ _ _ o refl f, lent_undotted o l.attributes.domain) (cond-forms (are_decoded (layout_record l)) (lent o l.name.text.now) (lent o l.value.text.now) _ _)
 
@@ -145,10 +144,6 @@ no_raw_forms-source o t (Ok c) h (r, e, f) = f ∙ lent_decoded-none o r h
 no_raw_forms-source o t (Err e) h k = tt
 
 -- ---- texts of its own
-
--- the record of a cookie that was read, or the refusal
-abbrev pub fields_of : Result CookieView ParseError → Result Record ParseError
-fields_of o = result_map_both (λ c. c.fields) (λ e. e) o
 
 HasPair-record : (decode : Bool) (t : List ℕ) (r : Record) → Reads decode t (Ok r) → HasPair t
 HasPair-record decode t r (p, ps, pieces, (n, v, pair, filled, _, _, _)) = (p, ps, n, v, pieces, pair, filled)

@@ -10,7 +10,7 @@ use Rattle.cookie_date.specs.Forms.{full_year, IsReadBack}
 use Rattle.cookie_date.proofs.DateLemmas.{same_parts_date}
 use Rattle.cookie_date.proofs.PrintLemmas.{read_back, long_year}
 use Rattle.cookie_core.specs.Expiration.{whole_second}
-use Rattle.cookie_core.specs.Normal.{whole_expiry, IsLongYear, IsExpiryReadBack}
+use Rattle.cookie_core.specs.Normal.{whole_expiry, KeepsYear, IsExpiryReadBack}
 use Rattle.cookie_core.specs.declared.expiration.Expiration.{Expiration}
 use Rattle.cookie_core.specs.declared.expiration.Expiration.TheVariants as expiration
 
@@ -29,27 +29,12 @@ same_read_back : (m a b : DateTime) → IsReadBack m a → IsReadBack m b → a 
 same_read_back m a b p q = same_parts_date a b (p.0 ∙ sym q.0) (p.1 ∙ sym q.1) (p.2 ∙ sym q.2) (p.3 ∙ sym q.3) (p.4 ∙ sym q.4) (p.5 ∙ sym q.5) (p.6 ∙ sym q.6)
 
 -- with a long year it is the same date-time, in whole seconds
-pub read_expiry-long : (e : Option Expiration) → IsLongYear e → read_expiry e ≡ whole_expiry e
+pub read_expiry-long : (e : Option Expiration) → KeepsYear e → read_expiry e ≡ whole_expiry e
 read_expiry-long None h = refl
 read_expiry-long (Some expiration.Session) h = refl
 read_expiry-long (Some (expiration.DateTime m)) h =
     let same : IsReadBack m (whole_second m) = (sym (long_year m.date.year h), refl, refl, refl, refl, refl, refl) in
     ap (λ z. Some (expiration.DateTime z)) (same_read_back m (read_back m).0 (whole_second m) (read_back m).1 same)
-
--- what is read back is known by what was printed
-pub read_expiry-only : (e x : Option Expiration) → IsExpiryReadBack e x → x ≡ read_expiry e
-read_expiry-only None None h = refl
-read_expiry-only None (Some x) h = absurd h
-read_expiry-only (Some expiration.Session) None h = refl
-read_expiry-only (Some expiration.Session) (Some x) h = absurd h
-read_expiry-only (Some (expiration.DateTime m)) None h = absurd h
-read_expiry-only (Some (expiration.DateTime m)) (Some expiration.Session) h = absurd h
-read_expiry-only (Some (expiration.DateTime m)) (Some (expiration.DateTime back)) h =
-    ap (λ z. Some (expiration.DateTime z)) (same_read_back m back (read_back m).0 h (read_back m).1)
-
--- so with a long year the expiry is kept, in whole seconds
-pub expiry_kept : (e x : Option Expiration) → IsLongYear e → IsExpiryReadBack e x → x ≡ whole_expiry e
-expiry_kept e x long is = read_expiry-only e x is ∙ read_expiry-long e long
 
 -- the year of the rule is the same or a later one
 same_or_later : (y : ℤ) → (full_year y ≡ y) ⊎ (y <ℤ full_year y)

@@ -1,5 +1,5 @@
 -- Stripped texts, joined by `; `, are split into their cookies (RFC 6265 4.2.1).
-use Rattle.std.proofs.Common.{◌≡◌, true, false, not, ◌==◌, map, ℕ, List, [], ◌∷◌, ◌++◌, None, Ok, length, refl, sym, ap, ◌∙◌, length-append, arith}
+use Rattle.std.proofs.Common.{◌≡◌, true, false, not, ◌==◌, map, ℕ, List, [], ◌∷◌, ◌++◌, None, length, refl, sym, ap, ◌∙◌, length-append, arith}
 use Rattle.std.proofs.lemmas.Bool.Decides.{nat_tests}
 use Rattle.std.proofs.lemmas.List.{append-nil}
 use Rattle.std.proofs.lemmas.List.Elements.{All-nil, All-cons, All-head, All-tail}
@@ -7,10 +7,9 @@ use Rattle.std.specs.List.{list_all, All, filter_map}
 use Rattle.std.specs.Str.{trim}
 use Rattle.cookie_core.specs.CookieOf.{cookie_of, header_cookies}
 use Rattle.cookie_core.specs.Escapes.{escape}
-use Rattle.cookie_core.specs.Header.{kept, IsHeaderTexts, header_texts, more_joined, joined_texts}
+use Rattle.cookie_core.specs.Header.{kept_texts, IsHeaderTexts, header_texts, more_joined, joined_texts}
 use Rattle.cookie_core.specs.Normal.{IsNamed}
 use Rattle.cookie_core.specs.Pieces.{Lacks}
-use Rattle.cookie_core.specs.Reads.{Reads}
 use Rattle.cookie_core.specs.Record.{Record, plain}
 use Rattle.cookie_core.specs.Text.{cookie_text}
 use Rattle.cookie_core.specs.Walk.{before_rest}
@@ -18,7 +17,7 @@ use Rattle.cookie_core.proofs.ByteLemmas.{all-append, Lacks-nil}
 use Rattle.cookie_core.proofs.CookieOfLemmas.{header_cookies-texts}
 use Rattle.cookie_core.proofs.EscapeTextLemmas.{escape_is_tokens}
 use Rattle.cookie_core.proofs.GraphicLemmas.{is_graphic, tokens_are_graphic, trim-graphic, trim-space_graphic}
-use Rattle.cookie_core.proofs.NormalFormLemmas.{escaped_pair, escaped_pair-apart, stripped_form, cookie_of-stripped}
+use Rattle.cookie_core.proofs.NormalFormLemmas.{escaped_pair, escaped_pair-apart, cookie_of-stripped}
 use Rattle.cookie_core.proofs.PieceLemmas.{IsPieces-pieces}
 use Rattle.cookie_core.proofs.ReadingLemmas.{Lacks-more, first_piece}
 use Rattle.cookie_core.proofs.PieceWalkLemmas.{tails}
@@ -61,14 +60,14 @@ spaced_apart [] = All-nil (Lacks 59)
 spaced_apart (r ∷ rs) =
     All-cons (Lacks 59) (32 ∷ stripped_text r) (spaced rs) (Lacks-more 59 32 (stripped_text r) (λ e. omega arith) (stripped_apart r)) (spaced_apart rs)
 
-kept-spaced : (rs : List Record) → kept (spaced rs) ≡ map stripped_text rs
-kept-spaced [] = refl
-kept-spaced (r ∷ rs) =
-    rw (trim-space_stripped r, stripped_some r) (ap (λ ts. stripped_text r ∷ ts) (kept-spaced rs))
+kept_texts-spaced : (rs : List Record) → kept_texts (spaced rs) ≡ map stripped_text rs
+kept_texts-spaced [] = refl
+kept_texts-spaced (r ∷ rs) =
+    rw (trim-space_stripped r, stripped_some r) (ap (λ ts. stripped_text r ∷ ts) (kept_texts-spaced rs))
 
-kept-first : (r : Record) (rs : List Record) → kept (stripped_text r ∷ spaced rs) ≡ map stripped_text (r ∷ rs)
-kept-first r rs =
-    rw (trim-stripped r, stripped_some r) (ap (λ ts. stripped_text r ∷ ts) (kept-spaced rs))
+kept_texts-first : (r : Record) (rs : List Record) → kept_texts (stripped_text r ∷ spaced rs) ≡ map stripped_text (r ∷ rs)
+kept_texts-first r rs =
+    rw (trim-stripped r, stripped_some r) (ap (λ ts. stripped_text r ∷ ts) (kept_texts-spaced rs))
 
 -- the texts of the joined header are the stripped texts, whatever the names and the values are
 pub header_split : (rs : List Record) → IsHeaderTexts (joined_texts (map (cookie_text true true) rs)) (map (cookie_text true true) rs)
@@ -78,28 +77,15 @@ header_split (r ∷ rs) = (
   stripped_text r,
   spaced rs,
   first_piece _ (stripped_text r) (before_rest (spaced rs) None) (ap (λ t. stripped_text r ++ t) (more-tails rs)) (stripped_apart r) (spaced rs) refl (spaced_apart rs),
-  sym (kept-first r rs),
+  sym (kept_texts-first r rs),
 )
 
 -- a header has one list of texts
 pub header_texts-only : (header : List ℕ) (texts : List (List ℕ)) → IsHeaderTexts header texts → texts ≡ header_texts header
-header_texts-only header texts (p, ps, h, e) = e ∙ ap kept (sym (IsPieces-pieces header p ps h))
+header_texts-only header texts (p, ps, h, e) = e ∙ ap kept_texts (sym (IsPieces-pieces header p ps h))
 
 pub header_texts-joined : (rs : List Record) → header_texts (joined_texts (map (cookie_text true true) rs)) ≡ map (cookie_text true true) rs
 header_texts-joined rs = sym (header_texts-only (joined_texts (map (cookie_text true true) rs)) (map (cookie_text true true) rs) (header_split rs))
-
--- the stripped text is read as the name and the value
-abbrev pub IsReadAsPair : Record → Type 0
-IsReadAsPair r = Reads true (cookie_text true true r) (Ok (plain r.name r.value))
-
-reads_each : (rs : List Record) → All IsNamed rs → All IsReadAsPair rs
-reads_each [] h = All-nil IsReadAsPair
-reads_each (r ∷ rs) h =
-    All-cons IsReadAsPair r rs (stripped_form r (All-head IsNamed r rs h)) (reads_each rs (All-tail IsNamed r rs h))
-
--- each text of the header is read, and none is refused
-pub header_items : (rs : List Record) → All IsNamed rs → IsHeaderTexts (joined_texts (map (cookie_text true true) rs)) (map (cookie_text true true) rs) × All IsReadAsPair rs
-header_items rs h = (header_split rs, reads_each rs h)
 
 read_texts : (rs : List Record) → All IsNamed rs → filter_map (cookie_of true) (map (cookie_text true true) rs) ≡ map (λ r. plain r.name r.value) rs
 read_texts [] h = refl

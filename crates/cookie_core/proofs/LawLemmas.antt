@@ -2,12 +2,12 @@
 use Rattle.std.proofs.Common.{◌≡◌, ℕ, List, [], ◌∷◌, true, map, All, Some, Ok, Err, Result, refl, ap, ◌∙◌}
 use Rattle.std.proofs.lemmas.List.Elements.{All-head, All-tail}
 use Rattle.std.proofs.lemmas.Option.{none-some, same_Some}
-use Rattle.std.specs.Result.{result_map_both}
 use Rattle.cookie_core.specs.CookieOf.{cookie_of}
 use Rattle.cookie_core.specs.Decoding.{AgreesInMemory}
 use Rattle.cookie_core.specs.Header.{header_texts, joined_texts}
 use Rattle.cookie_core.specs.Memory.{Gives}
 use Rattle.cookie_core.specs.Normal.{IsNamed}
+use Rattle.cookie_core.specs.Reads.{fields_of}
 use Rattle.cookie_core.specs.Record.{Record, CookieView, plain}
 use Rattle.cookie_core.specs.Text.{cookie_text}
 use Rattle.cookie_core.specs.declared.parse_error.ParseError.{ParseError}
@@ -16,7 +16,7 @@ use Rattle.cookie_core.proofs.HeaderLemmas.{header_texts-joined}
 use Rattle.cookie_core.proofs.NormalFormLemmas.{cookie_of-stripped}
 
 -- a text that is the record r gives it, unless memory is wanting
-pub agreed-gives : (t : List ℕ) (r : Record) (o : Result CookieView ParseError) → AgreesInMemory true t (result_map_both (λ c. c.fields) (λ e. e) o) → cookie_of true t ≡ Some r → Gives OutOfMemory o (λ c. c.fields ≡ r)
+pub agreed-gives : (t : List ℕ) (r : Record) (o : Result CookieView ParseError) → AgreesInMemory true t (fields_of o) → cookie_of true t ≡ Some r → Gives OutOfMemory o (λ c. c.fields ≡ r)
 agreed-gives t r (Ok c) h e = same_Some _ _ (h ∙ e)
 agreed-gives t r (Err OutOfMemory) h e = refl
 agreed-gives t r (Err MissingPair) h e = absurd (none-some _ (h ∙ e))

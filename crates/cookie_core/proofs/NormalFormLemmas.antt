@@ -4,13 +4,13 @@ use Rattle.std.specs.Str.{trim, IsUtf8}
 use Rattle.cookie_core.specs.Attributes.{IsPair, SetsAttributes}
 use Rattle.cookie_core.specs.CookieOf.{cookie_of}
 use Rattle.cookie_core.specs.Escapes.{escape}
-use Rattle.cookie_core.specs.Normal.{normal, IsPlainText, IsPlainDomain, CanBeRead, IsNamed, IsUncut}
+use Rattle.cookie_core.specs.Normal.{normal_form, IsPlainText, IsPlainDomain, CanBeRead, IsNamed, IsUncut}
 use Rattle.cookie_core.specs.Pieces.{Lacks}
 use Rattle.cookie_core.specs.Reads.{IsDecoded, Reads}
 use Rattle.cookie_core.specs.Record.{Record, plain, IsCookie, without_leading_dot}
 use Rattle.cookie_core.specs.Text.{attributes_text, cookie_text}
 use Rattle.cookie_core.proofs.ByteLemmas.{is_other, all-weaker, Lacks-from_test, Lacks-append}
-use Rattle.cookie_core.proofs.CookieOfLemmas.{some-filled, cookie_of-Reads}
+use Rattle.cookie_core.proofs.CookieOfLemmas.{some-unless_empty, cookie_of-Reads}
 use Rattle.cookie_core.proofs.DotLemmas.{without_leading_dot-same}
 use Rattle.cookie_core.proofs.EscapeTextLemmas.{is_token, token_is_other_59, token_is_other_61, escape_is_tokens, unescape-escape, escape_some, utf8_is_bytes}
 use Rattle.cookie_core.proofs.ExpiryTextLemmas.{read_expiry-long}
@@ -81,25 +81,25 @@ domain_lacks (Some d) h = h.text.whole
 domain_same : (o : Option (List ℕ)) → IfSome o IsPlainDomain → read_domain o ≡ o
 domain_same None h = refl
 domain_same (Some d) h =
-    ap domain_of h.text.trimmed ∙ ap (option_map without_leading_dot) (some-filled d h.some) ∙ ap Some (sym (without_leading_dot-same d h.no_dot))
+    ap domain_of h.text.trimmed ∙ ap (option_map without_leading_dot) (some-unless_empty d h.some) ∙ ap Some (sym (without_leading_dot-same d h.no_dot))
 
-read_record-normal : (r : Record) → CanBeRead r → read_record r ≡ normal r
+read_record-normal : (r : Record) → CanBeRead r → read_record r ≡ normal_form r
 read_record-normal r h =
-    λ i. record (normal r) {
+    λ i. record (normal_form r) {
       path = path_same r.path h.path i;
       domain = domain_same r.domain h.domain i;
       expires = read_expiry-long r.expires h.expires i;
     }
 
 -- a printed cookie is read as its normal form
-pub normal_form : (r : Record) → IsCookie r → CanBeRead r → Reads true (cookie_text true false r) (Ok (normal r))
-normal_form r c h =
+pub Reads-normal_form : (r : Record) → IsCookie r → CanBeRead r → Reads true (cookie_text true false r) (Ok (normal_form r))
+Reads-normal_form r c h =
     let named : IsNamed r = record { cookie = c; name = h.name } in
     let uncut : IsUncut r = record { path = path_lacks r.path h.path; domain = domain_lacks r.domain h.domain } in
     subst (λ n. Reads true (cookie_text true false r) (Ok n)) (read_record-normal r h) (uncut_form r named uncut)
 
-pub cookie_of-normal : (r : Record) → IsCookie r → CanBeRead r → cookie_of true (cookie_text true false r) ≡ Some (normal r)
-cookie_of-normal r c h = (cookie_of-Reads true (cookie_text true false r) (normal r)).1 (normal_form r c h)
+pub cookie_of-normal_form : (r : Record) → IsCookie r → CanBeRead r → cookie_of true (cookie_text true false r) ≡ Some (normal_form r)
+cookie_of-normal_form r c h = (cookie_of-Reads true (cookie_text true false r) (normal_form r)).1 (Reads-normal_form r c h)
 
 -- a stripped text is read as its name and value
 pub stripped_form : (r : Record) → IsNamed r → Reads true (cookie_text true true r) (Ok (plain r.name r.value))

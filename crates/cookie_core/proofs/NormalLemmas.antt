@@ -3,7 +3,7 @@ use Rattle.std.proofs.Common.{◌≡◌, ◌↔◌, Bool, true, false, ◌&&◌,
 use Rattle.std.specs.Prelude.{int_div, int_lt}
 use Rattle.std.proofs.lemmas.Bool.{cond-false, false≢true}
 use Rattle.std.proofs.lemmas.Bool.Decides.{nat_tests}
-use Rattle.cookie_core.specs.Normal.{normal, shown, whole_age, whole_expiry, GainsSecure}
+use Rattle.cookie_core.specs.Normal.{normal_form, shown, whole_age, whole_expiry, GainsSecure}
 use Rattle.cookie_core.specs.Text.{is_true, is_unset, is_same_site_none, prints_secure}
 use Rattle.cookie_core.specs.Record.{Record}
 use Rattle.cookie_core.specs.declared.same_site.SameSite.{SameSite}
@@ -104,10 +104,10 @@ some_not_none e = false≢true (ap is_unset e)
 
 -- ---- the whole record
 
-prints-second : (r : Record) → prints_secure (normal r) ≡ shows_again r.secure (is_true r.partitioned) (is_same_site_none r.same_site)
+prints-second : (r : Record) → prints_secure (normal_form r) ≡ shows_again r.secure (is_true r.partitioned) (is_same_site_none r.same_site)
 prints-second r = rw (is_true-shown (is_true r.partitioned)) refl
 
-prints-third : (r : Record) → prints_secure (normal (normal r)) ≡ prints_secure (normal r)
+prints-third : (r : Record) → prints_secure (normal_form (normal_form r)) ≡ prints_secure (normal_form r)
 prints-third r =
     let p = is_true-shown (is_true r.partitioned) in
     let e : is_true (shown (is_true (shown (is_true r.partitioned)))) ≡ is_true r.partitioned = ap (λ b. is_true (shown b)) p ∙ p in
@@ -115,20 +115,20 @@ prints-third r =
     rw (e, prints-second r) s ∙ sym (prints-second r)
 
 -- a second normal form is the first, where both print `Secure` or both don't
-normal-again : (r : Record) → prints_secure (normal r) ≡ prints_secure r → normal (normal r) ≡ normal r
+normal-again : (r : Record) → prints_secure (normal_form r) ≡ prints_secure r → normal_form (normal_form r) ≡ normal_form r
 normal-again r s =
     let h = is_true-shown (is_true r.http_only) in
     let p = is_true-shown (is_true r.partitioned) in
     rw (s, h, p, age-again r.max_age, expiry-again r.expires) refl
 
-pub normal-third : (r : Record) → normal (normal (normal r)) ≡ normal (normal r)
-normal-third r = normal-again (normal r) (prints-third r)
+pub normal_form-third : (r : Record) → normal_form (normal_form (normal_form r)) ≡ normal_form (normal_form r)
+normal_form-third r = normal-again (normal_form r) (prints-third r)
 
-pub normal-second : (r : Record) → (normal (normal r) ≡ normal r) ↔ (¬ (GainsSecure r))
-normal-second r = (
+pub normal_form-second : (r : Record) → (normal_form (normal_form r) ≡ normal_form r) ↔ (¬ (GainsSecure r))
+normal_form-second r = (
   λ e (odd : GainsSecure r).
-      let q : shown (prints_secure (normal r)) ≡ shown (prints_secure r) = ap (λ (x : Record). x.secure) e in
-      let again : prints_secure (normal r) ≡ true = rw (prints-second r, odd.0, odd.1, is_false r.partitioned odd.2) refl in
+      let q : shown (prints_secure (normal_form r)) ≡ shown (prints_secure r) = ap (λ (x : Record). x.secure) e in
+      let again : prints_secure (normal_form r) ≡ true = rw (prints-second r, odd.0, odd.1, is_false r.partitioned odd.2) refl in
       let once : prints_secure r ≡ false = rw (odd.0, odd.1, is_false r.partitioned odd.2) refl in
       let z : Some true ≡ None = ap shown (sym again) ∙ q ∙ ap shown once in
       absurd (some_not_none z),

@@ -5,9 +5,9 @@ use Rattle.std.specs.Option.{option_or}
 use Rattle.std.specs.Str.{trim}
 use Rattle.jiff.specs.Words.{IsDurationNanos}
 use Rattle.cookie_date.proofs.PrintLemmas.{printed_text, read_back}
-use Rattle.cookie_core.specs.Attributes.{IsWord, Gives, SetsAttributes}
-use Rattle.cookie_core.specs.CookieOf.{filled}
-use Rattle.cookie_core.specs.Normal.{shown, whole_age, normal, IsUncut}
+use Rattle.cookie_core.specs.Attributes.{IsWord, GivesSetting, SetsAttributes}
+use Rattle.cookie_core.specs.CookieOf.{unless_empty}
+use Rattle.cookie_core.specs.Normal.{shown, whole_age, normal_form, IsUncut}
 use Rattle.cookie_core.specs.Pieces.{Lacks}
 use Rattle.cookie_core.specs.Record.{Record, IsCookie, without_leading_dot}
 use Rattle.cookie_core.specs.SameSite.{same_site_text}
@@ -40,7 +40,7 @@ field_at-only _ o = refl
 
 -- what an attribute of this key gives
 abbrev IsValue : (k : Key) → Option (List ℕ) → Option (Value k) → Type 0
-IsValue k v o = MatchOption o (GivesNothing k v) (λ x. Gives v (setting_at k x))
+IsValue k v o = MatchOption o (GivesNothing k v) (λ x. GivesSetting v (setting_at k x))
 
 IsGiven-only : (k : Key) (v : Option (List ℕ)) (o : Option (Value k)) → IsValue k v o → IsGiven k v (only k o)
 IsGiven-only k v o h =
@@ -61,9 +61,9 @@ part_of_value t v k o h l w g =
     HasPieces-one (λ ps. SetsAttributes ps (only k o)) q apart (SetsAttributes-given q t (Some (trim v)) k (only k o) (32 ∷ t, v, refl, key_lacks 61 t token_is_other_61 (λ e. omega arith) h, sym (trim-space_tokens t h), refl) w (IsGiven-only k (Some (trim v)) o g))
 
 -- the value of such a part, where it is all tokens
-part_of_tokens : (t v : List ℕ) (k : Key) (x : Value k) → list_all is_token t ≡ true → list_all is_token v ≡ true → IsWord t (word_of k) → Gives (Some v) (setting_at k x) → IsWalk (59 ∷ 32 ∷ (t ++ 61 ∷ v)) (only k (Some x))
+part_of_tokens : (t v : List ℕ) (k : Key) (x : Value k) → list_all is_token t ≡ true → list_all is_token v ≡ true → IsWord t (word_of k) → GivesSetting (Some v) (setting_at k x) → IsWalk (59 ∷ 32 ∷ (t ++ 61 ∷ v)) (only k (Some x))
 part_of_tokens t v k x h l w g =
-    part_of_value t v k (Some x) h (Lacks-from_test 59 v (all-weaker is_token (is_other 59) token_is_other_59 v l)) w (subst (λ u. Gives (Some u) (setting_at k x)) (sym (trim-tokens v l)) g)
+    part_of_value t v k (Some x) h (Lacks-from_test 59 v (all-weaker is_token (is_other 59) token_is_other_59 v l)) w (subst (λ u. GivesSetting (Some u) (setting_at k x)) (sym (trim-tokens v l)) g)
 
 -- ---- each part
 
@@ -91,7 +91,7 @@ path_part (Some p) h = part_of_value (codes "Path") p key.Path (Some (trim p)) r
 
 -- the domain that a value gives
 abbrev pub domain_of : List ℕ → Option (List ℕ)
-domain_of v = option_map without_leading_dot (filled v)
+domain_of v = option_map without_leading_dot (unless_empty v)
 
 domain_of-is : (v : List ℕ) → IsValue key.Domain (Some v) (domain_of v)
 domain_of-is [] = λ x h. h.0 refl
@@ -122,7 +122,7 @@ expires_part (Some (expiration.DateTime m)) =
 -- what a printed cookie is read as, where its path and its domain hold no `;`
 abbrev pub read_record : Record → Record
 read_record r =
-    record (normal r) { path = option_map trim r.path; domain = read_domain r.domain; expires = read_expiry r.expires }
+    record (normal_form r) { path = option_map trim r.path; domain = read_domain r.domain; expires = read_expiry r.expires }
 
 or_none : {X : Type 0} (o : Option X) → option_or o None ≡ o
 or_none None = refl

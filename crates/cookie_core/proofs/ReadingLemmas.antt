@@ -1,5 +1,5 @@
 -- Pieces, and what they set.
-use Rattle.std.proofs.Common.{◌≡◌, ◌↔◌, Bool, false, IsTrue, option_map, ℕ, ◌+◌, List, [], ◌∷◌, ◌++◌, length, get_or, Option, Some, None, Ok, Err, MatchOption, inl, inr, refl, sym, ap, ◌∙◌, subst, zero, suc, append_assoc, add-one, arith}
+use Rattle.std.proofs.Common.{◌≡◌, false, option_map, ℕ, ◌+◌, List, [], ◌∷◌, ◌++◌, length, get_or, Option, Some, None, Ok, Err, MatchOption, inl, inr, refl, sym, ap, ◌∙◌, subst, zero, suc, append_assoc, add-one, arith}
 use Rattle.std.proofs.Math.Seq.{get_or-append_seam}
 use Rattle.std.proofs.lemmas.List.{length-append}
 use Rattle.std.proofs.lemmas.Bool.{false≢true, cases_lt}
@@ -17,9 +17,9 @@ use Rattle.cookie_core.specs.Walk.{behind, before_rest, HasRead}
 use Rattle.cookie_core.specs.declared.part.Part.{Part}
 use Rattle.cookie_core.specs.declared.parse_error.ParseError.TheVariants.{MissingPair, EmptyName}
 use mathlib.Core.Logic.{◌≢◌}
-use Rattle.cookie_core.specs.Pieces.{Lacks, joined, IsPieces}
+use Rattle.cookie_core.specs.Pieces.{Lacks, joined_pieces, IsPieces}
 use Rattle.cookie_core.specs.Reads.{Reads}
-use Rattle.cookie_core.specs.Attributes.{IsPair, IsAttribute, IsWord, Skips, IsLastSet, SetsAttributes, Setting, http_only, secure, partitioned, same_site, path, domain, max_age, expires, key_of, Gives, Sets, SetsNothing, nanos_of_seconds, max_age_seconds}
+use Rattle.cookie_core.specs.Attributes.{IsPair, IsAttribute, IsWord, Skips, IsLastSet, SetsAttributes, Setting, http_only, secure, partitioned, same_site, path, domain, max_age, expires, key_of, GivesSetting, Sets, SetsNothing, nanos_of_seconds, max_age_seconds}
 use Rattle.cookie_core.specs.Settings.{Value, setting_at, field_at, only, either, word_of, GivesNothing, IsGiven, ReadsParts}
 use Rattle.cookie_core.specs.declared.attributes.Key.{Key}
 use Rattle.cookie_core.specs.declared.attributes.Key.TheVariants as key
@@ -54,9 +54,6 @@ IsAttribute-unique p k (Some v) k' (Some v') (a, b, e, l, n, m) (a', b', e', l',
     let u = cut_unique 61 a b a' b' l l' (sym e ∙ e') in
     (n ∙ ap trim u.0 ∙ sym n', ap Some (m ∙ ap trim u.1 ∙ sym m'))
 
-pub refuted : (r : Bool) (P : Type 0) → (IsTrue r ↔ P) → r ≡ false → ¬ P
-refuted r P h e q = false≢true (sym e ∙ h.1 q)
-
 -- two words differ where a test of them fails
 differ : {w w' : List ℕ} → w ≡ w' → bytes_eq w w' ≡ false → ⊥
 differ {w} {w'} e f = false≢true (sym f ∙ (bytes_eq-Decides w w').1 e)
@@ -90,13 +87,13 @@ Skips-other p t v k k' att is ne x (t', v', att', is', _) =
 -- nor its own, where its value gives nothing
 Skips-own : (p t : List ℕ) (v : Option (List ℕ)) (k : Key) → IsAttribute p t v → GivesNothing k v → (x : Value k) → ¬ (Sets p (setting_at k x))
 Skips-own p t v k att none x (t', v', att', is', gives) =
-    none x (subst (λ (q : Option (List ℕ)). Gives q (setting_at k x)) (sym (IsAttribute-unique p t v t' v' att att').1) gives)
+    none x (subst (λ (q : Option (List ℕ)). GivesSetting q (setting_at k x)) (sym (IsAttribute-unique p t v t' v' att att').1) gives)
 
-pub undotted-field : (v : Part) (o : Option Part) → MatchOption o (v.text.now ≡ []) (λ p. (p ≡ v) × (v.text.now ≢ [])) → MatchOption (option_map (λ (p : Part). without_leading_dot p.text.now) o) (GivesNothing key.Domain (Some v.text.now)) (λ x. Gives (Some v.text.now) (domain x))
+pub undotted-field : (v : Part) (o : Option Part) → MatchOption o (v.text.now ≡ []) (λ p. (p ≡ v) × (v.text.now ≢ [])) → MatchOption (option_map (λ (p : Part). without_leading_dot p.text.now) o) (GivesNothing key.Domain (Some v.text.now)) (λ x. GivesSetting (Some v.text.now) (domain x))
 undotted-field v None e = λ x h. h.0 e
 undotted-field v (Some p) h = (h.1, ap (λ (q : Part). without_leading_dot q.text.now) h.0)
 
-pub age-field : (t : List ℕ) (o : Option SignedDuration) → option_map signed_nanos o ≡ option_map nanos_of_seconds (max_age_seconds t) → MatchOption (option_map signed_nanos o) (GivesNothing key.MaxAge (Some t)) (λ x. Gives (Some t) (max_age x))
+pub age-field : (t : List ℕ) (o : Option SignedDuration) → option_map signed_nanos o ≡ option_map nanos_of_seconds (max_age_seconds t) → MatchOption (option_map signed_nanos o) (GivesNothing key.MaxAge (Some t)) (λ x. GivesSetting (Some t) (max_age x))
 age-field t None e = λ x h. cc
 age-field t (Some d) e = sym e
 
@@ -123,7 +120,7 @@ IsLastSet-or field ps qs (Some x) None (before, q, after, e, s, none) h' =
 IsLastSet-or field ps qs o (Some x) h h' = IsLastSet-behind field ps qs x h'
 
 -- what one piece sets
-IsLastSet-one : (p t : List ℕ) (v : Option (List ℕ)) (k : Key) (o : Option (Value k)) → IsAttribute p t v → IsWord t (word_of k) → MatchOption o (GivesNothing k v) (λ x. Gives v (setting_at k x)) → IsLastSet (setting_at k) (p ∷ []) o
+IsLastSet-one : (p t : List ℕ) (v : Option (List ℕ)) (k : Key) (o : Option (Value k)) → IsAttribute p t v → IsWord t (word_of k) → MatchOption o (GivesNothing k v) (λ x. GivesSetting v (setting_at k x)) → IsLastSet (setting_at k) (p ∷ []) o
 IsLastSet-one p t v k None att is h = All-one (Skips (setting_at k)) p (Skips-own p t v k att h)
 IsLastSet-one p t v k (Some x) att is h =
     ([], p, [], refl, (t, v, att, is ∙ sym (key_of-setting_at k x), h), All-none (Skips (setting_at k)))
@@ -132,7 +129,7 @@ IsLastSet-other : (p t : List ℕ) (v : Option (List ℕ)) (k k' : Key) → IsAt
 IsLastSet-other p t v k k' att is ne = All-one (Skips (setting_at k')) p (Skips-other p t v k k' att is ne)
 
 -- the field of the key k' after a piece with the key k
-field-one : (p t : List ℕ) (v : Option (List ℕ)) (k k' : Key) (o : Option (Value k)) → IsAttribute p t v → IsWord t (word_of k) → MatchOption o (GivesNothing k v) (λ x. Gives v (setting_at k x)) → IsLastSet (setting_at k') (p ∷ []) (field_at k' (only k o))
+field-one : (p t : List ℕ) (v : Option (List ℕ)) (k k' : Key) (o : Option (Value k)) → IsAttribute p t v → IsWord t (word_of k) → MatchOption o (GivesNothing k v) (λ x. GivesSetting v (setting_at k x)) → IsLastSet (setting_at k') (p ∷ []) (field_at k' (only k o))
 field-one p t v key.HttpOnly key.HttpOnly o att is h = IsLastSet-one p t v key.HttpOnly o att is h
 field-one p t v key.Secure key.Secure o att is h = IsLastSet-one p t v key.Secure o att is h
 field-one p t v key.Partitioned key.Partitioned o att is h = IsLastSet-one p t v key.Partitioned o att is h
@@ -190,7 +187,7 @@ pub before_rest-push : (ps : List (List ℕ)) (p : List ℕ) (o : Option (List �
 before_rest-push [] p o = refl
 before_rest-push (q ∷ ps) p o = ap (λ t. Some (q ++ behind t)) (before_rest-push ps p o)
 
-joined-before_rest : (p : List ℕ) (ps : List (List ℕ)) → joined 59 p ps ≡ p ++ behind (before_rest ps None)
+joined-before_rest : (p : List ℕ) (ps : List (List ℕ)) → joined_pieces 59 p ps ≡ p ++ behind (before_rest ps None)
 joined-before_rest p [] = sym (append-nil p)
 joined-before_rest p (q ∷ qs) = ap (λ t. p ++ 59 ∷ t) (joined-before_rest q qs)
 
@@ -267,19 +264,19 @@ Reads-record t p n v o r e l h m a =
 All-tail : {X : Type 0} (P : X → Type 0) (x : X) (xs : List X) → All P (x ∷ xs) → All P xs
 All-tail P x xs h k d lt = h (suc k) d (omega arith)
 
-pub tail_pieces : (t p q : List ℕ) (qs : List (List ℕ)) → IsPieces t p (q ∷ qs) → IsPieces (joined 59 q qs) q qs
+pub tail_pieces : (t p q : List ℕ) (qs : List (List ℕ)) → IsPieces t p (q ∷ qs) → IsPieces (joined_pieces 59 q qs) q qs
 tail_pieces t p q qs h =
     record { joined = refl; first = h.later 0 q (omega arith); later = All-tail (Lacks 59) q qs h.later }
 
 -- a text has one list of pieces
 pub IsPieces-unique : (t p : List ℕ) (ps : List (List ℕ)) (q : List ℕ) (qs : List (List ℕ)) → IsPieces t p ps → IsPieces t q qs → (p ≡ q) × (ps ≡ qs)
 IsPieces-unique t p [] q [] h k = (sym h.joined ∙ k.joined, refl)
-IsPieces-unique t p [] q (r ∷ rs) h k = absurd (not_lacking 59 p q (joined 59 r rs) (sym h.joined ∙ k.joined) h.first)
-IsPieces-unique t p (r ∷ rs) q [] h k = absurd (not_lacking 59 q p (joined 59 r rs) (sym k.joined ∙ h.joined) k.first)
+IsPieces-unique t p [] q (r ∷ rs) h k = absurd (not_lacking 59 p q (joined_pieces 59 r rs) (sym h.joined ∙ k.joined) h.first)
+IsPieces-unique t p (r ∷ rs) q [] h k = absurd (not_lacking 59 q p (joined_pieces 59 r rs) (sym k.joined ∙ h.joined) k.first)
 IsPieces-unique t p (r ∷ rs) q (u ∷ us) h k =
-    let c = cut_unique 59 p (joined 59 r rs) q (joined 59 u us) h.first k.first (sym h.joined ∙ k.joined) in
-    let m : IsPieces (joined 59 r rs) u us = rw c.1 (tail_pieces t q u us k) in
-    let i = IsPieces-unique (joined 59 r rs) r rs u us (tail_pieces t p r rs h) m in
+    let c = cut_unique 59 p (joined_pieces 59 r rs) q (joined_pieces 59 u us) h.first k.first (sym h.joined ∙ k.joined) in
+    let m : IsPieces (joined_pieces 59 r rs) u us = rw c.1 (tail_pieces t q u us k) in
+    let i = IsPieces-unique (joined_pieces 59 r rs) r rs u us (tail_pieces t p r rs h) m in
     (c.0, rw (i.0, i.1) refl)
 
 -- the parts of a text that is read as it stands

@@ -1,5 +1,5 @@
 -- The spans of a layout.
-use Rattle.std.proofs.Common.{◌≡◌, ℕ, ◌+◌, ◌-◌, ◌≤◌, List, ◌++◌, length, slice_range, Option, Some, None, option_map, IfSome, refl, ap, arith}
+use Rattle.std.proofs.Common.{◌≡◌, ℕ, ◌+◌, ◌-◌, List, ◌++◌, length, slice_range, Option, Some, None, option_map, IfSome, refl, ap, arith}
 use Rattle.std.proofs.Math.Seq.{drop-append_seam, take-append_seam}
 use Rattle.std.specs.Option.{option_and_then}
 use Rattle.cookie_core.specs.Place.{IsPartAt}
@@ -7,7 +7,7 @@ use Rattle.cookie_core.specs.Record.{without_leading_dot}
 use Rattle.cookie_core.specs.declared.part.Part.{Part}
 use Rattle.cookie_core.specs.Settings.{layout_record}
 use Rattle.cookie_core.specs.CookieStr.{source_bytes, text_bytes, raw_bytes, Fits, lent, lent_forms, IsSpanOf, IsOptionalSpanOf}
-use Rattle.cookie_core.specs.Cookie.{view_of, HasFittingSpans}
+use Rattle.cookie_core.specs.Cookie.{cookie_view, HasFittingSpans}
 use Rattle.cookie_core.specs.declared.cookie.Cookie.TheInside.{Inside}
 use Rattle.cookie_core.specs.declared.layout.Layout.{Layout}
 use Rattle.cookie_core.specs.declared.source.Source.{Source}
@@ -83,11 +83,11 @@ lent_undotted source.None (Some p) = refl
 lent_undotted (source.Borrowed s) (Some p) = refl
 lent_undotted (source.Owned s) (Some p) = refl
 
-pub fields-layout : (l : Layout) (a : Inside) → IsOfLayout l a → (view_of a).fields ≡ layout_record l
+pub fields-layout : (l : Layout) (a : Inside) → IsOfLayout l a → (cookie_view a).fields ≡ layout_record l
 fields-layout l a h =
     rw (h.name.bytes, h.value.bytes, optional_bytes _ _ _ h.path, optional_bytes _ _ _ h.domain, h.http_only, h.secure, h.partitioned, h.same_site, h.max_age, h.expires, undotted l.attributes.domain) refl
 
-pub raw-layout : (l : Layout) (a : Inside) → IsOfLayout l a → (view_of a).raw ≡ lent_forms a.source (layout_record l)
+pub raw-layout : (l : Layout) (a : Inside) → IsOfLayout l a → (cookie_view a).raw ≡ lent_forms a.source (layout_record l)
 raw-layout l a h =
     rw (h.name.raw a.source refl, h.value.raw a.source refl, optional_raw _ _ _ a.source refl h.path, optional_raw _ _ _ a.source refl h.domain, lent_undotted a.source l.attributes.domain) refl
 
@@ -112,13 +112,6 @@ pub IsOfLayout-inside : (o : Source) (n v : CookieStr) (p d : Option CookieStr) 
 IsOfLayout-inside o n v p d l a b e f =
     record { name = a; value = b; path = e; domain = f; http_only = refl; secure = refl; partitioned = refl; same_site = refl; max_age = refl; expires = refl }
 
-pub part_end : (s : List ℕ) (i : ℕ) (t : List ℕ) → IsPartAt s i t → i + length t ≤ length s
-part_end s i t p = p.end.0
-
-pub HasFittingSpans-inside : (o : Source) (n v : CookieStr) (p d : Option CookieStr) (l : Layout) → Fits (source_bytes o) n → Fits (source_bytes o) v → IsOptionalSpanOf (source_bytes o) (option_map (λ p. p.text.now) l.attributes.path) p → IsOptionalSpanOf (source_bytes o) (option_map (λ p. p.text.now) l.attributes.domain) d → HasFittingSpans (inside o n v p d l)
-HasFittingSpans-inside o n v p d l a b e f =
-    record { name = a; value = b; path = optional_fits _ _ _ e; domain = optional_fits _ _ _ f }
-
-pub fields-inside : (o : Source) (n v : CookieStr) (p d : Option CookieStr) (l : Layout) (bn bv : List ℕ) → text_bytes (source_bytes o) n ≡ bn → text_bytes (source_bytes o) v ≡ bv → IsOptionalSpanOf (source_bytes o) (option_map (λ p. p.text.now) l.attributes.path) p → IsOptionalSpanOf (source_bytes o) (option_map (λ p. p.text.now) l.attributes.domain) d → (view_of (inside o n v p d l)).fields ≡ record (layout_record l) { name = bn; value = bv }
+pub fields-inside : (o : Source) (n v : CookieStr) (p d : Option CookieStr) (l : Layout) (bn bv : List ℕ) → text_bytes (source_bytes o) n ≡ bn → text_bytes (source_bytes o) v ≡ bv → IsOptionalSpanOf (source_bytes o) (option_map (λ p. p.text.now) l.attributes.path) p → IsOptionalSpanOf (source_bytes o) (option_map (λ p. p.text.now) l.attributes.domain) d → (cookie_view (inside o n v p d l)).fields ≡ record (layout_record l) { name = bn; value = bv }
 fields-inside o n v p d l bn bv a b e f =
     rw (a, b, optional_bytes _ _ _ e, optional_bytes _ _ _ f, undotted l.attributes.domain) refl

@@ -1,11 +1,11 @@
 -- What a loop over a splitter learns of an item.
 use Rattle.std.proofs.Common.{◌≡◌, ℕ, List, ◌∷◌, Bool, true, false, Some, Result, IfOk, subst}
-use Rattle.cookie_core.specs.Decoding.{ReadsInMemory, ReadsDecoded, AgreesInMemory, LendsDecoded}
-use Rattle.cookie_core.specs.Reads.{Reads}
+use Rattle.cookie_core.specs.Decoding.{ReadsInMemory, AgreesInMemory, LendsDecoded}
+use Rattle.cookie_core.specs.Reads.{Reads, fields_of}
 use Rattle.cookie_core.specs.Record.{Record, CookieView, all_lent}
 use Rattle.cookie_core.specs.SplitCookies.{SplitView, ReadsItem, LendsItem, NextCookie}
 use Rattle.cookie_core.specs.declared.parse_error.ParseError.{ParseError}
-use Rattle.cookie_core.proofs.DecodeLemmas.{fields_of, AgreesInMemory-reads, ReadsInMemory-reads}
+use Rattle.cookie_core.proofs.DecodeLemmas.{AgreesInMemory-reads, ReadsInMemory-reads}
 
 ReadsInMemory-item : (decode own : Bool) (t : List ℕ) (o : Result Record ParseError) → ReadsItem decode own t o → ReadsInMemory decode t o
 ReadsInMemory-item false false t o h = ReadsInMemory-reads false t o h
@@ -23,17 +23,3 @@ pub NextCookie-decodes : (s s' : SplitView) (o : Result CookieView ParseError) �
 NextCookie-decodes s s' o d h =
     let all = NextCookie-agrees s s' o h in
     (all.0, all.1, subst (λ b. AgreesInMemory b all.0 (fields_of o)) d all.2)
-
--- an item of the plain splitter
-pub NextCookie-plain : (s s' : SplitView) (o : Result CookieView ParseError) → s.is_decoded ≡ false → s.is_owned ≡ false → NextCookie s (Some o) s' → (t : List ℕ) × (s.texts ≡ t ∷ s'.texts) × Reads false t (fields_of o) × IfOk o (λ c. c.raw ≡ all_lent c.fields)
-NextCookie-plain s s' o d w (t, e, item, _) =
-    let reads : ReadsItem false false t (fields_of o) = rw (d, w) at item.reads in
-    let lends : IfOk o (LendsItem false false t) = rw (d, w) at item.lends in
-    (t, e, reads, lends)
-
--- an item of the decoding splitter of a borrowed text
-pub NextCookie-encoded : (s s' : SplitView) (o : Result CookieView ParseError) → s.is_decoded ≡ true → s.is_owned ≡ false → NextCookie s (Some o) s' → (t : List ℕ) × (s.texts ≡ t ∷ s'.texts) × ReadsDecoded t (fields_of o) × IfOk o (λ c. LendsDecoded t c.raw)
-NextCookie-encoded s s' o d w (t, e, item, _) =
-    let reads : ReadsItem true false t (fields_of o) = rw (d, w) at item.reads in
-    let lends : IfOk o (LendsItem true false t) = rw (d, w) at item.lends in
-    (t, e, reads, lends)

@@ -75,20 +75,20 @@ GivesExpiry t (expiration.DateTime m) = IsDateText t m
 GivesExpiry t expiration.Session = ⊥
 
 -- the value of an attribute, if it has one, gives the setting
-abbrev pub Gives : Option (List ℕ) → Setting → Type 0
-Gives v (http_only x) = x ≡ true
-Gives v (secure x) = x ≡ true
-Gives v (partitioned x) = x ≡ true
-Gives (Some v) (same_site x) = IsWord v (same_site_key x)
-Gives (Some v) (path x) = v ≡ x
-Gives (Some v) (domain x) = (v ≢ []) × (x ≡ without_leading_dot v)
-Gives (Some v) (max_age x) = option_map nanos_of_seconds (max_age_seconds v) ≡ Some x
-Gives (Some v) (expires x) = GivesExpiry v x
-Gives None _ = ⊥
+abbrev pub GivesSetting : Option (List ℕ) → Setting → Type 0
+GivesSetting v (http_only x) = x ≡ true
+GivesSetting v (secure x) = x ≡ true
+GivesSetting v (partitioned x) = x ≡ true
+GivesSetting (Some v) (same_site x) = IsWord v (same_site_key x)
+GivesSetting (Some v) (path x) = v ≡ x
+GivesSetting (Some v) (domain x) = (v ≢ []) × (x ≡ without_leading_dot v)
+GivesSetting (Some v) (max_age x) = option_map nanos_of_seconds (max_age_seconds v) ≡ Some x
+GivesSetting (Some v) (expires x) = GivesExpiry v x
+GivesSetting None _ = ⊥
 
 -- the piece p sets a field: it has its key, in any ASCII case, and a value that gives the setting
 abbrev pub Sets : List ℕ → Setting → Type 0
-Sets p s = (k : List ℕ) × (v : Option (List ℕ)) × IsAttribute p k v × IsWord k (key_of s) × Gives v s
+Sets p s = (k : List ℕ) × (v : Option (List ℕ)) × IsAttribute p k v × IsWord k (key_of s) × GivesSetting v s
 
 -- the piece p sets no field
 abbrev pub SetsNothing : List ℕ → Type 0

@@ -6,8 +6,8 @@ use Rattle.cookie_core.specs.declared.cookie.Cookie.TheInside.{Inside}
 use Rattle.jiff.specs.Words.{signed_nanos}
 
 -- the cookie as contracts see it
-abbrev pub view_of : Inside → CookieView
-view_of a =
+abbrev pub cookie_view : Inside → CookieView
+cookie_view a =
     record {
       fields = record {
         name = text_bytes (source_bytes a.source) a.name;

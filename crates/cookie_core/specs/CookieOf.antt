@@ -3,21 +3,17 @@ use Rattle.std.specs.Prelude.{ℕ, ◌==◌, Bool, true, false, if◌then◌else
 use Rattle.std.specs.List.{before_first, after_first, list_any}
 use Rattle.std.specs.Option.{option_or}
 use Rattle.std.specs.Str.{trim, str_to_ascii_lowercase, is_utf8}
+use Rattle.cookie_date.specs.Chains.{◌>>=◌}
 use Rattle.cookie_date.specs.Moments.{date_of}
 use Rattle.cookie_core.specs.Attributes.{nanos_of_seconds, max_age_seconds, same_site_key}
 use Rattle.cookie_core.specs.Escapes.{unescape}
-use Rattle.cookie_core.specs.Header.{kept}
+use Rattle.cookie_core.specs.Header.{kept_texts}
 use Rattle.cookie_core.specs.Pieces.{pieces}
 use Rattle.cookie_core.specs.Record.{Record, without_leading_dot}
 use Rattle.cookie_core.specs.declared.same_site.SameSite.{SameSite}
 use Rattle.cookie_core.specs.declared.same_site.SameSite.TheVariants as same_site
 use Rattle.cookie_core.specs.declared.expiration.Expiration.{Expiration}
 use Rattle.cookie_core.specs.declared.expiration.Expiration.TheVariants as expiration
-
--- what f makes of the value of o, if there is one
-infixl 10 ◌>>=◌
-abbrev ◌>>=◌ : {A B : Type 0} → Option A → (A → Option B) → Option B
-o >>= f = option_and_then f o
 
 -- the key of a piece: what stands before its first `=`, or all of it, trimmed
 abbrev pub key_text : List ℕ → List ℕ
@@ -32,9 +28,9 @@ abbrev pub set_by : {X : Type 0} → List ℕ → (Option (List ℕ) → Option 
 set_by word f p = if bytes_eq (str_to_ascii_lowercase (key_text p)) word then f (value_text p) else None
 
 -- the text, if it is not empty
-abbrev pub filled : List ℕ → Option (List ℕ)
-filled [] = None
-filled (c ∷ cs) = Some (c ∷ cs)
+abbrev pub unless_empty : List ℕ → Option (List ℕ)
+unless_empty [] = None
+unless_empty (c ∷ cs) = Some (c ∷ cs)
 
 -- the rule that the text names, in any ASCII case
 abbrev pub same_site_named : List ℕ → Option SameSite
@@ -63,7 +59,7 @@ path_in = set_by (codes "path") (λ v. v)
 
 -- what a piece sets `domain` to
 abbrev pub domain_in : List ℕ → Option (List ℕ)
-domain_in = set_by (codes "domain") (option_and_then (λ v. option_map without_leading_dot (filled v)))
+domain_in = set_by (codes "domain") (option_and_then (λ v. option_map without_leading_dot (unless_empty v)))
 
 -- what a piece sets `max_age` to, in nanoseconds
 abbrev pub max_age_in : List ℕ → Option ℤ
@@ -95,18 +91,18 @@ record_in n v ps =
     }
 
 -- the text as it stands; with decoding, the bytes without escapes, if they are UTF-8
-abbrev pub decoded : Bool → List ℕ → Option (List ℕ)
-decoded false t = Some t
-decoded true t = if is_utf8 (unescape t) then Some (unescape t) else None
+abbrev pub decoded_text : Bool → List ℕ → Option (List ℕ)
+decoded_text false t = Some t
+decoded_text true t = if is_utf8 (unescape t) then Some (unescape t) else None
 
 -- the record that the pieces of a text are read as, if the first has a `=`, a name that is not empty, and can be decoded
 abbrev pub cookie_in : Bool → List (List ℕ) → Option Record
 cookie_in decode [] = None
 cookie_in decode (p ∷ ps) = do
   v ← value_text p
-  n ← filled (key_text p)
-  name ← decoded decode n
-  value ← decoded decode v
+  n ← unless_empty (key_text p)
+  name ← decoded_text decode n
+  value ← decoded_text decode v
   Some (record_in name value ps)
 
 -- the record that the text is read as, or `None` where it is refused
@@ -115,4 +111,4 @@ cookie_of decode t = cookie_in decode (pieces t)
 
 -- the records that a header's cookies are read as, without those that are refused
 unfoldable pub header_cookies : Bool → List ℕ → List Record
-header_cookies decode header = filter_map (cookie_of decode) (kept (pieces header))
+header_cookies decode header = filter_map (cookie_of decode) (kept_texts (pieces header))

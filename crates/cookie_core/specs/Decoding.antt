@@ -1,5 +1,5 @@
 -- What a text is read as where memory can be wanting, and what a decoded cookie lends (RFC 6265 5.2, RFC 3986 2.1).
-use Rattle.std.specs.Prelude.{◌≡◌, ◌≢◌, ℕ, ◌||◌, Bool, true, false, List, [], Option, Some, None, option_map, Result, Err, IsOk, IsUtf8, drop, if◌then◌else◌}
+use Rattle.std.specs.Prelude.{◌≡◌, ◌≢◌, ℕ, ◌||◌, Bool, false, List, [], Option, Some, None, option_map, Result, Err, IsOk, IsUtf8, drop, if◌then◌else◌}
 use Rattle.std.specs.Result.{result_ok}
 use Rattle.std.specs.Str.{is_utf8, valid_up_to, error_len}
 use Rattle.std.specs.Str.Lossy.{utf8_valid_len, utf8_error_len}
@@ -22,10 +22,6 @@ abbrev pub ReadsInMemory : Bool → List ℕ → Result Record ParseError → Ty
 ReadsInMemory decode t (Err OutOfMemory) = HasPair t
 ReadsInMemory decode t o = Reads decode t o
 
--- the same with decoding
-abbrev pub ReadsDecoded : List ℕ → Result Record ParseError → Type 0
-ReadsDecoded t o = ReadsInMemory true t o
-
 -- the answer is the one of `cookie_of`, unless memory was wanting
 abbrev pub AgreesInMemory : Bool → List ℕ → Result Record ParseError → Type 0
 AgreesInMemory decode t (Err OutOfMemory) = Unit {0}
@@ -38,12 +34,12 @@ pub record IsFaultOf (bytes : List ℕ) (at : ℕ) (len : Option ℕ) : Type 0 w
   pub extent : len ≡ utf8_error_len (drop (utf8_valid_len bytes) bytes)
 
 -- the bytes whose fault is named: those of the value only where those of the name are UTF-8
-abbrev pub blamed : List ℕ → List ℕ → List ℕ
-blamed n v = if is_utf8 (unescape n) then unescape v else unescape n
+abbrev pub blamed_text : List ℕ → List ℕ → List ℕ
+blamed_text n v = if is_utf8 (unescape n) then unescape v else unescape n
 
 -- a refusal to decode names the first fault of the name or of the value, as they stand in the text
 abbrev pub NamesFault : List ℕ → ParseError → Type 0
-NamesFault t (Utf8Error e) = (r : Record) × (cookie_of false t ≡ Some r) × IsFaultOf (blamed r.name r.value) (valid_up_to e) (error_len e)
+NamesFault t (Utf8Error e) = (r : Record) × (cookie_of false t ≡ Some r) × IsFaultOf (blamed_text r.name r.value) (valid_up_to e) (error_len e)
 NamesFault t _ = Unit {0}
 
 -- the name and the value are both own texts: one of them holds an escape

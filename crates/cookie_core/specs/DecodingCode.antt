@@ -2,7 +2,7 @@
 use Rattle.std.specs.Prelude.{◌≡◌, ℕ, ◌||◌, Bool, List, IsUtf8, None, if◌then◌else◌}
 use Rattle.std.specs.Str.{valid_up_to, error_len}
 use Rattle.cookie_core.specs.CookieStr.{Fits, source_bytes, text_bytes, raw_bytes, lent, lent_forms}
-use Rattle.cookie_core.specs.Decoding.{are_decoded, IsFaultOf, blamed}
+use Rattle.cookie_core.specs.Decoding.{are_decoded, IsFaultOf, blamed_text}
 use Rattle.cookie_core.specs.EscapeTest.{has_escape}
 use Rattle.cookie_core.specs.Escapes.{unescape}
 use Rattle.cookie_core.specs.Record.{Record, RawForms}
@@ -19,7 +19,7 @@ IsRefusedFor t _ = ⊥
 
 -- or decoding the name n and the value v
 abbrev pub IsRefusedForPair : List ℕ → List ℕ → ParseError → Type 0
-IsRefusedForPair n v (Utf8Error e) = IsFaultOf (blamed n v) (valid_up_to e) (error_len e)
+IsRefusedForPair n v (Utf8Error e) = IsFaultOf (blamed_text n v) (valid_up_to e) (error_len e)
 IsRefusedForPair n v OutOfMemory = Unit {0}
 IsRefusedForPair n v _ = ⊥
 

@@ -25,6 +25,6 @@ abbrev pub unescape : List ℕ → List ℕ
 unescape = percent_decode
 
 -- the text as it is printed: escaped, where asked for
-abbrev pub written : Bool → List ℕ → List ℕ
-written true t = escape t
-written false t = t
+abbrev pub printed_form : Bool → List ℕ → List ℕ
+printed_form true t = escape t
+printed_form false t = t

@@ -30,9 +30,9 @@ abbrev pub capped_moment : DateTime → DateTime
 capped_moment moment = if int_lt (civil_nanos (last_expiry moment)) (civil_nanos moment) then last_expiry moment else moment
 
 -- the expiry that a cookie keeps: the session's end, or the lesser of a date-time and the last expiry
-abbrev pub capped : Expiration → Expiration
-capped (expiration.DateTime moment) = expiration.DateTime (capped_moment moment)
-capped expiration.Session = expiration.Session
+abbrev pub capped_expiry : Expiration → Expiration
+capped_expiry (expiration.DateTime moment) = expiration.DateTime (capped_moment moment)
+capped_expiry expiration.Session = expiration.Session
 
 -- the same date-time without its fraction of a second
 abbrev pub whole_second : DateTime → DateTime

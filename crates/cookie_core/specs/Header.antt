@@ -4,17 +4,17 @@ use Rattle.std.specs.Str.{trim}
 use Rattle.cookie_core.specs.Pieces.{IsPieces, pieces}
 
 -- the pieces, trimmed, without the empty ones
-abbrev pub kept : List (List ℕ) → List (List ℕ)
-kept ps = filter (λ x. not (length x == 0)) (map trim ps)
+abbrev pub kept_texts : List (List ℕ) → List (List ℕ)
+kept_texts ps = filter (λ x. not (length x == 0)) (map trim ps)
 
 -- the texts are those of the header's pieces that are not blank, trimmed, in order
 abbrev pub IsHeaderTexts : List ℕ → List (List ℕ) → Type 0
 IsHeaderTexts header texts =
-    (p : List ℕ) × (ps : List (List ℕ)) × IsPieces header p ps × (texts ≡ kept (p ∷ ps))
+    (p : List ℕ) × (ps : List (List ℕ)) × IsPieces header p ps × (texts ≡ kept_texts (p ∷ ps))
 
 -- the one list of those texts
 abbrev pub header_texts : List ℕ → List (List ℕ)
-header_texts t = kept (pieces t)
+header_texts t = kept_texts (pieces t)
 
 -- texts, each behind `; ` (RFC 6265 4.2.1)
 abbrev pub more_joined : List (List ℕ) → List ℕ

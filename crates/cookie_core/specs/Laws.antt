@@ -1,12 +1,12 @@
 -- What printing and reading a cookie again changes (RFC 6265 4.1, 5.2).
 use Rattle.std.specs.Prelude.{◌≡◌, ◌↔◌}
-use Rattle.cookie_core.specs.Normal.{normal, GainsSecure}
+use Rattle.cookie_core.specs.Normal.{normal_form, GainsSecure}
 use Rattle.cookie_core.specs.Record.{Record}
 
 -- printing and reading a third time changes nothing
 abbrev pub IsSettled : Type 0
-IsSettled = (r : Record) → normal (normal (normal r)) ≡ normal (normal r)
+IsSettled = (r : Record) → normal_form (normal_form (normal_form r)) ≡ normal_form (normal_form r)
 
 -- the second time changes only a cookie that gains `Secure`
 abbrev pub IsSettledAtOnce : Type 0
-IsSettledAtOnce = (r : Record) → (normal (normal r) ≡ normal r) ↔ (¬ (GainsSecure r))
+IsSettledAtOnce = (r : Record) → (normal_form (normal_form r) ≡ normal_form r) ↔ (¬ (GainsSecure r))

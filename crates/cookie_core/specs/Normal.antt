@@ -25,8 +25,8 @@ whole_expiry (Some (expiration.DateTime m)) = Some (expiration.DateTime (whole_s
 whole_expiry _ = None
 
 -- the record that is read from a cookie's text
-abbrev pub normal : Record → Record
-normal r =
+abbrev pub normal_form : Record → Record
+normal_form r =
     record r {
       http_only = shown (is_true r.http_only);
       partitioned = shown (is_true r.partitioned);
@@ -47,16 +47,16 @@ pub record IsPlainDomain (t : List ℕ) : Type 0 where
   pub no_dot : (rest : List ℕ) → t ≢ 46 ∷ rest
 
 -- a year that the year rule keeps: one of more than two digits, or a negative one (RFC 6265 5.1.1)
-abbrev pub IsLongYear : Option Expiration → Type 0
-IsLongYear (Some (expiration.DateTime m)) = (m.date.year <ℤ pos 0) ⊎ (pos 100 ≤ℤ m.date.year)
-IsLongYear _ = Unit {0}
+abbrev pub KeepsYear : Option Expiration → Type 0
+KeepsYear (Some (expiration.DateTime m)) = (m.date.year <ℤ pos 0) ⊎ (pos 100 ≤ℤ m.date.year)
+KeepsYear _ = Unit {0}
 
 -- its printed text is read as its normal form
 pub record CanBeRead (r : Record) : Type 0 where
   pub name : r.name ≢ []
   pub path : IfSome r.path IsPlainText
   pub domain : IfSome r.domain IsPlainDomain
-  pub expires : IsLongYear r.expires
+  pub expires : KeepsYear r.expires
 
 -- a cookie with a name
 pub record IsNamed (r : Record) : Type 0 where

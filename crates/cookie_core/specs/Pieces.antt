@@ -7,13 +7,13 @@ abbrev pub Lacks : ℕ → List ℕ → Type 0
 Lacks c s = (i : ℕ) → i < length s → slice_index s i ≢ c
 
 -- the texts p and ps, joined by the byte c
-abbrev pub joined : ℕ → List ℕ → List (List ℕ) → List ℕ
-joined c p [] = p
-joined c p (q ∷ qs) = p ++ c ∷ joined c q qs
+abbrev pub joined_pieces : ℕ → List ℕ → List (List ℕ) → List ℕ
+joined_pieces c p [] = p
+joined_pieces c p (q ∷ qs) = p ++ c ∷ joined_pieces c q qs
 
 -- p and ps are the texts without `;` that, joined by `;`, give t
 pub record IsPieces (t p : List ℕ) (ps : List (List ℕ)) : Type 0 where
-  pub joined : t ≡ joined 59 p ps
+  pub joined : t ≡ joined_pieces 59 p ps
   pub first : Lacks 59 p
   pub later : All (Lacks 59) ps
 

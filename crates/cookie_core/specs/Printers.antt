@@ -1,6 +1,6 @@
 -- Mirrors private code: what the small printers write.
 use Rattle.std.specs.Prelude.{ℕ, Bool, List, [], ◌++◌, Option, Some, None, codes, option_map, if◌then◌else◌}
-use Rattle.cookie_date.specs.Text.{date_text}
+use Rattle.cookie_date.specs.Text.{moment_text}
 use Rattle.cookie_date.specs.declared.text.DateText.{DateText}
 use Rattle.cookie_core.specs.Text.{flag_text, attribute_text, attributes_text, seconds_text, expiry_text, is_true, prints_secure}
 use Rattle.cookie_core.specs.Record.{Record}
@@ -25,8 +25,8 @@ abbrev pub lifetime_text : Record → List ℕ
 lifetime_text r = attribute_text (codes "; Max-Age=") (option_map seconds_text r.max_age) ++ attribute_text (codes "; Expires=") (expiry_text r.expires)
 
 -- the text of a date-time of an expiry
-abbrev pub date_text_of : DateText → List ℕ
-date_text_of d = date_text d.0
+abbrev pub moment_text_of : DateText → List ℕ
+moment_text_of d = moment_text d.0
 
 -- the attributes, unless they are stripped
 abbrev pub printed_attributes : Bool → Record → List ℕ

@@ -1,9 +1,10 @@
 -- What a text is read as: a record, or a refusal (RFC 6265 5.2).
 use Rattle.std.specs.Prelude.{◌≡◌, ◌≢◌, ℕ, ◌⊎◌, IsUtf8, List, [], Result, Ok, Err, Bool, true, false}
+use Rattle.std.specs.Result.{result_map_both}
 use Rattle.cookie_core.specs.Attributes.{IsPair, SetsAttributes}
 use Rattle.cookie_core.specs.Escapes.{unescape}
 use Rattle.cookie_core.specs.Pieces.{Lacks, IsPieces}
-use Rattle.cookie_core.specs.Record.{Record}
+use Rattle.cookie_core.specs.Record.{Record, CookieView}
 use Rattle.cookie_core.specs.declared.parse_error.ParseError.{ParseError}
 use Rattle.cookie_core.specs.declared.parse_error.ParseError.TheVariants.{MissingPair, EmptyName, Utf8Error, OutOfMemory}
 
@@ -29,3 +30,7 @@ ReadsPieces decode p ps (Ok r) =
 -- what the text t is read as
 abbrev pub Reads : Bool → List ℕ → Result Record ParseError → Type 0
 Reads decode t o = (p : List ℕ) × (ps : List (List ℕ)) × IsPieces t p ps × ReadsPieces decode p ps o
+
+-- the record of the cookie that was read, or the refusal
+abbrev pub fields_of : Result CookieView ParseError → Result Record ParseError
+fields_of o = result_map_both (λ c. c.fields) (λ e. e) o

@@ -8,12 +8,12 @@ use Rattle.cookie_core.specs.contracts.expiration.Expiration as expiration
 use Rattle.cookie_core.specs.contracts.same_site.SameSite as same_site
 
 -- the fields of a record, as nested pairs
-abbrev pub Fields : Type 0
-Fields = List ℕ × (List ℕ × (Option Bool × (Option Bool × (Option Bool × (Option SameSite × (Option (List ℕ) × (Option (List ℕ) × (Option ℤ × Option Expiration))))))))
+abbrev pub FieldPairs : Type 0
+FieldPairs = List ℕ × (List ℕ × (Option Bool × (Option Bool × (Option Bool × (Option SameSite × (Option (List ℕ) × (Option (List ℕ) × (Option ℤ × Option Expiration))))))))
 
 -- how these pairs are stored
-abbrev pub fields_code : Coded Fields
-fields_code =
+abbrev pub field_pairs_code : Coded FieldPairs
+field_pairs_code =
     coded× (coded_list coded_ℕ) (coded× (coded_list coded_ℕ) (coded× (coded_option coded_bool) (coded× (coded_option coded_bool)
     (coded× (coded_option coded_bool) (coded× (coded_option (same_site.the_row).coded) (coded× (coded_option (coded_list coded_ℕ))
     (coded× (coded_option (coded_list coded_ℕ)) (coded× (coded_option coded_ℤ) (coded_option (expiration.the_row).coded)))))))))
@@ -21,7 +21,7 @@ fields_code =
 -- how a record is stored, as the pairs of its fields
 abbrev pub record_code : Coded Record
 record_code =
-    code_by Fields fields_code
+    code_by FieldPairs field_pairs_code
     (λ r. (r.name, (r.value, (r.http_only, (r.secure, (r.partitioned, (r.same_site, (r.path, (r.domain, (r.max_age, r.expires))))))))))
     (λ p. record {
       name = p.0;

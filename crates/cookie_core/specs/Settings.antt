@@ -6,7 +6,7 @@ use Rattle.cookie_core.specs.Pieces.{IsPieces}
 use Rattle.cookie_core.specs.Place.{IsPartAt}
 use Rattle.cookie_core.specs.Record.{Record, plain, without_leading_dot}
 use Rattle.cookie_core.specs.Attributes as attributes
-use Rattle.cookie_core.specs.Attributes.{IsPair, SetsAttributes, Gives, key_of}
+use Rattle.cookie_core.specs.Attributes.{IsPair, SetsAttributes, GivesSetting, key_of}
 use Rattle.cookie_core.specs.Reads.{Reads}
 use Rattle.cookie_core.specs.declared.same_site.SameSite.{SameSite}
 use Rattle.cookie_core.specs.declared.expiration.Expiration.{Expiration}
@@ -52,7 +52,7 @@ word_of key.Expires = codes "expires"
 
 -- the value of an attribute of this key, if it has one, gives no setting
 abbrev pub GivesNothing : Key → Option (List ℕ) → Type 0
-GivesNothing k v = (x : Value k) → ¬ (Gives v (setting_at k x))
+GivesNothing k v = (x : Value k) → ¬ (GivesSetting v (setting_at k x))
 
 -- the field of the key
 abbrev pub field_at : (k : Key) → Record → Option (Value k)
@@ -78,7 +78,7 @@ only key.Expires o = record (plain [] []) { expires = o }
 
 -- the field of the key is what the value of an attribute gives, if it gives a setting, and the others are unset
 pub record IsGiven (k : Key) (v : Option (List ℕ)) (r : Record) : Type 0 where
-  pub field : MatchOption (field_at k r) (GivesNothing k v) (λ x. Gives v (setting_at k x))
+  pub field : MatchOption (field_at k r) (GivesNothing k v) (λ x. GivesSetting v (setting_at k x))
   pub alone : r ≡ only k (field_at k r)
 
 -- each attribute of r, or that of r' where it is unset

@@ -5,8 +5,8 @@ use Rattle.cookie_core.specs.SplitCookies.{SplitView}
 use Rattle.cookie_core.specs.declared.split.SplitCookies.TheInside.{Inside}
 
 -- the splitter as contracts see it
-abbrev pub view_of : Inside → SplitView
-view_of a =
+abbrev pub splitter_view : Inside → SplitView
+splitter_view a =
     record { texts = texts_in (header_bytes a.header) a.rest; is_decoded = is_decoded a.header; is_owned = is_owned a.header }
 
 -- the rest stands in the header

@@ -1,8 +1,8 @@
 -- The text of a cookie (RFC 6265 4.1.1, RFC 6265bis 4.1.1).
 use Rattle.std.specs.Prelude.{ℕ, ℤ, pos, int_div, Bool, true, false, ◌&&◌, ◌||◌, List, [], ◌++◌, Option, Some, None, option_map, codes, if◌then◌else◌}
 use Rattle.std.specs.Fmt.{signed_decimal}
-use Rattle.cookie_date.specs.Text.{date_text}
-use Rattle.cookie_core.specs.Escapes.{written}
+use Rattle.cookie_date.specs.Text.{moment_text}
+use Rattle.cookie_core.specs.Escapes.{printed_form}
 use Rattle.cookie_core.specs.Record.{Record}
 use Rattle.cookie_core.specs.SameSite.{same_site_text}
 use Rattle.cookie_core.specs.declared.same_site.SameSite.{SameSite}
@@ -45,7 +45,7 @@ seconds_text n = signed_decimal (int_div n (pos 1000000000))
 
 -- the text of an expiry, if it is a date-time
 abbrev pub expiry_text : Option Expiration → Option (List ℕ)
-expiry_text (Some (expiration.DateTime m)) = Some (date_text m)
+expiry_text (Some (expiration.DateTime m)) = Some (moment_text m)
 expiry_text _ = None
 
 -- the attributes of a cookie, in order
@@ -59,4 +59,4 @@ attributes_text r =
 -- the text of a cookie, with escapes or without, and with its attributes or stripped of them
 abbrev pub cookie_text : Bool → Bool → Record → List ℕ
 cookie_text encoded stripped r =
-    written encoded r.name ++ (codes "=" ++ (written encoded r.value ++ (if stripped then [] else attributes_text r)))
+    printed_form encoded r.name ++ (codes "=" ++ (printed_form encoded r.value ++ (if stripped then [] else attributes_text r)))

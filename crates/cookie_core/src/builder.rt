@@ -2,7 +2,7 @@
 ghost use Rattle.std.specs.Prelude.{◌≡◌, Some, None, alloc_error};
 ghost use Rattle.std.specs.Borrow.{sem};
 ghost use Rattle.jiff.specs.Words.{signed_nanos};
-ghost use Rattle.cookie_core.specs.Expiration.{capped};
+ghost use Rattle.cookie_core.specs.Expiration.{capped_expiry};
 ghost use Rattle.cookie_core.specs.Lending.{LendsInner};
 ghost use Rattle.cookie_core.specs.Memory.{Gives};
 ghost use Rattle.cookie_core.specs.Permanent.{permanent};
@@ -77,7 +77,7 @@ impl<'c> Builder<Cookie<'c>> {
 
     /// Sets the expiry. A date and time past 9999-12-31 23:59:59.999999 counts as that one.
     pub fn expires(mut self, when: Expiration) -> CookieBuilder<'c>
-        ensures fields { result.fields ≡ record self.entry.fields { expires = Some (capped when) } }
+        ensures fields { result.fields ≡ record self.entry.fields { expires = Some (capped_expiry when) } }
         ensures raw { result.raw ≡ self.entry.raw }
     {
         self.inner.set_expires(when);

@@ -1,10 +1,10 @@
 //! The cookie: its record, its reading and its copies (RFC 6265 5.2, 5.3).
 ghost use Rattle.std.specs.Prelude.{false, ◌≡◌, ◌↔◌, pos, int_div, Option, None, Some, Ok, [], option_map, IfOk, alloc_error};
 ghost use Rattle.cookie_core.specs.Memory.{Gives};
-ghost use Rattle.std.specs.Result.{result_map_both, result_ok};
+ghost use Rattle.std.specs.Result.{result_ok};
 ghost use Rattle.std.specs.Option.{option_and_then};
 ghost use Rattle.jiff.specs.Words.{signed_nanos};
-ghost use Rattle.cookie_core.specs.Reads.{Reads};
+ghost use Rattle.cookie_core.specs.Reads.{Reads, fields_of};
 ghost use Rattle.cookie_core.specs.Expiration.{datetime_of};
 ghost use Rattle.cookie_core.specs.CookieStr.{source_bytes, lent_forms};
 ghost use Rattle.cookie_core.specs.CookieOf.{cookie_of};
@@ -53,9 +53,9 @@ impl<'c> Model for Cookie<'c> {
 
     ghost Value = { CookieView };
 
-    ghost use Rattle.cookie_core.specs.Cookie.{view_of, HasFittingSpans};
+    ghost use Rattle.cookie_core.specs.Cookie.{cookie_view, HasFittingSpans};
 
-    ghost view = { view_of };
+    ghost view = { cookie_view };
 
     ghost invariant = { HasFittingSpans };
 }
@@ -89,8 +89,8 @@ impl<'c> Cookie<'c> {
 
     /// Reads a text as a cookie (RFC 6265 5.2). It takes no memory: the parts are spans of the text.
     pub fn parse(text: &'c str) -> Result<Cookie<'c>, ParseError>
-        ensures reads { Reads false text.now (result_map_both (λ c. c.fields) (λ e. e) result) }
-        ensures value { result_ok (result_map_both (λ c. c.fields) (λ e. e) result) ≡ cookie_of false text.now }
+        ensures reads { Reads false text.now (fields_of result) }
+        ensures value { result_ok (fields_of result) ≡ cookie_of false text.now }
         ensures agrees { (r : Record) → (cookie_of false text.now ≡ Some r) ↔ Reads false text.now (Ok r) }
         ensures raw { IfOk result (λ c. c.raw ≡ all_lent c.fields) }
     {
@@ -98,7 +98,7 @@ impl<'c> Cookie<'c> {
     }
 
     fn read(source: Source<'c>) -> Result<Cookie<'c>, ParseError>
-        ensures reads { Reads false (source_bytes source.entry) (result_map_both (λ c. c.fields) (λ e. e) result) }
+        ensures reads { Reads false (source_bytes source.entry) (fields_of result) }
         ensures raw { IfOk result (λ c. c.raw ≡ lent_forms source.entry c.fields) }
     {
         let layout = match Layout::of(source.as_str()) {
@@ -216,7 +216,7 @@ impl<'c> Cookie<'c> {
     pub fn value_trimmed(&self) -> &str
         ensures { result.now ≡ trimmed_value self.now.fields.value }
     {
-        quotes::trimmed(self.value())
+        quotes::trim_quotes(self.value())
     }
 
     /// The name, and the value without a `"` at both ends, where it has both.

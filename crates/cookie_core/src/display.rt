@@ -1,9 +1,9 @@
 //! The text of a cookie (RFC 6265 4.1.1).
 ghost use Rattle.std.specs.Prelude.{◌≡◌, Some, None, option_map, true, false, List, ℕ};
 ghost use Rattle.cookie_core.specs.Display.{DisplayView};
-ghost use Rattle.cookie_core.specs.Escapes.{written};
+ghost use Rattle.cookie_core.specs.Escapes.{printed_form};
 ghost use Rattle.cookie_core.specs.Text.{is_true, prints_secure, is_same_site_none, cookie_text, flag_text, attributes_text, seconds_text, expiry_text};
-ghost use Rattle.cookie_core.specs.Printers.{labelled_output, printed_attributes, date_text_of, scope_text, place_text, lifetime_text};
+ghost use Rattle.cookie_core.specs.Printers.{labelled_output, printed_attributes, moment_text_of, scope_text, place_text, lifetime_text};
 
 use crate::cookie::Cookie;
 use crate::encoding::encode;
@@ -40,7 +40,7 @@ struct Written<'a> {
 }
 
 impl<'a> fmt::Display for Written<'a> {
-    ghost output = { λ p. Some (written p.is_encoded p.text.now) };
+    ghost output = { λ p. Some (printed_form p.is_encoded p.text.now) };
 
     fn fmt<W: fmt::Write>(&self, f: &mut fmt::Formatter<W>) -> fmt::Result {
         let text = self.text;
@@ -103,7 +103,7 @@ impl<'c> Cookie<'c> {
     }
 
     fn expiry_text(&self) -> Option<DateText>
-        ensures { option_map date_text_of result ≡ expiry_text self.now.fields.expires }
+        ensures { option_map moment_text_of result ≡ expiry_text self.now.fields.expires }
     {
         match self.expires_datetime() {
             Some(moment) => Some(DateText(moment)),

@@ -1,7 +1,7 @@
 //! The expiry of a cookie (RFC 6265 5.3).
 ghost use Rattle.std.specs.Prelude.{◌≡◌, ◌↔◌, IsTrue, IsSomeAnd, IfSome, None, MatchOption, is_some};
 ghost use Rattle.jiff.specs.Types.{DateTime as Moment};
-ghost use Rattle.cookie_core.specs.Expiration.{datetime_of, expiration_of, last_expiry, capped};
+ghost use Rattle.cookie_core.specs.Expiration.{datetime_of, expiration_of, last_expiry, capped_expiry};
 
 use jiff::civil::{DateTime, datetime};
 
@@ -68,8 +68,8 @@ impl Expiration {
     }
 
     /// The expiry, or the last one that a cookie keeps if it is later.
-    pub(crate) fn capped(self) -> Expiration
-        ensures { result ≡ capped self }
+    pub(crate) fn cap(self) -> Expiration
+        ensures { result ≡ capped_expiry self }
     {
         match self {
             Expiration::DateTime(moment) => Expiration::DateTime(moment.min(last_expiry())),

@@ -9,7 +9,7 @@ fn is_quoted(value: &str) -> bool
 }
 
 /// The value without a `"` at both ends, where it has both, else the value.
-pub(crate) fn trimmed(value: &str) -> &str
+pub(crate) fn trim_quotes(value: &str) -> &str
     ensures { result.now ≡ trimmed_value value.now }
 {
     if is_quoted(value) {

@@ -8,7 +8,7 @@ use Rattle.jiff.proofs.Family.{same_date, same_time}
 use Rattle.jiff.proofs.SpanFacts.{signed_arith}
 use Rattle.cookie_date.specs.declared.fields.Fields.{Fields}
 use Rattle.cookie_date.specs.Text.{clock_text}
-use Rattle.cookie_date.specs.Forms.{full_year, IsWritten, IsDateText, IsDateOf}
+use Rattle.cookie_date.specs.Forms.{full_year, IsWritten, IsDateText, ReadsAsDate}
 use Rattle.cookie_date.specs.Fields.{Exists, HasFields}
 use Rattle.cookie_date.specs.Calendar.{date_at, time_at}
 use Rattle.cookie_date.specs.Reader.{read_fields}
@@ -87,7 +87,7 @@ pub exact_none : (text : List ℕ) (o : Option DateTime) → read_fields text �
 exact_none text o read is d = (λ e. absurd (none-some _ (sym is ∙ e)), λ t. absurd (none-some _ (sym read ∙ (text_is_read text d t).0)))
 
 -- a text has one answer
-pub same_date_of : (text : List ℕ) (a b : Option DateTime) → IsDateOf text a → IsDateOf text b → a ≡ b
+pub same_date_of : (text : List ℕ) (a b : Option DateTime) → ReadsAsDate text a → ReadsAsDate text b → a ≡ b
 same_date_of text None None of_a of_b = refl
 same_date_of text None (Some d) of_a of_b = (of_a d).1 ((of_b d).0 refl)
 same_date_of text (Some d) b of_a of_b = sym ((of_b d).1 ((of_a d).0 refl))
@@ -123,5 +123,5 @@ pub date_of-is : (text : List ℕ) (d : DateTime) → (date_of text ≡ Some d) 
 date_of-is text d = (date_of-sound text d, date_of-complete text d)
 
 -- and no other answer is exact
-pub date_of-only : (text : List ℕ) (o : Option DateTime) → IsDateOf text o → o ≡ date_of text
+pub date_of-only : (text : List ℕ) (o : Option DateTime) → ReadsAsDate text o → o ≡ date_of text
 date_of-only text o exact = same_date_of text o (date_of text) exact (date_of-is text)

@@ -6,7 +6,7 @@ use Rattle.jiff.specs.Words.{epoch_day, time_nanos}
 use Rattle.jiff.proofs.Family.{days_from_civil-min, epoch_day_same, same_date, same_time}
 use Rattle.jiff.proofs.SpanFacts.{signed_arith}
 use Rattle.cookie_date.specs.Days.{IsFirstMoment, IsLastMoment, IsDaysLater}
-use Rattle.cookie_date.specs.Moments.{date_after, first_moment, last_moment, days_later}
+use Rattle.cookie_date.specs.Moments.{date_later, first_moment, last_moment, days_later}
 use Rattle.cookie_date.proofs.CalendarLemmas.{date_at-found, date_at-parts, time_at-found, time_at-parts, epoch_day-next_date}
 
 -- `first_moment` is the first date-time, whatever other it is given
@@ -35,12 +35,12 @@ epoch_day-first_moment m =
     epoch_day_same (first_moment m).date first is.0.0 is.0.1 is.0.2 ∙ days_from_civil-min
 
 -- counting days moves the day number
-epoch_day-date_after : (first : Date) → epoch_day first ≡ neg_ℤ (pos 4_371_587) → (k : ℕ) → k ≤ 7_304_483 → epoch_day (date_after first k) +ℤ pos 4_371_587 ≡ pos k
-unfolding date_after
-epoch_day-date_after first low zero h = omega (arith, signed_arith)
-epoch_day-date_after first low (suc k) h =
-    let before = epoch_day-date_after first low k (omega arith) in
-    let step = epoch_day-next_date (date_after first k) (omega (arith, signed_arith)) in
+epoch_day-date_later : (first : Date) → epoch_day first ≡ neg_ℤ (pos 4_371_587) → (k : ℕ) → k ≤ 7_304_483 → epoch_day (date_later first k) +ℤ pos 4_371_587 ≡ pos k
+unfolding date_later
+epoch_day-date_later first low zero h = omega (arith, signed_arith)
+epoch_day-date_later first low (suc k) h =
+    let before = epoch_day-date_later first low k (omega arith) in
+    let step = epoch_day-next_date (date_later first k) (omega (arith, signed_arith)) in
     omega (arith, signed_arith)
 
 from_zero : (z : ℤ) → pos 0 ≤ℤ z → pos (unsigned_abs z) ≡ z
@@ -53,7 +53,7 @@ unfolding days_later
 days_later-is m n = by_day (epoch_day m.date +ℤ n) refl
   where
     counted : ℤ → DateTime
-    counted day = record { date = date_after (first_moment m).date (unsigned_abs (day +ℤ pos 4_371_587)); time = m.time }
+    counted day = record { date = date_later (first_moment m).date (unsigned_abs (day +ℤ pos 4_371_587)); time = m.time }
 
     by_day : (day : ℤ) → epoch_day m.date +ℤ n ≡ day → IsDaysLater m n (cond (int_lt day (neg_ℤ (pos 4_371_587))) (first_moment m) (cond (int_lt (pos 2_932_896) day) (last_moment m) (counted day)))
     by_day day is = go (int_lt day (neg_ℤ (pos 4_371_587))) (int_lt (pos 2_932_896) day) refl refl
@@ -65,7 +65,7 @@ days_later-is m n = by_day (epoch_day m.date +ℤ n) refl
             let from : pos 0 ≤ℤ (day +ℤ pos 4_371_587) = omega (arith, ints) in
             let to : day ≤ℤ pos 2_932_896 = omega (arith, ints) in
             let back = from_zero (day +ℤ pos 4_371_587) from in
-            let there = epoch_day-date_after (first_moment m).date (epoch_day-first_moment m) (unsigned_abs (day +ℤ pos 4_371_587)) (omega (arith, signed_arith)) in
+            let there = epoch_day-date_later (first_moment m).date (epoch_day-first_moment m) (unsigned_abs (day +ℤ pos 4_371_587)) (omega (arith, signed_arith)) in
             let on_day : epoch_day (counted day).date ≡ epoch_day m.date +ℤ n = omega (arith, signed_arith) in
             record { within = λ h. (on_day, refl); above = λ h. absurd (omega (arith, signed_arith)); below = λ h. absurd (omega (arith, signed_arith)) }
 

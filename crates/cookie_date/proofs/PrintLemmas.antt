@@ -8,7 +8,7 @@ use Rattle.jiff.specs.Words.{IsYear, weekday_of, days_in_month}
 use Rattle.jiff.proofs.Family.{weekday_number-day}
 use Rattle.jiff.proofs.SpanFacts.{signed_arith}
 use Rattle.cookie_date.specs.Names.{weekday_text}
-use Rattle.cookie_date.specs.Text.{clock_text, date_text}
+use Rattle.cookie_date.specs.Text.{clock_text, moment_text}
 use Rattle.cookie_date.proofs.YearLemmas.{year_rule, full_year-pos}
 use Rattle.cookie_date.specs.Forms.{IsYearText, IsDateText, IsReadBack, day_first, full_year}
 
@@ -27,11 +27,11 @@ weekday_bound : (date : Date) → weekday_of date < 7
 weekday_bound date = omega (arith, weekday_number-day date.year date.month date.day date.day date.day_in.0 (omega arith))
 
 -- a printed text stands for what is read back
-pub printed_text : (d back : DateTime) → IsReadBack d back → IsDateText (date_text d) back
+pub printed_text : (d back : DateTime) → IsReadBack d back → IsDateText (moment_text d) back
 printed_text d back r =
     let weekday = weekday_bound d.date in
     let year = signed_decimal d.date.year in
-    let whole : date_text d ≡ (weekday_text (weekday_of d.date) ++ 44 ∷ 32 ∷ []) ++ day_first (32 ∷ []) d.date.day d.date.month year (clock_text d.time.hour d.time.minute d.time.second) = sym (append_assoc (weekday_text (weekday_of d.date)) (44 ∷ 32 ∷ []) _) in (
+    let whole : moment_text d ≡ (weekday_text (weekday_of d.date) ++ 44 ∷ 32 ∷ []) ++ day_first (32 ∷ []) d.date.day d.date.month year (clock_text d.time.hour d.time.minute d.time.second) = sym (append_assoc (weekday_text (weekday_of d.date)) (44 ∷ 32 ∷ []) _) in (
       d.date.year,
       rw (r.1, r.2, r.3, r.4, r.5) (inl (weekday_text (weekday_of d.date) ++ 44 ∷ 32 ∷ [], year, inr (weekday_of d.date, weekday, refl), printed_year d.date.year d.date.year_in, whole)),
       r.0,
@@ -60,11 +60,11 @@ long_year (pos n) h =
     full_year-pos n ∙ rw (recent, old) refl
 
 -- so such a date-time of whole seconds comes back
-pub kept : (d : DateTime) → (d.date.year <ℤ pos 0) ⊎ (pos 100 ≤ℤ d.date.year) → d.time.subsec_nanosecond ≡ 0 → IsDateText (date_text d) d
+pub kept : (d : DateTime) → (d.date.year <ℤ pos 0) ⊎ (pos 100 ≤ℤ d.date.year) → d.time.subsec_nanosecond ≡ 0 → IsDateText (moment_text d) d
 kept d year whole = printed_text d d (sym (long_year d.date.year year), refl, refl, refl, refl, refl, whole)
 
 -- an answer that is exact gives back what was printed
-pub printed_is_read : (text : List ℕ) (o : Option DateTime) → ((d : DateTime) → (o ≡ Some d) ↔ IsDateText text d) → (d : DateTime) → text ≡ date_text d → (back : DateTime) × (o ≡ Some back) × IsReadBack d back
+pub printed_is_read : (text : List ℕ) (o : Option DateTime) → ((d : DateTime) → (o ≡ Some d) ↔ IsDateText text d) → (d : DateTime) → text ≡ moment_text d → (back : DateTime) × (o ≡ Some back) × IsReadBack d back
 printed_is_read text o exact d e =
     let (back, is) = read_back d in
     (back, (exact back).1 (subst (λ t. IsDateText t back) (sym e) (printed_text d back is)), is)

@@ -5,7 +5,7 @@ use Rattle.std.proofs.lemmas.Bool.{cases_lt}
 use Rattle.std.proofs.lemmas.Int.{by_lt_z}
 use Rattle.jiff.specs.Types.{Date, Time}
 use Rattle.jiff.specs.Words.{days_in_month}
-use Rattle.cookie_date.specs.Steps.{◌>>=◌}
+use Rattle.cookie_date.specs.Chains.{◌>>=◌}
 
 -- the second of two facts, where that one was found to hold
 abbrev pub second_fact : {P Q : Type 0} → P ⊎ Q → Option Q

@@ -10,7 +10,7 @@ use Rattle.jiff.specs.Types.{DateTime}
 use Rattle.cookie_date.specs.Names.{weekday_text, long_weekday_text, month_text}
 use Rattle.cookie_date.specs.Text.{two_digits, clock_text}
 
--- The year rule (RFC 6265, 5.1.1, steps 3 and 4): 0 to 69 means 2000 to 2069, 70 to 99 means 1970 to 1999, and any
+-- The year rule (RFC 6265 5.1.1, steps 3 and 4): 0 to 69 means 2000 to 2069, 70 to 99 means 1970 to 1999, and any
 -- other year itself.
 abbrev pub full_year : ℤ → ℤ
 full_year year = if int_lt year (pos 0) then year
@@ -27,7 +27,7 @@ abbrev pub IsYearText : List ℕ → ℤ → Type 0
 IsYearText text year = (sign : List ℕ) × (digits : List ℕ) × (text ≡ sign ++ digits)
     × IsNumeral 10 digits × (length digits ≤ 4) × IsSigned sign (digits_value 10 digits) year
 
--- `_D`: two digits, or a space and one digit (RFC 9110, 5.6.7, `date3`)
+-- `_D`: two digits, or a space and one digit (RFC 9110 5.6.7, `date3`)
 abbrev pub IsDayText : List ℕ → ℕ → Type 0
 IsDayText text day = (text ≡ two_digits day) ⊎ ((day < 10) × (text ≡ codes " " ++ ((48 + day) ∷ [])))
 
@@ -45,17 +45,17 @@ abbrev pub month_first : ℕ → List ℕ → List ℕ → List ℕ → List ℕ
 month_first month day clock year =
     month_text month ++ (codes " " ++ (day ++ (codes " " ++ (clock ++ (codes " " ++ year)))))
 
--- form 1, as `Sun, 06 Nov 1994 08:49:37 GMT` (RFC 9110, 5.6.7, `IMF-fixdate`)
+-- form 1, as `Sun, 06 Nov 1994 08:49:37 GMT` (RFC 9110 5.6.7, `IMF-fixdate`)
 abbrev pub IsFormOne : List ℕ → ℤ → ℕ → ℕ → List ℕ → Type 0
 IsFormOne text year month day clock = (lead : List ℕ) × (shown : List ℕ) × IsLead weekday_text (codes ", ") lead
     × IsYearText shown year × (text ≡ lead ++ day_first (codes " ") day month shown clock)
 
--- form 2, as `Sunday, 06-Nov-94 08:49:37 GMT` (RFC 9110, 5.6.7, `rfc850-date`)
+-- form 2, as `Sunday, 06-Nov-94 08:49:37 GMT` (RFC 9110 5.6.7, `rfc850-date`)
 abbrev pub IsFormTwo : List ℕ → ℤ → ℕ → ℕ → List ℕ → Type 0
 IsFormTwo text year month day clock = (lead : List ℕ) × (short : ℕ) × IsLead long_weekday_text (codes ", ") lead
     × (short < 100) × (year ≡ pos short) × (text ≡ lead ++ day_first (codes "-") day month (two_digits short) clock)
 
--- form 3, as `Sun Nov  6 08:49:37 1994` (RFC 9110, 5.6.7, `asctime-date`)
+-- form 3, as `Sun Nov  6 08:49:37 1994` (RFC 9110 5.6.7, `asctime-date`)
 abbrev pub IsFormThree : List ℕ → ℤ → ℕ → ℕ → List ℕ → Type 0
 IsFormThree text year month day clock = (lead : List ℕ) × (shown : List ℕ) × (padded : List ℕ)
     × IsLead weekday_text (codes " ") lead × IsYearText shown year × IsDayText padded day
@@ -79,8 +79,8 @@ IsDateText text d = (year : ℤ)
     × (d.date.year ≡ full_year year) × (d.time.subsec_nanosecond ≡ 0)
 
 -- the answer is the date-time that the text stands for, or `None` where it stands for none
-abbrev pub IsDateOf : List ℕ → Option DateTime → Type 0
-IsDateOf text answer = (d : DateTime) → (answer ≡ Some d) ↔ IsDateText text d
+abbrev pub ReadsAsDate : List ℕ → Option DateTime → Type 0
+ReadsAsDate text answer = (d : DateTime) → (answer ≡ Some d) ↔ IsDateText text d
 
 -- the second is the first in the year that the rule makes of its year, without the fraction of a second
 abbrev pub IsReadBack : DateTime → DateTime → Type 0

@@ -2,7 +2,7 @@ pub mod Names
 pub mod Text
 pub mod Forms
 pub mod Days
-pub mod Steps
+pub mod Chains
 pub mod Calendar
 pub mod Fields
 pub mod Reader

@@ -5,7 +5,7 @@ use Rattle.jiff.specs.Words.{epoch_day}
 use Rattle.cookie_date.specs.Forms.{full_year}
 use Rattle.cookie_date.specs.Calendar.{date_at, time_at, next_date}
 use Rattle.cookie_date.specs.Reader.{read_fields}
-use Rattle.cookie_date.specs.Steps.{◌>>=◌}
+use Rattle.cookie_date.specs.Chains.{◌>>=◌}
 
 -- The date-time that a text stands for, or `None` where it stands for none. That it is exactly the one of
 -- `IsDateText` is the lemma `date_of-is` of proofs/DateLemmas.
@@ -17,9 +17,9 @@ date_of text = do
   Some (record { date = date; time = time })
 
 -- the date so many days after another
-unfoldable pub date_after : Date → ℕ → Date
-date_after first zero = first
-date_after first (suc days) = next_date (date_after first days)
+unfoldable pub date_later : Date → ℕ → Date
+date_later first zero = first
+date_later first (suc days) = next_date (date_later first days)
 
 -- the first date-time of the calendar; its date and time exist, so those of the other one are never taken
 unfoldable pub first_moment : DateTime → DateTime
@@ -43,6 +43,6 @@ days_later moment days =
     if int_lt day (neg_ℤ (pos 4_371_587)) then first_moment moment
     else if int_lt (pos 2_932_896) day then last_moment moment
     else record {
-      date = date_after (first_moment moment).date (unsigned_abs (day +ℤ pos 4_371_587));
+      date = date_later (first_moment moment).date (unsigned_abs (day +ℤ pos 4_371_587));
       time = moment.time;
     }

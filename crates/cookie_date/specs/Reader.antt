@@ -4,7 +4,7 @@ use Rattle.std.specs.Char.{is_ascii_digit}
 use Rattle.std.specs.Borrow.{Bor}
 use Rattle.cookie_date.specs.declared.fields.Fields.{Fields}
 use Rattle.cookie_date.specs.Names.{weekday_text, month_text}
-use Rattle.cookie_date.specs.Steps.{◌>>=◌}
+use Rattle.cookie_date.specs.Chains.{◌>>=◌}
 
 -- what stands at the front of a text, and the text behind it
 abbrev pub Front : Type 0 → Type 0

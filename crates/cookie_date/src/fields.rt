@@ -17,7 +17,7 @@ pub struct Fields {
     pub second: u8,
 }
 
-// RFC 6265, 5.1.1, steps 3 and 4.
+// RFC 6265 5.1.1, steps 3 and 4.
 fn full_year(year: i16) -> i16
     requires { IsYear year }
     ensures value { result ≡ full_year year }
@@ -31,7 +31,7 @@ fn full_year(year: i16) -> i16
 }
 
 /// The date-time of the fields, if the calendar and a clock have it.
-pub fn moment_of(fields: Fields) -> Option<DateTime>
+pub fn date_of_fields(fields: Fields) -> Option<DateTime>
     requires year { IsYear fields.year }
     requires two_digits { (fields.month < 100) × (fields.day < 100) × (fields.hour < 100)
         × (fields.minute < 100) × (fields.second < 100) }

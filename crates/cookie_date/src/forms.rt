@@ -2,11 +2,11 @@
 ghost use Rattle.std.specs.Prelude.{◌≡◌, ◌<◌, Some};
 ghost use Rattle.jiff.specs.Types.{DateTime as CivilDateTime};
 ghost use Rattle.cookie_date.specs.Reader as Reader;
-ghost use Rattle.cookie_date.specs.Text.{date_text};
-ghost use Rattle.cookie_date.specs.Forms.{IsDateText, IsDateOf, IsReadBack};
+ghost use Rattle.cookie_date.specs.Text.{moment_text};
+ghost use Rattle.cookie_date.specs.Forms.{IsDateText, ReadsAsDate, IsReadBack};
 ghost use Rattle.cookie_date.specs.Moments.{date_of};
 
-use crate::fields::{Fields, moment_of};
+use crate::fields::{Fields, date_of_fields};
 use crate::reader::{
     read_clock, read_day_month, read_gmt, read_month, read_padded_day, read_tag, read_two_digits,
     read_weekday, read_year, weekday_rest,
@@ -121,20 +121,20 @@ fn read_fields(text: &[u8]) -> Option<Fields>
 
 /// The date-time in UTC, in whole seconds, that the text stands for.
 ///
-/// The text has one of four forms: the three of RFC 9110, 5.6.7, as `Sun, 06 Nov 1994 08:49:37 GMT`,
+/// The text has one of four forms: the three of RFC 9110 5.6.7, as `Sun, 06 Nov 1994 08:49:37 GMT`,
 /// `Sunday, 06-Nov-94 08:49:37 GMT` and `Sun Nov  6 08:49:37 1994`, and the first with hyphens round the month.
 /// The weekday may be left out, and isn't compared with the date. In the second form the year has two digits, and
 /// in the others one to four, behind a sign or none. A year from 0 to 99 is completed to one from 1970 to 2069
-/// (RFC 6265, 5.1.1, steps 3 and 4).
+/// (RFC 6265 5.1.1, steps 3 and 4).
 ///
 /// `None` says that the text has none of the forms, or shows a date or a time that there isn't.
 pub fn read_date(text: &str) -> Option<DateTime>
-    ensures exact { IsDateOf text.now result }
+    ensures exact { ReadsAsDate text.now result }
     ensures value { result ≡ date_of text.now }
     ensures unique { (a b : CivilDateTime) → IsDateText text.now a → IsDateText text.now b → a ≡ b }
-    ensures printed { (date : CivilDateTime) → text.now ≡ date_text date
+    ensures printed { (date : CivilDateTime) → text.now ≡ moment_text date
         → (back : CivilDateTime) × (result ≡ Some back) × IsReadBack date back }
 {
     let fields = read_fields(text.as_bytes())?;
-    moment_of(fields)
+    date_of_fields(fields)
 }

@@ -2,12 +2,12 @@
 ghost use Rattle.std.specs.Prelude.{◌≡◌, ◌-◌, ◌<◌, Some};
 ghost use Rattle.std.specs.Int.{IsInRange};
 ghost use Rattle.cookie_date.specs.Names.{weekday_text, month_text};
-ghost use Rattle.cookie_date.specs.Text.{clock_text, date_text};
+ghost use Rattle.cookie_date.specs.Text.{clock_text, moment_text};
 
 use jiff::civil::{DateTime, Time};
 use std::fmt;
 
-/// Prints a date-time in UTC as `Wed, 21 Oct 2015 07:28:00 GMT` (RFC 9110, 5.6.7, `IMF-fixdate`).
+/// Prints a date-time in UTC as `Wed, 21 Oct 2015 07:28:00 GMT` (RFC 9110 5.6.7, `IMF-fixdate`).
 ///
 /// The year has as many digits as it needs, behind a `-` if it is below 0, and the fraction of a second is
 /// left out.
@@ -91,7 +91,7 @@ impl fmt::Display for ClockText {
 }
 
 impl fmt::Display for DateText {
-    ghost output = { λ text. Some (date_text text.0) };
+    ghost output = { λ text. Some (moment_text text.0) };
 
     fn fmt<W: fmt::Write>(&self, f: &mut fmt::Formatter<W>) -> fmt::Result {
         let date = self.0.to_plain().date;

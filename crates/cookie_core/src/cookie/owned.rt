@@ -1,15 +1,15 @@
 //! Cookies with texts of their own, and reading with decoding (RFC 6265 5.2).
 ghost use Rattle.std.specs.Prelude.{false, true, ◌≡◌, ◌↔◌, Some, None, Ok, IfOk, IfErr, string_bytes};
-ghost use Rattle.std.specs.Result.{result_map_both, result_ok};
+ghost use Rattle.std.specs.Result.{result_ok};
 ghost use Rattle.cookie_core.specs.CookieOf.{cookie_of};
 ghost use Rattle.cookie_core.specs.CookieStr.{source_bytes};
-ghost use Rattle.cookie_core.specs.Decoding.{ReadsInMemory, ReadsDecoded, AgreesInMemory, LendsDecoded, NamesFault, IsCertain};
+ghost use Rattle.cookie_core.specs.Decoding.{ReadsInMemory, AgreesInMemory, LendsDecoded, NamesFault, IsCertain};
 ghost use Rattle.cookie_core.specs.DecodingCode.{lent_decoded_forms};
 ghost use Rattle.cookie_core.specs.Laws.{IsSettled, IsSettledAtOnce};
 ghost use Rattle.cookie_core.specs.Memory.{Gives};
-ghost use Rattle.cookie_core.specs.Normal.{normal, CanBeRead, IsNamed};
+ghost use Rattle.cookie_core.specs.Normal.{normal_form, CanBeRead, IsNamed};
 ghost use Rattle.cookie_core.specs.OwnedCode.{IsMadeOwn};
-ghost use Rattle.cookie_core.specs.Reads.{Reads};
+ghost use Rattle.cookie_core.specs.Reads.{Reads, fields_of};
 ghost use Rattle.cookie_core.specs.Record.{Record, IsCookie, no_raw_forms, plain, without_leading_dot};
 ghost use Rattle.cookie_core.specs.Text.{cookie_text};
 ghost use Rattle.cookie_core.specs.declared.parse_error.ParseError.TheVariants.{OutOfMemory};
@@ -35,8 +35,8 @@ impl<'c> Cookie<'c> {
 
     /// Reads a text as a cookie, which keeps the text (RFC 6265 5.2). It takes no memory, and lends nothing.
     pub fn parse_owned(text: String) -> Result<Cookie<'c>, ParseError>
-        ensures reads { Reads false (string_bytes text) (result_map_both (λ c. c.fields) (λ e. e) result) }
-        ensures value { result_ok (result_map_both (λ c. c.fields) (λ e. e) result) ≡ cookie_of false (string_bytes text) }
+        ensures reads { Reads false (string_bytes text) (fields_of result) }
+        ensures value { result_ok (fields_of result) ≡ cookie_of false (string_bytes text) }
         ensures raw { IfOk result (λ c. c.raw ≡ no_raw_forms) }
     {
         Cookie::read(Source::Owned(text))
@@ -48,9 +48,9 @@ impl<'c> Cookie<'c> {
     /// no `=` in its first piece, then an empty name, and then, in no fixed order, bytes that aren't UTF-8 and want
     /// of memory. The encoded text of a cookie is read as its normal form.
     pub fn parse_encoded(alloc: Global, text: &'c str) -> Result<Cookie<'c>, ParseError>
-        ensures reads { ReadsDecoded text.now (result_map_both (λ c. c.fields) (λ e. e) result) }
+        ensures reads { ReadsInMemory true text.now (fields_of result) }
         ensures value { AgreesInMemory true text.now
-            (result_map_both (λ c. c.fields) (λ e. e) result) }
+            (fields_of result) }
         ensures agrees { (r : Record)
             → (cookie_of true text.now ≡ Some r) ↔ Reads true text.now (Ok r) }
         ensures fault { IfErr result (NamesFault text.now) }
@@ -58,7 +58,7 @@ impl<'c> Cookie<'c> {
         ensures raw { IfOk result (λ c. LendsDecoded text.now c.raw) }
         ensures normal { (r : Record) → IsCookie r → CanBeRead r
             → text.now ≡ cookie_text true false r
-            → Gives OutOfMemory result (λ c. c.fields ≡ normal r) }
+            → Gives OutOfMemory result (λ c. c.fields ≡ normal_form r) }
         ensures pair { (r : Record) → IsNamed r → text.now ≡ cookie_text true true r
             → Gives OutOfMemory result (λ c. c.fields ≡ plain r.name r.value) }
         ensures settled { IsSettled }
@@ -69,16 +69,16 @@ impl<'c> Cookie<'c> {
 
     /// Reads a text as `parse_encoded` does. The cookie keeps the text, and lends nothing.
     pub fn parse_encoded_owned(alloc: Global, text: String) -> Result<Cookie<'c>, ParseError>
-        ensures reads { ReadsDecoded (string_bytes text)
-            (result_map_both (λ c. c.fields) (λ e. e) result) }
+        ensures reads { ReadsInMemory true (string_bytes text)
+            (fields_of result) }
         ensures value { AgreesInMemory true (string_bytes text)
-            (result_map_both (λ c. c.fields) (λ e. e) result) }
+            (fields_of result) }
         ensures fault { IfErr result (NamesFault (string_bytes text)) }
         ensures certain { IsCertain (string_bytes text) result }
         ensures raw { IfOk result (λ c. c.raw ≡ no_raw_forms) }
         ensures normal { (r : Record) → IsCookie r → CanBeRead r
             → string_bytes text ≡ cookie_text true false r
-            → Gives OutOfMemory result (λ c. c.fields ≡ normal r) }
+            → Gives OutOfMemory result (λ c. c.fields ≡ normal_form r) }
         ensures pair { (r : Record) → IsNamed r → string_bytes text ≡ cookie_text true true r
             → Gives OutOfMemory result (λ c. c.fields ≡ plain r.name r.value) }
     {
@@ -86,8 +86,8 @@ impl<'c> Cookie<'c> {
     }
 
     fn read_encoded(alloc: Global, source: Source<'c>) -> Result<Cookie<'c>, ParseError>
-        ensures reads { ReadsDecoded (source_bytes source.entry)
-            (result_map_both (λ c. c.fields) (λ e. e) result) }
+        ensures reads { ReadsInMemory true (source_bytes source.entry)
+            (fields_of result) }
         ensures fault { IfErr result (NamesFault (source_bytes source.entry)) }
         ensures certain { IsCertain (source_bytes source.entry) result }
         ensures raw { IfOk result (λ c. (r : Record)
@@ -156,8 +156,8 @@ impl<'c> Cookie<'c> {
 impl Cookie<'static> {
     /// Reads a text as `parse` does, and copies it. It refuses want of memory last.
     pub fn from_str(alloc: Global, text: &str) -> Result<Cookie<'static>, ParseError>
-        ensures reads { ReadsInMemory false text.now (result_map_both (λ c. c.fields) (λ e. e) result) }
-        ensures value { AgreesInMemory false text.now (result_map_both (λ c. c.fields) (λ e. e) result) }
+        ensures reads { ReadsInMemory false text.now (fields_of result) }
+        ensures value { AgreesInMemory false text.now (fields_of result) }
         ensures raw { IfOk result (λ c. c.raw ≡ no_raw_forms) }
     {
         make_own(alloc, Cookie::parse(text))

@@ -1,7 +1,7 @@
 //! What changes a cookie's fields (RFC 6265 5.3).
 ghost use Rattle.std.specs.Prelude.{◌≡◌, Some, None, option_map};
 ghost use Rattle.jiff.specs.Words.{signed_nanos};
-ghost use Rattle.cookie_core.specs.Expiration.{capped};
+ghost use Rattle.cookie_core.specs.Expiration.{capped_expiry};
 ghost use Rattle.cookie_core.specs.Permanent.{permanent};
 ghost use Rattle.cookie_core.specs.Record.{without_leading_dot};
 ghost use Rattle.cookie_core.specs.Removal.{removal};
@@ -108,10 +108,10 @@ impl<'c> Cookie<'c> {
 
     /// Sets the expiry. A date and time past 9999-12-31 23:59:59.999999 counts as that one.
     pub fn set_expires(&mut self, when: Expiration)
-        ensures fields { self.new.fields ≡ record self.old.fields { expires = Some (capped when) } }
+        ensures fields { self.new.fields ≡ record self.old.fields { expires = Some (capped_expiry when) } }
         ensures raw { self.new.raw ≡ self.old.raw }
     {
-        self.expires = Some(when.capped());
+        self.expires = Some(when.cap());
     }
 
     /// Unsets the expiry, which is not to set it to the end of the session.

@@ -1,11 +1,11 @@
 use Rattle.std.proofs.Common.{ℕ, List, refl, None}
-use Rattle.cookie_date.specs.Forms.{IsDateOf}
+use Rattle.cookie_date.specs.Forms.{ReadsAsDate}
 use Rattle.cookie_core.specs.Attributes.{GivesExpiry}
 use Rattle.cookie_core.specs.declared.expiration.Expiration.{Expiration}
 use Rattle.cookie_core.specs.declared.expiration.Expiration.TheVariants as expiration
 use Rattle.cookie_core.proofs.attributes.expiration.Goals as goal
 
-no_expiry : (t : List ℕ) → IsDateOf t None → (x : Expiration) → ¬ (GivesExpiry t x)
+no_expiry : (t : List ℕ) → ReadsAsDate t None → (x : Expiration) → ¬ (GivesExpiry t x)
 no_expiry t none (expiration.DateTime m) gives = let e = (none m).1 gives in absurd cc
 no_expiry t none expiration.Session gives = gives
 

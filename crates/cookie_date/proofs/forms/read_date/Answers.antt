@@ -5,11 +5,11 @@ use Rattle.cookie_date.proofs.DateLemmas.{exact_some, exact_none, same_text_date
 use Rattle.cookie_date.proofs.PrintLemmas.{printed_is_read}
 use Rattle.cookie_date.proofs.forms.read_date.Goals as goal
 
-pub moment_of-requires-clause-year : goal.moment_of-requires-clause-year
-moment_of-requires-clause-year c = (fields_sound _ _ (sym c.read_fields.ensures ∙ c.in_ok-fields.was)).1.year
+pub date_of_fields-requires-clause-year : goal.date_of_fields-requires-clause-year
+date_of_fields-requires-clause-year c = (fields_sound _ _ (sym c.read_fields.ensures ∙ c.in_ok-fields.was)).1.year
 
-pub moment_of-requires-clause-two_digits : goal.moment_of-requires-clause-two_digits
-moment_of-requires-clause-two_digits c =
+pub date_of_fields-requires-clause-two_digits : goal.date_of_fields-requires-clause-two_digits
+date_of_fields-requires-clause-two_digits c =
     let fits = (fields_sound _ _ (sym c.read_fields.ensures ∙ c.in_ok-fields.was)).1 in
     (omega (arith, fits.month), fits.day, fits.clock.0, fits.clock.1, fits.clock.2)
 
@@ -32,7 +32,7 @@ returns-in_err-fields-clause-printed c =
 pub returns-clause-exact : goal.returns-clause-exact
 returns-clause-exact c =
     let read = ap read_fields (sym c.as_bytes.ensures.value) ∙ sym c.read_fields.ensures ∙ c.in_ok-fields.was in
-    exact_some c.args.text.now c.in_ok-fields.fields _ read c.moment_of.ensures.succeeds c.moment_of.ensures.value
+    exact_some c.args.text.now c.in_ok-fields.fields _ read c.date_of_fields.ensures.succeeds c.date_of_fields.ensures.value
 
 pub returns-clause-value : goal.returns-clause-value
 returns-clause-value c = date_of-only c.args.text.now _ (returns-clause-exact c)
@@ -43,4 +43,4 @@ returns-clause-unique c a b = same_text_date _ a b
 pub returns-clause-printed : goal.returns-clause-printed
 returns-clause-printed c =
     let read = ap read_fields (sym c.as_bytes.ensures.value) ∙ sym c.read_fields.ensures ∙ c.in_ok-fields.was in
-    printed_is_read c.args.text.now _ (exact_some c.args.text.now c.in_ok-fields.fields _ read c.moment_of.ensures.succeeds c.moment_of.ensures.value)
+    printed_is_read c.args.text.now _ (exact_some c.args.text.now c.in_ok-fields.fields _ read c.date_of_fields.ensures.succeeds c.date_of_fields.ensures.value)

@@ -3,8 +3,8 @@ use Rattle.cookie_core.specs.CookieOf.{cookie_of}
 use Rattle.cookie_core.proofs.CookieOfLemmas.{cookie_of-Reads}
 use Rattle.cookie_core.proofs.DecodeLemmas.{AgreesInMemory-reads, LendsDecoded-borrowed}
 use Rattle.cookie_core.proofs.LawLemmas.{agreed-gives}
-use Rattle.cookie_core.proofs.NormalFormLemmas.{cookie_of-normal, cookie_of-stripped}
-use Rattle.cookie_core.proofs.NormalLemmas.{normal-second, normal-third}
+use Rattle.cookie_core.proofs.NormalFormLemmas.{cookie_of-normal_form, cookie_of-stripped}
+use Rattle.cookie_core.proofs.NormalLemmas.{normal_form-second, normal_form-third}
 use Rattle.cookie_core.proofs.cookie.Cookie.parse_encoded.Goals as goal
 
 pub returns-clause-value : goal.returns-clause-value
@@ -15,17 +15,17 @@ returns-clause-raw c = LendsDecoded-borrowed c.args.text _ c.read_encoded.ensure
 
 pub returns-clause-normal : goal.returns-clause-normal
 returns-clause-normal c r is can e =
-    agreed-gives c.args.text.now _ _ (AgreesInMemory-reads true c.args.text.now _ c.read_encoded.ensures.reads) (ap (cookie_of true) e ∙ cookie_of-normal r is can)
+    agreed-gives c.args.text.now _ _ (AgreesInMemory-reads true c.args.text.now _ c.read_encoded.ensures.reads) (ap (cookie_of true) e ∙ cookie_of-normal_form r is can)
 
 pub returns-clause-pair : goal.returns-clause-pair
 returns-clause-pair c r is e =
     agreed-gives c.args.text.now _ _ (AgreesInMemory-reads true c.args.text.now _ c.read_encoded.ensures.reads) (ap (cookie_of true) e ∙ cookie_of-stripped r is)
 
 pub returns-clause-settled : goal.returns-clause-settled
-returns-clause-settled c = normal-third
+returns-clause-settled c = normal_form-third
 
 pub returns-clause-settled_at_once : goal.returns-clause-settled_at_once
-returns-clause-settled_at_once c = normal-second
+returns-clause-settled_at_once c = normal_form-second
 
 pub returns-clause-agrees : goal.returns-clause-agrees
 returns-clause-agrees c = cookie_of-Reads true c.args.text.now

@@ -1,7 +1,7 @@
-use Rattle.std.proofs.Common.{Ok, refl, sym, ap, subst, ◌∙◌}
+use Rattle.std.proofs.Common.{true, Ok, refl, sym, ap, subst, ◌∙◌}
 use Rattle.std.proofs.lemmas.Option.{same_Some}
 use Rattle.cookie_core.specs.CookieStr.{source_bytes}
-use Rattle.cookie_core.specs.Decoding.{ReadsDecoded, are_decoded}
+use Rattle.cookie_core.specs.Decoding.{ReadsInMemory, are_decoded}
 use Rattle.cookie_core.specs.Record.{Record}
 use Rattle.cookie_core.specs.Settings.{layout_record}
 use Rattle.cookie_core.proofs.DecodeLemmas.{NamesFault-error, NamesFault-refused, ReadsDecoded-error, ReadsDecoded-refused, ReadsDecoded-record, cookie_of-parts, not_refused, raw-inside}
@@ -21,7 +21,7 @@ returns-clause-reads c =
     let h = c.in-Ok-decode_pair.ensures.name _ p.name in
     let k = c.in-Ok-decode_pair.ensures.value _ p.value in
     let e = fields-inside c.args.source c.in-Ok-decode_pair.pair.0 c.in-Ok-decode_pair.pair.1 c.span-path.result c.span-domain.result c.in-Ok.layout _ _ h.bytes k.bytes (c.span-path.ensures _ p.attributes.0) (c.span-domain.ensures _ p.attributes.1) in
-    subst (λ (r : Record). ReadsDecoded (source_bytes c.args.source) (Ok r)) (sym e) (ReadsDecoded-record _ _ (source_bytes c.args.source) _ (layout_record c.in-Ok.layout) c.in-Ok-decode_pair.pair.0 c.in-Ok-decode_pair.pair.1 (rw c.as_str.ensures at c.in-Ok.ensures.reads) h k)
+    subst (λ (r : Record). ReadsInMemory true (source_bytes c.args.source) (Ok r)) (sym e) (ReadsDecoded-record _ _ (source_bytes c.args.source) _ (layout_record c.in-Ok.layout) c.in-Ok-decode_pair.pair.0 c.in-Ok-decode_pair.pair.1 (rw c.as_str.ensures at c.in-Ok.ensures.reads) h k)
 
 pub returns-clause-raw : goal.returns-clause-raw
 returns-clause-raw c =

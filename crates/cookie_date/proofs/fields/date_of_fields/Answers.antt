@@ -3,7 +3,7 @@ use Rattle.std.proofs.lemmas.Int.{to_z-of_z, ints}
 use Rattle.jiff.proofs.SpanFacts.{signed_arith}
 use Rattle.cookie_date.specs.Forms.{full_year}
 use Rattle.cookie_date.proofs.FieldLemmas.{exists_is}
-use Rattle.cookie_date.proofs.fields.moment_of.Goals as goal
+use Rattle.cookie_date.proofs.fields.date_of_fields.Goals as goal
 
 pub returns-clause-succeeds : goal.returns-clause-succeeds
 returns-clause-succeeds c =
