@@ -15,11 +15,11 @@ use Rattle.cookie.specs.Record.{Record}
 use Rattle.cookie.proofs.HistoryLemmas.{looks_back}
 use Rattle.cookie.proofs.NameLemmas.{get_inserted, get_removed}
 use Rattle.cookie.proofs.OutcomeLemmas.{nameless_outcome}
-use Rattle.cookie_client.specs.Agreement.{Agrees, AreDeltaTexts, HoldsOriginals, alters_original, originals_of, holds_originals, value_of}
-use Rattle.cookie_client.specs.Calls.{IsFit}
+use Rattle.cookie_client.specs.Agreement.{Agrees, AreDeltaTexts, HoldsOriginals, alters_original, value_of}
+use Rattle.cookie_client.specs.Calls.{IsFit, IsKnownChange}
 use Rattle.cookie_client.specs.Client.{Values, after_texts}
-use Rattle.cookie_client.specs.Session.{holding}
-use Rattle.cookie_client.proofs.ChangeLemmas.{IsKnown, are_kept, are_fit}
+use Rattle.cookie_client.specs.Originals.{holding, holds_originals, originals_of}
+use Rattle.cookie_client.proofs.ChangeLemmas.{are_kept, are_fit}
 use Rattle.cookie_client.proofs.EntryLemmas.{AreEntries, AreEntries-empty, chosen}
 use Rattle.cookie_client.proofs.FitLemmas.{IsFitEntry, decided_fit}
 use Rattle.cookie_client.proofs.ReadTextLemmas.{IsKept, effect, decided, read_at, same_client}
@@ -163,7 +163,7 @@ shown now name (Some entry) o held fit same = decided_fit now name entry (fit en
     by false = refl
 
 -- the client that read the texts of the delta which the changes left, of a jar without changes before
-pub agreement : (now : DateTime) (changes : List Change) → All IsKnown changes → (start jar : JarState) → start.delta ≡ empty → jar ≡ after_all changes start
+pub agreement : (now : DateTime) (changes : List Change) → All IsKnownChange changes → (start jar : JarState) → start.delta ≡ empty → jar ≡ after_all changes start
     → (before client : Values) (texts : List (List ℕ)) → AreDeltaTexts jar.delta texts → client ≡ after_texts now texts before → Agrees now before changes jar client
 agreement now changes known start jar fresh is before client texts are read =
     let none : (R : Name → Marked → Type 0) → AreEntries R start.delta = λ R. subst (AreEntries R) (sym fresh) (AreEntries-empty R) in

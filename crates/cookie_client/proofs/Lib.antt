@@ -9,7 +9,6 @@ pub mod HeaderLemmas
 pub mod LineLemmas
 pub mod LiveLemmas
 pub mod OriginalLemmas
-pub mod OutcomeLemmas
 pub mod ReadTextLemmas
 pub mod ResultLemmas
 pub mod StoredLemmas

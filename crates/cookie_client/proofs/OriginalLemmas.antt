@@ -1,13 +1,23 @@
--- What a jar of one original shows, and what a client then holds.
-use Rattle.std.proofs.Common.{◌≡◌, cond, Some, Result, Ok, Err, OnOk, refl, ap, ◌∙◌}
+-- What a jar has as originals, and what a client then holds.
+use Rattle.std.proofs.Common.{◌≡◌, ℕ, List, [], ◌∷◌, map, cond, Option, Some, None, Result, Ok, Err, OnOk, refl, ap, ◌∙◌}
 use Rattle.std.proofs.lemmas.Slice.Eq.{bytes_eq-Decides}
 use Rattle.std.specs.FinMap.{get, insert, get-empty}
+use Rattle.std.specs.List.{filter_map, cons_option}
+use Rattle.std.specs.Option.{option_to_list}
 use Rattle.cookie.specs.Jar.{Name, name_cmp, JarState, empty_jar, AddOriginal, after, overlay, view}
 use Rattle.cookie.specs.Record.{Record}
 use Rattle.cookie.proofs.NameLemmas.{get_inserted}
 use Rattle.cookie_client.specs.Client.{Values}
-use Rattle.cookie_client.specs.Originals.{holding_shown}
+use Rattle.cookie_client.specs.HeldCode.{holding_shown}
+use Rattle.cookie_client.specs.Originals.{with_originals}
 use Rattle.cookie_client.specs.declared.client_error.ClientError.{ClientError}
+
+module _ (reading : List ℕ → Option Record) where
+  -- one text's cookie first, and then the others'
+  pub with_originals-next : (t : List ℕ) (ts : List (List ℕ)) (o : Option Record) (jar : JarState) → o ≡ reading t
+      → with_originals (filter_map reading ts) (with_originals (option_to_list o) jar) ≡ with_originals (filter_map reading (t ∷ ts)) jar
+  with_originals-next t ts None jar e = ap (λ o. with_originals (cons_option o (filter_map reading ts)) jar) e
+  with_originals-next t ts (Some c) jar e = ap (λ o. with_originals (cons_option o (filter_map reading ts)) jar) e
 
 only : (c : Record) → view (after (AddOriginal c) empty_jar) c.name ≡ Some c
 only c =

@@ -12,25 +12,21 @@ use Rattle.std.specs.Str.{bytes_eq}
 use Rattle.jiff.specs.Types.{DateTime}
 use Rattle.cookie.specs.CookieOf.{cookie_of, header_cookies}
 use Rattle.cookie.specs.Header.{header_texts}
-use Rattle.cookie.specs.History.{after_all, accepted}
-use Rattle.cookie.specs.Jar.{Name, name_cmp, JarState, empty_jar, AddOriginal, after}
-use Rattle.cookie.specs.Keys.{encryption_half, signing_half}
+use Rattle.cookie.specs.History.{after_all}
+use Rattle.cookie.specs.Jar.{Name, name_cmp, JarState, Change, empty_jar, AddOriginal, Add, Remove, ForceRemove, ResetDelta, after, overlay, view}
 use Rattle.cookie.specs.Record.{Record, plain}
-use Rattle.cookie.specs.Sealing.{sealed}
-use Rattle.cookie.specs.Signing.{signed}
 use Rattle.cookie.proofs.NameLemmas.{get_inserted, names_apart}
-use Rattle.cookie_client.specs.Agreement.{Agrees, HoldsOriginal, alters_original, value_of}
-use Rattle.cookie_client.specs.Calls.{change_of, child_change, changes_of, is_change, is_child_change, stored_with, IsFitCall}
+use Rattle.cookie_client.specs.Agreement.{HoldsOriginal, alters_original, value_of}
+use Rattle.cookie_client.specs.Calls.{change_of, is_change, IsFitCall}
 use Rattle.cookie_client.specs.Client.{Values, header_text}
-use Rattle.cookie_client.specs.Rounds.{IsFitChange, IsVisit, IsRound, AreRounds}
-use Rattle.cookie_client.specs.Session.{with_originals, holding}
+use Rattle.cookie_client.specs.Exchange.{IsExchange, accepted_calls, changes_by}
+use Rattle.cookie_client.specs.Originals.{client_for, holding, jar_for, with_originals}
+use Rattle.cookie_client.specs.Rounds.{IsFitChange, IsRound, AreRounds}
 use Rattle.cookie_client.specs.Steps.{IsHeaderOf}
 use Rattle.cookie_client.specs.declared.call.JarCall.{JarCall}
-use Rattle.cookie_client.specs.declared.call.JarCall.TheVariants as calls
-use Rattle.cookie_client.specs.declared.child_call.ChildCall.{ChildCall}
-use Rattle.cookie_client.specs.declared.child_call.ChildCall.TheVariants as child
 use Rattle.cookie_client.specs.declared.exchange.Played.{Played}
 use Rattle.cookie_client.specs.declared.request.Request.{Request}
+use Rattle.cookie_client.proofs.AgreementLemmas.{kept_originals}
 use Rattle.cookie_client.proofs.EntriesLemmas.{T-true, find_below}
 use Rattle.cookie_client.proofs.HeaderLemmas.{Pair, plain_of}
 
@@ -87,16 +83,16 @@ same_delta : (cookies : List Record) (jar : JarState) → (with_originals cookie
 same_delta [] jar = refl
 same_delta (cookie ∷ cookies) jar = same_delta cookies (after (AddOriginal cookie) jar)
 
-none_or : (o : Option Record) → option_or o None ≡ o
-none_or None = refl
-none_or (Some c) = refl
+pub or_none : {X : Type 0} (o : Option X) → option_or o None ≡ o
+or_none None = refl
+or_none (Some c) = refl
 
 -- the jar for a client has each name with its value
 original_of : (client : Values) (name : Name) → get (with_originals (map plain_of (entries client)) empty_jar).originals name ≡ option_map (plain name) (get client name)
 original_of client name =
     original_at (entries client) (T-true (is_sorted name_cmp (entries client)) (entries_sorted client)) empty_jar name
     ∙ ap (option_or (option_map (plain name) (find name_cmp name (entries client)))) (get-empty name_cmp name)
-    ∙ none_or (option_map (plain name) (find name_cmp name (entries client)))
+    ∙ or_none (option_map (plain name) (find name_cmp name (entries client)))
     ∙ ap (option_map (plain name)) (sym (get-entries client name))
 
 -- ---- the client that holds the cookies of its header
@@ -121,7 +117,7 @@ value_of-plain name None = refl
 value_of-plain name (Some value) = refl
 
 -- a new client that holds what a header tells is the client of that header
-pub held_again : (client : Values) (header : List ℕ) → IsHeaderOf client header → holding (header_cookies true header) empty ≡ client
+pub held_again : (client : Values) (header : List ℕ) → IsHeaderOf client header → client_for header ≡ client
 held_again client header is =
     ap (λ cookies. holding cookies empty) (header-pairs client header is)
     ∙ same_map nat_list_cmp_total names_apart _ _ (λ name.
@@ -132,58 +128,65 @@ held_again client header is =
 -- ---- the changes of a request
 
 -- a change alters no original
-no_original-child : (name : Name) (stored dropped : Record → Record) (call : ChildCall) → is_child_change call ≡ true → alters_original name (child_change stored dropped call) ≡ false
-no_original-child name stored dropped (child.AddOriginal cookie) is = absurd (subst T (sym is) tt)
-no_original-child name stored dropped (child.Add cookie) is = refl
-no_original-child name stored dropped (child.Remove cookie moment) is = refl
+no_original : (name : Name) (change : Change) → is_change change ≡ true → alters_original name change ≡ false
+no_original name (AddOriginal cookie) is = absurd (subst T (sym is) tt)
+no_original name (Add cookie) is = refl
+no_original name (Remove cookie moment) is = refl
+no_original name (ForceRemove forced) is = absurd (subst T (sym is) tt)
+no_original name ResetDelta is = absurd (subst T (sym is) tt)
 
-no_original : (name : Name) (call : JarCall) → is_change call ≡ true → alters_original name (change_of call) ≡ false
-no_original name (calls.AddOriginal cookie) is = absurd (subst T (sym is) tt)
-no_original name (calls.Add cookie) is = refl
-no_original name (calls.Remove cookie moment) is = refl
-no_original name (calls.ForceRemove forced) is = absurd (subst T (sym is) tt)
-no_original name calls.ResetDelta is = absurd (subst T (sym is) tt)
-no_original name (calls.Prefixed kind call) is = no_original-child name (stored_with kind) (stored_with kind) call is
-no_original name (calls.Signed key call) is = no_original-child name (signed (signing_half key.now)) (λ c. c) call is
-no_original name (calls.Private key nonce call) is = no_original-child name (sealed (encryption_half key.now) nonce) (λ c. c) call is
-
-no_originals : (name : Name) (cs : List JarCall) → All (λ call. is_change call ≡ true) cs → list_any (alters_original name) (map change_of cs) ≡ false
+no_originals : (name : Name) (cs : List JarCall) → All (λ call. is_change (change_of call) ≡ true) cs → list_any (alters_original name) (map change_of cs) ≡ false
 no_originals name [] are = refl
 no_originals name (call ∷ cs) are =
-    ap (λ b. b || list_any (alters_original name) (map change_of cs)) (no_original name call (All-head (λ call. is_change call ≡ true) call cs are))
-    ∙ no_originals name cs (All-tail (λ call. is_change call ≡ true) call cs are)
+    ap (λ b. b || list_any (alters_original name) (map change_of cs))
+    (no_original name (change_of call) (All-head (λ call. is_change (change_of call) ≡ true) call cs are))
+    ∙ no_originals name cs (All-tail (λ call. is_change (change_of call) ≡ true) call cs are)
 
 -- ---- the theorem
 
 -- the new jar for a header is fresh
-pub fresh : (header : List ℕ) → (with_originals (header_cookies true header) empty_jar).delta ≡ empty
+pub fresh : (header : List ℕ) → (jar_for header).delta ≡ empty
 fresh header = same_delta (header_cookies true header) empty_jar
 
--- and the client that holds the header's cookies holds its originals
-pub holds_header : (header : List ℕ) (name : Name) → HoldsOriginal (holding (header_cookies true header) empty) (with_originals (header_cookies true header) empty_jar) name
+-- what a jar with no changes shows is its originals
+shown_original : (jar : JarState) (name : Name) → jar.delta ≡ empty → view jar name ≡ get jar.originals name
+shown_original jar name none = ap (λ d. overlay (get d name) (get jar.originals name)) none ∙ ap (λ e. overlay e (get jar.originals name)) (get-empty name_cmp name)
+
+-- a client that holds the header's cookies holds its originals
+pub holds_header : (header : List ℕ) (name : Name) → HoldsOriginal (client_for header) (jar_for header) name
 holds_header header name = held_values (header_cookies true header) empty empty_jar name (get-empty name_cmp name ∙ sym (ap value_of (get-empty name_cmp name)))
 
+-- and a client that holds what the jar for a header shows is one for the header
+pub client_shown : (header : List ℕ) (client : Values) → ((name : Name) → get client name ≡ value_of (view (jar_for header) name)) → client ≡ client_for header
+client_shown header client holds = same_map nat_list_cmp_total names_apart _ _ (λ name.
+    holds name ∙ ap value_of (shown_original (jar_for header) name (fresh header)) ∙ sym (holds_header header name))
+
+-- it holds the original of each name whose original no change alters
+pub holds_kept : (header : List ℕ) (changes : List Change) (jar : JarState) → jar ≡ after_all changes (jar_for header) → (name : Name)
+    → list_any (alters_original name) changes ≡ false → HoldsOriginal (client_for header) jar name
+holds_kept header changes jar made name kept =
+    holds_header header name ∙ sym (ap value_of (kept_originals name changes (jar_for header) kept))
+    ∙ sym (ap (λ (j : JarState). value_of (get j.originals name)) made)
+
 -- a visit by the header of a client is a round of that client
-pub round_of : (now : DateTime) (before : Values) (header : List ℕ) (cs : List JarCall) (played : Played) → IsHeaderOf before header → IsVisit now header cs played → IsRound now before cs played
+pub round_of : (now : DateTime) (before : Values) (header : List ℕ) (cs : List JarCall) (played : Played) → IsHeaderOf before header
+    → IsExchange now (jar_for header) (client_for header) cs played → IsRound now before cs played
 round_of now before header cs played is visit =
-    let changes = changes_of played.outcomes.items cs in
-    let held : holding (header_cookies true header) empty ≡ before = held_again before header is in
-    let agreement : Agrees now before changes played.jar played.client = subst (λ v. Agrees now v changes played.jar played.client) held visit.agreement in
+    let changes = changes_by cs played in
+    let made = accepted_calls cs played in
+    let held : client_for header ≡ before = held_again before header is in
+    let exchange : IsExchange now (jar_for (header_text before)) before cs played =
+    subst (λ h. IsExchange now (jar_for h) before cs played) is.text (subst (λ v. IsExchange now (jar_for header) v cs played) held visit) in
     let originals : (name : Name) → list_any (alters_original name) changes ≡ false → HoldsOriginal before played.jar name =
-    λ name e. subst (λ v. HoldsOriginal v played.jar name) held (visit.held name e) in
+    λ name e. subst (λ v. HoldsOriginal v played.jar name) held (holds_kept header changes played.jar visit.jar name e) in
     record {
-      count = visit.count;
-      certain = visit.certain;
-      refused = visit.refused;
+      exchange = exchange;
       originals = λ name. ap (λ cookies. get (with_originals cookies empty_jar).originals name) (header-cookies before header is) ∙ original_of before name;
-      jar = visit.jar ∙ ap (λ h. after_all changes (with_originals (header_cookies true h) empty_jar)) is.text;
-      agreement = agreement;
       held = originals;
       agrees = λ fits name.
-          let made = accepted played.outcomes.items cs in
-          agreement.agrees (visit.fit (All-weaker (IsFitChange now) (IsFitCall now) (λ call f. f.0) made fits)) name (λ _.
-          originals name (no_originals name made (All-weaker (IsFitChange now) (λ call. is_change call ≡ true) (λ call f. f.1) made fits)));
-      named = agreement.named is.named;
+          exchange.agreement.agrees (visit.fit (All-weaker (IsFitChange now) (IsFitCall now) (λ call f. f.0) made fits)) name (λ _.
+          originals name (no_originals name made (All-weaker (IsFitChange now) (λ call. is_change (change_of call) ≡ true) (λ call f. f.1) made fits)));
+      named = exchange.agreement.named is.named;
     }
 
 -- ---- many requests

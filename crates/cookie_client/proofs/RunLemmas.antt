@@ -1,29 +1,30 @@
 -- What a run answers, from what its session is.
 use Rattle.std.proofs.Common.{◌≡◌, ℕ, true, List, [], ◌∷◌, ◌++◌, map, drop, Option, Some, None, Result, Ok, Err, cond, IsUtf8, refl, sym, ap, subst, ◌∙◌}
-use Rattle.std.specs.FinMap.{empty}
 use Rattle.std.specs.Io.KnownBytes.{Keeps}
-use Rattle.std.specs.List.{list_all, list_any}
+use Rattle.std.specs.List.{list_all}
 use Rattle.std.specs.Result.{MatchResult, result_map_both}
 use Rattle.std.specs.Str.{is_utf8}
 use Rattle.std.proofs.lemmas.Bool.{false_from_ne_true}
+use Rattle.std.proofs.lemmas.Slice.Zip.{AllZip-long}
 use Rattle.std.proofs.lemmas.Str.{IsUtf8-from_is_utf8, is_utf8-from_IsUtf8}
 use Rattle.jiff.specs.Types.{DateTime}
-use Rattle.cookie.specs.CookieOf.{header_cookies}
 use Rattle.cookie.specs.History.{after_all}
-use Rattle.cookie.specs.Jar.{Change, JarState, empty_jar}
+use Rattle.cookie.specs.Jar.{Change, JarState}
 use Rattle.cookie.specs.Memory.{Gives}
-use Rattle.cookie_client.specs.Agreement.{Agrees, alters_original}
-use Rattle.cookie_client.specs.Calls.{change_of, changes_of}
+use Rattle.cookie_client.specs.Agreement.{Agrees}
+use Rattle.cookie_client.specs.Calls.{IsOutcome, change_of, changes_of}
 use Rattle.cookie_client.specs.Client.{after_texts}
 use Rattle.cookie_client.specs.Lines.{lines_of}
-use Rattle.cookie_client.specs.Rounds.{IsVisit}
+use Rattle.cookie_client.specs.Exchange.{IsExchange}
+use Rattle.cookie_client.specs.Originals.{client_for, jar_for}
 use Rattle.cookie_client.specs.Run.{IsOfAgreement, IsPlayed, Refuses, changes_in, header_line}
-use Rattle.cookie_client.specs.Session.{Fault, BadMoment, BadInput, cookie_line, delta_texts, finished, holding, moment_of, played, played_bytes, session, set_cookie_lines, with_originals, written}
+use Rattle.cookie_client.specs.Session.{Fault, BadMoment, BadInput, cookie_line, delta_texts, finished, moment_of, played, played_bytes, session, set_cookie_lines, written}
 use Rattle.cookie_client.specs.declared.call.JarCall.{JarCall}
 use Rattle.cookie_client.specs.declared.exchange.Played.{Played}
 use Rattle.cookie_client.specs.declared.run_error.RunError.{RunError}
 use Rattle.cookie_client.specs.declared.run_error.RunError.TheVariants as errors
 use Rattle.cookie_client.proofs.EntriesLemmas.{are_texts}
+use Rattle.cookie_client.proofs.RoundLemmas.{holds_kept}
 use Rattle.cookie_client.proofs.SessionLemmas.{accepted-all, jar_after-changes}
 
 pub played_bytes-text : (now : DateTime) (bytes : List ℕ) → IsUtf8 bytes → played_bytes now bytes ≡ played now (lines_of bytes)
@@ -37,17 +38,17 @@ played_bytes-bad now bytes bad =
 
 -- the session of lines, by what the lines behind the first ask for
 by_changes : (now : DateTime) (lines : List (List ℕ))
-    → played now lines ≡ finished now (holding (header_cookies true (header_line lines)) empty)
-    (result_map_both (λ changes. after_all changes (with_originals (header_cookies true (header_line lines)) empty_jar)) (λ fault. fault) (changes_in now 2 (drop 1 lines)))
+    → played now lines ≡ finished now (client_for (header_line lines))
+    (result_map_both (λ changes. after_all changes (jar_for (header_line lines))) (λ fault. fault) (changes_in now 2 (drop 1 lines)))
 by_changes now [] = refl
 by_changes now (header ∷ lines) =
-    ap (finished now (holding (header_cookies true header) empty)) (jar_after-changes now 2 lines (with_originals (header_cookies true header) empty_jar))
+    ap (finished now (client_for header)) (jar_after-changes now 2 lines (jar_for header))
 
 -- the session as it is finished from what the lines ask for
 asked : DateTime → List (List ℕ) → Result (List Change) Fault → Result (List ℕ) Fault
 asked now lines r =
-    finished now (holding (header_cookies true (header_line lines)) empty)
-    (result_map_both (λ changes. after_all changes (with_originals (header_cookies true (header_line lines)) empty_jar)) (λ fault. fault) r)
+    finished now (client_for (header_line lines))
+    (result_map_both (λ changes. after_all changes (jar_for (header_line lines))) (λ fault. fault) r)
 
 pub played-refused : (now : DateTime) (lines : List (List ℕ)) (e : RunError) → Refuses (changes_in now 2 (drop 1 lines)) e → Refuses (played now lines) e
 unfolding asked
@@ -60,14 +61,14 @@ played-refused now lines errors.Output h = h
 
 -- what is written of a visit is the session's text, and of a client that agrees with the jar
 pub written_by : (now : DateTime) (lines : List (List ℕ)) (calls : List JarCall) (p : Played) (text : List ℕ) → changes_in now 2 (drop 1 lines) ≡ Ok (map change_of calls)
-    → IsVisit now (header_line lines) calls p → list_all (λ b. b) p.outcomes.items ≡ true → text ≡ set_cookie_lines (delta_texts p.jar) ++ cookie_line p.client
+    → IsExchange now (jar_for (header_line lines)) (client_for (header_line lines)) calls p → list_all (λ b. b) p.outcomes.items ≡ true → text ≡ set_cookie_lines (delta_texts p.jar) ++ cookie_line p.client
     → (played now lines ≡ Ok text) × IsOfAgreement now lines text
 unfolding asked
 written_by now lines calls p text asks visit all is =
-    let values = holding (header_cookies true (header_line lines)) empty in
-    let start : JarState = with_originals (header_cookies true (header_line lines)) empty_jar in
+    let values = client_for (header_line lines) in
+    let start : JarState = jar_for (header_line lines) in
     let changes : List Change = map change_of calls in
-    let same : changes_of p.outcomes.items calls ≡ changes = ap (map change_of) (accepted-all p.outcomes.items calls visit.count all) in
+    let same : changes_of p.outcomes.items calls ≡ changes = ap (map change_of) (accepted-all p.outcomes.items calls (AllZip-long IsOutcome calls p.outcomes.items visit.outcomes) all) in
     let made : p.jar ≡ after_all changes start = visit.jar ∙ ap (λ cs. after_all cs start) same in
     let client : p.client ≡ after_texts now (delta_texts p.jar) values = visit.agreement.in_any_order (delta_texts p.jar) (are_texts p.jar) in (
       by_changes now lines ∙ ap (asked now lines) asks
@@ -79,7 +80,7 @@ written_by now lines calls p text asks visit all is =
         made = made;
         client = p.client;
         agreement = subst (λ cs. Agrees now values cs p.jar p.client) same visit.agreement;
-        held = λ name kept. visit.held name (ap (list_any (alters_original name)) same ∙ kept);
+        held = holds_kept (header_line lines) changes p.jar made;
         written = is;
       },
     )

@@ -9,7 +9,7 @@ use Rattle.std.proofs.lemmas.Map.Views.{tells_apart}
 use Rattle.std.specs.Cmp.Lexicographic.{nat_list_cmp_total, texts_ties}
 use Rattle.std.specs.FinMap.{FinMap, get, insert, entries, find as find_in, is_sorted, from_sorted, get-entries, get-from_sorted, get-insert, entries-from_sorted, entries_sorted, same_map}
 use Rattle.std.specs.FinMap.Entries.{below_all}
-use Rattle.std.specs.List.{filter_map, find, cons_option, list_all, slice_split, IsDistinct, AllByRecursion}
+use Rattle.std.specs.List.{find, list_all, slice_split, IsDistinct, AllByRecursion}
 use Rattle.std.specs.Map.Iter.{TakesFirst}
 use Rattle.std.specs.Option.{option_or}
 use Rattle.std.specs.Result.{result_map_both}
@@ -19,25 +19,9 @@ use Rattle.jiff.specs.Types.{DateTime}
 use Rattle.cookie.specs.History.{accepted, after_all}
 use Rattle.cookie.specs.Jar.{Change, JarState, Marked, Name, name_cmp, after}
 use Rattle.cookie.specs.Record.{Record}
-use Rattle.cookie_client.specs.Client.{Values}
 use Rattle.cookie_client.specs.Lines.{lines_of, without_return}
-use Rattle.cookie_client.specs.Session.{Fault, BadLine, call_of, jar_after, with_originals, holding}
+use Rattle.cookie_client.specs.Session.{Fault, BadLine, call_of, jar_after}
 use Rattle.cookie_client.specs.Run.{changes_in}
-use Rattle.cookie_client.specs.Steps.{cookies_of}
-
--- ---- the originals
-
-module _ (reading : List ℕ → Option Record) where
-  -- one text's cookie first, and then the others'
-  pub with_originals-next : (t : List ℕ) (ts : List (List ℕ)) (o : Option Record) (jar : JarState) → o ≡ reading t
-      → with_originals (filter_map reading ts) (with_originals (cookies_of o) jar) ≡ with_originals (filter_map reading (t ∷ ts)) jar
-  with_originals-next t ts None jar e = ap (λ o. with_originals (cons_option o (filter_map reading ts)) jar) e
-  with_originals-next t ts (Some c) jar e = ap (λ o. with_originals (cons_option o (filter_map reading ts)) jar) e
-
-  pub holding-next : (t : List ℕ) (ts : List (List ℕ)) (o : Option Record) (values : Values) → o ≡ reading t
-      → holding (filter_map reading ts) (holding (cookies_of o) values) ≡ holding (filter_map reading (t ∷ ts)) values
-  holding-next t ts None values e = ap (λ o. holding (cons_option o (filter_map reading ts)) values) e
-  holding-next t ts (Some c) values e = ap (λ o. holding (cons_option o (filter_map reading ts)) values) e
 
 -- ---- what is made of each of a map's values
 

@@ -1,30 +1,17 @@
 -- The client half of the main theorem: after any list of jar calls, a client that held each name's last accepted
 -- original and has read the delta's encoded texts, in any order and with any repetition, agrees with the jar. A call
 -- that was refused counts as not made: nothing is asked of it.
-use Rattle.std.specs.Prelude.{◌≡◌, ℕ, Bool, true, false, List, [], ◌∷◌, reverse, Option, Some, None, option_map, All, Contains}
-use Rattle.std.specs.FinMap.{FinMap, empty, get}
+use Rattle.std.specs.Prelude.{◌≡◌, ℕ, Bool, true, false, List, [], reverse, Option, Some, None, option_map, All, Contains}
+use Rattle.std.specs.FinMap.{FinMap, get}
 use Rattle.std.specs.Str.{bytes_eq}
 use Rattle.jiff.specs.Types.{DateTime}
 use Rattle.cookie.specs.History.{last_original, is_forced}
-use Rattle.cookie.specs.Jar.{Name, name_cmp, Marked, JarState, Change, AddOriginal, Add, Remove, ForceRemove, ResetDelta, view}
+use Rattle.cookie.specs.Jar.{Name, name_cmp, Marked, JarState, Change, AddOriginal, ForceRemove, view}
 use Rattle.cookie.specs.Record.{Record}
 use Rattle.cookie.specs.Text.{cookie_text}
 use Rattle.cookie_client.specs.Calls.{IsFit}
 use Rattle.cookie_client.specs.Client.{Values, after_texts}
-use Rattle.cookie_client.specs.Session.{holding}
-
--- the cookies that changes add as originals, in their order
-abbrev pub originals_of : List Change → List Record
-originals_of [] = []
-originals_of (AddOriginal cookie ∷ changes) = cookie ∷ originals_of changes
-originals_of (Add cookie ∷ changes) = originals_of changes
-originals_of (Remove cookie now ∷ changes) = originals_of changes
-originals_of (ForceRemove name ∷ changes) = originals_of changes
-originals_of (ResetDelta ∷ changes) = originals_of changes
-
--- what a client holds that was told of the value of each name's last original
-abbrev pub holds_originals : List Change → Values
-holds_originals changes = holding (originals_of changes) empty
+use Rattle.cookie_client.specs.Originals.{holds_originals}
 
 -- the text is that of a cookie of the delta, encoded
 pub record IsDeltaText (delta : FinMap name_cmp Marked) (text : List ℕ) : Type 0 where
@@ -35,7 +22,8 @@ pub record IsDeltaText (delta : FinMap name_cmp Marked) (text : List ℕ) : Type
 
 -- the texts are those of the delta's cookies, each at least once, in any order
 pub record AreDeltaTexts (delta : FinMap name_cmp Marked) (texts : List (List ℕ)) : Type 0 where
-  pub each : (name : Name) (entry : Marked) → get delta name ≡ Some entry → Contains texts (cookie_text true false entry.cookie)
+  pub each : (name : Name) (entry : Marked) → get delta name ≡ Some entry
+      → Contains texts (cookie_text true false entry.cookie)
   pub only : All (IsDeltaText delta) texts
 
 -- the value of a cookie, where there is one
@@ -49,10 +37,8 @@ HoldsOriginal client jar name = get client name ≡ value_of (get jar.originals 
 -- the change adds an original of the name, or removes the name by force
 abbrev pub alters_original : Name → Change → Bool
 alters_original name (AddOriginal cookie) = bytes_eq name cookie.name
-alters_original name (Add cookie) = false
-alters_original name (Remove cookie now) = false
 alters_original name (ForceRemove forced) = bytes_eq name forced
-alters_original name ResetDelta = false
+alters_original name change = false
 
 -- The client of a jar to which these changes were made, for the client before it read the jar's delta.
 pub record Agrees (now : DateTime) (before : Values) (changes : List Change) (jar : JarState) (client : Values)
@@ -61,9 +47,10 @@ pub record Agrees (now : DateTime) (before : Values) (changes : List Change) (ja
   -- repetition
   pub in_any_order : (texts : List (List ℕ)) → AreDeltaTexts jar.delta texts
       → client ≡ after_texts now texts before
-  -- where the changes are fit, it has the value that the jar shows at each name that the delta has, and at each whose
-  -- original the one before held
-  pub agrees : All (IsFit now) changes → (name : Name) → (get jar.delta name ≡ None → HoldsOriginal before jar name)
+  -- where the changes are fit, it has the value that the jar shows at each name that the delta has,
+  -- and at each whose original the one before held
+  pub agrees : All (IsFit now) changes → (name : Name)
+      → (get jar.delta name ≡ None → HoldsOriginal before jar name)
       → get client name ≡ value_of (view jar name)
   -- at a name that the delta doesn't have, it has what the one before held
   pub left : (name : Name) → get jar.delta name ≡ None → get client name ≡ get before name
@@ -77,7 +64,8 @@ pub record HoldsOriginals (now : DateTime) (changes : List Change) (jar : JarSta
   pub last : (name : Name)
       → get (holds_originals changes) name ≡ value_of (last_original name (reverse changes))
   -- which is the jar's original, where no change removes the name by force
-  pub unforced : (name : Name) → is_forced name changes ≡ false → HoldsOriginal (holds_originals changes) jar name
+  pub unforced : (name : Name) → is_forced name changes ≡ false
+      → HoldsOriginal (holds_originals changes) jar name
   -- and wherever the jar has an original
   pub standing : (name : Name) (original : Record) → get jar.originals name ≡ Some original
       → HoldsOriginal (holds_originals changes) jar name

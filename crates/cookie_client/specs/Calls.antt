@@ -1,12 +1,12 @@
 -- What each call on a jar changes, and what each call is to a client.
-use Rattle.std.specs.Prelude.{◌≡◌, ◌≢◌, Bool, true, false, List, [], ◌∷◌, map, string_bytes}
+use Rattle.std.specs.Prelude.{◌≡◌, ◌≢◌, ℕ, Bool, true, false, List, [], map, string_bytes}
 use Rattle.jiff.specs.Types.{DateTime}
 use Rattle.cookie.specs.History.{accepted}
 use Rattle.cookie.specs.Jar.{Name, Change, AddOriginal, Add, Remove, ForceRemove, ResetDelta}
 use Rattle.cookie.specs.Keys.{encryption_half, signing_half}
 use Rattle.cookie.specs.Normal.{IsUncut}
 use Rattle.cookie.specs.Prefixes.{applied, host_prefix, host_bound, secure_prefix, secured}
-use Rattle.cookie.specs.Record.{Record}
+use Rattle.cookie.specs.Record.{Record, IsCookie}
 use Rattle.cookie.specs.Sealing.{CanSeal, sealed}
 use Rattle.cookie.specs.Signing.{signed}
 use Rattle.cookie_client.specs.Live.{is_live}
@@ -16,6 +16,16 @@ use Rattle.cookie_client.specs.declared.child_call.ChildCall.{ChildCall}
 use Rattle.cookie_client.specs.declared.child_call.ChildCall.TheVariants as child
 use Rattle.cookie_client.specs.declared.prefix_kind.PrefixKind.{PrefixKind}
 use Rattle.cookie_client.specs.declared.prefix_kind.PrefixKind.TheVariants as kinds
+
+-- ---- what a jar stores
+
+-- what a jar makes of a cookie that is added, and of one that is removed
+pub record Storing : Type 0 where
+  pub stored : Record → Record
+  pub dropped : Record → Record
+
+abbrev pub storing : (Record → Record) → (Record → Record) → Storing
+storing stored dropped = record { stored = stored; dropped = dropped }
 
 -- what stands before the names of a kind of prefix
 abbrev pub prefix_of : PrefixKind → Name
@@ -31,111 +41,107 @@ conformed_to kinds.Secure = secured
 abbrev pub stored_with : PrefixKind → Record → Record
 stored_with kind cookie = applied (prefix_of kind) (conformed_to kind) cookie
 
--- the change of the jar that a call on a child jar asks for, which stores the cookies that are added, and the one that is removed, so
-abbrev pub child_change : (Record → Record) → (Record → Record) → ChildCall → Change
-child_change stored dropped (child.AddOriginal cookie) = AddOriginal (stored cookie.fields)
-child_change stored dropped (child.Add cookie) = Add (stored cookie.fields)
-child_change stored dropped (child.Remove cookie now) = Remove (dropped cookie.fields) now
+-- how the child jars of a key store cookies: what is removed is no secret, and stays as it is
+abbrev pub signed_by : List ℕ → Storing
+signed_by key = storing (signed (signing_half key)) (λ cookie. cookie)
 
--- the change of the jar that a call asks for
+abbrev pub sealed_by : List ℕ → List ℕ → Storing
+sealed_by key nonce = storing (sealed (encryption_half key) nonce) (λ cookie. cookie)
+
+-- how the jar of a call stores cookies: a child jar in its way, and the jar itself as they are
+abbrev pub storing_of : JarCall → Storing
+storing_of (calls.Prefixed kind call) = storing (stored_with kind) (stored_with kind)
+storing_of (calls.Signed key call) = signed_by key.now
+storing_of (calls.Private key nonce call) = sealed_by key.now nonce
+storing_of call = storing (λ cookie. cookie) (λ cookie. cookie)
+
+-- the change with its cookie as it is stored
+abbrev pub stored_by : Storing → Change → Change
+stored_by storing (AddOriginal cookie) = AddOriginal (storing.stored cookie)
+stored_by storing (Add cookie) = Add (storing.stored cookie)
+stored_by storing (Remove cookie now) = Remove (storing.dropped cookie) now
+stored_by storing change = change
+
+-- ---- what a call asks for
+
+-- the change that a call on a child jar asks for, with its cookie as it was handed in
+abbrev pub asked_of_child : ChildCall → Change
+asked_of_child (child.AddOriginal cookie) = AddOriginal cookie.fields
+asked_of_child (child.Add cookie) = Add cookie.fields
+asked_of_child (child.Remove cookie now) = Remove cookie.fields now
+
+-- the same of any call
+abbrev pub asked_of : JarCall → Change
+asked_of (calls.AddOriginal cookie) = AddOriginal cookie.fields
+asked_of (calls.Add cookie) = Add cookie.fields
+asked_of (calls.Remove cookie now) = Remove cookie.fields now
+asked_of (calls.ForceRemove name) = ForceRemove (string_bytes name)
+asked_of calls.ResetDelta = ResetDelta
+asked_of (calls.Prefixed kind call) = asked_of_child call
+asked_of (calls.Signed key call) = asked_of_child call
+asked_of (calls.Private key nonce call) = asked_of_child call
+
+-- the change that a call makes, with its cookie as it is stored
 abbrev pub change_of : JarCall → Change
-change_of (calls.AddOriginal cookie) = AddOriginal cookie.fields
-change_of (calls.Add cookie) = Add cookie.fields
-change_of (calls.Remove cookie now) = Remove cookie.fields now
-change_of (calls.ForceRemove name) = ForceRemove (string_bytes name)
-change_of calls.ResetDelta = ResetDelta
-change_of (calls.Prefixed kind call) = child_change (stored_with kind) (stored_with kind) call
-change_of (calls.Signed key call) = child_change (signed (signing_half key.now)) (λ c. c) call
-change_of (calls.Private key nonce call) = child_change (sealed (encryption_half key.now) nonce) (λ c. c) call
+change_of call = stored_by (storing_of call) (asked_of call)
 
 -- the changes of the calls whose outcome is true
 abbrev pub changes_of : List Bool → List JarCall → List Change
 changes_of outcomes calls = map change_of (accepted outcomes calls)
 
--- a call that is never refused
-abbrev pub is_certain : JarCall → Bool
-is_certain (calls.AddOriginal cookie) = false
-is_certain (calls.Add cookie) = false
-is_certain (calls.Remove cookie now) = false
-is_certain (calls.ForceRemove name) = true
-is_certain calls.ResetDelta = true
-is_certain (calls.Prefixed kind call) = false
-is_certain (calls.Signed key call) = false
-is_certain (calls.Private key nonce call) = false
+-- what the type of a cookie says of the one in a change
+abbrev pub IsKnownChange : Change → Type 0
+IsKnownChange (AddOriginal cookie) = IsCookie cookie
+IsKnownChange (Add cookie) = IsCookie cookie
+IsKnownChange (Remove cookie now) = IsCookie cookie
+IsKnownChange change = Unit {0}
 
--- each call that is never refused has the outcome true
-abbrev pub AreTaken : List JarCall → List Bool → Type 0
-AreTaken [] outcomes = Unit {0}
-AreTaken (call ∷ calls) [] = Unit {0}
-AreTaken (call ∷ calls) (outcome ∷ outcomes) = (is_certain call ≡ true → outcome ≡ true) × AreTaken calls outcomes
+-- ---- which calls are accepted
 
--- an addition of a cookie that is past the limits of sealing (SP 800-38D, 5.2.1.1)
-abbrev pub IsTooLongChild : ChildCall → Type 0
-IsTooLongChild (child.AddOriginal cookie) = CanSeal cookie.fields → ⊥
-IsTooLongChild (child.Add cookie) = CanSeal cookie.fields → ⊥
-IsTooLongChild (child.Remove cookie now) = ⊥
+-- a change that is never refused
+abbrev pub is_certain : Change → Bool
+is_certain (ForceRemove name) = true
+is_certain ResetDelta = true
+is_certain change = false
+
+-- an addition of a cookie that is past the limits of sealing (SP 800-38D 5.2.1.1)
+abbrev pub IsTooLong : Change → Type 0
+IsTooLong (AddOriginal cookie) = ¬ (CanSeal cookie)
+IsTooLong (Add cookie) = ¬ (CanSeal cookie)
+IsTooLong change = ⊥
 
 -- such an addition through a private jar, which is always refused
-abbrev pub IsTooLong : JarCall → Type 0
-IsTooLong (calls.AddOriginal cookie) = ⊥
-IsTooLong (calls.Add cookie) = ⊥
-IsTooLong (calls.Remove cookie now) = ⊥
-IsTooLong (calls.ForceRemove name) = ⊥
-IsTooLong calls.ResetDelta = ⊥
-IsTooLong (calls.Prefixed kind call) = ⊥
-IsTooLong (calls.Signed key call) = ⊥
-IsTooLong (calls.Private key nonce call) = IsTooLongChild call
+abbrev pub IsUnsealable : JarCall → Type 0
+IsUnsealable (calls.Private key nonce call) = IsTooLong (asked_of_child call)
+IsUnsealable call = ⊥
 
--- each call that is always refused has the outcome false
-abbrev pub AreRefused : List JarCall → List Bool → Type 0
-AreRefused [] outcomes = Unit {0}
-AreRefused (call ∷ calls) [] = Unit {0}
-AreRefused (call ∷ calls) (outcome ∷ outcomes) = (IsTooLong call → outcome ≡ false) × AreRefused calls outcomes
+-- the outcome of a call: true for one that is never refused, false for one that always is
+pub record IsOutcome (call : JarCall) (outcome : Bool) : Type 0 where
+  pub accepted : is_certain (change_of call) ≡ true → outcome ≡ true
+  pub refused : IsUnsealable call → outcome ≡ false
 
--- the same of a child jar
-abbrev pub is_child_change : ChildCall → Bool
-is_child_change (child.AddOriginal cookie) = false
-is_child_change (child.Add cookie) = true
-is_child_change (child.Remove cookie now) = true
+-- ---- which calls a client can follow
 
 -- an addition that isn't an original, or a removal
-abbrev pub is_change : JarCall → Bool
-is_change (calls.AddOriginal cookie) = false
-is_change (calls.Add cookie) = true
-is_change (calls.Remove cookie now) = true
-is_change (calls.ForceRemove name) = false
-is_change calls.ResetDelta = false
-is_change (calls.Prefixed kind call) = is_child_change call
-is_change (calls.Signed key call) = is_child_change call
-is_change (calls.Private key nonce call) = is_child_change call
+abbrev pub is_change : Change → Bool
+is_change (Add cookie) = true
+is_change (Remove cookie now) = true
+is_change change = false
 
--- an added cookie that a client can follow: it has a name, it is live at the moment, and its path and its domain, where they are set, hold no `;`
+-- an added cookie that a client can follow: it has a name, it is live at the moment, and its path and
+-- its domain, where they are set, hold no `;`
 pub record IsFitAddition (now : DateTime) (cookie : Record) : Type 0 where
   pub name : cookie.name ≢ []
   pub live : is_live cookie now ≡ true
   pub uncut : IsUncut cookie
 
--- a change that a client can follow at the moment; the cookie is looked at as it is stored
+-- a change that a client can follow at the moment
 abbrev pub IsFit : DateTime → Change → Type 0
 IsFit now (AddOriginal cookie) = cookie.name ≢ []
 IsFit now (Add cookie) = IsFitAddition now cookie
 IsFit now (Remove cookie moment) = cookie.name ≢ []
-IsFit now (ForceRemove name) = Unit {0}
-IsFit now ResetDelta = Unit {0}
+IsFit now change = Unit {0}
 
--- a call on a child jar that a client can follow at the moment; the cookie is looked at as it was handed in
-abbrev pub IsFitChild : DateTime → ChildCall → Type 0
-IsFitChild now (child.AddOriginal cookie) = cookie.fields.name ≢ []
-IsFitChild now (child.Add cookie) = IsFitAddition now cookie.fields
-IsFitChild now (child.Remove cookie moment) = cookie.fields.name ≢ []
-
--- the same of any call
+-- a call that a client can follow at the moment; the cookie is looked at as it was handed in
 abbrev pub IsFitCall : DateTime → JarCall → Type 0
-IsFitCall now (calls.AddOriginal cookie) = cookie.fields.name ≢ []
-IsFitCall now (calls.Add cookie) = IsFitAddition now cookie.fields
-IsFitCall now (calls.Remove cookie moment) = cookie.fields.name ≢ []
-IsFitCall now (calls.ForceRemove name) = Unit {0}
-IsFitCall now calls.ResetDelta = Unit {0}
-IsFitCall now (calls.Prefixed kind call) = IsFitChild now call
-IsFitCall now (calls.Signed key call) = IsFitChild now call
-IsFitCall now (calls.Private key nonce call) = IsFitChild now call
+IsFitCall now call = IsFit now (asked_of call)

@@ -1,11 +1,11 @@
 pub mod Agreement
 pub mod Calls
 pub mod Client
-pub mod KnownCalls
+pub mod Exchange
+pub mod HeldCode
 pub mod Lines
 pub mod Live
 pub mod Originals
-pub mod Outcomes
 pub mod Rounds
 pub mod Run
 pub mod RunError

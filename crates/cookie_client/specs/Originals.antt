@@ -1,20 +1,35 @@
--- Mirrors private code: what a client holds of a cookie that a jar shows, and of the originals of calls.
-use Rattle.std.specs.Prelude.{List, Option, Some, None}
-use Rattle.std.specs.FinMap.{insert}
-use Rattle.cookie.specs.Jar.{Name, Change}
+-- The originals of a jar, and a client that holds their values.
+use Rattle.std.specs.Prelude.{ℕ, true, List, [], ◌∷◌, map}
+use Rattle.std.specs.FinMap.{empty, insert}
+use Rattle.cookie.specs.CookieOf.{header_cookies}
+use Rattle.cookie.specs.History.{after_all}
+use Rattle.cookie.specs.Jar.{JarState, Change, AddOriginal, empty_jar}
 use Rattle.cookie.specs.Record.{Record}
-use Rattle.cookie_client.specs.Agreement.{originals_of}
 use Rattle.cookie_client.specs.Client.{Values}
-use Rattle.cookie_client.specs.Session.{holding}
-use Rattle.cookie_client.specs.declared.originals.Originals.{Originals}
-use Rattle.cookie_client.specs.declared.originals.Originals.TheVariants as originals
 
--- it holds the cookie's value under the name, if there is one
-abbrev pub holding_shown : Option Record → Name → Values → Values
-holding_shown None name values = values
-holding_shown (Some cookie) name values = insert values name cookie.value
+-- the jar with these originals
+abbrev pub with_originals : List Record → JarState → JarState
+with_originals cookies jar = after_all (map AddOriginal cookies) jar
 
--- the values that it holds once the changes were made
-abbrev pub after_originals : Originals → List Change → Values → Values
-after_originals originals.Told changes values = holding (originals_of changes) values
-after_originals originals.Untold changes values = values
+-- a client that holds these cookies' values at their names
+abbrev pub holding : List Record → Values → Values
+holding [] values = values
+holding (cookie ∷ cookies) values = holding cookies (insert values cookie.name cookie.value)
+
+-- a new jar whose originals are the cookies of a header (RFC 6265 5.4)
+abbrev pub jar_for : List ℕ → JarState
+jar_for header = with_originals (header_cookies true header) empty_jar
+
+-- a client that holds the cookies of a header
+abbrev pub client_for : List ℕ → Values
+client_for header = holding (header_cookies true header) empty
+
+-- the cookies that changes add as originals, in their order
+abbrev pub originals_of : List Change → List Record
+originals_of [] = []
+originals_of (AddOriginal cookie ∷ changes) = cookie ∷ originals_of changes
+originals_of (change ∷ changes) = originals_of changes
+
+-- what a client holds that was told of the value of each name's last original
+abbrev pub holds_originals : List Change → Values
+holds_originals changes = holding (originals_of changes) empty

@@ -1,16 +1,15 @@
 -- How what a run answered and wrote fits its session.
 use Rattle.std.specs.Prelude.{◌≡◌, ◌+◌, ℕ, true, false, List, [], ◌∷◌, ◌++◌, ◌<◌, drop, length, take, Option, Some, None, Result, Ok, Err}
-use Rattle.std.specs.FinMap.{empty}
 use Rattle.std.specs.Io.KnownBytes.{Keeps, Appends, Consumes, IsAtEnd}
 use Rattle.std.specs.List.{list_any}
 use Rattle.std.specs.Result.{result_map_both}
 use Rattle.jiff.specs.Types.{DateTime}
-use Rattle.cookie.specs.CookieOf.{header_cookies}
 use Rattle.cookie.specs.History.{after_all}
-use Rattle.cookie.specs.Jar.{Name, JarState, Change, empty_jar}
+use Rattle.cookie.specs.Jar.{Name, JarState, Change}
 use Rattle.cookie_client.specs.Agreement.{Agrees, HoldsOriginal, alters_original}
 use Rattle.cookie_client.specs.Client.{Values}
-use Rattle.cookie_client.specs.Session.{Fault, BadMoment, BadInput, BadLine, call_of, cookie_line, delta_texts, holding, session, set_cookie_lines, with_originals}
+use Rattle.cookie_client.specs.Originals.{client_for, jar_for}
+use Rattle.cookie_client.specs.Session.{Fault, BadMoment, BadInput, BadLine, call_of, cookie_line, delta_texts, session, set_cookie_lines}
 use Rattle.cookie_client.specs.declared.run_error.RunError.{RunError}
 use Rattle.cookie_client.specs.declared.run_error.RunError.TheVariants as errors
 
@@ -72,12 +71,12 @@ pub record IsOfAgreement (now : DateTime) (lines : List (List ℕ)) (text : List
   pub asked : changes_in now 2 (drop 1 lines) ≡ Ok changes
   -- was made to a new jar, whose originals are the cookies of the first line
   pub jar : JarState
-  pub made : jar ≡ after_all changes (with_originals (header_cookies true (header_line lines)) empty_jar)
+  pub made : jar ≡ after_all changes (jar_for (header_line lines))
   -- a client that held these cookies agrees with the jar
   pub client : Values
-  pub agreement : Agrees now (holding (header_cookies true (header_line lines)) empty) changes jar client
+  pub agreement : Agrees now (client_for (header_line lines)) changes jar client
   -- which held the jar's original of each name that no line removes by force
   pub held : (name : Name) → list_any (alters_original name) changes ≡ false
-      → HoldsOriginal (holding (header_cookies true (header_line lines)) empty) jar name
+      → HoldsOriginal (client_for (header_line lines)) jar name
   -- and the text is the jar's delta and that client's header
   pub written : text ≡ set_cookie_lines (delta_texts jar) ++ cookie_line client

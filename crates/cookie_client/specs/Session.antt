@@ -4,17 +4,18 @@
 -- client holds at first. Each later line that isn't empty is a call: `add`, one space and the text of a
 -- `Set-Cookie` header; `remove` or `force`, one space and a name; or `reset`.
 use Rattle.std.specs.Prelude.{ℕ, ◌+◌, pos, int_lt, true, false, List, [], ◌∷◌, ◌++◌, map, drop, option_and_then, option_map, Option, Some, None, Result, Ok, Err, codes, eqb, if◌then◌else◌}
-use Rattle.std.specs.FinMap.{empty, insert, entries}
+use Rattle.std.specs.FinMap.{entries}
 use Rattle.std.specs.List.{starts_with}
 use Rattle.std.specs.Str.{trim, is_utf8, bytes_eq}
 use Rattle.jiff.specs.Types.{DateTime}
-use Rattle.cookie.specs.CookieOf.{cookie_of, header_cookies}
-use Rattle.cookie.specs.Jar.{JarState, Change, AddOriginal, Add, Remove, ForceRemove, ResetDelta, after, empty_jar}
+use Rattle.cookie.specs.CookieOf.{cookie_of}
+use Rattle.cookie.specs.Jar.{JarState, Change, Add, Remove, ForceRemove, ResetDelta, after}
 use Rattle.cookie.specs.Moments.{date_of}
-use Rattle.cookie.specs.Record.{Record, plain}
+use Rattle.cookie.specs.Record.{plain}
 use Rattle.cookie.specs.Text.{cookie_text}
 use Rattle.cookie_client.specs.Client.{Values, after_texts, header_text}
 use Rattle.cookie_client.specs.Lines.{lines_of}
+use Rattle.cookie_client.specs.Originals.{client_for, jar_for}
 
 -- why a session has no text; lines are counted from 1
 pub data Fault : Type 0 where
@@ -60,16 +61,6 @@ jar_after now n (line ∷ lines) jar =
       | Some next ↦ jar_after now (n + 1) lines next
     ]
 
--- the jar with these originals
-abbrev pub with_originals : List Record → JarState → JarState
-with_originals [] jar = jar
-with_originals (cookie ∷ cookies) jar = with_originals cookies (after (AddOriginal cookie) jar)
-
--- a client that holds these cookies' values at their names
-abbrev pub holding : List Record → Values → Values
-holding [] values = values
-holding (cookie ∷ cookies) values = holding cookies (insert values cookie.name cookie.value)
-
 -- the texts of the delta's cookies, in byte order of the names
 abbrev pub delta_texts : JarState → List (List ℕ)
 delta_texts jar = map (λ e. cookie_text true false e.1.cookie) (entries jar.delta)
@@ -96,8 +87,7 @@ finished now values (Err fault) = Err fault
 -- the session of a header and the lines behind it
 abbrev pub played_lines : DateTime → List ℕ → List (List ℕ) → Result (List ℕ) Fault
 played_lines now header lines =
-    finished now (holding (header_cookies true header) empty)
-    (jar_after now 2 lines (with_originals (header_cookies true header) empty_jar))
+    finished now (client_for header) (jar_after now 2 lines (jar_for header))
 
 -- the session of lines, of which the first is the header
 abbrev pub played : DateTime → List (List ℕ) → Result (List ℕ) Fault

@@ -1,15 +1,19 @@
--- Mirrors private code: the steps of a session's engine, and of `rounds`.
-use Rattle.std.specs.Prelude.{◌≡◌, ℕ, true, List, [], ◌∷◌, map, Option, Some, None}
+-- Mirrors private code: the steps of an exchange and of `rounds`.
+use Rattle.std.specs.Prelude.{◌≡◌, ℕ, true, List, [], map, Some, None}
 use Rattle.std.specs.FinMap.{get, entries}
 use Rattle.cookie.specs.CookieOf.{cookie_of}
 use Rattle.cookie.specs.Header.{header_texts}
-use Rattle.cookie.specs.Record.{Record, plain}
+use Rattle.cookie.specs.Jar.{Change}
+use Rattle.cookie.specs.Record.{plain}
 use Rattle.cookie_client.specs.Client.{Values, header_text}
+use Rattle.cookie_client.specs.Originals.{holding, originals_of}
+use Rattle.cookie_client.specs.declared.originals.Originals.{Originals}
+use Rattle.cookie_client.specs.declared.originals.Originals.TheVariants as originals
 
--- the cookie that a text is read as, if it is one
-abbrev pub cookies_of : Option Record → List Record
-cookies_of None = []
-cookies_of (Some cookie) = cookie ∷ []
+-- the values that a client holds once the changes were made
+abbrev pub after_originals : Originals → List Change → Values → Values
+after_originals originals.Told changes values = holding (originals_of changes) values
+after_originals originals.Untold changes values = values
 
 -- the header is that of a client, and tells all that it holds
 pub record IsHeaderOf (client : Values) (header : List ℕ) : Type 0 where

@@ -1,8 +1,7 @@
 //! Calls on a jar, as values.
 ghost use Rattle.std.specs.Prelude.{◌≡◌, ◌≢◌, ◌↔◌, [], All, IsTrue, IfSome, option_map};
 ghost use Rattle.cookie.specs.Pieces.{Lacks};
-ghost use Rattle.cookie_client.specs.Calls.{IsFitAddition, IsFitCall, IsFitChild, is_change, is_child_change};
-ghost use Rattle.cookie_client.specs.KnownCalls.{IsKnownCall, IsKnownChild};
+ghost use Rattle.cookie_client.specs.Calls.{IsFit, IsFitAddition, IsFitCall, IsKnownChange, asked_of, asked_of_child, change_of, is_change};
 
 use crate::child_call::ChildCall;
 use crate::live::is_live;
@@ -41,78 +40,72 @@ impl<'k> JarCall<'k> {
         ensures { IsTrue result ↔ IsFitCall now self.now }
     {
         match self {
-            JarCall::AddOriginal(cookie) => has_name(cookie),
+            JarCall::AddOriginal(cookie) | JarCall::Remove(cookie, _) => has_name(cookie),
             JarCall::Add(cookie) => is_fit_addition(cookie, now),
-            JarCall::Remove(cookie, _) => has_name(cookie),
-            JarCall::ForceRemove(_) => true,
-            JarCall::ResetDelta => true,
-            JarCall::Prefixed(_, call) => call.is_fit(now),
-            JarCall::Signed(_, call) => call.is_fit(now),
-            JarCall::Private(_, _, call) => call.is_fit(now),
+            JarCall::ForceRemove(_) | JarCall::ResetDelta => true,
+            JarCall::Prefixed(_, call) | JarCall::Signed(_, call) | JarCall::Private(_, _, call) =>
+                { call.is_fit(now) }
         }
     }
 
     /// Whether the call is an addition that isn't an original, or a removal.
     pub fn is_change(&self) -> bool
-        ensures { result ≡ is_change self.now }
+        ensures { result ≡ is_change (change_of self.now) }
     {
         match self {
             JarCall::AddOriginal(_) | JarCall::ForceRemove(_) | JarCall::ResetDelta => false,
             JarCall::Add(_) | JarCall::Remove(_, _) => true,
-            JarCall::Prefixed(_, call) => call.is_change(),
-            JarCall::Signed(_, call) => call.is_change(),
-            JarCall::Private(_, _, call) => call.is_change(),
+            JarCall::Prefixed(_, call) | JarCall::Signed(_, call) | JarCall::Private(_, _, call) =>
+                { call.is_change() }
         }
     }
 
-    /// What holds of the cookie in the call. It does nothing.
-    pub(crate) fn known(&self)
-        ensures { IsKnownCall self.now }
+    // What holds of the cookie in the call. It does nothing.
+    fn known(&self)
+        ensures { IsKnownChange (asked_of self.now) }
     {
         match self {
-            JarCall::AddOriginal(cookie) => cookie.known(),
-            JarCall::Add(cookie) => cookie.known(),
-            JarCall::Remove(cookie, _) => cookie.known(),
-            JarCall::ForceRemove(_) => (),
-            JarCall::ResetDelta => (),
-            JarCall::Prefixed(_, call) => call.known(),
-            JarCall::Signed(_, call) => call.known(),
-            JarCall::Private(_, _, call) => call.known(),
+            JarCall::AddOriginal(cookie) | JarCall::Add(cookie) | JarCall::Remove(cookie, _) => {
+                cookie.known()
+            }
+            JarCall::ForceRemove(_) | JarCall::ResetDelta => (),
+            JarCall::Prefixed(_, call) | JarCall::Signed(_, call) | JarCall::Private(_, _, call) =>
+                { call.known() }
         }
     }
 }
 
 impl ChildCall {
     fn is_fit(&self, now: DateTime) -> bool
-        ensures { IsTrue result ↔ IsFitChild now self.now }
+        ensures { IsTrue result ↔ IsFit now (asked_of_child self.now) }
     {
         match self {
-            ChildCall::AddOriginal(cookie) => has_name(cookie),
+            ChildCall::AddOriginal(cookie) | ChildCall::Remove(cookie, _) => has_name(cookie),
             ChildCall::Add(cookie) => is_fit_addition(cookie, now),
-            ChildCall::Remove(cookie, _) => has_name(cookie),
         }
     }
 
     fn is_change(&self) -> bool
-        ensures { result ≡ is_child_change self.now }
+        ensures { result ≡ is_change (asked_of_child self.now) }
     {
         matches!(self, ChildCall::Add(_) | ChildCall::Remove(_, _))
     }
 
     fn known(&self)
-        ensures { IsKnownChild self.now }
+        ensures { IsKnownChange (asked_of_child self.now) }
     {
         match self {
-            ChildCall::AddOriginal(cookie) => cookie.known(),
-            ChildCall::Add(cookie) => cookie.known(),
-            ChildCall::Remove(cookie, _) => cookie.known(),
+            ChildCall::AddOriginal(cookie)
+            | ChildCall::Add(cookie)
+            | ChildCall::Remove(cookie, _) => cookie.known(),
         }
     }
 }
 
-/// What holds of the cookies in the calls. It does nothing.
-pub(crate) fn known_calls(calls: &[JarCall<'_>])
-    ensures { All IsKnownCall calls.now }
+/// What the types of the cookies in the calls say of them as their jar stores them: their texts are UTF-8, and their
+/// ages are a duration's. It does nothing when it runs.
+pub fn known_calls(calls: &[JarCall<'_>])
+    ensures { All (λ call. IsKnownChange (change_of call)) calls.now }
 {
     for call in calls {
         call.known();
@@ -131,7 +124,7 @@ fn is_fit_addition(cookie: &Cookie<'_>, now: DateTime) -> bool
     has_name(cookie) && is_live(cookie, now) && is_uncut(cookie.path()) && is_uncut(cookie.domain())
 }
 
-/// Whether the text, if there is one, holds no semicolon.
+// Whether the text, if there is one, holds no semicolon.
 fn is_uncut(text: Option<&str>) -> bool
     ensures { IsTrue result ↔ IfSome (option_map (λ t. t.now) text.entry) (Lacks 59) }
 {

@@ -1,13 +1,14 @@
 //! A jar, and a client that follows it.
-ghost use Rattle.std.specs.Prelude.{◌≡◌, ◌<◌, ◌∷◌, ◌++◌, false, ℕ, List, [], length, map, reverse, All, IfOk, OnOk, IsPermutation, string_bytes};
+ghost use Rattle.std.specs.Prelude.{◌≡◌, ◌∷◌, ◌++◌, false, ℕ, List, [], length, map, reverse, All, IfOk, OnOk, string_bytes};
 ghost use Rattle.std.specs.FinMap.{empty, get, insert};
-ghost use Rattle.cookie.specs.History.{accepted, after_all, is_forced, LooksBack};
+ghost use Rattle.cookie.specs.History.{is_forced, LooksBack};
 ghost use Rattle.cookie.specs.Jar.{Name, empty_jar, view};
-ghost use Rattle.cookie_client.specs.Agreement.{Agrees, AreDeltaTexts, HoldsOriginals, holds_originals, originals_of, value_of};
-ghost use Rattle.cookie_client.specs.Calls.{AreRefused, AreTaken, IsFit, IsFitCall, changes_of};
+ghost use Rattle.cookie_client.specs.Agreement.{AreDeltaTexts, HoldsOriginals, value_of};
+ghost use Rattle.cookie_client.specs.Calls.{IsFitCall, changes_of};
 ghost use Rattle.cookie_client.specs.Client.{after_texts};
-ghost use Rattle.cookie_client.specs.Originals.{after_originals};
-ghost use Rattle.cookie_client.specs.Session.{holding};
+ghost use Rattle.cookie_client.specs.Exchange.{IsExchange, accepted_calls, changes_by};
+ghost use Rattle.cookie_client.specs.Originals.{holding, holds_originals, originals_of};
+ghost use Rattle.cookie_client.specs.Steps.{after_originals};
 
 use crate::call::{JarCall, known_calls};
 use crate::child_call::ChildCall;
@@ -16,10 +17,11 @@ use crate::client_error::ClientError;
 use crate::history::replay;
 use crate::originals::{Originals, hold_sealed, hold_signed};
 use crate::prefix_kind::PrefixKind;
+use crate::texts::delta_texts;
 use cookie::prefix::{Host, Prefix, Prefixing, Secure};
 use cookie::{Cookie, CookieJar};
 use jiff::civil::DateTime;
-use std::alloc::{AllocError, Global};
+use std::alloc::Global;
 
 /// What came of calls: the jar, the client that followed it, and which calls were accepted.
 #[derive(Drop)]
@@ -50,25 +52,16 @@ pub fn mirror(
     pick: &[usize],
     now: DateTime,
 ) -> Result<Played, ClientError>
-    ensures count { IfOk result (λ p. length p.outcomes.items ≡ length calls.now) }
-    ensures certain { IfOk result (λ p. AreTaken calls.now p.outcomes.items) }
-    ensures refused { IfOk result (λ p. AreRefused calls.now p.outcomes.items) }
-    ensures jar { IfOk result (λ p.
-        p.jar ≡ after_all (changes_of p.outcomes.items calls.now) empty_jar) }
-    ensures looks_back { IfOk result (λ p.
-        LooksBack (reverse (changes_of p.outcomes.items calls.now)) p.jar) }
-
-    // The client agrees with the jar wherever it held the jar's original, whatever the order of the texts.
-    ensures agreement { IfOk result (λ p. let changes = changes_of p.outcomes.items calls.now in
-        Agrees now (holds_originals changes) changes p.jar p.client) }
-    ensures held { IfOk result (λ p.
-        HoldsOriginals now (changes_of p.outcomes.items calls.now) p.jar) }
-    ensures fit { IfOk result (λ p. All (IsFitCall now) (accepted p.outcomes.items calls.now)
-        → All (IsFit now) (changes_of p.outcomes.items calls.now)) }
+    // The client is the one that held each original, and agrees with the jar wherever it held the jar's original,
+    // whatever the order of the texts.
+    ensures exchange { IfOk result (λ p.
+        IsExchange now empty_jar (holds_originals (changes_by calls.now p)) calls.now p) }
+    ensures held { IfOk result (λ p. HoldsOriginals now (changes_by calls.now p) p.jar) }
+    ensures looks_back { IfOk result (λ p. LooksBack (reverse (changes_by calls.now p)) p.jar) }
 
     // So where the accepted calls are fit, it agrees at each name that none of them removes by force.
-    ensures agrees { IfOk result (λ p. All (IsFitCall now) (accepted p.outcomes.items calls.now)
-        → (name : Name) → is_forced name (changes_of p.outcomes.items calls.now) ≡ false
+    ensures agrees { IfOk result (λ p. All (IsFitCall now) (accepted_calls calls.now p)
+        → (name : Name) → is_forced name (changes_by calls.now p) ≡ false
         → get p.client name ≡ value_of (view p.jar name)) }
 {
     let jar = CookieJar::new(alloc);
@@ -76,8 +69,8 @@ pub fn mirror(
     exchange(alloc, jar, client, calls, Originals::Told, pick, now)
 }
 
-/// Makes the calls on the jar, and has the client read the delta at the moment `now` in UTC, in the order that `pick`
-/// asks for. Where it is told of the originals that accepted calls add, it first holds these.
+// Makes the calls on the jar, and has the client read the delta at the moment `now` in UTC, in the order that `pick`
+// asks for. Where it is told of the originals that accepted calls add, it first holds these.
 pub(crate) fn exchange(
     alloc: Global,
     jar: CookieJar,
@@ -87,13 +80,8 @@ pub(crate) fn exchange(
     pick: &[usize],
     now: DateTime,
 ) -> Result<Played, ClientError>
-    ensures count { IfOk result (λ p. length p.outcomes.items ≡ length calls.now) }
-    ensures certain { IfOk result (λ p. AreTaken calls.now p.outcomes.items) }
-    ensures refused { IfOk result (λ p. AreRefused calls.now p.outcomes.items) }
-    ensures jar { IfOk result (λ p. p.jar ≡ after_all (changes_of p.outcomes.items calls.now) jar) }
-    ensures agreement { jar.delta ≡ empty → IfOk result (λ p.
-        let changes = changes_of p.outcomes.items calls.now in
-        Agrees now (after_originals originals changes client) changes p.jar p.client) }
+    ensures { jar.delta ≡ empty → IfOk result (λ p. IsExchange now jar
+        (after_originals originals (changes_by calls.now p) client) calls.now p) }
 {
     known_calls(calls);
     let mut jar = jar;
@@ -108,7 +96,7 @@ pub(crate) fn exchange(
     })
 }
 
-/// Has a client hold the originals of the accepted calls, where it is told of them.
+// Has a client hold the originals of the accepted calls, where it is told of them.
 fn tell_originals(
     alloc: Global,
     client: &mut Client,
@@ -126,14 +114,15 @@ fn tell_originals(
     }
 }
 
-/// Has a client hold what the call adds as an original, if it was accepted.
+// Has a client hold what the call adds as an original, if it was accepted.
 fn hold_one(
     alloc: Global,
     client: &mut Client,
     call: &JarCall<'_>,
     is_accepted: bool,
 ) -> Result<(), ClientError>
-    ensures { OnOk result (client.new ≡ holding (originals_of (changes_of (is_accepted ∷ []) (call.now ∷ []))) client.old) }
+    ensures { OnOk result (client.new
+        ≡ holding (originals_of (changes_of (is_accepted ∷ []) (call.now ∷ []))) client.old) }
 {
     if !is_accepted {
         return Ok(());
@@ -156,19 +145,20 @@ fn hold_one(
     }
 }
 
-/// Has a client hold the cookie's value under its name with the prefix.
+// Has a client hold the cookie's value under its name with the prefix.
 fn hold_prefixed<P: Prefix>(
     alloc: Global,
     client: &mut Client,
     cookie: &Cookie<'_>,
 ) -> Result<(), ClientError>
-    ensures { OnOk result (client.new ≡ insert client.old (P.PREFIX ++ cookie.now.fields.name) cookie.now.fields.value) }
+    ensures { OnOk result (client.new
+        ≡ insert client.old (P.PREFIX ++ cookie.now.fields.name) cookie.now.fields.value) }
 {
     let name = P::prefixed_name(alloc, cookie.name())?;
     client.hold(name.as_str(), cookie.value())
 }
 
-/// Has a client hold each name's last accepted original.
+// Has a client hold each name's last accepted original.
 fn hold_originals(
     alloc: Global,
     client: &mut Client,
@@ -176,7 +166,8 @@ fn hold_originals(
     outcomes: &[bool],
 ) -> Result<(), ClientError>
     requires { length outcomes.now ≡ length calls.now }
-    ensures { OnOk result (client.new ≡ holding (originals_of (changes_of outcomes.now calls.now)) client.old) }
+    ensures { OnOk result (
+        client.new ≡ holding (originals_of (changes_of outcomes.now calls.now)) client.old) }
 {
     for index in 0..calls.len() {
         hold_one(alloc, client, &calls[index], outcomes[index])?;
@@ -184,7 +175,7 @@ fn hold_originals(
     Ok(())
 }
 
-/// Has a client read the delta's texts, in the order that `pick` asks for.
+// Has a client read the delta's texts, in the order that `pick` asks for.
 fn read_delta(
     alloc: Global,
     client: &mut Client,
@@ -192,62 +183,17 @@ fn read_delta(
     pick: &[usize],
     now: DateTime,
 ) -> Result<(), ClientError>
-    ensures { OnOk result ((texts : List (List ℕ)) × AreDeltaTexts jar.now.delta texts × (client.new ≡ after_texts now texts client.old)) }
+    ensures { OnOk result ((texts : List (List ℕ)) × AreDeltaTexts jar.now.delta texts
+        × (client.new ≡ after_texts now texts client.old)) }
 {
-    let texts = delta_texts(alloc, jar)?;
-    let texts = reordered(alloc, texts, pick)?;
-    read_texts(client, &texts, now)?;
-    Ok(())
+    let texts = delta_texts(alloc, jar, pick)?;
+    read_texts(client, &texts, now)
 }
 
-/// The encoded texts of the delta's cookies.
-fn delta_texts(alloc: Global, jar: &CookieJar) -> Result<Vec<String>, AllocError>
-    ensures { IfOk result (λ texts. AreDeltaTexts jar.now.delta (map string_bytes texts.items)) }
-{
-    let mut texts = Vec::new(alloc);
-    for cookie in jar.delta() {
-        let text = cookie.encoded().to_string(alloc)?;
-        texts.push(text)?;
-    }
-    Ok(texts)
-}
-
-/// The place, among so many texts that are left, of the one that a turn takes.
-fn place_of(pick: &[usize], turn: usize, left: usize) -> usize
-    requires { 0 < left }
-    ensures { result < left }
-{
-    match pick.get(turn) {
-        Some(number) => *number % left,
-        None => 0,
-    }
-}
-
-/// The texts in the order that `pick` asks for.
-fn reordered(
-    alloc: Global,
-    mut texts: Vec<String>,
-    pick: &[usize],
-) -> Result<Vec<String>, AllocError>
-    ensures { IfOk result (λ ordered. IsPermutation texts.items ordered.items) }
-{
-    let mut ordered = Vec::with_capacity(alloc, texts.len())?;
-    let mut turn = 0usize;
-    // The next text stands last, so that number 0 moves no other.
-    texts.reverse();
-    while texts.len() > 0 {
-        let last = texts.len() - 1;
-        let place = place_of(pick, turn, texts.len());
-        let text = texts.remove(last - place);
-        ordered.push(text)?;
-        turn = turn.saturating_add(1);
-    }
-    Ok(ordered)
-}
-
-/// Has a client read texts in order.
+// Has a client read texts in order.
 fn read_texts(client: &mut Client, texts: &[String], now: DateTime) -> Result<(), ClientError>
-    ensures { OnOk result (client.new ≡ after_texts now (map string_bytes texts.now) client.old) }
+    ensures { OnOk result (
+        client.new ≡ after_texts now (map string_bytes texts.now) client.old) }
 {
     for text in texts {
         client.read(text.as_str(), now)?;

@@ -1,13 +1,10 @@
 //! Calls made on a jar in order.
-ghost use Rattle.std.specs.Prelude.{◌≡◌, ◌∷◌, [], Bool, true, length, IsOk, IfOk, OnOk, OnErr, IsErr};
+ghost use Rattle.std.specs.Prelude.{◌≡◌, ◌∷◌, [], true, length, IsOk, IfOk, OnOk, OnErr, IsErr};
+ghost use Rattle.std.specs.List.{AllZip};
 ghost use Rattle.cookie.specs.History.{after_all};
 ghost use Rattle.cookie.specs.Jar.{after};
-ghost use Rattle.cookie.specs.Keys.{encryption_half, signing_half};
 ghost use Rattle.cookie.specs.Prefixes.{applied};
-ghost use Rattle.cookie.specs.Sealing.{sealed};
-ghost use Rattle.cookie.specs.Signing.{signed};
-ghost use Rattle.cookie_client.specs.Calls.{AreRefused, AreTaken, IsTooLong, IsTooLongChild, change_of, child_change, changes_of, is_certain};
-ghost use Rattle.cookie_client.specs.Outcomes.{IsOutcome};
+ghost use Rattle.cookie_client.specs.Calls.{IsOutcome, IsTooLong, IsUnsealable, asked_of_child, change_of, changes_of, is_certain, sealed_by, signed_by, stored_by, storing};
 
 use crate::call::JarCall;
 use crate::child_call::ChildCall;
@@ -17,12 +14,12 @@ use cookie::prefix::{Host, Prefix, Secure};
 use cookie::{CookieJar, JarError, Key};
 use std::alloc::Global;
 
-/// Makes one call.
+// Makes one call.
 fn play(alloc: Global, jar: &mut CookieJar, call: &JarCall<'_>) -> Result<(), JarError>
     ensures ok { OnOk result (jar.new ≡ after (change_of call.now) jar.old) }
     ensures err { OnErr result (jar.new ≡ jar.old) }
-    ensures certain { is_certain call.now ≡ true → IsOk result }
-    ensures refused { IsTooLong call.now → IsErr result }
+    ensures certain { is_certain (change_of call.now) ≡ true → IsOk result }
+    ensures refused { IsUnsealable call.now → IsErr result }
 {
     match call {
         JarCall::AddOriginal(cookie) => jar.add_original(cookie.clone(alloc)?),
@@ -43,14 +40,15 @@ fn play(alloc: Global, jar: &mut CookieJar, call: &JarCall<'_>) -> Result<(), Ja
     }
 }
 
-/// Makes one call on the child jar of a prefix.
+// Makes one call on the child jar of a prefix.
 fn play_prefixed<P: Prefix>(
     alloc: Global,
     jar: &mut CookieJar,
     prefix: P,
     call: &ChildCall,
 ) -> Result<(), JarError>
-    ensures ok { OnOk result (jar.new ≡ after (child_change (applied P.PREFIX P.conformed) (applied P.PREFIX P.conformed) call.now) jar.old) }
+    ensures ok { OnOk result (let stored = applied P.PREFIX P.conformed in jar.new ≡ after
+        (stored_by (storing stored stored) (asked_of_child call.now)) jar.old) }
     ensures err { OnErr result (jar.new ≡ jar.old) }
 {
     let mut child = jar.prefixed_mut(prefix);
@@ -61,14 +59,15 @@ fn play_prefixed<P: Prefix>(
     }
 }
 
-/// Makes one call on the signed child jar of a key.
+// Makes one call on the signed child jar of a key.
 fn play_signed(
     alloc: Global,
     jar: &mut CookieJar,
     key: &Key,
     call: &ChildCall,
 ) -> Result<(), JarError>
-    ensures ok { OnOk result (jar.new ≡ after (child_change (signed (signing_half key.now)) (λ c. c) call.now) jar.old) }
+    ensures ok { OnOk result (jar.new ≡ after
+        (stored_by (signed_by key.now) (asked_of_child call.now)) jar.old) }
     ensures err { OnErr result (jar.new ≡ jar.old) }
 {
     let mut signer = jar.signed_mut(key);
@@ -79,7 +78,7 @@ fn play_signed(
     }
 }
 
-/// Makes one call on the private child jar of a key, and seals under this nonce.
+// Makes one call on the private child jar of a key, and seals under this nonce.
 fn play_private(
     alloc: Global,
     jar: &mut CookieJar,
@@ -87,9 +86,10 @@ fn play_private(
     nonce: [u8; 12],
     call: &ChildCall,
 ) -> Result<(), JarError>
-    ensures ok { OnOk result (jar.new ≡ after (child_change (sealed (encryption_half key.now) nonce) (λ c. c) call.now) jar.old) }
+    ensures ok { OnOk result (jar.new ≡ after
+        (stored_by (sealed_by key.now nonce) (asked_of_child call.now)) jar.old) }
     ensures err { OnErr result (jar.new ≡ jar.old) }
-    ensures refused { IsTooLongChild call.now → IsErr result }
+    ensures refused { IsTooLong (asked_of_child call.now) → IsErr result }
 {
     let mut sealer = jar.private_mut(key);
     match call {
@@ -102,7 +102,7 @@ fn play_private(
     }
 }
 
-/// Makes one call, and answers whether it was accepted.
+// Makes one call, and answers whether it was accepted.
 fn is_accepted(alloc: Global, jar: &mut CookieJar, call: &JarCall<'_>) -> bool
     ensures jar { jar.new ≡ after_all (changes_of (result ∷ []) (call.now ∷ [])) jar.old }
     ensures outcome { IsOutcome call.now result }
@@ -124,8 +124,7 @@ pub fn replay(
     ensures count { IfOk result (λ outcomes. length outcomes.items ≡ length calls.now) }
     ensures jar { IfOk result (λ outcomes.
         jar.new ≡ after_all (changes_of outcomes.items calls.now) jar.old) }
-    ensures certain { IfOk result (λ outcomes. AreTaken calls.now outcomes.items) }
-    ensures refused { IfOk result (λ outcomes. AreRefused calls.now outcomes.items) }
+    ensures outcomes { IfOk result (λ outcomes. AllZip IsOutcome calls.now outcomes.items) }
     ensures err { OnErr result (jar.new ≡ jar.old) }
 {
     let mut outcomes = Vec::with_capacity(alloc, calls.len())?;

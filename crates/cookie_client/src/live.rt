@@ -5,7 +5,7 @@ ghost use Rattle.cookie_client.specs.Live.{is_live, is_later};
 use cookie::{Cookie, Expiration};
 use jiff::civil::DateTime;
 
-/// Whether the expiry, without its fraction of a second, is later than `now`.
+// Whether the expiry, without its fraction of a second, is later than `now`.
 fn is_later(expires: Option<Expiration>, now: DateTime) -> bool
     ensures { result ≡ is_later expires now }
 {
@@ -18,8 +18,9 @@ fn is_later(expires: Option<Expiration>, now: DateTime) -> bool
     }
 }
 
-/// Whether the cookie is live at a moment: by its age, or else by its expiry.
-pub(crate) fn is_live(cookie: &Cookie<'_>, now: DateTime) -> bool
+/// Whether the cookie is live at the moment `now` in UTC, so that a client keeps it: by its age, or else by its
+/// expiry, both in whole seconds (RFC 6265 5.2.2, 5.3).
+pub fn is_live(cookie: &Cookie<'_>, now: DateTime) -> bool
     ensures { result ≡ is_live cookie.now.fields now }
 {
     match cookie.max_age() {

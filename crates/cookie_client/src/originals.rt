@@ -5,7 +5,7 @@ ghost use Rattle.cookie.specs.Jar.{AddOriginal, after, empty_jar, view};
 ghost use Rattle.cookie.specs.Keys.{encryption_half, signing_half};
 ghost use Rattle.cookie.specs.Sealing.{sealed};
 ghost use Rattle.cookie.specs.Signing.{signed};
-ghost use Rattle.cookie_client.specs.Originals.{holding_shown};
+ghost use Rattle.cookie_client.specs.HeldCode.{holding_shown};
 
 use crate::client::Client;
 use crate::client_error::ClientError;

@@ -1,13 +1,19 @@
 //! Many requests, and one client.
 ghost use Rattle.std.specs.Prelude.{◌≡◌, length, IfOk};
-ghost use Rattle.std.specs.FinMap.{empty};
-ghost use Rattle.cookie_client.specs.Rounds.{AreRounds, IsVisit};
+ghost use Rattle.std.specs.FinMap.{empty, get};
+ghost use Rattle.cookie.specs.Jar.{Name, view};
+ghost use Rattle.cookie.specs.Memory.{Gives};
+ghost use Rattle.cookie_client.specs.Agreement.{value_of};
+ghost use Rattle.cookie_client.specs.Exchange.{IsExchange};
+ghost use Rattle.cookie_client.specs.Originals.{client_for, jar_for};
+ghost use Rattle.cookie_client.specs.Rounds.{AreRounds};
+ghost use Rattle.cookie_client.specs.declared.client_error.ClientError.TheVariants.{OutOfMemory};
 
 use crate::call::JarCall;
 use crate::client::Client;
 use crate::client_error::ClientError;
 use crate::exchange::{Played, exchange};
-use crate::header::hold_header;
+use crate::header::with_originals;
 use crate::originals::Originals;
 use crate::request::Request;
 use cookie::CookieJar;
@@ -45,8 +51,8 @@ pub fn rounds(
     Ok(played)
 }
 
-/// Plays one request of a client that holds what the header tells: its cookies are the originals of a new jar, and all
-/// that a new client holds.
+// Plays one request of a client that holds what the header tells: its cookies are the originals of a new jar, and all
+// that a new client holds.
 pub(crate) fn visit(
     alloc: Global,
     header: &str,
@@ -54,10 +60,22 @@ pub(crate) fn visit(
     pick: &[usize],
     now: DateTime,
 ) -> Result<Played, ClientError>
-    ensures { IfOk result (λ p. IsVisit now header.now calls.now p) }
+    ensures { IfOk result (λ p.
+        IsExchange now (jar_for header.now) (client_for header.now) calls.now p) }
 {
-    let mut jar = CookieJar::new(alloc);
-    let mut client = Client::new(alloc);
-    hold_header(alloc, header, &mut jar, &mut client)?;
+    let jar = with_originals(alloc, CookieJar::new(alloc), header)?;
+    let client = client_of(alloc, &jar)?;
     exchange(alloc, jar, client, calls, Originals::Untold, pick, now)
+}
+
+// A client that holds the values of the cookies that the jar shows.
+fn client_of(alloc: Global, jar: &CookieJar) -> Result<Client, ClientError>
+    ensures { Gives OutOfMemory result (λ client.
+        (name : Name) → get client name ≡ value_of (view jar.now name)) }
+{
+    let mut client = Client::new(alloc);
+    for cookie in jar.iter() {
+        client.hold(cookie.name(), cookie.value())?;
+    }
+    Ok(client)
 }

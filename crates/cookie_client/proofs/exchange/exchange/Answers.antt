@@ -2,17 +2,23 @@ use Rattle.std.proofs.Common.{◌≡◌, List, ap, ◌∙◌}
 use Rattle.cookie.specs.Jar.{Change}
 use Rattle.cookie_client.specs.Calls.{changes_of}
 use Rattle.cookie_client.specs.Client.{after_texts}
-use Rattle.cookie_client.specs.Originals.{after_originals}
+use Rattle.cookie_client.specs.Steps.{after_originals}
 use Rattle.cookie_client.proofs.AgreementLemmas.{agreement}
-use Rattle.cookie_client.proofs.ChangeLemmas.{known_changes}
+use Rattle.cookie_client.proofs.ChangeLemmas.{fit_changes, known_changes}
 use Rattle.cookie_client.proofs.exchange.exchange.Goals as goal
 
-pub returns-clause-agreement : goal.returns-clause-agreement
-returns-clause-agreement c fresh =
+pub returns : goal.returns
+returns c fresh =
+    let calls = c.args.calls.now in
     let outcomes = c.in_ok-outcomes.outcomes.items in
-    let changes : List Change = changes_of outcomes c.args.calls.now in
+    let changes : List Change = changes_of outcomes calls in
     let (texts, are, read) = c.in_ok-read_delta.ensures in
     let told : c.tell_originals.new.client ≡ after_originals c.args.originals changes c.args.client =
-    c.in_ok-tell_originals.ensures ∙ ap (λ o. after_originals c.args.originals (changes_of o c.args.calls.now) c.args.client) c.deref.ensures.value in
-    agreement c.args.now changes (known_changes outcomes c.args.calls.now c.known_calls.ensures) c.args.jar c.replay.new.jar fresh c.in_ok-outcomes.ensures.jar
-    (after_originals c.args.originals changes c.args.client) c.read_delta.new.client texts are (read ∙ ap (after_texts c.args.now texts) told)
+    c.in_ok-tell_originals.ensures ∙ ap (λ o. after_originals c.args.originals (changes_of o calls) c.args.client) c.deref.ensures.value in
+    record {
+      outcomes = c.in_ok-outcomes.ensures.outcomes;
+      jar = c.in_ok-outcomes.ensures.jar;
+      agreement = agreement c.args.now changes (known_changes outcomes calls c.known_calls.ensures) c.args.jar c.replay.new.jar fresh c.in_ok-outcomes.ensures.jar
+          (after_originals c.args.originals changes c.args.client) c.read_delta.new.client texts are (read ∙ ap (after_texts c.args.now texts) told);
+      fit = fit_changes c.args.now outcomes calls;
+    }

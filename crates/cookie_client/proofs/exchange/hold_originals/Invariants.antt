@@ -1,7 +1,6 @@
 use Rattle.std.proofs.Common.{◌≡◌, drop}
-use Rattle.cookie_client.specs.Agreement.{originals_of}
+use Rattle.cookie_client.specs.Originals.{holding, originals_of}
 use Rattle.cookie_client.specs.Calls.{changes_of}
-use Rattle.cookie_client.specs.Session.{holding}
 use Rattle.cookie_client.proofs.exchange.hold_originals.Given as goal
 
 -- what is held, with the originals of the rest, is the whole

@@ -1,34 +1,32 @@
-use Rattle.std.proofs.Common.{ap, subst, ◌∙◌}
+use Rattle.std.proofs.Common.{ap, subst, sym, ◌∙◌, reverse}
 use Rattle.std.proofs.lemmas.Result.{IfOk-weaker}
-use Rattle.cookie.specs.History.{after_all}
+use Rattle.cookie.specs.History.{after_all, LooksBack}
 use Rattle.cookie.specs.Jar.{JarState}
-use Rattle.cookie_client.specs.Agreement.{Agrees, originals_of}
-use Rattle.cookie_client.specs.Calls.{changes_of}
-use Rattle.cookie_client.specs.Session.{holding}
+use Rattle.cookie_client.specs.Exchange.{IsExchange, changes_by}
+use Rattle.cookie_client.specs.Originals.{holding, holds_originals, originals_of}
 use Rattle.cookie_client.proofs.AgreementLemmas.{holds_each}
-use Rattle.cookie_client.proofs.ChangeLemmas.{fit_changes}
-use Rattle.cookie_client.proofs.ResultLemmas.{IfOk-both}
 use Rattle.cookie_client.proofs.exchange.mirror.Goals as goal
 
-pub returns-clause-agreement : goal.returns-clause-agreement
-returns-clause-agreement c =
-    IfOk-weaker c.exchange.result _ _ (λ p agreement.
-    let changes = changes_of p.outcomes.items c.args.calls.now in
-    subst (λ v. Agrees c.args.now v changes p.jar p.client) (ap (holding (originals_of changes)) c.new-client.ensures) agreement)
-    (c.exchange.ensures.agreement (ap (λ (j : JarState). j.delta) c.new-jar.ensures.empty))
+pub returns-clause-exchange : goal.returns-clause-exchange
+returns-clause-exchange c =
+    let calls = c.args.calls.now in
+    IfOk-weaker c.exchange.result _ _ (λ p is.
+    subst (λ start. IsExchange c.args.now start (holds_originals (changes_by calls p)) calls p) c.new-jar.ensures.empty
+    (subst (λ v. IsExchange c.args.now c.new-jar.result v calls p) (ap (holding (originals_of (changes_by calls p))) c.new-client.ensures) is))
+    (c.exchange.ensures (ap (λ (j : JarState). j.delta) c.new-jar.ensures.empty))
 
 pub returns-clause-held : goal.returns-clause-held
 returns-clause-held c =
-    IfOk-weaker c.exchange.result _ _ (λ p jar.
-    let changes = changes_of p.outcomes.items c.args.calls.now in
-    holds_each c.args.now changes p.jar (jar ∙ ap (after_all changes) c.new-jar.ensures.empty)) c.exchange.ensures.jar
+    IfOk-weaker c.exchange.result _ _ (λ p is. holds_each c.args.now (changes_by c.args.calls.now p) p.jar is.jar) (returns-clause-exchange c)
 
-pub returns-clause-fit : goal.returns-clause-fit
-returns-clause-fit c =
-    IfOk-weaker c.exchange.result _ _ (λ p _. fit_changes c.args.now p.outcomes.items c.args.calls.now) c.exchange.ensures.count
+pub returns-clause-looks_back : goal.returns-clause-looks_back
+returns-clause-looks_back c =
+    IfOk-weaker c.exchange.result _ _ (λ p is.
+    let changes = changes_by c.args.calls.now p in
+    subst (LooksBack (reverse changes)) (ap (after_all changes) c.new-jar.ensures.empty ∙ sym is.jar) (c.new-jar.ensures.history changes)) (returns-clause-exchange c)
 
 pub returns-clause-agrees : goal.returns-clause-agrees
 returns-clause-agrees c =
-    IfOk-weaker c.exchange.result _ _ (λ p (agreement, held) fits name unforced.
-    agreement.agrees (fit_changes c.args.now p.outcomes.items c.args.calls.now fits) name (λ _. held.unforced name unforced))
-    (IfOk-both c.exchange.result _ _ (returns-clause-agreement c) (returns-clause-held c))
+    IfOk-weaker c.exchange.result _ _ (λ p is fits name unforced.
+    is.agreement.agrees (is.fit fits) name (λ _. (holds_each c.args.now (changes_by c.args.calls.now p) p.jar is.jar).unforced name unforced))
+    (returns-clause-exchange c)

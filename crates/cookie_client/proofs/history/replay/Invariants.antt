@@ -1,7 +1,7 @@
 use Rattle.std.proofs.Common.{◌≡◌, ◌≤◌, List, Bool, ◌++◌, drop, length, vec_capacity}
+use Rattle.std.specs.List.{AllZip}
 use Rattle.cookie.specs.History.{after_all}
-use Rattle.cookie_client.specs.Calls.{changes_of}
-use Rattle.cookie_client.specs.Outcomes.{AreOutcomes}
+use Rattle.cookie_client.specs.Calls.{IsOutcome, changes_of}
 use Rattle.cookie_client.proofs.history.replay.Given as goal
 
 -- any outcomes of the calls that are left complete the outcomes so far
@@ -10,6 +10,6 @@ invariant-loop-call l =
     record {
       count : length l.outcomes.items ≡ l.call-index;
       room : length l.calls ≤ vec_capacity l.outcomes;
-      told : (rest : List Bool) → AreOutcomes (drop l.call-index l.calls) rest → AreOutcomes l.calls (l.outcomes.items ++ rest);
+      told : (rest : List Bool) → AllZip IsOutcome (drop l.call-index l.calls) rest → AllZip IsOutcome l.calls (l.outcomes.items ++ rest);
       rest : (rest : List Bool) → after_all (changes_of rest (drop l.call-index l.calls)) l.jar ≡ after_all (changes_of (l.outcomes.items ++ rest) l.calls) l.fn.jar;
     }

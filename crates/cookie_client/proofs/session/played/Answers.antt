@@ -2,8 +2,9 @@ use Rattle.std.proofs.Common.{◌≡◌, ◌++◌, Ok, List, ℕ, length, drop, 
 use Rattle.std.specs.List.{list_all}
 use Rattle.std.proofs.lemmas.Result.{err_from_is_err_and}
 use Rattle.std.specs.String.{string_bytes}
+use Rattle.cookie_client.specs.Exchange.{IsExchange}
 use Rattle.cookie_client.specs.Lines.{lines_of}
-use Rattle.cookie_client.specs.Rounds.{IsVisit}
+use Rattle.cookie_client.specs.Originals.{client_for, jar_for}
 use Rattle.cookie_client.specs.Run.{IsOfAgreement, Refuses, changes_in, header_line}
 use Rattle.cookie_client.specs.Session.{cookie_line, delta_texts, played, set_cookie_lines}
 use Rattle.cookie_client.specs.declared.call.JarCall.{JarCall}
@@ -32,8 +33,9 @@ told c text is =
     let rest = c.header_of-header.ensures.rest ∙ ap (drop 1) c.of-lines.ensures in
     written_by now (lines_of c.args.text.now) calls c.in_ok-visited.visited text
     (ap (λ ls. changes_in now 2 ls) (sym rest) ∙ c.in_ok-calls.ensures)
-    (subst (λ h. IsVisit now h calls c.in_ok-visited.visited) header
-    (subst (λ cs. IsVisit now c.header_of-header.result.now cs c.in_ok-visited.visited) c.deref.ensures.value c.in_ok-visited.ensures))
+    (subst (λ h. IsExchange now (jar_for h) (client_for h) calls c.in_ok-visited.visited) header
+    (subst (λ cs. IsExchange now (jar_for c.header_of-header.result.now) (client_for c.header_of-header.result.now) cs c.in_ok-visited.visited) c.deref.ensures.value
+    c.in_ok-visited.ensures))
     (sym (c.are_accepted.ensures ∙ ap (list_all (λ b. b)) c.deref-2.ensures.value) ∙ c.if-not-are_accepted.false)
     is
 

@@ -1,13 +1,12 @@
 use Rattle.std.proofs.Common.{◌≡◌, true}
 use Rattle.std.specs.List.{filter_map}
 use Rattle.cookie.specs.CookieOf.{cookie_of, header_cookies}
-use Rattle.cookie_client.specs.Session.{with_originals, holding}
-use Rattle.cookie_client.proofs.header.hold_header.Given as goal
+use Rattle.cookie_client.specs.Originals.{with_originals}
+use Rattle.cookie_client.proofs.header.with_originals.Given as goal
 
--- what is held, with the cookies of the rest, is the whole
+-- the jar so far, with the cookies of the rest, is the whole
 abbrev pub invariant-loop-outcome : goal.invariant-loop-outcome
 invariant-loop-outcome l = record {
   is_decoded : l.outcome-iterator.is_decoded ≡ true;
   jar : with_originals (filter_map (cookie_of true) l.outcome-iterator.texts) l.jar ≡ with_originals (header_cookies true l.header) l.fn.jar;
-  client : holding (filter_map (cookie_of true) l.outcome-iterator.texts) l.client ≡ holding (header_cookies true l.header) l.fn.client;
 }

@@ -2,7 +2,7 @@ use Rattle.std.proofs.Common.{sym, subst, map, true, false, string_bytes, â—Œ++â
 use Rattle.cookie.specs.Text.{cookie_text}
 use Rattle.cookie_client.specs.Agreement.{AreDeltaTexts}
 use Rattle.cookie_client.proofs.DeltaTextLemmas.{AreDeltaTexts-walk}
-use Rattle.cookie_client.proofs.exchange.delta_texts.Goals as goal
+use Rattle.cookie_client.proofs.texts.walked_texts.Goals as goal
 
 pub loop-cookie-init : goal.loop-cookie-init
 loop-cookie-init c =

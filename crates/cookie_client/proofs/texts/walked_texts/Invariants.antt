@@ -1,7 +1,7 @@
 use Rattle.std.proofs.Common.{◌++◌, true, false, map, string_bytes}
 use Rattle.cookie.specs.Text.{cookie_text}
 use Rattle.cookie_client.specs.Agreement.{AreDeltaTexts}
-use Rattle.cookie_client.proofs.exchange.delta_texts.Given as goal
+use Rattle.cookie_client.proofs.texts.walked_texts.Given as goal
 
 -- the texts so far, with those of the cookies that are left, are the delta's
 abbrev pub invariant-loop-cookie : goal.invariant-loop-cookie
