@@ -1,10 +1,13 @@
 -- What is answered to a cookie that was added.
-use Rattle.std.proofs.Common.{◌≡◌, ℕ, List, cond, None, Some, option_map, ap, sym, refl, ◌∙◌}
+use Rattle.std.proofs.Common.{◌≡◌, ℕ, List, cond, None, Some, option_map, Result, Ok, Err, IfOk, ap, sym, subst, refl, ◌∙◌}
 use Rattle.std.proofs.lemmas.Slice.Eq.{bytes_eq-Decides}
+use Rattle.cookie_core.specs.Memory.{Gives}
 use Rattle.cookie_core.specs.Record.{Record}
 use Rattle.cookie.specs.AnswersExactly.{AnswersPair}
 use Rattle.cookie.specs.Jar.{JarState, Add, after, view}
 use Rattle.cookie.specs.Prefixes.{pair_of}
+use Rattle.cookie.specs.declared.jar_error.JarError.{JarError}
+use Rattle.cookie.specs.declared.jar_error.JarError.TheVariants as refusal
 use Rattle.cookie.proofs.JarLemmas.{view-added}
 
 -- a jar shows a cookie that was added
@@ -21,3 +24,16 @@ answered_pair StandsFor stored cookie named stands (Some c) answers =
     ap (option_map pair_of) (sym answers.kept)
     ∙ ap (λ n. Some (n, c.value)) named
     ∙ ap (option_map (λ v. (cookie.name, v))) ((answers.exact cookie.value).1 stands)
+
+-- so it is once the stored one was added to a jar
+pub answered_added : (StandsFor : Record → List ℕ → Type 0) (stored cookie : Record) (jar : JarState) → stored.name ≡ cookie.name
+    → StandsFor stored cookie.value → AnswersPair StandsFor (view (after (Add stored) jar) cookie.name) cookie
+answered_added StandsFor stored cookie jar named stands =
+    subst (λ o. AnswersPair StandsFor o cookie) (sym (ap (view (after (Add stored) jar)) (sym named) ∙ view-stored jar stored))
+    (answered_pair StandsFor stored cookie named stands)
+
+-- what holds of every jar that a cookie was added to holds behind a call that adds it, or wants memory
+pub if_added : (Shows : JarState → Type 0) (stored made : Record) (old new : JarState) (r : Result (Unit {0}) JarError) → made ≡ stored
+    → ((jar : JarState) → Shows (after (Add stored) jar)) → Gives refusal.OutOfMemory r (λ _. new ≡ after (Add made) old) → IfOk r (λ _. Shows new)
+if_added Shows stored made old new (Err _) is shows refused = tt
+if_added Shows stored made old new (Ok _) is shows added = subst Shows (sym (added ∙ ap (λ c. after (Add c) old) is)) (shows old)

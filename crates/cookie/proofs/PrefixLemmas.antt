@@ -1,5 +1,5 @@
 -- Names with a prefix, and without it.
-use Rattle.std.proofs.Common.{◌≡◌, ℕ, ◌==◌, Bool, true, false, cond, Bor, List, [], ◌∷◌, ◌++◌, length, take, drop, Option, None, Some, MatchOption, Result, Ok, Err, IfOk, refl, sym, ap, ◌∙◌, arith, codes}
+use Rattle.std.proofs.Common.{◌≡◌, ℕ, ◌==◌, Bool, true, false, cond, Bor, List, [], ◌∷◌, ◌++◌, length, take, drop, Option, None, Some, MatchOption, refl, sym, ap, ◌∙◌, arith, codes}
 use Rattle.std.proofs.Math.Seq.{take-append_seam, drop-append_seam}
 use Rattle.std.proofs.lemmas.Bool.{eqb-true}
 use Rattle.std.proofs.lemmas.List.{take-append-drop, length-append}
@@ -8,13 +8,10 @@ use Rattle.std.proofs.lemmas.Str.{IsUtf8-append}
 use Rattle.std.specs.Option.{option_map}
 use Rattle.std.specs.Str.{bytes_eq}
 use Rattle.std.specs.Str.Pattern.{FindsTextPrefix, StripsPrefix}
-use Rattle.cookie_core.specs.Memory.{Gives}
 use Rattle.cookie_core.specs.Record.{Record, CookieView, IsCookie}
 use Rattle.cookie.specs.Clipped.{LeavesName}
 use Rattle.cookie.specs.Jar.{Name, JarState, Add, after, view}
 use Rattle.cookie.specs.Prefixes.{prefixed, clipped_name, clipped, renamed_raw, applied, pair_of, prefixed_view, KeepsPair, host_bound, host_prefix, secured, secure_prefix}
-use Rattle.cookie.specs.declared.jar_error.JarError.{JarError}
-use Rattle.cookie.specs.declared.jar_error.JarError.TheVariants as refusal
 use Rattle.cookie.proofs.JarLemmas.{view-added}
 
 bytes_eq-itself : (name : Name) → bytes_eq name name ≡ true
@@ -91,15 +88,6 @@ shown-added p conformed keeps cookie jar =
     ∙ ap (λ b. shows (cond b (Some stored) (view jar (p ++ cookie.name)))) (ap (bytes_eq (p ++ cookie.name)) named ∙ bytes_eq-itself (p ++ cookie.name))
     ∙ ap (λ n. Some (n, stored.value)) (ap (clipped_name p) named ∙ clipped_name-prefixed p cookie.name)
     ∙ ap (λ v. Some (cookie.name, v)) (keeps.value (prefixed p cookie))
-
--- the same behind a call that can want memory
-pub shown_if_added : (p : Name) (conformed : Record → Record) → KeepsPair conformed → (cookie stored : Record) (old new : JarState) (r : Result (Unit {0}) JarError)
-    → stored ≡ applied p conformed cookie → Gives refusal.OutOfMemory r (λ _. new ≡ after (Add stored) old)
-    → IfOk r (λ _. option_map pair_of (prefixed_view p new cookie.name) ≡ Some (pair_of cookie))
-shown_if_added p conformed keeps cookie stored old new (Ok _) is added =
-    ap (λ jar. option_map pair_of (prefixed_view p jar cookie.name)) (added ∙ ap (λ c. after (Add c) old) is)
-    ∙ shown-added p conformed keeps cookie old
-shown_if_added p conformed keeps cookie stored old new (Err _) is refused = tt
 
 -- ---- what holds of every cookie holds of it once a prefix of the standard was applied
 

@@ -19,7 +19,7 @@ use Rattle.cookie.specs.Opening.{IsSealedBytes}
 use Rattle.cookie.specs.Sealing.{CanSeal, IsNonce, IsSealable, IsSealed, IsSealingOf, sealed, sealed_bytes, sealing}
 use Rattle.cookie.specs.declared.jar_error.JarError.{JarError}
 use Rattle.cookie.specs.declared.jar_error.JarError.TheVariants as refusal
-use Rattle.cookie.proofs.AnswerLemmas.{answered_pair, view-stored}
+use Rattle.cookie.proofs.AnswerLemmas.{answered_added, if_added}
 
 -- ---- bytes
 
@@ -304,12 +304,9 @@ decrypted key name text cookie made opened value same_name same_text is_value is
     })
 
 -- a sealed cookie that was added is answered with the name and the value that it was added with
-pub sealed_shown : (key nonce : List ℕ) (cookie stored : Record) (old new : JarState) (r : Result (Unit {0}) JarError)
-    → stored ≡ sealed key nonce cookie → IsSealingOf key stored cookie.value → Gives refusal.OutOfMemory r (λ _. new ≡ after (Add stored) old)
+pub sealed_shown : (key : List ℕ) (cookie made : Record) (old new : JarState) (r : Result (Unit {0}) JarError)
+    → IsSealingOf key made cookie.value → made.name ≡ cookie.name → Gives refusal.OutOfMemory r (λ _. new ≡ after (Add made) old)
     → IfOk r (λ _. AnswersPair (IsSealingOf key) (view new cookie.name) cookie)
-sealed_shown key nonce cookie stored old new (Err _) is stands refused = tt
-sealed_shown key nonce cookie stored old new (Ok _) is stands added =
-    let named : stored.name ≡ cookie.name = ap (λ (c : Record). c.name) is in
-    let shown : view new cookie.name ≡ Some stored =
-    ap (view new) (sym named) ∙ ap (λ jar. view jar stored.name) added ∙ view-stored old stored in
-    subst (λ o. AnswersPair (IsSealingOf key) o cookie) (sym shown) (answered_pair (IsSealingOf key) stored cookie named stands)
+sealed_shown key cookie made old new r stands named added =
+    if_added (λ jar. AnswersPair (IsSealingOf key) (view jar cookie.name) cookie) made made old new r refl
+    (λ jar. answered_added (IsSealingOf key) made cookie jar named stands) added

@@ -1,5 +1,5 @@
 -- A signed value is a signature of 44 characters, which are ASCII, and the value.
-use Rattle.std.proofs.Common.{◌≡◌, ◌↔◌, ◌+◌, ◌<◌, ◌≤◌, ℕ, List, [], ◌++◌, length, take, drop, replicate, arith, refl, sym, ap, subst, ◌∙◌, length-append, append-nil, IsAscii, IsUtf8, IsCharBoundary, Option, Some, None, Result, Ok, Err, OnOk, IfOk}
+use Rattle.std.proofs.Common.{◌≡◌, ◌↔◌, ◌+◌, ◌<◌, ◌≤◌, ℕ, List, [], ◌++◌, length, take, drop, replicate, arith, refl, sym, ap, subst, ◌∙◌, length-append, append-nil, IsAscii, IsUtf8, IsCharBoundary, Option, Some, None, Result, Ok, OnOk}
 use Rattle.std.specs.Int.{w64, from_be_bytes, to_be_bytes}
 use Rattle.std.proofs.lemmas.List.{get_or_append_left, drop_all, take-append-drop}
 use Rattle.std.proofs.lemmas.Nat.{from_be_bytes-to_be_bytes_8}
@@ -14,13 +14,10 @@ use Rattle.base64.proofs.RoundTrip.{length-encode_symbols}
 use Rattle.cookie_core.specs.Record.{Record, IsCookie}
 use Rattle.cookie_crypt.specs.Hmac.{hmac}
 use Rattle.cookie_crypt.proofs.MacLemmas.{length-hmac}
-use Rattle.cookie_core.specs.Memory.{Gives}
 use Rattle.cookie.specs.AnswersExactly.{AnswersPair}
 use Rattle.cookie.specs.Jar.{Name, JarState, Add, after, view}
 use Rattle.cookie.specs.Signing.{CoversOnePair, IsSigningOf, covered, signature, signing, signed}
-use Rattle.cookie.specs.declared.jar_error.JarError.{JarError}
-use Rattle.cookie.specs.declared.jar_error.JarError.TheVariants as refusal
-use Rattle.cookie.proofs.AnswerLemmas.{answered_pair, view-stored}
+use Rattle.cookie.proofs.AnswerLemmas.{answered_added}
 
 -- ---- the signature
 
@@ -149,11 +146,6 @@ module _ (key : List ℕ) (name : Name) (s front rest : List ℕ) (is_front : fr
 -- ---- signed jars
 
 -- a signed cookie that was added is answered with the name and the value that it was added with
-pub signed_shown : (key : List ℕ) (cookie stored : Record) (old new : JarState) (r : Result (Unit {0}) JarError)
-    → stored ≡ signed key cookie → Gives refusal.OutOfMemory r (λ _. new ≡ after (Add stored) old)
-    → IfOk r (λ _. AnswersPair (IsSigningOf key) (view new cookie.name) cookie)
-signed_shown key cookie stored old new (Err _) is refused = tt
-signed_shown key cookie stored old new (Ok _) is added =
-    let shown : view new cookie.name ≡ Some (signed key cookie) =
-    ap (λ jar. view jar cookie.name) (added ∙ ap (λ c. after (Add c) old) is) ∙ view-stored old (signed key cookie) in
-    subst (λ o. AnswersPair (IsSigningOf key) o cookie) (sym shown) (answered_pair (IsSigningOf key) (signed key cookie) cookie refl refl)
+pub signed_shown : (key : List ℕ) (cookie : Record) (jar : JarState)
+    → AnswersPair (IsSigningOf key) (view (after (Add (signed key cookie)) jar) cookie.name) cookie
+signed_shown key cookie jar = answered_added (IsSigningOf key) (signed key cookie) cookie jar refl refl

@@ -1,6 +1,7 @@
 -- The jar after a list of calls, and what it has at a name by looking back through them: no map is kept.
-use Rattle.std.specs.Prelude.{◌≡◌, Bool, false, ◌||◌, List, [], ◌∷◌, Option, Some, None, is_some, if◌then◌else◌}
+use Rattle.std.specs.Prelude.{◌≡◌, Bool, false, List, [], ◌∷◌, Option, Some, None, is_some, if◌then◌else◌}
 use Rattle.std.specs.FinMap.{get}
+use Rattle.std.specs.List.{find, list_any}
 use Rattle.std.specs.Str.{bytes_eq}
 use Rattle.cookie_core.specs.Record.{Record}
 use Rattle.cookie_core.specs.Removal.{removal}
@@ -23,10 +24,8 @@ accepted (outcome ∷ outcomes) (call ∷ calls) = if outcome then call ∷ acce
 abbrev pub original_by : Name → List Change → Option Record
 original_by name [] = None
 original_by name (AddOriginal cookie ∷ earlier) = if bytes_eq name cookie.name then Some cookie else original_by name earlier
-original_by name (Add cookie ∷ earlier) = original_by name earlier
-original_by name (Remove cookie now ∷ earlier) = original_by name earlier
 original_by name (ForceRemove forced ∷ earlier) = if bytes_eq name forced then None else original_by name earlier
-original_by name (ResetDelta ∷ earlier) = original_by name earlier
+original_by name (change ∷ earlier) = original_by name earlier
 
 -- what a removal leaves in the delta: a cookie that tells the client to drop the name, where there was an original
 abbrev pub removal_by : Record → Option Record → Option Marked
@@ -47,20 +46,23 @@ pub record LooksBack (history : List Change) (jar : JarState) : Type 0 where
   pub originals : (name : Name) → get jar.originals name ≡ original_by name history
   pub delta : (name : Name) → get jar.delta name ≡ entry_by name history
 
--- the last original of the name, whatever came after it
+-- ---- originals alone
+
+-- the originals that calls add, in their order
+abbrev pub originals_of : List Change → List Record
+originals_of [] = []
+originals_of (AddOriginal cookie ∷ changes) = cookie ∷ originals_of changes
+originals_of (change ∷ changes) = originals_of changes
+
+-- looking back, the last original of the name, whatever came after it
 abbrev pub last_original : Name → List Change → Option Record
-last_original name [] = None
-last_original name (AddOriginal cookie ∷ earlier) = if bytes_eq name cookie.name then Some cookie else last_original name earlier
-last_original name (Add cookie ∷ earlier) = last_original name earlier
-last_original name (Remove cookie now ∷ earlier) = last_original name earlier
-last_original name (ForceRemove forced ∷ earlier) = last_original name earlier
-last_original name (ResetDelta ∷ earlier) = last_original name earlier
+last_original name history = find (λ cookie. bytes_eq name cookie.name) (originals_of history)
+
+-- the call removes the name by force
+abbrev pub forces : Name → Change → Bool
+forces name (ForceRemove forced) = bytes_eq name forced
+forces name change = false
 
 -- whether a call removes the name by force
 abbrev pub is_forced : Name → List Change → Bool
-is_forced name [] = false
-is_forced name (AddOriginal cookie ∷ changes) = is_forced name changes
-is_forced name (Add cookie ∷ changes) = is_forced name changes
-is_forced name (Remove cookie now ∷ changes) = is_forced name changes
-is_forced name (ForceRemove forced ∷ changes) = bytes_eq name forced || is_forced name changes
-is_forced name (ResetDelta ∷ changes) = is_forced name changes
+is_forced name changes = list_any (forces name) changes

@@ -1,4 +1,5 @@
 pub mod AnswersExactly
+pub mod ChildJars
 pub mod Clipped
 pub mod History
 pub mod Jar
@@ -8,12 +9,9 @@ pub mod KeyedJars
 pub mod Keys
 pub mod NameHash
 pub mod Opening
-pub mod PrefixedJars
 pub mod Prefixes
-pub mod PrivateJars
 pub mod Sealing
 pub mod Shown
-pub mod SignedJars
 pub mod Signing
 pub mod Table
 pub mod Types

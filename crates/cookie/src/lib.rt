@@ -1,6 +1,7 @@
 //! Cookies and the jar that keeps them: original cookies, and the changes since (RFC 6265).
 #![tactic(auto)]
 
+mod child;
 mod delta;
 mod entry;
 mod iter;
@@ -11,6 +12,7 @@ mod original;
 pub mod prefix;
 mod secure;
 
+pub use child::{ChildJar, Storing};
 pub use cookie_core::{
     Builder, Cookie, CookieBuilder, DateText, Display, EncodedText, Expiration, ParseError,
     SameSite, SplitCookies, days_after, encode, read_date,
@@ -18,7 +20,9 @@ pub use cookie_core::{
 pub use iter::{Delta, Iter};
 pub use jar::CookieJar;
 pub use jar_error::JarError;
-pub use secure::{Key, KeyError, PrivateJar, PrivateJarMut, SignedJar, SignedJarMut};
+pub use secure::{
+    Key, KeyError, PrivateJar, PrivateJarMut, Sealer, SignedJar, SignedJarMut, Signer,
+};
 
 #[cfg(test)]
 mod tests;

@@ -13,7 +13,7 @@ mod secure_prefix;
 
 use cookie_core::Cookie;
 pub use host_prefix::Host;
-pub use jars::{PrefixedJar, PrefixedJarMut};
+pub use jars::{PrefixedJar, PrefixedJarMut, Prefixer};
 pub use name_prefix::NamePrefix;
 pub use secure_prefix::Secure;
 use std::alloc::{AllocError, Global};

@@ -9,5 +9,5 @@ mod signing;
 
 pub use key::Key;
 pub use key_error::KeyError;
-pub use private::{PrivateJar, PrivateJarMut};
-pub use signed::{SignedJar, SignedJarMut};
+pub use private::{PrivateJar, PrivateJarMut, Sealer};
+pub use signed::{SignedJar, SignedJarMut, Signer};

@@ -1,16 +1,16 @@
 //! Child jars, through which each cookie has a prefix.
-ghost use Rattle.std.specs.Prelude.{◌≡◌, Some, IfOk, OnErr, option_map};
+ghost use Rattle.std.specs.Prelude.{◌≡◌, Some, option_map};
 ghost use Rattle.cookie_core.specs.Memory.{Gives};
-ghost use Rattle.cookie.specs.Jar.{Add, AddOriginal, Remove, after};
-ghost use Rattle.cookie.specs.PrefixedJars.{Changes, ChangesSame, jar_of};
+ghost use Rattle.cookie.specs.ChildJars.{Changes, jar_of};
 ghost use Rattle.cookie.specs.Prefixes.{applied, pair_of, prefixed_view};
 ghost use Rattle.cookie.specs.declared.jar_error.JarError.TheVariants as refusal;
 
+use crate::child::{ChildJar, Storing};
 use crate::jar::CookieJar;
 use crate::jar_error::JarError;
 use crate::prefix::{Prefix, Prefixing};
 use cookie_core::Cookie;
-use jiff::civil::DateTime;
+use std::alloc::{AllocError, Global};
 use std::marker::{Model, PhantomData};
 
 /// A jar, seen through a prefix. Contracts see it as that jar.
@@ -31,10 +31,39 @@ impl<'a, P: Prefix> Model for PrefixedJar<'a, P> {
 }
 
 /// A jar, seen and changed through a prefix.
+pub type PrefixedJarMut<'a, P> = ChildJar<'a, Prefixer<P>>;
+
+/// What puts a prefix before names.
 #[derive(Drop)]
-pub struct PrefixedJarMut<'a, P: Prefix> {
-    jar: &'a mut CookieJar,
+pub struct Prefixer<P: Prefix> {
     of: PhantomData<P>,
+}
+
+impl<P: Prefix> Storing for Prefixer<P> {
+    ghost stored = { λ _. applied P.PREFIX P.conformed };
+
+    ghost dropped = { λ _. applied P.PREFIX P.conformed };
+
+    ghost DropsFreely = { ⊥ };
+
+    ghost ShowsPair = { λ _ jar cookie.
+        option_map pair_of (prefixed_view P.PREFIX jar cookie.name) ≡ Some (pair_of cookie) };
+
+    fn to_add(
+        &self,
+        alloc: Global,
+        cookie: Cookie<'static>,
+    ) -> Result<Cookie<'static>, AllocError> {
+        P::apply(alloc, cookie)
+    }
+
+    fn to_remove(
+        &self,
+        alloc: Global,
+        cookie: Cookie<'static>,
+    ) -> Result<Cookie<'static>, AllocError> {
+        self.to_add(alloc, cookie)
+    }
 }
 
 impl CookieJar {
@@ -53,9 +82,9 @@ impl CookieJar {
         ensures same { Changes result self.entry }
         ensures value { jar_of result ≡ self.old }
     {
-        PrefixedJarMut {
+        ChildJar {
             jar: self,
-            of: PhantomData,
+            storing: Prefixer { of: PhantomData },
         }
     }
 
@@ -94,53 +123,5 @@ impl<'a, P: Prefix> PrefixedJarMut<'a, P> {
             option_map (λ c. c.fields) o ≡ prefixed_view P.PREFIX (jar_of self.now) name.now) }
     {
         self.jar.get_clipped::<P>(name)
-    }
-
-    /// Adds an original cookie, with the prefix before its name and conforming.
-    ///
-    /// Fails for want of memory alone, and then leaves the jar as it was.
-    pub fn add_original(&mut self, cookie: Cookie<'static>) -> Result<(), JarError>
-        ensures gives { Gives refusal.OutOfMemory result (λ _.
-            jar_of self.new ≡ after
-            (AddOriginal (applied P.PREFIX P.conformed cookie.entry.fields)) (jar_of self.old)) }
-        ensures err { OnErr result (jar_of self.new ≡ jar_of self.old) }
-        ensures same { ChangesSame self.new self.old }
-    {
-        let original = P::apply(self.jar.allocator(), cookie)?;
-        self.jar.add_original(original)
-    }
-
-    /// Adds a cookie, with the prefix before its name and conforming. A `get` of its name then gives its name and
-    /// value.
-    ///
-    /// Fails for want of memory alone, and then leaves the jar as it was.
-    pub fn add(&mut self, cookie: Cookie<'static>) -> Result<(), JarError>
-        ensures gives { Gives refusal.OutOfMemory result (λ _.
-            jar_of self.new ≡ after
-            (Add (applied P.PREFIX P.conformed cookie.entry.fields)) (jar_of self.old)) }
-        ensures err { OnErr result (jar_of self.new ≡ jar_of self.old) }
-        ensures shown { IfOk result (λ _.
-            option_map pair_of (prefixed_view P.PREFIX (jar_of self.new) cookie.entry.fields.name)
-            ≡ Some (pair_of cookie.entry.fields)) }
-        ensures same { ChangesSame self.new self.old }
-    {
-        let added = P::apply(self.jar.allocator(), cookie)?;
-        self.jar.add(added)
-    }
-
-    /// Removes the cookie that has this one's name behind the prefix, at the date and time `now` in UTC. Where
-    /// there is an original of that name, the delta gets a cookie that tells the client to drop it: this one, with
-    /// the prefix before its name and conforming.
-    ///
-    /// Fails for want of memory alone, and then leaves the jar as it was.
-    pub fn remove(&mut self, cookie: Cookie<'static>, now: DateTime) -> Result<(), JarError>
-        ensures gives { Gives refusal.OutOfMemory result (λ _.
-            jar_of self.new ≡ after
-            (Remove (applied P.PREFIX P.conformed cookie.entry.fields) now) (jar_of self.old)) }
-        ensures err { OnErr result (jar_of self.new ≡ jar_of self.old) }
-        ensures same { ChangesSame self.new self.old }
-    {
-        let removed = P::apply(self.jar.allocator(), cookie)?;
-        self.jar.remove(removed, now)
     }
 }

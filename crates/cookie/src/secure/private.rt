@@ -5,10 +5,11 @@ ghost use Rattle.cookie_core.specs.Memory.{Gives};
 ghost use Rattle.cookie.specs.AnswersExactly.{AnswersExactly, AnswersPair};
 ghost use Rattle.cookie.specs.Jar.{Add, AddOriginal, Remove, after, view};
 ghost use Rattle.cookie.specs.Keys.{encryption_half};
-ghost use Rattle.cookie.specs.PrivateJars.{Changes, ChangesSame, jar_of, key_of};
+ghost use Rattle.cookie.specs.ChildJars.{Changes, ChangesSame, jar_of, key_of};
 ghost use Rattle.cookie.specs.Sealing.{CanSeal, IsNonce, IsSealingOf, sealed};
 ghost use Rattle.cookie.specs.declared.jar_error.JarError.TheVariants as refusal;
 
+use crate::child::ChildJar;
 use crate::jar::CookieJar;
 use crate::jar_error::JarError;
 use crate::secure::key::Key;
@@ -36,10 +37,18 @@ impl<'a> Model for PrivateJar<'a> {
 }
 
 /// A jar, seen and changed through a key that encrypts.
+pub type PrivateJarMut<'a> = ChildJar<'a, Sealer>;
+
+/// The half of a key that encrypts. Contracts see it as the list of its bytes.
 #[derive(Drop)]
-pub struct PrivateJarMut<'a> {
-    jar: &'a mut CookieJar,
+pub struct Sealer {
     key: [u8; 32],
+}
+
+impl Model for Sealer {
+    ghost Value = { List ℕ };
+
+    ghost view = { λ a. a.key };
 }
 
 impl CookieJar {
@@ -60,9 +69,11 @@ impl CookieJar {
         ensures value { jar_of result ≡ self.old }
         ensures key { key_of result ≡ encryption_half key.now }
     {
-        PrivateJarMut {
+        ChildJar {
             jar: self,
-            key: key.encryption_key(),
+            storing: Sealer {
+                key: key.encryption_key(),
+            },
         }
     }
 
@@ -116,7 +127,7 @@ impl<'a> PrivateJarMut<'a> {
             AnswersExactly (IsSealingOf (key_of self.now)) (view (jar_of self.now) name.now)
             (option_map (λ c. c.fields) answer)) }
     {
-        self.jar.get_decrypted(&self.key, name)
+        self.jar.get_decrypted(&self.storing.key, name)
     }
 
     /// The cookie with the value that was sealed. There is no answer where its value isn't sealed under the key and
@@ -128,7 +139,7 @@ impl<'a> PrivateJarMut<'a> {
             AnswersExactly (IsSealingOf (key_of self.now)) (Some cookie.entry.fields)
             (option_map (λ c. c.fields) answer)) }
     {
-        Ok(decrypt(self.jar.allocator(), &self.key, cookie)?)
+        Ok(decrypt(self.jar.allocator(), &self.storing.key, cookie)?)
     }
 
     /// Adds an original cookie, with its value sealed under its name and a nonce that one draw of twelve bytes from
@@ -209,7 +220,7 @@ impl<'a> PrivateJarMut<'a> {
         if !can_seal(&cookie) {
             return Err(JarError::TooLong);
         }
-        let original = seal(self.jar.allocator(), &self.key, &nonce, cookie)?;
+        let original = seal(self.jar.allocator(), &self.storing.key, &nonce, cookie)?;
         self.jar.add_original(original)
     }
 
@@ -238,7 +249,7 @@ impl<'a> PrivateJarMut<'a> {
         if !can_seal(&cookie) {
             return Err(JarError::TooLong);
         }
-        let added = seal(self.jar.allocator(), &self.key, &nonce, cookie)?;
+        let added = seal(self.jar.allocator(), &self.storing.key, &nonce, cookie)?;
         self.jar.add(added)
     }
 

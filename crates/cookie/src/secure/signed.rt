@@ -1,20 +1,20 @@
 //! Child jars whose cookies have signed values.
-ghost use Rattle.std.specs.Prelude.{◌≡◌, None, Some, IfOk, IsOk, OnErr, option_map};
-ghost use Rattle.std.specs.FinMap.{get};
+ghost use Rattle.std.specs.Prelude.{◌≡◌, Some, ⊤, option_map};
 ghost use Rattle.cookie_core.specs.Memory.{Gives};
 ghost use Rattle.cookie.specs.AnswersExactly.{AnswersExactly, AnswersPair};
-ghost use Rattle.cookie.specs.Jar.{Add, AddOriginal, Remove, after, view};
+ghost use Rattle.cookie.specs.Jar.{view};
 ghost use Rattle.cookie.specs.Keys.{signing_half};
-ghost use Rattle.cookie.specs.SignedJars.{Changes, ChangesSame, jar_of, key_of};
+ghost use Rattle.cookie.specs.ChildJars.{Changes, jar_of, key_of};
 ghost use Rattle.cookie.specs.Signing.{CoversOnePair, IsSigningOf, signed};
 ghost use Rattle.cookie.specs.declared.jar_error.JarError.TheVariants as refusal;
 
+use crate::child::{ChildJar, Storing};
 use crate::jar::CookieJar;
 use crate::jar_error::JarError;
 use crate::secure::key::Key;
 use crate::secure::signing::{sign, verify};
 use cookie_core::Cookie;
-use jiff::civil::DateTime;
+use std::alloc::{AllocError, Global};
 use std::marker::Model;
 
 /// A jar, seen through a key that signs. Contracts see it as that jar and the key's first half.
@@ -38,10 +38,47 @@ impl<'a> Model for SignedJar<'a> {
 }
 
 /// A jar, seen and changed through a key that signs.
+pub type SignedJarMut<'a> = ChildJar<'a, Signer>;
+
+/// The half of a key that signs. Contracts see it as the list of its bytes.
 #[derive(Drop)]
-pub struct SignedJarMut<'a> {
-    jar: &'a mut CookieJar,
+pub struct Signer {
     key: [u8; 32],
+}
+
+impl Model for Signer {
+    ghost use Rattle.std.specs.Prelude.{List, ℕ};
+
+    ghost Value = { List ℕ };
+
+    ghost view = { λ a. a.key };
+}
+
+impl Storing for Signer {
+    ghost stored = { signed };
+
+    ghost dropped = { λ _ cookie. cookie };
+
+    ghost DropsFreely = { ⊤ };
+
+    ghost ShowsPair = { λ key jar cookie.
+        AnswersPair (IsSigningOf key) (view jar cookie.name) cookie };
+
+    fn to_add(
+        &self,
+        alloc: Global,
+        cookie: Cookie<'static>,
+    ) -> Result<Cookie<'static>, AllocError> {
+        sign(alloc, &self.key, cookie)
+    }
+
+    fn to_remove(
+        &self,
+        _alloc: Global,
+        cookie: Cookie<'static>,
+    ) -> Result<Cookie<'static>, AllocError> {
+        Ok(cookie)
+    }
 }
 
 impl CookieJar {
@@ -62,9 +99,11 @@ impl CookieJar {
         ensures value { jar_of result ≡ self.old }
         ensures key { key_of result ≡ signing_half key.now }
     {
-        SignedJarMut {
+        ChildJar {
             jar: self,
-            key: key.signing_key(),
+            storing: Signer {
+                key: key.signing_key(),
+            },
         }
     }
 
@@ -121,7 +160,7 @@ impl<'a> SignedJarMut<'a> {
             AnswersExactly (IsSigningOf (key_of self.now)) (view (jar_of self.now) name.now)
             (option_map (λ c. c.fields) answer)) }
     {
-        self.jar.get_verified(&self.key, name)
+        self.jar.get_verified(&self.storing.key, name)
     }
 
     /// The cookie with the value that was signed. There is no answer where its value isn't signed under the key
@@ -136,52 +175,6 @@ impl<'a> SignedJarMut<'a> {
         // What a signature covers says where the name ends and the value begins.
         ensures one_pair { CoversOnePair }
     {
-        Ok(verify(self.jar.allocator(), &self.key, cookie)?)
-    }
-
-    /// Adds an original cookie, with its value signed.
-    ///
-    /// Fails for want of memory alone, and then leaves the jar as it was.
-    pub fn add_original(&mut self, cookie: Cookie<'static>) -> Result<(), JarError>
-        ensures gives { Gives refusal.OutOfMemory result (λ _.
-            jar_of self.new ≡ after
-            (AddOriginal (signed (key_of self.old) cookie.entry.fields)) (jar_of self.old)) }
-        ensures err { OnErr result (jar_of self.new ≡ jar_of self.old) }
-        ensures same { ChangesSame self.new self.old }
-    {
-        let original = sign(self.jar.allocator(), &self.key, cookie)?;
-        self.jar.add_original(original)
-    }
-
-    /// Adds a cookie, with its value signed. A `get` of its name then gives its name and value.
-    ///
-    /// Fails for want of memory alone, and then leaves the jar as it was.
-    pub fn add(&mut self, cookie: Cookie<'static>) -> Result<(), JarError>
-        ensures gives { Gives refusal.OutOfMemory result (λ _.
-            jar_of self.new ≡ after
-            (Add (signed (key_of self.old) cookie.entry.fields)) (jar_of self.old)) }
-        ensures err { OnErr result (jar_of self.new ≡ jar_of self.old) }
-        ensures shown { IfOk result (λ _.
-            AnswersPair (IsSigningOf (key_of self.new))
-            (view (jar_of self.new) cookie.entry.fields.name) cookie.entry.fields) }
-        ensures same { ChangesSame self.new self.old }
-    {
-        let added = sign(self.jar.allocator(), &self.key, cookie)?;
-        self.jar.add(added)
-    }
-
-    /// Removes the cookie of that name, at the date and time `now` in UTC. Where there is an original of that
-    /// name, the delta gets a cookie that tells the client to drop it, with this cookie's path and domain.
-    ///
-    /// Fails for want of memory alone, where there is such an original, and then leaves the jar as it was.
-    pub fn remove(&mut self, cookie: Cookie<'static>, now: DateTime) -> Result<(), JarError>
-        ensures gives { Gives refusal.OutOfMemory result (λ _.
-            jar_of self.new ≡ after (Remove cookie.entry.fields now) (jar_of self.old)) }
-        ensures err { OnErr result (jar_of self.new ≡ jar_of self.old) }
-        ensures certain { get (jar_of self.old).originals cookie.entry.fields.name ≡ None
-            → IsOk result }
-        ensures same { ChangesSame self.new self.old }
-    {
-        self.jar.remove(cookie, now)
+        Ok(verify(self.jar.allocator(), &self.storing.key, cookie)?)
     }
 }
