@@ -1,16 +1,16 @@
 -- What a jar has as originals, and what a client then holds.
-use Rattle.std.proofs.Common.{◌≡◌, ℕ, List, [], ◌∷◌, map, cond, Option, Some, None, Result, Ok, Err, OnOk, refl, ap, ◌∙◌}
+use Rattle.std.proofs.Common.{◌≡◌, ℕ, List, [], ◌∷◌, cond, Option, Some, None, Result, OnOk, sym, ap, ◌∙◌}
+use Rattle.std.proofs.lemmas.Result.{on_ok_weaker}
 use Rattle.std.proofs.lemmas.Slice.Eq.{bytes_eq-Decides}
-use Rattle.std.specs.FinMap.{get, insert, get-empty}
+use Rattle.std.specs.FinMap.{get}
 use Rattle.std.specs.List.{filter_map, cons_option}
 use Rattle.std.specs.Option.{option_to_list}
-use Rattle.cookie.specs.Jar.{Name, name_cmp, JarState, empty_jar, AddOriginal, after, overlay, view}
+use Rattle.cookie.specs.Jar.{Name, JarState, Change, AddOriginal, after}
 use Rattle.cookie.specs.Record.{Record}
 use Rattle.cookie.proofs.NameLemmas.{get_inserted}
 use Rattle.cookie_client.specs.Client.{Values}
-use Rattle.cookie_client.specs.HeldCode.{holding_shown}
-use Rattle.cookie_client.specs.Originals.{with_originals}
-use Rattle.cookie_client.specs.declared.client_error.ClientError.{ClientError}
+use Rattle.cookie_client.specs.Originals.{holding, originals_of, with_originals}
+use Rattle.cookie_client.specs.Steps.{HoldsAdded}
 
 module _ (reading : List ℕ → Option Record) where
   -- one text's cookie first, and then the others'
@@ -19,21 +19,16 @@ module _ (reading : List ℕ → Option Record) where
   with_originals-next t ts None jar e = ap (λ o. with_originals (cons_option o (filter_map reading ts)) jar) e
   with_originals-next t ts (Some c) jar e = ap (λ o. with_originals (cons_option o (filter_map reading ts)) jar) e
 
-only : (c : Record) → view (after (AddOriginal c) empty_jar) c.name ≡ Some c
-only c =
-    ap (λ d. overlay d (get (insert empty_jar.originals c.name c) c.name)) (get-empty name_cmp c.name)
-    ∙ get_inserted empty_jar.originals c.name c c.name
-    ∙ ap (λ b. cond b (Some c) (get empty_jar.originals c.name)) ((bytes_eq-Decides c.name c.name).1 refl)
+-- what the jar has as the original of a name, once a cookie of that name was added
+held_original : (cookie : Record) (before jar : JarState) (name : Name) → jar ≡ after (AddOriginal cookie) before → name ≡ cookie.name
+    → get jar.originals name ≡ Some cookie
+held_original cookie before jar name is named =
+    ap (λ (j : JarState). get j.originals name) is ∙ get_inserted before.originals cookie.name cookie name
+    ∙ ap (λ b. cond b (Some cookie) (get before.originals name)) ((bytes_eq-Decides name cookie.name).1 named)
 
--- the one original is held
-pub held_alone : (c : Record) (values : Values) → holding_shown (view (after (AddOriginal c) empty_jar) c.name) c.name values ≡ insert values c.name c.value
-held_alone c values = ap (λ o. holding_shown o c.name values) (only c)
-
--- and so it is after a call that holds what the jar shows
-pub held_original : (stored : Record) (jar : JarState) (name : Name) (values new : Values) (r : Result (Unit {0}) ClientError)
-    → jar ≡ after (AddOriginal stored) empty_jar → name ≡ stored.name
-    → OnOk r (new ≡ holding_shown (view jar name) name values) → OnOk r (new ≡ insert values stored.name stored.value)
-held_original stored jar name values new (Ok _) is named held =
-    held ∙ ap (λ j. holding_shown (view j name) name values) is ∙ ap (λ n. holding_shown (view (after (AddOriginal stored) empty_jar) n) n values) named
-    ∙ held_alone stored values
-held_original stored jar name values new (Err _) is named held = tt
+-- so a client that holds it holds what the change added
+pub holds_added : {T E : Type 0} (r : Result T E) (cookie : Record) (change : Change) (jar : JarState) (name : Name) (values new : Values) → change ≡ AddOriginal cookie → name ≡ cookie.name
+    → OnOk r (new ≡ holding (option_to_list (get jar.originals name)) values) → HoldsAdded change jar values new r
+holds_added r cookie change jar name values new asks named held before is = on_ok_weaker r (λ h.
+    h ∙ ap (λ o. holding (option_to_list o) values) (held_original cookie before jar name (is ∙ ap (λ c. after c before) asks) named)
+    ∙ sym (ap (λ c. holding (originals_of (c ∷ [])) values) asks)) held

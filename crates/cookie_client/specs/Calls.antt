@@ -41,7 +41,10 @@ conformed_to kinds.Secure = secured
 abbrev pub stored_with : PrefixKind → Record → Record
 stored_with kind cookie = applied (prefix_of kind) (conformed_to kind) cookie
 
--- how the child jars of a key store cookies: what is removed is no secret, and stays as it is
+-- how the child jars of a prefix and of a key store cookies; for a key, what is removed stays as it is
+abbrev pub prefixed_by : PrefixKind → Storing
+prefixed_by kind = storing (stored_with kind) (stored_with kind)
+
 abbrev pub signed_by : List ℕ → Storing
 signed_by key = storing (signed (signing_half key)) (λ cookie. cookie)
 
@@ -50,7 +53,7 @@ sealed_by key nonce = storing (sealed (encryption_half key) nonce) (λ cookie. c
 
 -- how the jar of a call stores cookies: a child jar in its way, and the jar itself as they are
 abbrev pub storing_of : JarCall → Storing
-storing_of (calls.Prefixed kind call) = storing (stored_with kind) (stored_with kind)
+storing_of (calls.Prefixed kind call) = prefixed_by kind
 storing_of (calls.Signed key call) = signed_by key.now
 storing_of (calls.Private key nonce call) = sealed_by key.now nonce
 storing_of call = storing (λ cookie. cookie) (λ cookie. cookie)

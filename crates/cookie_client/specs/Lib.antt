@@ -2,7 +2,6 @@ pub mod Agreement
 pub mod Calls
 pub mod Client
 pub mod Exchange
-pub mod HeldCode
 pub mod Lines
 pub mod Live
 pub mod Originals

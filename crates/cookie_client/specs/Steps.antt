@@ -1,9 +1,9 @@
 -- Mirrors private code: the steps of an exchange and of `rounds`.
-use Rattle.std.specs.Prelude.{◌≡◌, ℕ, true, List, [], map, Some, None}
+use Rattle.std.specs.Prelude.{◌≡◌, ℕ, true, List, [], ◌∷◌, map, OnOk, Some, None, Result}
 use Rattle.std.specs.FinMap.{get, entries}
 use Rattle.cookie.specs.CookieOf.{cookie_of}
 use Rattle.cookie.specs.Header.{header_texts}
-use Rattle.cookie.specs.Jar.{Change}
+use Rattle.cookie.specs.Jar.{Change, JarState, after}
 use Rattle.cookie.specs.Record.{plain}
 use Rattle.cookie_client.specs.Client.{Values, header_text}
 use Rattle.cookie_client.specs.Originals.{holding, originals_of}
@@ -14,6 +14,12 @@ use Rattle.cookie_client.specs.declared.originals.Originals.TheVariants as origi
 abbrev pub after_originals : Originals → List Change → Values → Values
 after_originals originals.Told changes values = holding (originals_of changes) values
 after_originals originals.Untold changes values = values
+
+-- where the jar is what the change made of one before, the client holds what it added as an original
+abbrev pub HoldsAdded : {T E : Type 0} → Change → JarState → Values → Values → Result T E → Type 0
+HoldsAdded change jar old new result =
+    (before : JarState) → jar ≡ after change before
+    → OnOk result (new ≡ holding (originals_of (change ∷ [])) old)
 
 -- the header is that of a client, and tells all that it holds
 pub record IsHeaderOf (client : Values) (header : List ℕ) : Type 0 where

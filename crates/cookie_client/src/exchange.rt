@@ -1,25 +1,21 @@
 //! A jar, and a client that follows it.
-ghost use Rattle.std.specs.Prelude.{◌≡◌, ◌∷◌, ◌++◌, false, ℕ, List, [], length, map, reverse, All, IfOk, OnOk, string_bytes};
-ghost use Rattle.std.specs.FinMap.{empty, get, insert};
+ghost use Rattle.std.specs.Prelude.{◌≡◌, false, ℕ, List, map, reverse, All, IfOk, OnOk, string_bytes};
+ghost use Rattle.std.specs.FinMap.{empty, get};
 ghost use Rattle.cookie.specs.History.{is_forced, LooksBack};
 ghost use Rattle.cookie.specs.Jar.{Name, empty_jar, view};
 ghost use Rattle.cookie_client.specs.Agreement.{AreDeltaTexts, HoldsOriginals, value_of};
-ghost use Rattle.cookie_client.specs.Calls.{IsFitCall, changes_of};
+ghost use Rattle.cookie_client.specs.Calls.{IsFitCall};
 ghost use Rattle.cookie_client.specs.Client.{after_texts};
 ghost use Rattle.cookie_client.specs.Exchange.{IsExchange, accepted_calls, changes_by};
-ghost use Rattle.cookie_client.specs.Originals.{holding, holds_originals, originals_of};
+ghost use Rattle.cookie_client.specs.Originals.{holds_originals};
 ghost use Rattle.cookie_client.specs.Steps.{after_originals};
 
 use crate::call::{JarCall, known_calls};
-use crate::child_call::ChildCall;
 use crate::client::Client;
 use crate::client_error::ClientError;
-use crate::history::replay;
-use crate::originals::{Originals, hold_sealed, hold_signed};
-use crate::prefix_kind::PrefixKind;
+use crate::originals::{Originals, replay_before};
 use crate::texts::delta_texts;
-use cookie::prefix::{Host, Prefix, Prefixing, Secure};
-use cookie::{Cookie, CookieJar};
+use cookie::CookieJar;
 use jiff::civil::DateTime;
 use std::alloc::Global;
 
@@ -86,93 +82,13 @@ pub(crate) fn exchange(
     known_calls(calls);
     let mut jar = jar;
     let mut client = client;
-    let outcomes = replay(alloc, &mut jar, calls)?;
-    tell_originals(alloc, &mut client, calls, &outcomes, originals)?;
+    let outcomes = replay_before(alloc, &mut jar, &mut client, calls, originals)?;
     read_delta(alloc, &mut client, &jar, pick, now)?;
     Ok(Played {
         jar,
         client,
         outcomes,
     })
-}
-
-// Has a client hold the originals of the accepted calls, where it is told of them.
-fn tell_originals(
-    alloc: Global,
-    client: &mut Client,
-    calls: &[JarCall<'_>],
-    outcomes: &[bool],
-    originals: Originals,
-) -> Result<(), ClientError>
-    requires { length outcomes.now ≡ length calls.now }
-    ensures { OnOk result (
-        client.new ≡ after_originals originals (changes_of outcomes.now calls.now) client.old) }
-{
-    match originals {
-        Originals::Told => hold_originals(alloc, client, calls, outcomes),
-        Originals::Untold => Ok(()),
-    }
-}
-
-// Has a client hold what the call adds as an original, if it was accepted.
-fn hold_one(
-    alloc: Global,
-    client: &mut Client,
-    call: &JarCall<'_>,
-    is_accepted: bool,
-) -> Result<(), ClientError>
-    ensures { OnOk result (client.new
-        ≡ holding (originals_of (changes_of (is_accepted ∷ []) (call.now ∷ []))) client.old) }
-{
-    if !is_accepted {
-        return Ok(());
-    }
-    match call {
-        JarCall::AddOriginal(cookie) => client.hold(cookie.name(), cookie.value()),
-        JarCall::Prefixed(PrefixKind::Host, ChildCall::AddOriginal(cookie)) => {
-            hold_prefixed::<Host>(alloc, client, cookie)
-        }
-        JarCall::Prefixed(PrefixKind::Secure, ChildCall::AddOriginal(cookie)) => {
-            hold_prefixed::<Secure>(alloc, client, cookie)
-        }
-        JarCall::Signed(key, ChildCall::AddOriginal(cookie)) => {
-            hold_signed(alloc, client, key, cookie)
-        }
-        JarCall::Private(key, nonce, ChildCall::AddOriginal(cookie)) => {
-            hold_sealed(alloc, client, key, *nonce, cookie)
-        }
-        _ => Ok(()),
-    }
-}
-
-// Has a client hold the cookie's value under its name with the prefix.
-fn hold_prefixed<P: Prefix>(
-    alloc: Global,
-    client: &mut Client,
-    cookie: &Cookie<'_>,
-) -> Result<(), ClientError>
-    ensures { OnOk result (client.new
-        ≡ insert client.old (P.PREFIX ++ cookie.now.fields.name) cookie.now.fields.value) }
-{
-    let name = P::prefixed_name(alloc, cookie.name())?;
-    client.hold(name.as_str(), cookie.value())
-}
-
-// Has a client hold each name's last accepted original.
-fn hold_originals(
-    alloc: Global,
-    client: &mut Client,
-    calls: &[JarCall<'_>],
-    outcomes: &[bool],
-) -> Result<(), ClientError>
-    requires { length outcomes.now ≡ length calls.now }
-    ensures { OnOk result (
-        client.new ≡ holding (originals_of (changes_of outcomes.now calls.now)) client.old) }
-{
-    for index in 0..calls.len() {
-        hold_one(alloc, client, &calls[index], outcomes[index])?;
-    }
-    Ok(())
 }
 
 // Has a client read the delta's texts, in the order that `pick` asks for.

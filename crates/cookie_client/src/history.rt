@@ -103,7 +103,7 @@ fn play_private(
 }
 
 // Makes one call, and answers whether it was accepted.
-fn is_accepted(alloc: Global, jar: &mut CookieJar, call: &JarCall<'_>) -> bool
+pub(crate) fn is_accepted(alloc: Global, jar: &mut CookieJar, call: &JarCall<'_>) -> bool
     ensures jar { jar.new ≡ after_all (changes_of (result ∷ []) (call.now ∷ [])) jar.old }
     ensures outcome { IsOutcome call.now result }
 {

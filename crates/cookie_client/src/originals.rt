@@ -1,86 +1,148 @@
-//! What a client holds of an original that a keyed child jar stored.
-ghost use Rattle.std.specs.Prelude.{◌≡◌, IfOk, OnOk};
-ghost use Rattle.std.specs.FinMap.{insert};
-ghost use Rattle.cookie.specs.Jar.{AddOriginal, after, empty_jar, view};
-ghost use Rattle.cookie.specs.Keys.{encryption_half, signing_half};
-ghost use Rattle.cookie.specs.Sealing.{sealed};
-ghost use Rattle.cookie.specs.Signing.{signed};
-ghost use Rattle.cookie_client.specs.HeldCode.{holding_shown};
+//! What a client holds of the originals that calls add.
+ghost use Rattle.std.specs.Prelude.{◌≡◌, ◌∷◌, [], IfOk, OnOk};
+ghost use Rattle.std.specs.FinMap.{get};
+ghost use Rattle.std.specs.List.{AllZip};
+ghost use Rattle.std.specs.Option.{option_to_list};
+ghost use Rattle.cookie.specs.History.{after_all};
+ghost use Rattle.cookie.specs.Record.{Record};
+ghost use Rattle.cookie_client.specs.Calls.{IsOutcome, Storing, asked_of_child, change_of, changes_of, prefixed_by, stored_by};
+ghost use Rattle.cookie_client.specs.Originals.{holding, originals_of};
+ghost use Rattle.cookie_client.specs.Steps.{HoldsAdded, after_originals};
 
+use crate::call::JarCall;
+use crate::child_call::ChildCall;
 use crate::client::Client;
 use crate::client_error::ClientError;
-use cookie::{Cookie, CookieJar, JarError, Key};
+use crate::history::{is_accepted, replay};
+use crate::prefix_kind::PrefixKind;
+use cookie::CookieJar;
 use std::alloc::Global;
 
-/// Whether a client is told of the originals that calls add.
+// Whether a client is told of the originals that calls add.
 #[derive(Clone, Copy)]
 pub(crate) enum Originals {
     Told,
     Untold,
 }
 
-/// Has a client hold the cookie's value as the signed child jar of the key stores it.
-pub(crate) fn hold_signed(
+// Makes the calls as by `replay`. Where the client is told of originals, it holds what each accepted call adds.
+pub(crate) fn replay_before(
+    alloc: Global,
+    jar: &mut CookieJar,
+    client: &mut Client,
+    calls: &[JarCall<'_>],
+    originals: Originals,
+) -> Result<Vec<bool>, ClientError>
+    ensures outcomes { IfOk result (λ outcomes. AllZip IsOutcome calls.now outcomes.items) }
+    ensures jar { IfOk result (λ outcomes.
+        jar.new ≡ after_all (changes_of outcomes.items calls.now) jar.old) }
+    ensures client { IfOk result (λ outcomes. client.new
+        ≡ after_originals originals (changes_of outcomes.items calls.now) client.old) }
+{
+    match originals {
+        Originals::Told => replay_told(alloc, jar, client, calls),
+        Originals::Untold => replay(alloc, jar, calls),
+    }
+}
+
+// Makes the calls, and has the client hold what each accepted call adds as an original, as the jar stores it.
+fn replay_told(
+    alloc: Global,
+    jar: &mut CookieJar,
+    client: &mut Client,
+    calls: &[JarCall<'_>],
+) -> Result<Vec<bool>, ClientError>
+    ensures outcomes { IfOk result (λ outcomes. AllZip IsOutcome calls.now outcomes.items) }
+    ensures jar { IfOk result (λ outcomes.
+        jar.new ≡ after_all (changes_of outcomes.items calls.now) jar.old) }
+    ensures client { IfOk result (λ outcomes. client.new
+        ≡ holding (originals_of (changes_of outcomes.items calls.now)) client.old) }
+{
+    let mut outcomes = Vec::with_capacity(alloc, calls.len())?;
+    for call in calls {
+        let outcome = play_told(alloc, jar, client, call)?;
+        outcomes.push(outcome).unwrap();
+    }
+    Ok(outcomes)
+}
+
+// Makes one call, and answers whether it was accepted. If so, the client holds what it added as an original.
+fn play_told(
+    alloc: Global,
+    jar: &mut CookieJar,
+    client: &mut Client,
+    call: &JarCall<'_>,
+) -> Result<bool, ClientError>
+    ensures jar { IfOk result (λ outcome.
+        jar.new ≡ after_all (changes_of (outcome ∷ []) (call.now ∷ [])) jar.old) }
+    ensures client { IfOk result (λ outcome. client.new
+        ≡ holding (originals_of (changes_of (outcome ∷ []) (call.now ∷ []))) client.old) }
+    ensures outcome { IfOk result (IsOutcome call.now) }
+{
+    let outcome = is_accepted(alloc, jar, call);
+    if outcome {
+        hold_added(alloc, client, jar, call)?;
+    }
+    Ok(outcome)
+}
+
+// Has the client hold what the call added to the jar as an original, if it added one.
+fn hold_added(
     alloc: Global,
     client: &mut Client,
-    key: &Key,
-    cookie: &Cookie<'static>,
+    jar: &CookieJar,
+    call: &JarCall<'_>,
 ) -> Result<(), ClientError>
-    ensures { OnOk result (client.new ≡ insert client.old cookie.now.fields.name (signed (signing_half key.now) cookie.now.fields).value) }
+    ensures { HoldsAdded (change_of call.now) jar.now client.old client.new result }
 {
-    let Ok(jar) = signed_alone(alloc, key, cookie) else {
-        return Err(ClientError::OutOfMemory);
-    };
-    hold_shown(client, &jar, cookie.name())
+    match call {
+        JarCall::AddOriginal(cookie) => hold_original(client, jar, cookie.name()),
+        JarCall::Prefixed(kind, call) => hold_prefixed(alloc, client, jar, *kind, call),
+        JarCall::Signed(_, call) => hold_named(client, jar, call),
+        JarCall::Private(_, _, call) => hold_named(client, jar, call),
+        _ => Ok(()),
+    }
 }
 
-/// A jar with the cookie as its one original, which the signed child jar of the key stored.
-fn signed_alone(alloc: Global, key: &Key, cookie: &Cookie<'static>) -> Result<CookieJar, JarError>
-    ensures { IfOk result (λ jar. jar ≡ after (AddOriginal (signed (signing_half key.now) cookie.now.fields)) empty_jar) }
-{
-    let mut jar = CookieJar::new(alloc);
-    jar.signed_mut(key).add_original(cookie.clone(alloc)?)?;
-    Ok(jar)
-}
-
-/// Has a client hold the cookie's value as the private child jar of the key stores it under this nonce: it is the same
-/// text sealed again, so no other text is sealed under that nonce.
-pub(crate) fn hold_sealed(
+// The same of a call on the child jar of a prefix.
+fn hold_prefixed(
     alloc: Global,
     client: &mut Client,
-    key: &Key,
-    nonce: [u8; 12],
-    cookie: &Cookie<'static>,
+    jar: &CookieJar,
+    kind: PrefixKind,
+    call: &ChildCall,
 ) -> Result<(), ClientError>
-    ensures { OnOk result (client.new ≡ insert client.old cookie.now.fields.name (sealed (encryption_half key.now) nonce cookie.now.fields).value) }
+    ensures { HoldsAdded (stored_by (prefixed_by kind) (asked_of_child call.now))
+        jar.now client.old client.new result }
 {
-    let Ok(jar) = sealed_alone(alloc, key, nonce, cookie) else {
-        return Err(ClientError::OutOfMemory);
-    };
-    hold_shown(client, &jar, cookie.name())
+    match call {
+        ChildCall::AddOriginal(cookie) => {
+            let name = kind.prefixed_name(alloc, cookie.name())?;
+            hold_original(client, jar, name.as_str())
+        }
+        _ => Ok(()),
+    }
 }
 
-/// A jar with the cookie as its one original, which the private child jar of the key stored under this nonce.
-fn sealed_alone(
-    alloc: Global,
-    key: &Key,
-    nonce: [u8; 12],
-    cookie: &Cookie<'static>,
-) -> Result<CookieJar, JarError>
-    ensures { IfOk result (λ jar. jar ≡ after (AddOriginal (sealed (encryption_half key.now) nonce cookie.now.fields)) empty_jar) }
+// The same of a call on a child jar that keeps names.
+fn hold_named(client: &mut Client, jar: &CookieJar, call: &ChildCall) -> Result<(), ClientError>
+    ensures { (storing : Storing) → ((cookie : Record) → (storing.stored cookie).name ≡ cookie.name)
+        → HoldsAdded (stored_by storing (asked_of_child call.now))
+            jar.now client.old client.new result }
 {
-    let mut jar = CookieJar::new(alloc);
-    jar.private_mut(key)
-        .add_original_with_nonce(cookie.clone(alloc)?, nonce)?;
-    Ok(jar)
+    match call {
+        ChildCall::AddOriginal(cookie) => hold_original(client, jar, cookie.name()),
+        _ => Ok(()),
+    }
 }
 
-/// Has a client hold the value that the jar shows under the name, if it shows one.
-fn hold_shown(client: &mut Client, jar: &CookieJar, name: &str) -> Result<(), ClientError>
-    ensures { OnOk result (client.new ≡ holding_shown (view jar.now name.now) name.now client.old) }
+// Has the client hold the value of the jar's original of that name, if there is one.
+fn hold_original(client: &mut Client, jar: &CookieJar, name: &str) -> Result<(), ClientError>
+    ensures { OnOk result (
+        client.new ≡ holding (option_to_list (get jar.now.originals name.now)) client.old) }
 {
-    match jar.get(name) {
-        Some(cookie) => client.hold(name, cookie.value()),
+    match jar.original(name) {
+        Some(cookie) => client.hold(cookie.name(), cookie.value()),
         None => Ok(()),
     }
 }

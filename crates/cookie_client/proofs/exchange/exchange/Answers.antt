@@ -1,4 +1,4 @@
-use Rattle.std.proofs.Common.{◌≡◌, List, ap, ◌∙◌}
+use Rattle.std.proofs.Common.{List, ap, ◌∙◌}
 use Rattle.cookie.specs.Jar.{Change}
 use Rattle.cookie_client.specs.Calls.{changes_of}
 use Rattle.cookie_client.specs.Client.{after_texts}
@@ -11,14 +11,13 @@ pub returns : goal.returns
 returns c fresh =
     let calls = c.args.calls.now in
     let outcomes = c.in_ok-outcomes.outcomes.items in
+    let played = c.in_ok-outcomes.ensures in
     let changes : List Change = changes_of outcomes calls in
     let (texts, are, read) = c.in_ok-read_delta.ensures in
-    let told : c.tell_originals.new.client ≡ after_originals c.args.originals changes c.args.client =
-    c.in_ok-tell_originals.ensures ∙ ap (λ o. after_originals c.args.originals (changes_of o calls) c.args.client) c.deref.ensures.value in
     record {
-      outcomes = c.in_ok-outcomes.ensures.outcomes;
-      jar = c.in_ok-outcomes.ensures.jar;
-      agreement = agreement c.args.now changes (known_changes outcomes calls c.known_calls.ensures) c.args.jar c.replay.new.jar fresh c.in_ok-outcomes.ensures.jar
-          (after_originals c.args.originals changes c.args.client) c.read_delta.new.client texts are (read ∙ ap (after_texts c.args.now texts) told);
+      outcomes = played.outcomes;
+      jar = played.jar;
+      agreement = agreement c.args.now changes (known_changes outcomes calls c.known_calls.ensures) c.args.jar c.replay_before.new.jar fresh played.jar
+          (after_originals c.args.originals changes c.args.client) c.read_delta.new.client texts are (read ∙ ap (after_texts c.args.now texts) played.client);
       fit = fit_changes c.args.now outcomes calls;
     }
