@@ -1,17 +1,16 @@
 -- Names with a prefix, and without it.
-use Rattle.std.proofs.Common.{◌≡◌, ℕ, ◌==◌, Bool, true, false, cond, Bor, List, [], ◌∷◌, ◌++◌, length, take, drop, Option, None, Some, MatchOption, refl, sym, ap, ◌∙◌, arith, codes}
+use Rattle.std.proofs.Common.{◌≡◌, ℕ, ◌==◌, Bool, true, false, cond, Bor, List, [], ◌∷◌, ◌++◌, length, take, drop, Option, None, Some, MatchOption, refl, sym, ap, ◌∙◌, arith}
 use Rattle.std.proofs.Math.Seq.{take-append_seam, drop-append_seam}
 use Rattle.std.proofs.lemmas.Bool.{eqb-true}
 use Rattle.std.proofs.lemmas.List.{take-append-drop, length-append}
 use Rattle.std.proofs.lemmas.Slice.Eq.{bytes_eq-Decides}
-use Rattle.std.proofs.lemmas.Str.{IsUtf8-append}
 use Rattle.std.specs.Option.{option_map}
 use Rattle.std.specs.Str.{bytes_eq}
 use Rattle.std.specs.Str.Pattern.{FindsTextPrefix, StripsPrefix}
-use Rattle.cookie_core.specs.Record.{Record, CookieView, IsCookie}
+use Rattle.cookie_core.specs.Record.{Record, CookieView}
 use Rattle.cookie.specs.Clipped.{LeavesName}
 use Rattle.cookie.specs.Jar.{Name, JarState, Add, after, view}
-use Rattle.cookie.specs.Prefixes.{prefixed, clipped_name, clipped, renamed_raw, applied, pair_of, prefixed_view, KeepsPair, host_bound, host_prefix, secured, secure_prefix}
+use Rattle.cookie.specs.Prefixes.{prefixed, clipped_name, clipped, renamed_raw, applied, pair_of, prefixed_view, KeepsPair}
 use Rattle.cookie.proofs.JarLemmas.{view-added}
 
 bytes_eq-itself : (name : Name) → bytes_eq name name ≡ true
@@ -88,27 +87,3 @@ shown-added p conformed keeps cookie jar =
     ∙ ap (λ b. shows (cond b (Some stored) (view jar (p ++ cookie.name)))) (ap (bytes_eq (p ++ cookie.name)) named ∙ bytes_eq-itself (p ++ cookie.name))
     ∙ ap (λ n. Some (n, stored.value)) (ap (clipped_name p) named ∙ clipped_name-prefixed p cookie.name)
     ∙ ap (λ v. Some (cookie.name, v)) (keeps.value (prefixed p cookie))
-
--- ---- what holds of every cookie holds of it once a prefix of the standard was applied
-
-pub IsCookie-secured : (cookie : Record) → IsCookie cookie → IsCookie (applied secure_prefix secured cookie)
-unfolding lib.Utf8.encode
-IsCookie-secured cookie is =
-    record {
-      name = IsUtf8-append secure_prefix cookie.name (secure_prefix, (refl, refl)) is.name;
-      value = is.value;
-      path = is.path;
-      domain = is.domain;
-      max_age = is.max_age;
-    }
-
-pub IsCookie-host_bound : (cookie : Record) → IsCookie cookie → IsCookie (applied host_prefix host_bound cookie)
-unfolding lib.Utf8.encode
-IsCookie-host_bound cookie is =
-    record {
-      name = IsUtf8-append host_prefix cookie.name (host_prefix, (refl, refl)) is.name;
-      value = is.value;
-      path = (codes "/", (refl, refl));
-      domain = tt;
-      max_age = is.max_age;
-    }

@@ -16,7 +16,7 @@ use Rattle.cookie_core.specs.Record.{Record, IsCookie}
 use Rattle.cookie.specs.AnswersExactly.{AnswersExactly, AnswersPair}
 use Rattle.cookie.specs.Jar.{JarState, Add, after, view}
 use Rattle.cookie.specs.Opening.{IsSealedBytes}
-use Rattle.cookie.specs.Sealing.{CanSeal, IsNonce, IsSealable, IsSealed, IsSealingOf, sealed, sealed_bytes, sealing}
+use Rattle.cookie.specs.Sealing.{IsNonce, IsSealable, IsSealed, IsSealingOf, sealed, sealed_bytes, sealing}
 use Rattle.cookie.specs.declared.jar_error.JarError.{JarError}
 use Rattle.cookie.specs.declared.jar_error.JarError.TheVariants as refusal
 use Rattle.cookie.proofs.AnswerLemmas.{answered_added, if_added}
@@ -282,12 +282,6 @@ IsCookie-sealed key nonce cookie is =
       domain = is.domain;
       max_age = is.max_age;
     }
-
--- what stands for a value that was sealed
-pub sealed_stands : (key nonce name text : List ℕ) (cookie stored : Record) → name ≡ cookie.name → text ≡ cookie.value → IsUtf8 text → CanSeal cookie → IsNonce nonce
-    → stored ≡ sealed key nonce cookie → IsSealingOf key stored cookie.value
-sealed_stands key nonce name text cookie stored same_name same_text is_text within is_nonce is =
-    subst (λ c. IsSealingOf key c cookie.value) (sym is) (record { is_text = subst IsUtf8 same_text is_text; sealable = within; sealed = (nonce, is_nonce, refl) })
 
 -- the answer to a stored cookie whose value is a sealing
 pub decrypted : (key name text : List ℕ) (cookie made : Record) (opened : Option (List ℕ)) (value : List ℕ) → name ≡ cookie.name → text ≡ cookie.value

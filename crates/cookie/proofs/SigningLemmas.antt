@@ -16,7 +16,7 @@ use Rattle.cookie_crypt.specs.Hmac.{hmac}
 use Rattle.cookie_crypt.proofs.MacLemmas.{length-hmac}
 use Rattle.cookie.specs.AnswersExactly.{AnswersPair}
 use Rattle.cookie.specs.Jar.{Name, JarState, Add, after, view}
-use Rattle.cookie.specs.Signing.{CoversOnePair, IsSigningOf, covered, signature, signing, signed}
+use Rattle.cookie.specs.Signing.{CoversOnePair, IsSigningOf, signed_message, signature, signing, signed}
 use Rattle.cookie.proofs.AnswerLemmas.{answered_added}
 
 -- ---- the signature
@@ -31,18 +31,18 @@ length-encoded m h =
 
 length-signature : (key : List ℕ) (name : Name) (value : List ℕ) → length (signature key name value) ≡ 44
 unfolding signature
-length-signature key name value = length-encoded _ (length-hmac key (covered name value))
+length-signature key name value = length-encoded _ (length-hmac key (signed_message name value))
 
 IsAscii-signature : (key : List ℕ) (name : Name) (value : List ℕ) → IsAscii (signature key name value)
 unfolding signature
-IsAscii-signature key name value = IsAscii-encode_of standard (hmac key (covered name value))
+IsAscii-signature key name value = IsAscii-encode_of standard (hmac key (signed_message name value))
 
 pub IsUtf8-signature : (key : List ℕ) (name : Name) (value : List ℕ) → IsUtf8 (signature key name value)
 IsUtf8-signature key name value = IsUtf8-from_ascii (signature key name value) (IsAscii-signature key name value)
 
 -- the length, the name and the value, joined
 pub message-is : (name : Name) (value size front back : List ℕ) → size ≡ to_be_bytes w64 (length name) → front ≡ name → back ≡ value
-    → size ++ (front ++ (back ++ [])) ≡ covered name value
+    → size ++ (front ++ (back ++ [])) ≡ signed_message name value
 message-is name value size front back is_size is_front is_back =
     ap (λ xs. xs ++ (front ++ (back ++ []))) is_size
     ∙ ap (λ xs. to_be_bytes w64 (length name) ++ (xs ++ (back ++ []))) is_front
@@ -66,7 +66,7 @@ covers_one_pair name other value another fits fits_too same =
 
 -- what `encode_slice` leaves in 44 bytes
 pub signature-from : (key : List ℕ) (name : Name) (value message mac old new : List ℕ) (r : Result ℕ EncodeSliceError)
-    → message ≡ covered name value → mac ≡ hmac key message → length old ≡ 44
+    → message ≡ signed_message name value → mac ≡ hmac key message → length old ≡ 44
     → (encoded_size_of standard (length mac) ≤ length old → r ≡ Ok (encoded_size_of standard (length mac)))
     → OnOk r (IsEncodedOver standard mac old new) → new ≡ signature key name value
 unfolding signature

@@ -22,10 +22,10 @@ encryption_half key = drop 32 key
 abbrev pub key_of : List ℕ → List ℕ
 key_of bytes = take key_length bytes
 
--- what the expansion of a master key is for (RFC 5869, 3.2)
+-- what the expansion of a master key is for (RFC 5869 3.2)
 abbrev pub key_info : List ℕ
 key_info = codes "COOKIE;SIGNED:HMAC-SHA256;PRIVATE:AEAD-AES-256-GCM"
 
--- the key derived from a master key, by the whole of it (RFC 5869, 2.3)
-abbrev pub derived : List ℕ → List ℕ
-derived master = expand64 master key_info
+-- the key derived from a master key, by the whole of it (RFC 5869 2.3)
+abbrev pub derived_key : List ℕ → List ℕ
+derived_key master = expand64 master key_info

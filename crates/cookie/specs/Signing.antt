@@ -10,19 +10,19 @@ use Rattle.cookie.specs.Jar.{Name}
 
 -- what the signature of a value covers, for a cookie of that name: the length of the name in eight bytes, the highest
 -- first, then the name as it is stored, and then the value
-abbrev pub covered : Name → List ℕ → List ℕ
-covered name value = to_be_bytes w64 (length name) ++ name ++ value
+abbrev pub signed_message : Name → List ℕ → List ℕ
+signed_message name value = to_be_bytes w64 (length name) ++ name ++ value
 
--- No two pairs of name and value are covered alike: the length says where the name ends. Eight bytes hold the length of
+-- No two pairs of name and value give one message: the length says where the name ends. Eight bytes hold the length of
 -- every text in memory.
 abbrev pub CoversOnePair : Type 0
 CoversOnePair =
     (name other : Name) (value another : List ℕ) → length name < 2 ^ 64 → length other < 2 ^ 64
-    → covered name value ≡ covered other another → (name ≡ other) × (value ≡ another)
+    → signed_message name value ≡ signed_message other another → (name ≡ other) × (value ≡ another)
 
 -- the signature of a value, of 44 characters
 unfoldable pub signature : List ℕ → Name → List ℕ → List ℕ
-signature key name value = encode_of standard (hmac key (covered name value))
+signature key name value = encode_of standard (hmac key (signed_message name value))
 
 -- the signature, and then the value
 unfoldable pub signing : List ℕ → Name → List ℕ → List ℕ

@@ -72,7 +72,8 @@ impl<'a> Model for Iter<'a> {
 
     ghost Value = { List Record };
 
-    ghost view = { λ a. additions (map marked a.changes) ++ uncovered (by_name marked a.delta.now.entries) (map unmarked a.originals) };
+    ghost view = { λ a. additions (map marked a.changes)
+        ++ uncovered (by_name marked a.delta.now.entries) (map unmarked a.originals) };
 }
 
 impl<'a> Iter<'a> {

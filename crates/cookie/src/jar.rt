@@ -37,10 +37,16 @@ impl Model for CookieJar {
 
     ghost coded = { jar_code };
 
-    ghost view = { λ a. record { originals = by_name unmarked a.originals.entries; delta = by_name marked a.delta.entries } };
+    ghost view = { λ a. record {
+      originals = by_name unmarked a.originals.entries;
+      delta = by_name marked a.delta.entries;
+    } };
 
     // Each key is its cookie's name.
-    ghost invariant = { λ a. AreNamed (record { originals = by_name unmarked a.originals.entries; delta = by_name marked a.delta.entries }) };
+    ghost invariant = { λ a. AreNamed (record {
+      originals = by_name unmarked a.originals.entries;
+      delta = by_name marked a.delta.entries;
+    }) };
 }
 
 impl CookieJar {

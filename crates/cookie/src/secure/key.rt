@@ -5,7 +5,7 @@ ghost use Rattle.std.specs.Cmp.{partial_equiv_from_equiv};
 ghost use Rattle.std.specs.Cmp.Lexicographic.{nat_list_eq_equiv};
 ghost use Rattle.cookie_crypt.specs.Bytes.{IsBytes};
 ghost use Rattle.rand_core.specs.Stream.{fill_bytes};
-ghost use Rattle.cookie.specs.Keys.{derived, encryption_half, key_length, key_of, master_length, signing_half};
+ghost use Rattle.cookie.specs.Keys.{derived_key, encryption_half, key_length, key_of, master_length, signing_half};
 ghost use Rattle.cookie.specs.declared.secure.key_error.KeyError.TheVariants as refusal;
 
 use crate::secure::key_error::KeyError;
@@ -21,7 +21,7 @@ const SIGNING_LENGTH: usize = 32;
 
 const MASTER_LENGTH: usize = 32;
 
-// What the expansion of a master key is for (RFC 5869, 3.2).
+// What the expansion of a master key is for (RFC 5869 3.2).
 const KEY_INFO: &[u8] = b"COOKIE;SIGNED:HMAC-SHA256;PRIVATE:AEAD-AES-256-GCM";
 
 // Each byte of an array is below 256.
@@ -71,24 +71,24 @@ impl Key {
         Ok(Key::from(key))
     }
 
-    /// The key derived from a master key, by the whole of it (RFC 5869, 2.3). The same master key always gives the
+    /// The key derived from a master key, by the whole of it (RFC 5869 2.3). The same master key always gives the
     /// same key.
     ///
     /// The caller sees to it that the master key has at least 32 bytes, and that they are random; `try_derive_from`
     /// takes any number.
     pub fn derive_from(master_key: &[u8]) -> Key
         requires { master_length ≤ length master_key.now }
-        ensures { result ≡ derived master_key.now }
+        ensures { result ≡ derived_key master_key.now }
     {
         Key {
             bytes: expand64(master_key, KEY_INFO),
         }
     }
 
-    /// The key derived from a master key, by the whole of it (RFC 5869, 2.3). The master key must be random. Fails
+    /// The key derived from a master key, by the whole of it (RFC 5869 2.3). The master key must be random. Fails
     /// exactly where it has fewer than 32 bytes.
     pub fn try_derive_from(master_key: &[u8]) -> Result<Key, KeyError>
-        ensures ok { master_length ≤ length master_key.now → result ≡ Ok (derived master_key.now) }
+        ensures ok { master_length ≤ length master_key.now → result ≡ Ok (derived_key master_key.now) }
         ensures too_short { length master_key.now < master_length
             → result ≡ Err (refusal.MasterTooShort (length master_key.now)) }
     {

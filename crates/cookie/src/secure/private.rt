@@ -159,11 +159,17 @@ impl<'a> PrivateJarMut<'a> {
             × (jar_of self.new ≡ after
             (AddOriginal (sealed (key_of self.old) nonce cookie.entry.fields)) (jar_of self.old))) }
         ensures within { OnOk result (CanSeal cookie.entry.fields) }
+
+        // Where memory was wanting the nonce was drawn too.
         ensures drawn { result ≡ Err refusal.OutOfMemory
             → (nonce : List ℕ) × IsNonce nonce × R.may_fill rng.old nonce rng.new }
+
+        // Past the cipher's limits it is refused as such.
         ensures too_long { (¬ CanSeal cookie.entry.fields) ↔ (result ≡ Err refusal.TooLong) }
         ensures undrawn { ¬ CanSeal cookie.entry.fields → rng.new ≡ rng.old }
         ensures failed { result ≡ Err refusal.Generator → R.Error }
+
+        // After any refusal the jar is as it was.
         ensures err { OnErr result (jar_of self.new ≡ jar_of self.old) }
         ensures same { ChangesSame self.new self.old }
     {
@@ -184,12 +190,20 @@ impl<'a> PrivateJarMut<'a> {
             × (jar_of self.new ≡ after
             (Add (sealed (key_of self.old) nonce cookie.entry.fields)) (jar_of self.old))) }
         ensures within { OnOk result (CanSeal cookie.entry.fields) }
+
+        // Where memory was wanting the nonce was drawn too.
         ensures drawn { result ≡ Err refusal.OutOfMemory
             → (nonce : List ℕ) × IsNonce nonce × R.may_fill rng.old nonce rng.new }
+
+        // Past the cipher's limits it is refused as such.
         ensures too_long { (¬ CanSeal cookie.entry.fields) ↔ (result ≡ Err refusal.TooLong) }
         ensures undrawn { ¬ CanSeal cookie.entry.fields → rng.new ≡ rng.old }
         ensures failed { result ≡ Err refusal.Generator → R.Error }
+
+        // After any refusal the jar is as it was.
         ensures err { OnErr result (jar_of self.new ≡ jar_of self.old) }
+
+        // A look-up now gives the name and the value.
         ensures shown { IfOk result (λ _.
             AnswersPair (IsSealingOf (key_of self.new))
             (view (jar_of self.new) cookie.entry.fields.name) cookie.entry.fields) }
@@ -213,7 +227,11 @@ impl<'a> PrivateJarMut<'a> {
             jar_of self.new ≡ after
             (AddOriginal (sealed (key_of self.old) nonce cookie.entry.fields)) (jar_of self.old)) }
         ensures within { OnOk result (CanSeal cookie.entry.fields) }
+
+        // Past the cipher's limits it is refused as such.
         ensures too_long { (¬ CanSeal cookie.entry.fields) ↔ (result ≡ Err refusal.TooLong) }
+
+        // After any refusal the jar is as it was.
         ensures err { OnErr result (jar_of self.new ≡ jar_of self.old) }
         ensures same { ChangesSame self.new self.old }
     {
@@ -239,8 +257,14 @@ impl<'a> PrivateJarMut<'a> {
             jar_of self.new ≡ after
             (Add (sealed (key_of self.old) nonce cookie.entry.fields)) (jar_of self.old)) }
         ensures within { OnOk result (CanSeal cookie.entry.fields) }
+
+        // Past the cipher's limits it is refused as such.
         ensures too_long { (¬ CanSeal cookie.entry.fields) ↔ (result ≡ Err refusal.TooLong) }
+
+        // After any refusal the jar is as it was.
         ensures err { OnErr result (jar_of self.new ≡ jar_of self.old) }
+
+        // A look-up now gives the name and the value.
         ensures shown { IfOk result (λ _.
             AnswersPair (IsSealingOf (key_of self.new))
             (view (jar_of self.new) cookie.entry.fields.name) cookie.entry.fields) }

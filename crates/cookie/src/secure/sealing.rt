@@ -16,9 +16,9 @@ use cookie_core::Cookie;
 use cookie_crypt::{Gcm, Steps};
 use std::alloc::{AllocError, Global};
 
-const NONCE_LEN: usize = 12;
+const NONCE_LENGTH: usize = 12;
 
-const TAG_LEN: usize = 16;
+const TAG_LENGTH: usize = 16;
 
 // The most bytes of a name and of a value (SP 800-38D 5.2.1.1).
 const LONGEST_NAME: usize = (1 << 61) - 1;
@@ -104,7 +104,7 @@ fn sealed_bytes(
 {
     let mut bytes = Vec::from_slice(alloc, nonce)?;
     bytes.extend_from_slice(value.as_bytes())?;
-    let text = &mut bytes[NONCE_LEN..];
+    let text = &mut bytes[NONCE_LENGTH..];
     let cipher = Gcm::new(key);
     let Some(tag) = cipher.seal_in_place(nonce, name.as_bytes(), text, &mut Steps::new()) else {
         unreachable!();
@@ -163,10 +163,10 @@ fn opened(
         → (option_map (λ p. p.items) answer ≡ Some v)
         ↔ IsSealedBytes cipher.now name.now bytes.now v) }
 {
-    let Some((nonce, rest)) = bytes.split_first_chunk::<NONCE_LEN>() else {
+    let Some((nonce, rest)) = bytes.split_first_chunk::<NONCE_LENGTH>() else {
         return Ok(None);
     };
-    let Some((text, tag)) = rest.split_last_chunk::<TAG_LEN>() else {
+    let Some((text, tag)) = rest.split_last_chunk::<TAG_LENGTH>() else {
         return Ok(None);
     };
     let mut plain = Vec::from_slice(alloc, text)?;

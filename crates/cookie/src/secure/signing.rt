@@ -10,7 +10,7 @@ use cookie_core::Cookie;
 use cookie_crypt::hmac;
 use std::alloc::{AllocError, Global};
 
-const SIGNATURE_LEN: usize = 44;
+const SIGNATURE_LENGTH: usize = 44;
 
 // The signature of a value, for a cookie of that name: of the length of the name, the name and the value.
 fn signature(key: &[u8], name: &str, value: &str) -> [u8; 44]
@@ -18,7 +18,7 @@ fn signature(key: &[u8], name: &str, value: &str) -> [u8; 44]
 {
     let length = (name.len() as u64).to_be_bytes();
     let digest = hmac(key, &[&length, name.as_bytes(), value.as_bytes()]);
-    let mut text = [0; SIGNATURE_LEN];
+    let mut text = [0; SIGNATURE_LENGTH];
     let _ = STANDARD.encode_slice(&digest, &mut text);
     text
 }
@@ -46,7 +46,7 @@ fn verified<'v>(key: &[u8], name: &str, value: &'v str) -> Option<&'v str>
     ensures { (v : List ℕ)
         → (option_copied result ≡ Some v) ↔ (value.now ≡ signing key.now name.now v) }
 {
-    let Some((front, rest)) = value.split_at_checked(SIGNATURE_LEN) else {
+    let Some((front, rest)) = value.split_at_checked(SIGNATURE_LENGTH) else {
         return None;
     };
     if front.as_bytes() == signature(key, name, rest).as_slice() {
