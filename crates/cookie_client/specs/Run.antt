@@ -1,5 +1,5 @@
 -- How what a run answered and wrote fits its session.
-use Rattle.std.specs.Prelude.{◌≡◌, ◌+◌, ℕ, true, false, List, [], ◌∷◌, ◌++◌, ◌<◌, drop, length, take, Option, Some, None, Result, Ok, Err}
+use Rattle.std.specs.Prelude.{◌≡◌, ◌+◌, ℕ, true, false, List, [], ◌∷◌, ◌++◌, ◌<◌, drop, length, take, Option, Some, None, Result, Ok, Err, OnOk}
 use Rattle.std.specs.Io.KnownBytes.{Keeps, Appends, Consumes, IsAtEnd}
 use Rattle.std.specs.List.{list_any}
 use Rattle.std.specs.Result.{result_map_both}
@@ -8,8 +8,9 @@ use Rattle.cookie.specs.History.{after_all}
 use Rattle.cookie.specs.Jar.{Name, JarState, Change}
 use Rattle.cookie_client.specs.Agreement.{Agrees, HoldsOriginal, alters_original}
 use Rattle.cookie_client.specs.Client.{Values}
+use Rattle.cookie_client.specs.Lines.{lines_of}
 use Rattle.cookie_client.specs.Originals.{client_for, jar_for}
-use Rattle.cookie_client.specs.Session.{Fault, BadMoment, BadInput, BadLine, call_of, cookie_line, delta_texts, session, set_cookie_lines}
+use Rattle.cookie_client.specs.Session.{Fault, BadMoment, BadInput, BadLine, call_of, cookie_line, delta_texts, moment_of, session, set_cookie_lines}
 use Rattle.cookie_client.specs.declared.run_error.RunError.{RunError}
 use Rattle.cookie_client.specs.declared.run_error.RunError.TheVariants as errors
 
@@ -30,8 +31,8 @@ Refuses session errors.Output = ⊥
 abbrev pub StopsShort : Option (List ℕ) → Option (List ℕ) → List ℕ → Type 0
 StopsShort old new text = (n : ℕ) × (n < length text) × Appends old new (take n text)
 
--- The answer is that of the session for the bytes read, and at Ok exactly its text was written. After Output a
--- beginning of its text was written that isn't the whole, and after any other refusal nothing.
+-- The answer is that of the session for the bytes read, and at Ok exactly its text was written. After
+-- Output a beginning of its text was written that isn't the whole, and after any other refusal nothing.
 abbrev pub IsPlayed : {T : Type 0} → List ℕ → (List ℕ → Type 0) → Option (List ℕ) → Option (List ℕ)
     → Result T RunError → Type 0
 IsPlayed moment is_read old new (Ok _) =
@@ -64,7 +65,7 @@ abbrev pub header_line : List (List ℕ) → List ℕ
 header_line [] = []
 header_line (header ∷ lines) = header
 
--- The text is the delta of a jar and the header of a client that agrees with it (clause `agreement` of `run`).
+-- The text is the delta of a jar and the header of a client that agrees with it.
 pub record IsOfAgreement (now : DateTime) (lines : List (List ℕ)) (text : List ℕ) : Type 0 where
   -- what the lines behind the first ask for
   pub changes : List Change
@@ -80,3 +81,10 @@ pub record IsOfAgreement (now : DateTime) (lines : List (List ℕ)) (text : List
       → HoldsOriginal (client_for (header_line lines)) jar name
   -- and the text is the jar's delta and that client's header
   pub written : text ≡ set_cookie_lines (delta_texts jar) ++ cookie_line client
+
+-- At Ok, what was written is of such an agreement (clause `agreement` of `run`).
+abbrev pub IsAgreed : {T : Type 0} → List ℕ → (List ℕ → Type 0) → Option (List ℕ) → Option (List ℕ)
+    → Result T RunError → Type 0
+IsAgreed moment is_read old new result = OnOk result (
+    (now : DateTime) × (moment_of moment ≡ Some now) × (bytes : List ℕ) × is_read bytes
+    × (text : List ℕ) × IsOfAgreement now (lines_of bytes) text × Appends old new text)

@@ -58,7 +58,8 @@ impl Client {
 
     /// Holds this value for the name from now on. After an error the client is as before.
     pub fn hold(&mut self, name: &str, value: &str) -> Result<(), ClientError>
-        ensures gives { Gives OutOfMemory result (λ _. self.new ≡ insert self.old name.now value.now) }
+        ensures gives { Gives OutOfMemory result (λ _.
+            self.new ≡ insert self.old name.now value.now) }
         ensures err { OnErr result (self.new ≡ self.old) }
     {
         self.values.set(name, value)?;
@@ -75,9 +76,10 @@ impl Client {
         })
     }
 
-    /// Takes a cookie that was read: one that is live sets its name to its value, and another drops its name.
+    // Takes a cookie that was read: one that is live sets its name to its value, and another drops its name.
     fn take(&mut self, cookie: &Cookie<'_>, now: DateTime) -> Result<(), ClientError>
-        ensures gives { Gives OutOfMemory result (λ _. self.new ≡ after_cookie now (Some cookie.now.fields) self.old) }
+        ensures gives { Gives OutOfMemory result (λ _.
+            self.new ≡ after_cookie now (Some cookie.now.fields) self.old) }
         ensures err { OnErr result (self.new ≡ self.old) }
     {
         if is_live(cookie, now) {
@@ -92,7 +94,9 @@ impl Client {
     /// cookie. One that is live sets its name to its value, one that isn't drops its name, and a text that is no
     /// cookie changes nothing. After an error the client is as before.
     pub fn read(&mut self, text: &str, now: DateTime) -> Result<bool, ClientError>
-        ensures gives { Gives OutOfMemory result (λ is_cookie. (self.new ≡ after_text now text.now self.old) × (is_cookie ≡ is_some (cookie_of true text.now))) }
+        ensures gives { Gives OutOfMemory result (λ is_cookie.
+            (self.new ≡ after_text now text.now self.old)
+            × (is_cookie ≡ is_some (cookie_of true text.now))) }
         ensures err { OnErr result (self.new ≡ self.old) }
     {
         match Cookie::parse_encoded(self.alloc, text) {
@@ -101,7 +105,9 @@ impl Client {
                 Ok(true)
             }
             Err(ParseError::OutOfMemory) => Err(ClientError::OutOfMemory),
-            Err(_) => Ok(false),
+            Err(ParseError::MissingPair | ParseError::EmptyName | ParseError::Utf8Error(_)) => {
+                Ok(false)
+            }
         }
     }
 
@@ -109,8 +115,11 @@ impl Client {
     ///
     /// Where it holds nothing under the empty name, the header's cookies, decoded, are those names and values, and none is refused.
     pub fn header(&self) -> Result<String, ClientError>
-        ensures text { Gives OutOfMemory result (λ header. string_bytes header ≡ header_text self.now) }
-        ensures reads_back { get self.now [] ≡ None → IfOk result (λ header. map (cookie_of true) (header_texts (string_bytes header)) ≡ map (λ pair. Some (plain pair.0 pair.1)) (entries self.now)) }
+        ensures text { Gives OutOfMemory result (λ header.
+            string_bytes header ≡ header_text self.now) }
+        ensures reads_back { get self.now [] ≡ None → IfOk result (λ header.
+            map (cookie_of true) (header_texts (string_bytes header))
+            ≡ map (λ pair. Some (plain pair.0 pair.1)) (entries self.now)) }
     {
         let mut header = String::new(self.alloc);
         let mut pairs = self.values.pairs();
@@ -126,9 +135,10 @@ impl Client {
     }
 }
 
-/// Writes the name and the value as a cookie without attributes, escaped.
+// Writes the name and the value as a cookie without attributes, escaped.
 fn push_pair(alloc: Global, header: &mut String, name: &str, value: &str) -> Result<(), AllocError>
-    ensures written { OnOk result (string_bytes header.new ≡ string_bytes header.old ++ pair_text (name.now, value.now)) }
+    ensures written { OnOk result (string_bytes header.new
+        ≡ string_bytes header.old ++ pair_text (name.now, value.now)) }
     ensures cookie { IsCookie (plain name.now value.now) }
 {
     let cookie = Cookie::new(name, value);

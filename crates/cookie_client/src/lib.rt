@@ -32,5 +32,5 @@ pub use prefix_kind::PrefixKind;
 pub use request::Request;
 pub use requests::rounds;
 pub use run_error::RunError;
-pub use session::run;
+pub use session::{run, run_with_hasher};
 pub use texts::delta_texts;

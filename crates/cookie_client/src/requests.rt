@@ -1,7 +1,7 @@
 //! Many requests, and one client.
 ghost use Rattle.std.specs.Prelude.{◌≡◌, length, IfOk};
 ghost use Rattle.std.specs.FinMap.{empty, get};
-ghost use Rattle.cookie.specs.Jar.{Name, view};
+ghost use Rattle.cookie.specs.Jar.{Name, empty_jar, view};
 ghost use Rattle.cookie.specs.Memory.{Gives};
 ghost use Rattle.cookie_client.specs.Agreement.{value_of};
 ghost use Rattle.cookie_client.specs.Exchange.{IsExchange};
@@ -44,26 +44,29 @@ pub fn rounds(
     let mut header = Client::new(alloc).header()?;
     let mut played = Vec::new(alloc);
     for request in requests {
-        let one = visit(alloc, header.as_str(), request.calls, pick, now)?;
+        let jar = CookieJar::new(alloc);
+        let one = visit(alloc, jar, header.as_str(), request.calls, pick, now)?;
         header = one.client.header()?;
         played.push(one)?;
     }
     Ok(played)
 }
 
-// Plays one request of a client that holds what the header tells: its cookies are the originals of a new jar, and all
+// Plays one request of a client that holds what the header tells: its cookies are the originals of the new jar, and all
 // that a new client holds.
 pub(crate) fn visit(
     alloc: Global,
+    jar: CookieJar,
     header: &str,
     calls: &[JarCall<'_>],
     pick: &[usize],
     now: DateTime,
 ) -> Result<Played, ClientError>
+    requires { jar ≡ empty_jar }
     ensures { IfOk result (λ p.
         IsExchange now (jar_for header.now) (client_for header.now) calls.now p) }
 {
-    let jar = with_originals(alloc, CookieJar::new(alloc), header)?;
+    let jar = with_originals(alloc, jar, header)?;
     let client = client_of(alloc, &jar)?;
     exchange(alloc, jar, client, calls, Originals::Untold, pick, now)
 }

@@ -4,7 +4,6 @@ ghost use Rattle.cookie_client.specs.declared.run_error.RunError.TheVariants as 
 ghost use Rattle.cookie_client.specs.RunError.{status_of};
 
 use crate::client_error::ClientError;
-use cookie::JarError;
 use std::alloc::{AllocError, AllocFailed};
 use thiserror::Error;
 
@@ -62,16 +61,9 @@ impl<T: Drop> From<AllocFailed<T>> for RunError {
 impl From<ClientError> for RunError {
     ghost from_gives = { λ _ e. e ≡ errors.OutOfMemory };
 
-    fn from(_error: ClientError) -> RunError {
-        RunError::OutOfMemory
-    }
-}
-
-// The jar's calls of a session are refused for want of memory alone.
-impl From<JarError> for RunError {
-    ghost from_gives = { λ _ e. e ≡ errors.OutOfMemory };
-
-    fn from(_error: JarError) -> RunError {
-        RunError::OutOfMemory
+    fn from(error: ClientError) -> RunError {
+        match error {
+            ClientError::OutOfMemory => RunError::OutOfMemory,
+        }
     }
 }

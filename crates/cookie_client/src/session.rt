@@ -1,16 +1,14 @@
 //! The engine of the program: a session from the bytes of its input to its text.
-ghost use Rattle.std.specs.Prelude.{◌≡◌, ◌+◌, ◌++◌, ◌^◌, ◌<◌, codes, true, false, List, ℕ, option_map, None, Some, Ok, Err, IfOk, OnOk, MatchResult, drop, map, length, string_bytes};
+ghost use Rattle.std.specs.Prelude.{◌≡◌, ◌+◌, ◌++◌, ◌^◌, ◌<◌, codes, true, false, option_map, None, Ok, Err, IfOk, OnOk, MatchResult, drop, map, length, string_bytes};
 ghost use Rattle.std.specs.FinMap.{entries};
-ghost use Rattle.std.specs.Io.KnownBytes.{Appends};
 ghost use Rattle.std.specs.List.{list_all};
-ghost use Rattle.jiff.specs.Types.{DateTime};
 ghost use Rattle.cookie.specs.CookieOf.{cookie_of};
 ghost use Rattle.cookie.specs.Memory.{Gives};
-ghost use Rattle.cookie.specs.Jar.{Add};
+ghost use Rattle.cookie.specs.Jar.{Add, empty_jar};
 ghost use Rattle.cookie.specs.Text.{cookie_text};
 ghost use Rattle.cookie_client.specs.Calls.{change_of};
 ghost use Rattle.cookie_client.specs.Lines.{lines_of};
-ghost use Rattle.cookie_client.specs.Run.{IsOfAgreement, IsPlayed, IsRead, Refuses, changes_in, header_line};
+ghost use Rattle.cookie_client.specs.Run.{IsAgreed, IsOfAgreement, IsPlayed, IsRead, Refuses, changes_in, header_line};
 ghost use Rattle.cookie_client.specs.Session.{moment_of, call_of, removal_of, forced_removal_of, discarding_of, set_cookie_lines, delta_texts, cookie_line, played, played_bytes};
 ghost use Rattle.cookie_client.specs.declared.run_error.RunError.TheVariants as errors;
 
@@ -24,9 +22,10 @@ use crate::text_map::TextMap;
 use cookie::{Cookie, CookieJar, ParseError, read_date};
 use jiff::civil::DateTime;
 use std::alloc::{AllocError, Global};
+use std::hash::RandomState;
 use std::io::{Read, Write};
 
-/// The moment that the text stands for, if it is of the year 100 or later.
+// The moment that the text stands for, if it is of the year 100 or later.
 fn moment_of(text: &str) -> Option<DateTime>
     ensures { result ≡ moment_of text.now }
 {
@@ -37,7 +36,7 @@ fn moment_of(text: &str) -> Option<DateTime>
     Some(moment)
 }
 
-/// The addition of the cookie that the text is, if it is one.
+// The addition of the cookie that the text is, if it is one.
 fn addition(alloc: Global, text: &str) -> Result<Option<JarCall<'static>>, RunError>
     ensures { Gives errors.OutOfMemory result (λ call.
         option_map change_of call ≡ option_map Add (cookie_of true text.now)) }
@@ -45,11 +44,11 @@ fn addition(alloc: Global, text: &str) -> Result<Option<JarCall<'static>>, RunEr
     match Cookie::parse_encoded(alloc, text) {
         Ok(cookie) => Ok(Some(JarCall::Add(cookie.into_owned(alloc)?))),
         Err(ParseError::OutOfMemory) => Err(RunError::OutOfMemory),
-        Err(_) => Ok(None),
+        Err(ParseError::MissingPair | ParseError::EmptyName | ParseError::Utf8Error(_)) => Ok(None),
     }
 }
 
-/// The removal of the name, unless it is empty.
+// The removal of the name, unless it is empty.
 fn removal(alloc: Global, name: &str, now: DateTime) -> Result<Option<JarCall<'static>>, RunError>
     ensures { Gives errors.OutOfMemory result (λ call.
         option_map change_of call ≡ removal_of now name.now) }
@@ -60,7 +59,7 @@ fn removal(alloc: Global, name: &str, now: DateTime) -> Result<Option<JarCall<'s
     Ok(Some(JarCall::Remove(Cookie::named(name).into_owned(alloc)?, now)))
 }
 
-/// The forced removal of the name, unless it is empty.
+// The forced removal of the name, unless it is empty.
 fn forced_removal(alloc: Global, name: &str) -> Result<Option<JarCall<'static>>, RunError>
     ensures { Gives errors.OutOfMemory result (λ call.
         option_map change_of call ≡ forced_removal_of name.now) }
@@ -71,7 +70,7 @@ fn forced_removal(alloc: Global, name: &str) -> Result<Option<JarCall<'static>>,
     Ok(Some(JarCall::ForceRemove(String::from_str(alloc, name)?)))
 }
 
-/// The call that a line asks for which discards cookies, if it asks for such a call.
+// The call that a line asks for which discards cookies, if it asks for such a call.
 fn discarding(alloc: Global, line: &str) -> Result<Option<JarCall<'static>>, RunError>
     ensures { Gives errors.OutOfMemory result (λ call.
         option_map change_of call ≡ discarding_of line.now) }
@@ -85,7 +84,7 @@ fn discarding(alloc: Global, line: &str) -> Result<Option<JarCall<'static>>, Run
     Ok(None)
 }
 
-/// The call that a line asks for, if it asks for one.
+// The call that a line asks for, if it asks for one.
 fn call_of(alloc: Global, line: &str, now: DateTime) -> Result<Option<JarCall<'static>>, RunError>
     ensures { Gives errors.OutOfMemory result (λ call.
         option_map change_of call ≡ call_of now line.now) }
@@ -99,7 +98,7 @@ fn call_of(alloc: Global, line: &str, now: DateTime) -> Result<Option<JarCall<'s
     discarding(alloc, line)
 }
 
-/// The calls that the lines ask for, or the first bad one. An empty line asks for none. The first line is number 2.
+// The calls that the lines ask for, or the first bad one. An empty line asks for none. The first line is number 2.
 fn calls_of(
     alloc: Global,
     lines: Lines<'_>,
@@ -126,10 +125,10 @@ fn calls_of(
     Ok(calls)
 }
 
-/// The texts of the delta's cookies, by name.
-fn delta_texts(alloc: Global, jar: &CookieJar) -> Result<TextMap, RunError>
-    ensures { Gives errors.OutOfMemory result (λ texts.
-        entries texts ≡ map (λ e. (e.0, cookie_text true false e.1.cookie)) (entries jar.now.delta)) }
+// The texts of the delta's cookies, by name.
+fn texts_by_name(alloc: Global, jar: &CookieJar) -> Result<TextMap, RunError>
+    ensures { Gives errors.OutOfMemory result (λ texts. entries texts
+        ≡ map (λ e. (e.0, cookie_text true false e.1.cookie)) (entries jar.now.delta)) }
 {
     let mut texts = TextMap::new(alloc);
     for cookie in jar.delta() {
@@ -139,9 +138,10 @@ fn delta_texts(alloc: Global, jar: &CookieJar) -> Result<TextMap, RunError>
     Ok(texts)
 }
 
-/// Writes a line of a label and a text.
+// Writes a line of a label and a text.
 fn push_line(written: &mut String, label: &str, text: &str) -> Result<(), AllocError>
-    ensures { OnOk result (string_bytes written.new ≡ string_bytes written.old ++ (label.now ++ (text.now ++ codes "\n"))) }
+    ensures { OnOk result (string_bytes written.new
+        ≡ string_bytes written.old ++ (label.now ++ (text.now ++ codes "\n"))) }
 {
     written.push_str(label)?;
     written.push_str(text)?;
@@ -149,12 +149,12 @@ fn push_line(written: &mut String, label: &str, text: &str) -> Result<(), AllocE
     Ok(())
 }
 
-/// What is written of a jar, and of a client that read its delta.
+// What is written of a jar, and of a client that read its delta.
 fn output(alloc: Global, client: &Client, jar: &CookieJar) -> Result<String, RunError>
     ensures { Gives errors.OutOfMemory result (λ text.
         string_bytes text ≡ set_cookie_lines (delta_texts jar.now) ++ cookie_line client.now) }
 {
-    let texts = delta_texts(alloc, jar)?;
+    let texts = texts_by_name(alloc, jar)?;
     let mut written = String::new(alloc);
     for (_, text) in texts.pairs() {
         push_line(&mut written, "Set-Cookie: ", text)?;
@@ -164,8 +164,14 @@ fn output(alloc: Global, client: &Client, jar: &CookieJar) -> Result<String, Run
     Ok(written)
 }
 
-/// The text of a session at a moment. A call that is refused ends it.
-fn played(alloc: Global, now: DateTime, text: &str) -> Result<String, RunError>
+// The text of a session at a moment. A call that is refused ends it.
+fn played(
+    alloc: Global,
+    jar: CookieJar,
+    now: DateTime,
+    text: &str,
+) -> Result<String, RunError>
+    requires { jar ≡ empty_jar }
     ensures played { MatchResult result
         (λ answer. played now (lines_of text.now) ≡ Ok (string_bytes answer))
         (Refuses (played now (lines_of text.now))) }
@@ -175,14 +181,15 @@ fn played(alloc: Global, now: DateTime, text: &str) -> Result<String, RunError>
     let mut lines = Lines::of(text);
     let header = header_of(&mut lines);
     let calls = calls_of(alloc, lines, now)?;
-    let visited = visit(alloc, header, &calls, &[], now)?;
+    let visited = visit(alloc, jar, header, &calls, &[], now)?;
     if !are_accepted(&visited.outcomes) {
+        // Calls of lines are refused for want of memory alone.
         return Err(RunError::OutOfMemory);
     }
     output(alloc, &visited.client, &visited.jar)
 }
 
-/// The first line, or the empty one, which is taken off.
+// The first line, or the empty one, which is taken off.
 fn header_of<'t>(lines: &mut Lines<'t>) -> &'t str
     ensures header { result.now ≡ header_line lines.old }
     ensures rest { lines.new ≡ drop 1 lines.old }
@@ -196,8 +203,14 @@ fn are_accepted(outcomes: &[bool]) -> bool
     outcomes.iter().all(|outcome| *outcome)
 }
 
-/// The text of a session of bytes at a moment.
-fn answer(alloc: Global, now: DateTime, bytes: &[u8]) -> Result<String, RunError>
+// The text of a session of bytes at a moment.
+fn answer(
+    alloc: Global,
+    jar: CookieJar,
+    now: DateTime,
+    bytes: &[u8],
+) -> Result<String, RunError>
+    requires { jar ≡ empty_jar }
     ensures played { MatchResult result
         (λ text. played_bytes now bytes.now ≡ Ok (string_bytes text))
         (Refuses (played_bytes now bytes.now)) }
@@ -205,7 +218,7 @@ fn answer(alloc: Global, now: DateTime, bytes: &[u8]) -> Result<String, RunError
         IsOfAgreement now (lines_of bytes.now) (string_bytes text)) }
 {
     match str::from_utf8(bytes) {
-        Ok(text) => played(alloc, now, text),
+        Ok(text) => played(alloc, jar, now, text),
         Err(_) => Err(RunError::BadInput),
     }
 }
@@ -226,10 +239,49 @@ pub fn run<R: Read, W: Write>(
     ensures played { IsPlayed moment.now (IsRead (R.remaining input.old) (R.remaining input.new))
         (W.contents output.old) (W.contents output.new) result }
     // The client whose header is written agrees with the jar whose delta is written.
-    ensures agreement { OnOk result ((now : DateTime) × (moment_of moment.now ≡ Some now)
-        × (bytes : List ℕ) × IsRead (R.remaining input.old) (R.remaining input.new) bytes
-        × (text : List ℕ) × IsOfAgreement now (lines_of bytes) text
-        × Appends (W.contents output.old) (W.contents output.new) text) }
+    ensures agreement { IsAgreed moment.now (IsRead (R.remaining input.old) (R.remaining input.new))
+        (W.contents output.old) (W.contents output.new) result }
+    ensures bad_moment { moment_of moment.now ≡ None
+        → (result ≡ Err errors.BadMoment) × (input.new ≡ input.old) × (output.new ≡ output.old) }
+{
+    play(alloc, CookieJar::new(alloc), moment, input, output)
+}
+
+/// Plays the program's session as [`run`] does, for input that strangers write: its jar hashes names with the keys of
+/// `state` (`CookieJar::with_hasher`).
+pub fn run_with_hasher<R: Read, W: Write>(
+    alloc: Global,
+    state: RandomState,
+    moment: &str,
+    input: &mut R,
+    output: &mut W,
+) -> Result<(), RunError>
+    ensures played { IsPlayed moment.now (IsRead (R.remaining input.old) (R.remaining input.new))
+        (W.contents output.old) (W.contents output.new) result }
+    // The client whose header is written agrees with the jar whose delta is written.
+    ensures agreement { IsAgreed moment.now (IsRead (R.remaining input.old) (R.remaining input.new))
+        (W.contents output.old) (W.contents output.new) result }
+    ensures bad_moment { moment_of moment.now ≡ None
+        → (result ≡ Err errors.BadMoment) × (input.new ≡ input.old) × (output.new ≡ output.old) }
+{
+    let jar = CookieJar::with_hasher(alloc, state);
+    play(alloc, jar, moment, input, output)
+}
+
+// Plays the session with this new jar.
+fn play<R: Read, W: Write>(
+    alloc: Global,
+    jar: CookieJar,
+    moment: &str,
+    input: &mut R,
+    output: &mut W,
+) -> Result<(), RunError>
+    requires { jar ≡ empty_jar }
+    ensures played { IsPlayed moment.now (IsRead (R.remaining input.old) (R.remaining input.new))
+        (W.contents output.old) (W.contents output.new) result }
+    // The client whose header is written agrees with the jar whose delta is written.
+    ensures agreement { IsAgreed moment.now (IsRead (R.remaining input.old) (R.remaining input.new))
+        (W.contents output.old) (W.contents output.new) result }
     ensures bad_moment { moment_of moment.now ≡ None
         → (result ≡ Err errors.BadMoment) × (input.new ≡ input.old) × (output.new ≡ output.old) }
 {
@@ -237,6 +289,6 @@ pub fn run<R: Read, W: Write>(
         return Err(RunError::BadMoment);
     };
     let bytes = read_all(alloc, input)?;
-    let text = answer(alloc, now, &bytes)?;
+    let text = answer(alloc, jar, now, &bytes)?;
     write_text(output, text.as_bytes())
 }

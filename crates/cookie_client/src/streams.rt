@@ -8,9 +8,10 @@ use crate::run_error::RunError;
 use std::alloc::Global;
 use std::io::{ErrorKind, Read, Write};
 
-/// All that the reader has left.
+// All that the reader has left.
 pub(crate) fn read_all<R: Read>(alloc: Global, input: &mut R) -> Result<Vec<u8>, RunError>
-    ensures bytes { IfOk result (λ v. Consumes (R.remaining input.old) (R.remaining input.new) v.items) }
+    ensures bytes { IfOk result (λ v.
+        Consumes (R.remaining input.old) (R.remaining input.new) v.items) }
     ensures end { OnOk result (IsAtEnd (R.remaining input.new)) }
     ensures err { IfErr result (λ e. (e ≡ errors.Input) ⊎ (e ≡ errors.OutOfMemory)) }
 {
@@ -27,8 +28,8 @@ pub(crate) fn read_all<R: Read>(alloc: Global, input: &mut R) -> Result<Vec<u8>,
     }
 }
 
-/// Writes the text, going on behind a short write. It fails where a write fails or takes nothing, and then a beginning
-/// of the text was written that isn't the whole.
+// Writes the text, going on behind a short write. It fails where a write fails or takes nothing, and then a beginning
+// of the text was written that isn't the whole.
 pub(crate) fn write_text<W: Write>(output: &mut W, text: &[u8]) -> Result<(), RunError>
     ensures ok { OnOk result (Appends (W.contents output.old) (W.contents output.new) text.now) }
     ensures err { IfErr result (λ e. (e ≡ errors.Output)

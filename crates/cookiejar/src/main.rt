@@ -3,9 +3,10 @@
 
 use cookie_client::RunError;
 use std::env;
+use std::hash::RandomState;
 use std::process::ExitCode;
 
-/// Runs with the one argument, the moment.
+// Runs with the one argument, the moment. The input is a stranger's, so names are hashed with keys that are drawn.
 fn play(rt: &HostRuntime) -> Result<(), RunError> {
     let Ok(mut arguments) = env::args(rt) else {
         return Err(RunError::BadMoment);
@@ -14,8 +15,12 @@ fn play(rt: &HostRuntime) -> Result<(), RunError> {
     let (Some(moment), None) = (arguments.next(), arguments.next()) else {
         return Err(RunError::BadMoment);
     };
-    cookie_client::run(
+    let Ok(state) = RandomState::new(rt) else {
+        return Err(RunError::Input);
+    };
+    cookie_client::run_with_hasher(
         rt.alloc(),
+        state,
         moment.as_str(),
         &mut rt.stdin(),
         &mut rt.stdout(),

@@ -13,7 +13,7 @@ returns c =
     let header = c.args.header.now in
     let calls = c.args.calls.now in
     let jar = c.in_ok-jar.jar in
-    let begun : jar ≡ jar_for header = c.in_ok-jar.ensures ∙ ap (with_originals (header_cookies true header)) c.new.ensures.empty in
+    let begun : jar ≡ jar_for header = c.in_ok-jar.ensures ∙ ap (with_originals (header_cookies true header)) c.requires in
     let held : c.in_ok-client.client ≡ client_for header =
     client_shown header c.in_ok-client.client (λ name. c.in_ok-client.ensures name ∙ ap (λ (j : JarState). value_of (view j name)) begun) in
     IfOk-weaker c.exchange.result _ _ (λ p is.
