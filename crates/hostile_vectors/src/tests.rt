@@ -1,0 +1,5 @@
+//! Texts that a stranger may send.
+mod cuts;
+mod dates;
+mod secrets;
+mod texts;
