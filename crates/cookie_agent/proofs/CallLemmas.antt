@@ -1,23 +1,15 @@
--- What the changes of a jar put into its delta, and what the type of a call says of its change.
+-- What the changes of a jar put into its delta.
 use Rattle.std.proofs.Common.{◌≡◌, List, [], ◌∷◌, inl, inr, refl, ◌∙◌, All, arith}
 use Rattle.std.proofs.lemmas.List.Elements.{All-nil, All-cons, All-head, All-tail}
 use Rattle.std.proofs.lemmas.Str.{IsUtf8-nil}
 use Rattle.jiff.specs.Types.{DateTime}
 use Rattle.jiff.proofs.SpanFacts.{signed_arith}
 use Rattle.cookie.specs.History.{after_all}
-use Rattle.cookie.specs.Jar.{Name, dropped, JarState, Change, AddOriginal, Add, Remove, ForceRemove, ResetDelta, after}
-use Rattle.cookie.specs.Record.{Record}
-use Rattle.cookie.specs.Keys.{encryption_half, signing_half}
-use Rattle.cookie_client.specs.Calls.{change_of, child_change, stored_with}
-use Rattle.cookie_client.specs.KnownCalls.{IsKnownCall, IsKnownChild}
-use Rattle.cookie_client.specs.declared.call.JarCall.{JarCall}
-use Rattle.cookie_client.specs.declared.call.JarCall.TheVariants as calls
-use Rattle.cookie_client.specs.declared.child_call.ChildCall.{ChildCall}
-use Rattle.cookie_client.specs.declared.child_call.ChildCall.TheVariants as child
+use Rattle.cookie.specs.Jar.{Name, JarState, Change, AddOriginal, Add, Remove, ForceRemove, ResetDelta, after}
+use Rattle.cookie_client.specs.Calls.{IsKnownChange}
 use Rattle.cookie_client.proofs.EntryLemmas.{AreEntries-after_all, Puts}
-use Rattle.cookie_client.proofs.StoredLemmas.{IsStoring, IsStoring-same, IsStoring-prefixed, IsStoring-signed, IsStoring-sealed}
 use Rattle.cookie_agent.specs.Agreement.{IsScopedEntry, IsScopedDelta}
-use Rattle.cookie_agent.specs.Calls.{IsScopedChange, IsKnownChange}
+use Rattle.cookie_agent.specs.Calls.{IsScopedChange}
 use Rattle.cookie_agent.specs.Site.{SiteView}
 use Rattle.cookie_agent.specs.Scopes.{ScopeView}
 
@@ -64,20 +56,3 @@ module _ (site : SiteView) (now : DateTime) (scopes : Name → ScopeView) where
   originals_stay (change ∷ changes) jar hs =
       originals_stay changes (after change jar) (All-tail (IsScopedChange site now scopes) change changes hs)
       ∙ original_stays change jar (All-head (IsScopedChange site now scopes) change changes hs)
-
--- ---- what the type of a call says of its change
-
-known_child : (stored dropped : Record → Record) → IsStoring stored → IsStoring dropped → (call : ChildCall) → IsKnownChild call → IsKnownChange (child_change stored dropped call)
-known_child stored dropped s d (child.AddOriginal cookie) known = s.cookie cookie.fields known
-known_child stored dropped s d (child.Add cookie) known = s.cookie cookie.fields known
-known_child stored dropped s d (child.Remove cookie moment) known = d.cookie cookie.fields known
-
-pub known_change : (call : JarCall) → IsKnownCall call → IsKnownChange (change_of call)
-known_change (calls.AddOriginal cookie) known = known
-known_change (calls.Add cookie) known = known
-known_change (calls.Remove cookie moment) known = known
-known_change (calls.ForceRemove name) known = tt
-known_change calls.ResetDelta known = tt
-known_change (calls.Prefixed kind call) known = known_child (stored_with kind) (stored_with kind) (IsStoring-prefixed kind) (IsStoring-prefixed kind) call known
-known_change (calls.Signed key call) known = known_child _ _ (IsStoring-signed (signing_half key.now)) IsStoring-same call known
-known_change (calls.Private key nonce call) known = known_child _ _ (IsStoring-sealed (encryption_half key.now) nonce) IsStoring-same call known

@@ -13,7 +13,8 @@ use Rattle.cookie.specs.Record.{Record}
 use Rattle.cookie.proofs.HeaderLemmas.{header_form}
 use Rattle.cookie.proofs.NameLemmas.{get_inserted}
 use Rattle.cookie_agent.specs.Agreement.{IsOurs, IsOurStore, IsScopedEntry, IsScopedDelta}
-use Rattle.cookie_agent.specs.Calls.{IsScopedChange, IsKnownChange}
+use Rattle.cookie_agent.specs.Calls.{IsScopedChange}
+use Rattle.cookie_client.specs.Calls.{IsKnownChange}
 use Rattle.cookie_agent.specs.Keys.{Visit, jar_of, AreVisits, after_visit, AllFollow, IsFollowedByAnyKey}
 use Rattle.cookie_agent.specs.Scopes.{ScopeView}
 use Rattle.cookie_agent.specs.Site.{SiteView}
@@ -23,7 +24,7 @@ use Rattle.cookie.specs.History.{after_all}
 use Rattle.cookie_client.proofs.EntryLemmas.{chosen, AreEntries-empty}
 use Rattle.cookie_agent.proofs.VisitLemmas.{IsFollowable, agreed, stays, none_stored}
 use Rattle.cookie_agent.specs.Sent.{is_visible, visible, IsHeader}
-use Rattle.cookie_client.specs.Session.{with_originals}
+use Rattle.cookie_client.specs.Originals.{with_originals}
 use Rattle.cookie_agent.proofs.CallLemmas.{scoped_delta, originals_stay}
 use Rattle.cookie_agent.proofs.HeaderLemmas.{plain_of, named_of, texts_same, plain_same}
 
@@ -49,6 +50,14 @@ all_named (c ∷ cs) hs jar all = all_named cs (All-tail IsNamed c cs hs) (after
 none_named : AreNamed empty_jar
 none_named name c e = absurd (none-some c (sym (get-empty name_cmp name) ∙ e))
 
+-- the delta that scoped changes leave, on a jar with a header's cookies as its originals
+pub scoped_delta_of : (scopes : Name → ScopeView) (site : SiteView) (now : DateTime) (header : List ℕ) (changes : List Change)
+    → All IsKnownChange changes → All (IsScopedChange site now scopes) changes
+    → IsScopedDelta site now scopes (after_all changes (with_originals (header_cookies true header) empty_jar)).delta
+scoped_delta_of scopes site now header changes known scoped =
+    scoped_delta site now scopes changes (with_originals (header_cookies true header) empty_jar) known scoped
+    (subst (IsScopedDelta site now scopes) (sym (same_delta (header_cookies true header) empty_jar)) (AreEntries-empty (IsScopedEntry site now scopes)))
+
 module _ (scopes : Name → ScopeView) (before : Store) (ours : IsOurStore scopes before) (site : SiteView) (now : DateTime)
     (header : List ℕ) (sent : IsHeader site now before header) (changes : List Change) (known : All IsKnownChange changes) (scoped : All (IsScopedChange site now scopes) changes) where
   abbrev start : JarState
@@ -58,9 +67,7 @@ module _ (scopes : Name → ScopeView) (before : Store) (ours : IsOurStore scope
   jar = after_all changes start
 
   delta : IsScopedDelta site now scopes jar.delta
-  delta =
-      scoped_delta site now scopes changes start known scoped
-      (subst (IsScopedDelta site now scopes) (sym (same_delta (header_cookies true header) empty_jar)) (AreEntries-empty (IsScopedEntry site now scopes)))
+  delta = scoped_delta_of scopes site now header changes known scoped
 
   start_named : AreNamed start
   start_named =

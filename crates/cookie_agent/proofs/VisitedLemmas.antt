@@ -1,41 +1,32 @@
 -- What a request came to is what its definition says, and so is what many came to.
-use Rattle.std.proofs.Common.{◌≡◌, ℕ, Bool, true, List, [], ◌∷◌, length, refl, sym, subst, All, string_bytes, arith}
-use Rattle.std.proofs.lemmas.List.Elements.{All-map, All-weaker}
-use Rattle.cookie.specs.CookieOf.{header_cookies}
+use Rattle.std.proofs.Common.{◌≡◌, ℕ, List, [], ◌∷◌, length, refl, sym, subst, All, string_bytes, arith}
+use Rattle.std.proofs.lemmas.List.Elements.{All-map}
+use Rattle.std.specs.List.{AllZip}
 use Rattle.cookie.specs.History.{accepted, after_all}
-use Rattle.cookie.specs.Jar.{Name, empty_jar}
+use Rattle.cookie.specs.Jar.{Name}
 use Rattle.cookie_client.specs.Agreement.{AreDeltaTexts}
-use Rattle.cookie_client.specs.Calls.{AreRefused, AreTaken, change_of, changes_of}
-use Rattle.cookie_client.specs.KnownCalls.{IsKnownCall}
-use Rattle.cookie_client.specs.Session.{with_originals}
-use Rattle.cookie_client.specs.declared.call.JarCall.{JarCall}
-use Rattle.cookie_client.proofs.ChangeLemmas.{All-accepted}
+use Rattle.cookie_client.specs.Calls.{IsKnownChange, IsOutcome, change_of, changes_of}
+use Rattle.cookie_client.specs.Originals.{jar_for}
+use Rattle.cookie_client.proofs.ChangeLemmas.{known_changes}
 use Rattle.cookie_agent.specs.Agreement.{IsOurStore}
-use Rattle.cookie_agent.specs.Calls.{IsScopedChange, IsKnownChange}
+use Rattle.cookie_agent.specs.Calls.{IsScopedChange}
 use Rattle.cookie_agent.specs.Scopes.{ScopeView}
 use Rattle.cookie_agent.specs.Sent.{IsHeader, IsOrderedHeader}
 use Rattle.cookie_agent.specs.Store.{Store, standard_key, after_texts}
 use Rattle.cookie_agent.specs.Visits.{IsVisited, AreScoped, AreVisited, AreAllScoped, AllAgree}
 use Rattle.cookie_agent.specs.declared.request.AgentRequest.{AgentRequest}
 use Rattle.cookie_agent.specs.declared.visited.Visited.{Visited}
-use Rattle.cookie_agent.proofs.CallLemmas.{known_change}
 use Rattle.cookie_agent.proofs.KeyLemmas.{IsKey-standard}
 use Rattle.cookie_agent.proofs.VisitCallLemmas.{followable}
 use Rattle.cookie_agent.proofs.VisitLemmas.{IsFollowable, agreed, stays, none_stored}
 
-known_changes : (outcomes : List Bool) (calls : List JarCall) → All IsKnownCall calls → All IsKnownChange (changes_of outcomes calls)
-known_changes outcomes calls known =
-    All-map IsKnownChange change_of (accepted outcomes calls)
-    (All-weaker IsKnownCall (λ call. IsKnownChange (change_of call)) known_change (accepted outcomes calls) (All-accepted IsKnownCall outcomes calls known))
-
 -- what the code knows of a request
 pub record IsPlayed (before : Store) (request : AgentRequest) (visited : Visited) : Type 0 where
   pub count : length visited.outcomes.items ≡ length request.calls.now
-  pub certain : AreTaken request.calls.now visited.outcomes.items
-  pub refused : AreRefused request.calls.now visited.outcomes.items
-  pub known : All IsKnownCall request.calls.now
+  pub outcomes : AllZip IsOutcome request.calls.now visited.outcomes.items
+  pub known : All (λ call. IsKnownChange (change_of call)) request.calls.now
   pub sent : IsOrderedHeader request.site.now request.moment before (string_bytes visited.header)
-  pub jar : visited.jar ≡ after_all (changes_of visited.outcomes.items request.calls.now) (with_originals (header_cookies true (string_bytes visited.header)) empty_jar)
+  pub jar : visited.jar ≡ after_all (changes_of visited.outcomes.items request.calls.now) (jar_for (string_bytes visited.header))
   pub texts : List (List ℕ)
   pub are : AreDeltaTexts visited.jar.delta texts
   pub read : visited.agent ≡ after_texts standard_key request.site.now request.moment texts before
@@ -55,8 +46,7 @@ module _ (before : Store) (request : AgentRequest) (visited : Visited) (is : IsP
   is_visited =
       record {
         count = is.count;
-        certain = is.certain;
-        refused = is.refused;
+        outcomes = is.outcomes;
         sent = is.sent;
         jar = is.jar;
         read = (is.texts, is.are, is.read);

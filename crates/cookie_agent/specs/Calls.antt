@@ -2,7 +2,7 @@
 use Rattle.std.specs.Prelude.{◌≡◌, ◌≢◌, [], true}
 use Rattle.jiff.specs.Types.{DateTime}
 use Rattle.cookie.specs.Jar.{Name, Change, AddOriginal, Add, Remove, ForceRemove, ResetDelta}
-use Rattle.cookie.specs.Record.{Record, IsCookie}
+use Rattle.cookie.specs.Record.{Record}
 use Rattle.cookie_client.specs.Calls.{change_of}
 use Rattle.cookie_client.specs.Live.{is_live}
 use Rattle.cookie_client.specs.declared.call.JarCall.{JarCall}
@@ -31,11 +31,3 @@ IsScopedChange site now scopes ResetDelta = Unit {0}
 -- the same of a call, whose cookie is looked at as the jar stores it
 abbrev pub IsScopedCall : SiteView → DateTime → (Name → ScopeView) → JarCall → Type 0
 IsScopedCall site now scopes call = IsScopedChange site now scopes (change_of call)
-
--- what the type of a cookie says of the one in a change: its texts are UTF-8, and its age is a duration's
-abbrev pub IsKnownChange : Change → Type 0
-IsKnownChange (AddOriginal cookie) = IsCookie cookie
-IsKnownChange (Add cookie) = IsCookie cookie
-IsKnownChange (Remove cookie moment) = IsCookie cookie
-IsKnownChange (ForceRemove name) = Unit {0}
-IsKnownChange ResetDelta = Unit {0}

@@ -1,13 +1,13 @@
 -- The theorem for any key of stored cookies: that of RFC 6265, that of RFC 6265bis, or another with their two laws.
-use Rattle.std.specs.Prelude.{ℕ, true, List, [], ◌∷◌, All}
+use Rattle.std.specs.Prelude.{ℕ, List, [], ◌∷◌, All}
 use Rattle.jiff.specs.Types.{DateTime}
-use Rattle.cookie.specs.CookieOf.{header_cookies}
 use Rattle.cookie.specs.History.{after_all}
-use Rattle.cookie.specs.Jar.{Name, JarState, Change, empty_jar}
+use Rattle.cookie.specs.Jar.{Name, JarState, Change}
 use Rattle.cookie_client.specs.Agreement.{AreDeltaTexts}
-use Rattle.cookie_client.specs.Session.{with_originals}
+use Rattle.cookie_client.specs.Calls.{IsKnownChange}
+use Rattle.cookie_client.specs.Originals.{jar_for}
 use Rattle.cookie_agent.specs.Agreement.{SiteAgrees}
-use Rattle.cookie_agent.specs.Calls.{IsScopedChange, IsKnownChange}
+use Rattle.cookie_agent.specs.Calls.{IsScopedChange}
 use Rattle.cookie_agent.specs.Scopes.{ScopeView}
 use Rattle.cookie_agent.specs.Sent.{IsHeader}
 use Rattle.cookie_agent.specs.Site.{SiteView}
@@ -23,7 +23,7 @@ pub record Visit : Type 0 where
 
 -- its jar: what the changes make of a new one with the header's cookies as its originals
 abbrev pub jar_of : Visit → JarState
-jar_of visit = after_all visit.changes (with_originals (header_cookies true visit.header) empty_jar)
+jar_of visit = after_all visit.changes (jar_for visit.header)
 
 -- The header is the agent's, each change is scoped, and the texts are those of the jar's delta, in any order and with any repetition.
 pub record IsVisit (scopes : Name → ScopeView) (before : Store) (visit : Visit) : Type 0 where

@@ -1,11 +1,11 @@
 -- Many requests of one user agent, to any sites, at any moments.
-use Rattle.std.specs.Prelude.{◌≡◌, ℕ, true, List, [], ◌∷◌, length, All, string_bytes}
-use Rattle.cookie.specs.CookieOf.{header_cookies}
+use Rattle.std.specs.Prelude.{◌≡◌, ℕ, List, [], ◌∷◌, length, All, string_bytes}
+use Rattle.std.specs.List.{AllZip}
 use Rattle.cookie.specs.History.{accepted, after_all}
-use Rattle.cookie.specs.Jar.{Name, empty_jar}
+use Rattle.cookie.specs.Jar.{Name}
 use Rattle.cookie_client.specs.Agreement.{AreDeltaTexts}
-use Rattle.cookie_client.specs.Calls.{AreRefused, AreTaken, changes_of}
-use Rattle.cookie_client.specs.Session.{with_originals}
+use Rattle.cookie_client.specs.Calls.{IsOutcome, changes_of}
+use Rattle.cookie_client.specs.Originals.{jar_for}
 use Rattle.cookie_agent.specs.Agreement.{IsOurStore, SiteAgrees}
 use Rattle.cookie_agent.specs.Calls.{IsScopedCall}
 use Rattle.cookie_agent.specs.Scopes.{ScopeView}
@@ -21,14 +21,13 @@ AreScoped scopes request visited =
 
 -- What a request came to, for the agent before it.
 pub record IsVisited (before : Store) (request : AgentRequest) (visited : Visited) : Type 0 where
-  -- one outcome a call; a call that is never refused has the outcome true, and one that is always refused has false
+  -- one outcome a call: true for one that is never refused, false for one that always is
   pub count : length visited.outcomes.items ≡ length request.calls.now
-  pub certain : AreTaken request.calls.now visited.outcomes.items
-  pub refused : AreRefused request.calls.now visited.outcomes.items
+  pub outcomes : AllZip IsOutcome request.calls.now visited.outcomes.items
   -- it sent the agent's header
   pub sent : IsOrderedHeader request.site.now request.moment before (string_bytes visited.header)
   -- its jar is what the accepted calls made of a new one with the header's cookies as its originals
-  pub jar : visited.jar ≡ after_all (changes_of visited.outcomes.items request.calls.now) (with_originals (header_cookies true (string_bytes visited.header)) empty_jar)
+  pub jar : visited.jar ≡ after_all (changes_of visited.outcomes.items request.calls.now) (jar_for (string_bytes visited.header))
   -- its agent is the one before, which read the delta's texts in some order
   pub read : (texts : List (List ℕ)) × AreDeltaTexts visited.jar.delta texts × (visited.agent ≡ after_texts standard_key request.site.now request.moment texts before)
   -- where each accepted call is scoped, then whatever the order and the repetition of the delta's texts, each header that is then sent to the site is read as what the jar shows

@@ -5,17 +5,13 @@ mod agent;
 mod agent_error;
 mod expiry;
 mod header;
-mod known;
-mod live;
 mod matching;
-mod originals;
 mod request;
 mod requests;
 mod scope;
 mod scoped;
 mod site;
 mod stored;
-mod texts;
 mod visited;
 
 pub use agent::Agent;

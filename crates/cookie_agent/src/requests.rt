@@ -8,14 +8,11 @@ ghost use Rattle.cookie_agent.specs.Visits.{AllAgree, AreAllScoped, AreVisited, 
 
 use crate::agent::Agent;
 use crate::agent_error::AgentError;
-use crate::known::known_calls;
-use crate::originals::add_originals;
 use crate::request::AgentRequest;
 use crate::site::Site;
-use crate::texts::picked_texts;
 use crate::visited::Visited;
 use cookie::CookieJar;
-use cookie_client::replay;
+use cookie_client::{delta_texts, known_calls, replay, with_originals};
 use jiff::civil::DateTime;
 use std::alloc::Global;
 
@@ -56,10 +53,9 @@ fn visit(
 {
     known_calls(request.calls);
     let header = agent.header(request.site, request.moment)?;
-    let mut jar = CookieJar::new(alloc);
-    add_originals(alloc, header.as_str(), &mut jar)?;
+    let mut jar = with_originals(alloc, CookieJar::new(alloc), header.as_str())?;
     let outcomes = replay(alloc, &mut jar, request.calls)?;
-    let texts = picked_texts(alloc, &jar, pick)?;
+    let texts = delta_texts(alloc, &jar, pick)?;
     let mut agent = agent.clone()?;
     read_texts(&mut agent, request.site, &texts, request.moment)?;
     Ok(Visited {

@@ -1,18 +1,17 @@
 //! Whether a user agent can follow a call.
 ghost use Rattle.std.specs.Prelude.{◌≡◌, ◌↔◌, true, IsTrue};
 ghost use Rattle.cookie.specs.Text.{prints_secure};
-ghost use Rattle.cookie_client.specs.Calls.{change_of, child_change, stored_with};
+ghost use Rattle.cookie_client.specs.Calls.{asked_of_child, change_of, stored_by, stored_with, storing};
 ghost use Rattle.cookie_client.specs.Live.{is_live};
 ghost use Rattle.cookie_agent.specs.Agreement.{lacks_controls};
 ghost use Rattle.cookie_agent.specs.Calls.{IsScopedCall};
 ghost use Rattle.cookie_agent.specs.Scopes.{text_of};
 ghost use Rattle.cookie_agent.specs.ScopedCode.{begins_plainly, is_asked, is_name, is_plain, is_plain_domain, is_plain_path, is_scoped_addition, is_scoped_change, is_scoped_removal, is_trimmed, lacks_semicolons};
 
-use crate::live::is_live;
 use crate::scope::Scope;
 use crate::site::Site;
 use cookie::{Cookie, SameSite};
-use cookie_client::{ChildCall, JarCall, PrefixKind};
+use cookie_client::{ChildCall, JarCall, PrefixKind, is_live};
 use jiff::civil::DateTime;
 
 /// Whether a user agent at the site can follow the call at the moment `now` in UTC, where the scope is that of the
@@ -42,7 +41,7 @@ fn is_scoped_call(call: &JarCall<'_>, site: &Site, scope: &Scope, now: DateTime)
 
 /// Whether a call on a child jar is in the scope, where the jar stores the cookie's name and attributes as they are.
 fn is_child(call: &ChildCall, site: &Site, scope: &Scope, now: DateTime) -> bool
-    ensures { result ≡ is_scoped_change site.now now scope.now (child_change (λ c. c) (λ c. c) call.now) }
+    ensures { result ≡ is_scoped_change site.now now scope.now (asked_of_child call.now) }
 {
     match call {
         ChildCall::AddOriginal(_) => false,
@@ -59,7 +58,7 @@ fn is_prefixed_child(
     scope: &Scope,
     now: DateTime,
 ) -> bool
-    ensures { result ≡ is_scoped_change site.now now scope.now (child_change (stored_with kind) (stored_with kind) call.now) }
+    ensures { result ≡ is_scoped_change site.now now scope.now (stored_by (storing (stored_with kind) (stored_with kind)) (asked_of_child call.now)) }
 {
     match call {
         ChildCall::AddOriginal(_) => false,

@@ -2,9 +2,9 @@
 use Rattle.std.proofs.Common.{◌≡◌, ℕ, List, true, map, ap, ◌∙◌, string_bytes}
 use Rattle.cookie.specs.CookieOf.{header_cookies}
 use Rattle.cookie.specs.History.{after_all}
-use Rattle.cookie.specs.Jar.{Change, JarState, empty_jar}
+use Rattle.cookie.specs.Jar.{Change, JarState}
 use Rattle.cookie_client.specs.Calls.{changes_of}
-use Rattle.cookie_client.specs.Session.{with_originals}
+use Rattle.cookie_client.specs.Originals.{jar_for, with_originals}
 use Rattle.cookie_agent.specs.Store.{after_texts, standard_key}
 use Rattle.cookie_agent.proofs.VisitedLemmas.{is_visited}
 use Rattle.cookie_agent.proofs.requests.visit.Goals as goal
@@ -16,10 +16,10 @@ returns c =
     let outcomes = c.in_ok-outcomes.outcomes.items in
     let changes : List Change = changes_of outcomes request.calls.now in
     let header : List ℕ = string_bytes c.in_ok-header.header in
-    let start : JarState = with_originals (header_cookies true header) empty_jar in
-    let begun : c.add_originals.new.jar ≡ start =
-    c.in_ok-add_originals.ensures ∙ ap (with_originals (header_cookies true c.as_str.result.now)) c.new-jar.ensures.empty
-    ∙ ap (λ h. with_originals (header_cookies true h) empty_jar) c.as_str.ensures.value in
+    let start : JarState = jar_for header in
+    let begun : c.in_ok-jar.jar ≡ start =
+    c.in_ok-jar.ensures ∙ ap (with_originals (header_cookies true c.as_str.result.now)) c.new.ensures.empty
+    ∙ ap jar_for c.as_str.ensures.value in
     let jar : c.replay.new.jar ≡ after_all changes start = c.in_ok-outcomes.ensures.jar ∙ ap (after_all changes) begun in
     let texts : List (List ℕ) = map string_bytes c.in_ok-texts.texts.items in
     let read : c.read_texts.new.agent ≡ after_texts standard_key request.site.now request.moment texts before =
@@ -29,8 +29,7 @@ returns c =
     is_visited before request _
     (record {
       count = c.in_ok-outcomes.ensures.count;
-      certain = c.in_ok-outcomes.ensures.certain;
-      refused = c.in_ok-outcomes.ensures.refused;
+      outcomes = c.in_ok-outcomes.ensures.outcomes;
       known = c.known_calls.ensures;
       sent = c.in_ok-header.ensures;
       jar = jar;
