@@ -1,3 +1,4 @@
+mod AlikeLemmas
 pub mod AgeLemmas
 pub mod CallLemmas
 pub mod FollowLemmas

@@ -13,9 +13,10 @@ use Rattle.cookie_agent.specs.Calls.{IsScopedChange}
 use Rattle.cookie_agent.specs.Scopes.{ScopeView}
 use Rattle.cookie_agent.specs.Sent.{IsHeader, IsOrderedHeader}
 use Rattle.cookie_agent.specs.Store.{Store, standard_key, after_texts}
-use Rattle.cookie_agent.specs.Visits.{IsVisited, AreScoped, AreVisited, AreAllScoped, AllAgree}
+use Rattle.cookie_agent.specs.Visits.{IsVisited, AreScoped, AreVisited, AreAllScoped, AllAgree, AllAgreeOn}
 use Rattle.cookie_agent.specs.declared.request.AgentRequest.{AgentRequest}
 use Rattle.cookie_agent.specs.declared.visited.Visited.{Visited}
+use Rattle.cookie_agent.proofs.AlikeLemmas.{header_alike}
 use Rattle.cookie_agent.proofs.KeyLemmas.{IsKey-standard}
 use Rattle.cookie_agent.proofs.VisitCallLemmas.{followable}
 use Rattle.cookie_agent.proofs.VisitLemmas.{IsFollowable, agreed, stays, none_stored}
@@ -81,3 +82,22 @@ agree_from scopes before ours (request ∷ requests) (visited ∷ visits) are sc
 pub all_agree : (requests : List AgentRequest) (visits : List Visited) → AreVisited [] requests visits
     → (scopes : Name → ScopeView) → AreAllScoped scopes requests visits → AllAgree requests visits
 all_agree requests visits are scopes scoped = agree_from scopes [] (none_stored scopes) requests visits are scoped
+
+agree_on : (scopes : Name → ScopeView) (before : Store) → IsOurStore scopes before → (requests : List AgentRequest) (visits : List Visited)
+    → AreVisited before requests visits → AreAllScoped scopes requests visits → AllAgreeOn scopes requests visits
+agree_on scopes before ours [] visits are scoped = tt
+agree_on scopes before ours (request ∷ requests) [] are scoped = tt
+agree_on scopes before ours (request ∷ requests) (visited ∷ visits) are scoped =
+    let is = are.0 in
+    let (texts, deltas, read) = is.read in
+    let after : IsOurStore scopes visited.agent = is.ours scopes ours scoped.0 in (
+      λ other later alike header h.
+          is.agrees scopes ours scoped.0 texts deltas header
+          (subst (λ store. IsHeader request.site.now request.moment store header) read
+          (header_alike scopes visited.agent request.site.now other request.moment later after.each alike header h)),
+      agree_on scopes visited.agent after requests visits are.1 scoped.1,
+    )
+
+pub all_agree_on : (requests : List AgentRequest) (visits : List Visited) → AreVisited [] requests visits
+    → (scopes : Name → ScopeView) → AreAllScoped scopes requests visits → AllAgreeOn scopes requests visits
+all_agree_on requests visits are scopes scoped = agree_on scopes [] (none_stored scopes) requests visits are scoped

@@ -17,7 +17,7 @@ use Rattle.cookie_client.specs.Live.{is_live}
 use Rattle.cookie_agent.specs.Scopes.{ScopeView, scope_of, reaches}
 use Rattle.cookie_agent.specs.Sent.{is_visible, IsHeader}
 use Rattle.cookie_agent.specs.Site.{SiteView}
-use Rattle.cookie_agent.specs.Store.{SameKey, Stored, Store, after_texts}
+use Rattle.cookie_agent.specs.Store.{SameKey, Stored, Store, is_later, after_texts}
 
 -- ---- the premise
 
@@ -114,3 +114,11 @@ abbrev pub IsSent : Type 0
 IsSent =
     (site : SiteView) (now : DateTime) (scopes : Name → ScopeView) (store : Store) (jar : JarState) (header : List ℕ)
     → IsKnownView jar → IsScopedStore site now scopes store → Mirrors site now store (λ name. value_of (view jar name)) → IsHeader site now store header → SiteAgrees jar header
+
+-- ---- two sites
+
+-- Two sites at two moments are alike for a store: each name's scope takes in both or neither, their connections are alike, and what is unexpired at the one moment is so at the other.
+pub record AreAlike (scopes : Name → ScopeView) (store : Store) (site other : SiteView) (now later : DateTime) : Type 0 where
+  pub reach : (name : Name) → reaches site (scopes name) ≡ reaches other (scopes name)
+  pub secure : site.is_secure ≡ other.is_secure
+  pub ages : All (λ c. is_later c.expiry now ≡ is_later c.expiry later) store

@@ -1,14 +1,16 @@
 -- Many requests of one user agent, to any sites, at any moments.
 use Rattle.std.specs.Prelude.{◌≡◌, ℕ, List, [], ◌∷◌, length, All, string_bytes}
 use Rattle.std.specs.List.{AllZip}
+use Rattle.jiff.specs.Types.{DateTime}
 use Rattle.cookie.specs.History.{accepted, after_all}
 use Rattle.cookie.specs.Jar.{Name}
 use Rattle.cookie_client.specs.Agreement.{AreDeltaTexts}
 use Rattle.cookie_client.specs.Calls.{IsOutcome, changes_of}
 use Rattle.cookie_client.specs.Originals.{jar_for}
-use Rattle.cookie_agent.specs.Agreement.{IsOurStore, SiteAgrees}
+use Rattle.cookie_agent.specs.Agreement.{IsOurStore, SiteAgrees, AreAlike}
 use Rattle.cookie_agent.specs.Calls.{IsScopedCall}
 use Rattle.cookie_agent.specs.Scopes.{ScopeView}
+use Rattle.cookie_agent.specs.Site.{SiteView}
 use Rattle.cookie_agent.specs.Sent.{IsHeader, IsOrderedHeader}
 use Rattle.cookie_agent.specs.Store.{Store, standard_key, after_texts}
 use Rattle.cookie_agent.specs.declared.request.AgentRequest.{AgentRequest}
@@ -57,3 +59,12 @@ AllAgree [] visits = Unit {0}
 AllAgree (request ∷ requests) [] = Unit {0}
 AllAgree (request ∷ requests) (visited ∷ visits) =
     ((header : List ℕ) → IsHeader request.site.now request.moment visited.agent header → SiteAgrees visited.jar header) × AllAgree requests visits
+
+-- and so is whatever header it sends to a site that is alike, as the next request has it until something expires
+abbrev pub AllAgreeOn : (Name → ScopeView) → List AgentRequest → List Visited → Type 0
+AllAgreeOn scopes [] visits = Unit {0}
+AllAgreeOn scopes (request ∷ requests) [] = Unit {0}
+AllAgreeOn scopes (request ∷ requests) (visited ∷ visits) =
+    ((other : SiteView) (later : DateTime) → AreAlike scopes visited.agent request.site.now other request.moment later
+    → (header : List ℕ) → IsHeader other later visited.agent header → SiteAgrees visited.jar header)
+    × AllAgreeOn scopes requests visits

@@ -4,7 +4,7 @@ ghost use Rattle.cookie.specs.Jar.{Name};
 ghost use Rattle.cookie_client.specs.Agreement.{AreDeltaTexts};
 ghost use Rattle.cookie_agent.specs.Scopes.{ScopeView};
 ghost use Rattle.cookie_agent.specs.Store.{after_texts, standard_key};
-ghost use Rattle.cookie_agent.specs.Visits.{AllAgree, AreAllScoped, AreVisited, IsVisited};
+ghost use Rattle.cookie_agent.specs.Visits.{AllAgree, AllAgreeOn, AreAllScoped, AreVisited, IsVisited};
 
 use crate::agent::Agent;
 use crate::agent_error::AgentError;
@@ -31,6 +31,9 @@ pub fn visits(
     ensures visits { IfOk result (λ visited. AreVisited [] requests.now visited.items) }
     ensures agreement { (scopes : Name → ScopeView) → IfOk result (λ visited.
         AreAllScoped scopes requests.now visited.items → AllAgree requests.now visited.items) }
+    ensures alike { (scopes : Name → ScopeView) → IfOk result (λ visited.
+        AreAllScoped scopes requests.now visited.items
+        → AllAgreeOn scopes requests.now visited.items) }
 {
     let mut agent = Agent::new(alloc);
     let mut visited = Vec::new(alloc);

@@ -2,7 +2,7 @@
 use Rattle.std.proofs.Common.{◌≡◌, ◌+◌, [], ◌∷◌, ◌++◌, drop, sym, ap, subst, ◌∙◌, append-nil, append_assoc, drop_of_length-le}
 use Rattle.std.proofs.lemmas.List.{drop_more}
 use Rattle.cookie_agent.specs.Visits.{AreVisited, IsVisited}
-use Rattle.cookie_agent.proofs.VisitedLemmas.{visited-length, all_agree}
+use Rattle.cookie_agent.proofs.VisitedLemmas.{visited-length, all_agree, all_agree_on}
 use Rattle.cookie_agent.proofs.requests.visits.Goals as goal
 
 pub loop-request-preserved : goal.loop-request-preserved
@@ -31,3 +31,6 @@ returns-clause-count c = visited-length [] c.args.requests.now c.loop-request.vi
 
 pub returns-clause-agreement : goal.returns-clause-agreement
 returns-clause-agreement c = all_agree c.args.requests.now c.loop-request.visited.items (returns-clause-visits c)
+
+pub returns-clause-alike : goal.returns-clause-alike
+returns-clause-alike c = all_agree_on c.args.requests.now c.loop-request.visited.items (returns-clause-visits c)
