@@ -32,7 +32,7 @@ use Rattle.cookie_core.specs.declared.expiration.Expiration.TheVariants as expir
 use Rattle.cookie_core.specs.declared.parse_error.ParseError.{ParseError}
 use Rattle.cookie_core.specs.declared.parse_error.ParseError.TheVariants.{MissingPair, EmptyName, Utf8Error, OutOfMemory}
 use Rattle.cookie_core.proofs.PieceLemmas.{IsPieces-pieces}
-use Rattle.cookie_core.proofs.PlaceLemmas.{Lacks-front}
+use Rattle.cookie_core.proofs.SpanLemmas.{Lacks-front}
 use Rattle.cookie_core.proofs.ReadingLemmas.{not_lacking, IsAttribute-unique, IsPieces-unique, IsPieces-some}
 
 -- ---- options

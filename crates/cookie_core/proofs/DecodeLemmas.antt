@@ -1,48 +1,25 @@
 -- Reading with decoding, and with memory that can be wanting.
-use Rattle.std.proofs.Common.{◌≡◌, ℕ, List, Bool, cond, true, false, Option, Some, None, Ok, Err, Result, refl, sym, ap, ◌∙◌, inl, inr, option_map, IfOk, Bor, if◌then◌else◌}
-use Rattle.std.proofs.lemmas.Option.{none-some}
+use Rattle.std.proofs.Common.{◌≡◌, ℕ, List, [], Bool, cond, true, false, Some, None, Ok, Err, Result, refl, sym, ap, ◌∙◌, subst, inl, inr, option_map, IfOk, IfErr, if◌then◌else◌}
+use Rattle.std.proofs.lemmas.Bool.{false≢true}
+use Rattle.std.proofs.lemmas.Option.{none-some, same_Some}
 use Rattle.std.proofs.lemmas.Str.{is_utf8-from_IsUtf8, IsUtf8-from_is_utf8}
-use Rattle.std.specs.Option.{option_and_then}
 use Rattle.std.specs.Str.{IsUtf8, is_utf8}
+use mathlib.Core.Logic.{◌≢◌}
+use Rattle.cookie_core.specs.Attributes.{IsPair, SetsAttributes}
 use Rattle.cookie_core.specs.CookieOf.{cookie_of}
-use Rattle.cookie_core.specs.CookieStr.{IsSpanOf, IsOptionalSpanOf, source_bytes, raw_bytes, lent}
-use Rattle.cookie_core.specs.Cookie.{cookie_view}
-use Rattle.cookie_core.specs.Decoding.{HasPair, ReadsInMemory, AgreesInMemory, are_decoded, lent_decoded, LendsDecoded, NamesFault, blamed_text}
-use Rattle.cookie_core.specs.DecodingCode.{IsRefusedFor, IsRefusedForPair, IsDecodedIn, lent_decoded_forms}
+use Rattle.cookie_core.specs.Decoding.{HasPair, ReadsInMemory, AgreesInMemory, are_decoded, decoded_forms, LendsDecoded, NamesFault, IsCertain, blamed_text}
+use Rattle.cookie_core.specs.DecodingCode.{IsRefusedFor, IsRefusedForPair, Decodes}
 use Rattle.cookie_core.specs.EscapeTest.{has_escape}
 use Rattle.cookie_core.specs.Escapes.{unescape}
 use Rattle.cookie_core.specs.OwnedCode.{IsMadeOwn}
-use Rattle.cookie_core.specs.Place.{IsPartAt}
+use Rattle.cookie_core.specs.Pieces.{IsPieces}
 use Rattle.cookie_core.specs.Reads.{Reads, IsUndecodable, fields_of}
-use Rattle.cookie_core.specs.Record.{Record, CookieView, RawForms, no_raw_forms}
-use Rattle.cookie_core.specs.Settings.{ReadsParts, layout_record}
-use Rattle.cookie_core.specs.declared.cookie_str.CookieStr.{CookieStr}
-use Rattle.cookie_core.specs.declared.layout.Layout.{Layout}
+use Rattle.cookie_core.specs.Record.{Record, CookieView, RawForms, all_lent, no_raw_forms}
 use Rattle.cookie_core.specs.declared.parse_error.ParseError.{ParseError}
 use Rattle.cookie_core.specs.declared.parse_error.ParseError.TheVariants.{MissingPair, EmptyName, Utf8Error, OutOfMemory}
-use Rattle.cookie_core.specs.declared.source.Source.{Source}
-use Rattle.cookie_core.specs.declared.source.Source.TheVariants as source
 use Rattle.cookie_core.proofs.CookieOfLemmas.{cookie_of-Reads, cookie_of-refused, cookie_of-result}
-use Rattle.cookie_core.proofs.EscapeLemmas.{unescape-same}
-use Rattle.cookie_core.proofs.ReadingLemmas.{SetsAttributes-named, Reads-plain}
-use Rattle.cookie_core.proofs.SpanLemmas.{inside, optional_raw, lent_undotted}
-
-pub IsDecodedIn-span : (own : Bool) (s : List ℕ) (i : ℕ) (t : List ℕ) (u : CookieStr) → own ≡ false → has_escape t ≡ false → IsPartAt s i t → IsSpanOf s t u → IsDecodedIn own s t u
-IsDecodedIn-span own s i t u o e p h =
-    record {
-      fits = h.fits;
-      bytes = h.bytes ∙ sym (unescape-same t e);
-      utf8 = rw (unescape-same t e) p.utf8;
-      raw = λ x q. rw o (h.raw x q);
-    }
-
--- the record that a text has as it stands
-pub cookie_of-parts : (t : List ℕ) (r : Record) → ReadsParts t (Ok r) → cookie_of false t ≡ Some r
-cookie_of-parts t r h = (cookie_of-Reads false t r).1 (Reads-plain t r h)
-
--- a text that is a record as it stands is not refused
-pub not_refused : (t : List ℕ) (r : Record) (e : ParseError) → ReadsParts t (Err e) → ¬ (cookie_of false t ≡ Some r)
-not_refused t r e h s = none-some r (sym (cookie_of-refused false t e (h false)) ∙ s)
+use Rattle.cookie_core.proofs.EscapeLemmas.{or_false, unescape-same}
+use Rattle.cookie_core.proofs.ReadingLemmas.{SetsAttributes-named}
 
 -- the bytes that are blamed are those of the name or of the value
 if_false : (b : Bool) → ¬ (b ≡ true) → b ≡ false
@@ -72,28 +49,71 @@ blamed-value n v OutOfMemory u h = h
 blamed-value n v MissingPair u h = h
 blamed-value n v EmptyName u h = h
 
--- a refusal to decode
-pub NamesFault-refused : (t : List ℕ) (r : Record) (e : ParseError) → ReadsParts t (Ok r) → IsRefusedForPair r.name r.value e → NamesFault t e
-NamesFault-refused t r (Utf8Error x) h k = (r, cookie_of-parts t r h, k)
-NamesFault-refused t r _ h k = tt
+-- ---- decoding
 
-pub NamesFault-error : (t : List ℕ) (e : ParseError) → ReadsParts t (Err e) → NamesFault t e
-NamesFault-error t (Utf8Error x) h = let (p, ps, pieces, (n, v, pair, filled, bad)) = h false in absurd bad
-NamesFault-error t _ h = tt
+-- a cookie without an escape stands for itself
+pub Decodes-same : (c : CookieView) → are_decoded c.fields ≡ false → IsUtf8 c.fields.name × IsUtf8 c.fields.value → Decodes c (Ok c)
+Decodes-same c none (n, v) =
+    let (name, value) = or_false (has_escape c.fields.name) (has_escape c.fields.value) none in
+    let same_name = unescape-same c.fields.name name in
+    let same_value = unescape-same c.fields.value value in
+    (rw (same_name, same_value) refl, ap (λ b. cond b (record c.raw { name = None; value = None }) c.raw) (sym none), rw same_name n, rw same_value v)
 
-pub ReadsDecoded-refused : (t : List ℕ) (r : Record) (e : ParseError) → ReadsParts t (Ok r) → IsRefusedForPair r.name r.value e → ReadsInMemory true t (Err e)
-ReadsDecoded-refused t r (Utf8Error x) (p, ps, pieces, pair, filled, sets) h = (p, ps, pieces, (r.name, r.value, pair, filled, IsUndecodable-blamed_text r.name r.value h.faulty))
-ReadsDecoded-refused t r OutOfMemory (p, ps, pieces, pair, filled, sets) h = (p, ps, r.name, r.value, pieces, pair, filled)
-ReadsDecoded-refused t r MissingPair h k = absurd k
-ReadsDecoded-refused t r EmptyName h k = absurd k
+-- one with own texts for its name and its value
+pub Decodes-own : (c d : CookieView) (n v : List ℕ) → are_decoded c.fields ≡ true → n ≡ unescape c.fields.name → v ≡ unescape c.fields.value → IsUtf8 n → IsUtf8 v → d.fields ≡ record c.fields { name = n; value = v } → d.raw ≡ record c.raw { name = None; value = None } → Decodes c (Ok d)
+Decodes-own c d n v some name value n_utf8 v_utf8 fields raw =
+    (fields ∙ rw (name, value) refl, raw ∙ ap (λ b. cond b (record c.raw { name = None; value = None }) c.raw) (sym some), subst IsUtf8 name n_utf8, subst IsUtf8 value v_utf8)
 
-pub ReadsDecoded-error : (t : List ℕ) (e : ParseError) → ReadsParts t (Err e) → ReadsInMemory true t (Err e)
-ReadsDecoded-error t OutOfMemory h = absurd (h true).3
-ReadsDecoded-error t e h = h true
+-- ---- a text that was read as it stands, and then decoded
 
-pub ReadsDecoded-record : (a b : Bool) (s t : List ℕ) (r : Record) (n v : CookieStr) → ReadsParts t (Ok r) → IsDecodedIn a s r.name n → IsDecodedIn b s r.value v → ReadsInMemory true t (Ok (record r { name = unescape r.name; value = unescape r.value }))
-ReadsDecoded-record a b s t r n v (p, ps, pieces, pair, filled, sets) h k =
-    (p, ps, pieces, (r.name, r.value, pair, filled, (refl, h.utf8), (refl, k.utf8), SetsAttributes-named ps r (unescape r.name) (unescape r.value) sets))
+-- the pieces of a text that is read as it stands
+plain_parts : (t : List ℕ) (r : Record) → Reads false t (Ok r) → (p : List ℕ) × (ps : List (List ℕ)) × IsPieces t p ps × IsPair p r.name r.value × (r.name ≢ []) × SetsAttributes ps r
+plain_parts t r (p, ps, pieces, (n, v, pair, some, same_name, same_value, sets)) =
+    (p, ps, pieces, rw (same_name, same_value) pair, rw same_name some, sets)
+
+-- the outcome of decoding what was read
+pub ReadsInMemory-decoded : (t : List ℕ) (c : CookieView) (o : Result CookieView ParseError) → Reads false t (Ok c.fields) → Decodes c o → ReadsInMemory true t (fields_of o)
+ReadsInMemory-decoded t c (Ok d) h (e, _, n, v) =
+    let (p, ps, pieces, pair, some, sets) = plain_parts t c.fields h in
+    subst (λ (r : Record). ReadsInMemory true t (Ok r)) (sym e) (p, ps, pieces, (c.fields.name, c.fields.value, pair, some, (refl, n), (refl, v), SetsAttributes-named ps c.fields (unescape c.fields.name) (unescape c.fields.value) sets))
+ReadsInMemory-decoded t c (Err (Utf8Error x)) h (_, k) =
+    let (p, ps, pieces, pair, some, sets) = plain_parts t c.fields h in
+    (p, ps, pieces, (c.fields.name, c.fields.value, pair, some, IsUndecodable-blamed_text c.fields.name c.fields.value k.faulty))
+ReadsInMemory-decoded t c (Err OutOfMemory) h k =
+    let (p, ps, pieces, pair, some, sets) = plain_parts t c.fields h in
+    (p, ps, c.fields.name, c.fields.value, pieces, pair, some)
+ReadsInMemory-decoded t c (Err MissingPair) h (_, k) = absurd k
+ReadsInMemory-decoded t c (Err EmptyName) h (_, k) = absurd k
+
+pub NamesFault-decoded : (t : List ℕ) (c : CookieView) (o : Result CookieView ParseError) → Reads false t (Ok c.fields) → Decodes c o → IfErr o (NamesFault t)
+NamesFault-decoded t c (Ok d) h k = tt
+NamesFault-decoded t c (Err (Utf8Error x)) h (_, k) = (c.fields, (cookie_of-Reads false t c.fields).1 h, k)
+NamesFault-decoded t c (Err e) h k = tt
+
+pub IsCertain-decoded : (t : List ℕ) (c : CookieView) (o : Result CookieView ParseError) → Reads false t (Ok c.fields) → Decodes c o → IsCertain t o
+IsCertain-decoded t c (Ok d) h k r e none = refl
+IsCertain-decoded t c (Err x) h (some, _) r e none =
+    let same : r ≡ c.fields = same_Some _ _ (sym e ∙ (cookie_of-Reads false t c.fields).1 h) in
+    absurd (false≢true (sym none ∙ ap are_decoded same ∙ some))
+
+pub raw-decoded : (t : List ℕ) (c : CookieView) (raw : Record → RawForms) (o : Result CookieView ParseError) → Reads false t (Ok c.fields) → c.raw ≡ raw c.fields → Decodes c o → IfOk o (λ d. (r : Record) × (cookie_of false t ≡ Some r) × (d.raw ≡ decoded_forms r (raw r)))
+raw-decoded t c raw (Ok d) h e (_, f, _, _) =
+    (c.fields, (cookie_of-Reads false t c.fields).1 h, f ∙ ap (decoded_forms c.fields) e)
+raw-decoded t c raw (Err x) h e k = tt
+
+-- what is refused as it stands is refused with decoding
+pub ReadsInMemory-refused : (t : List ℕ) (e : ParseError) → Reads false t (Err e) → ReadsInMemory true t (Err e)
+ReadsInMemory-refused t MissingPair h = h
+ReadsInMemory-refused t EmptyName h = h
+ReadsInMemory-refused t (Utf8Error x) (p, ps, pieces, (n, v, pair, some, bad)) = absurd bad
+ReadsInMemory-refused t OutOfMemory h = absurd h.3
+
+pub NamesFault-refused : (t : List ℕ) (e : ParseError) → Reads false t (Err e) → NamesFault t e
+NamesFault-refused t (Utf8Error x) (p, ps, pieces, (n, v, pair, some, bad)) = absurd bad
+NamesFault-refused t e h = tt
+
+pub IsCertain-refused : {C : Type 0} (t : List ℕ) (e : ParseError) (o : Result C ParseError) → Reads false t (Err e) → IsCertain t o
+IsCertain-refused t e o h r s d = absurd (none-some r (sym (cookie_of-refused false t e h) ∙ s))
 
 -- what is said of `cookie_of`
 pub AgreesInMemory-reads : (decode : Bool) (t : List ℕ) (o : Result Record ParseError) → ReadsInMemory decode t o → AgreesInMemory decode t o
@@ -101,47 +121,20 @@ AgreesInMemory-reads decode t (Ok r) h = cookie_of-result decode t (Ok r) h
 AgreesInMemory-reads decode t (Err OutOfMemory) h = tt
 AgreesInMemory-reads decode t (Err e) h = cookie_of-result decode t (Err e) h
 
--- ---- raw forms
+-- ---- what a decoded cookie lends
 
--- the raw forms of these parts
-abbrev forms : Option (List ℕ) → Option (List ℕ) → Option (List ℕ) → Option (List ℕ) → RawForms
-forms n v p d = record { name = n; value = v; path = p; domain = d }
+pub LendsDecoded-raw : (t : List ℕ) (o : Result CookieView ParseError) → IfOk o (λ c. (r : Record) × (cookie_of false t ≡ Some r) × (c.raw ≡ decoded_forms r (all_lent r))) → IfOk o (λ c. LendsDecoded t c.raw)
+LendsDecoded-raw t (Ok c) (r, e, f) = ap (option_map (λ r. decoded_forms r (all_lent r))) e ∙ ap Some (sym f)
+LendsDecoded-raw t (Err e) h = tt
 
-cond-forms : (own : Bool) (n v p d : Option (List ℕ)) → forms (cond own None n) (cond own None v) p d ≡ cond own (forms None None p d) (forms n v p d)
-cond-forms true n v p d = refl
-cond-forms false n v p d = refl
+-- a cookie that lends nothing lends nothing decoded
+same_forms : (b : Bool) (f : RawForms) → cond b f f ≡ f
+same_forms true f = refl
+same_forms false f = refl
 
-pub raw-inside : (o : Source) (n v : CookieStr) (p d : Option CookieStr) (l : Layout) → raw_bytes o n ≡ (if are_decoded (layout_record l) then None else lent o l.name.text.now) → raw_bytes o v ≡ (if are_decoded (layout_record l) then None else lent o l.value.text.now) → IsOptionalSpanOf (source_bytes o) (option_map (λ p. p.text.now) l.attributes.path) p → IsOptionalSpanOf (source_bytes o) (option_map (λ p. p.text.now) l.attributes.domain) d → (cookie_view (inside o n v p d l)).raw ≡ lent_decoded_forms o (layout_record l)
-raw-inside o n v p d l a b e f =
-    rw (a, b, optional_raw _ _ _ o refl e, optional_raw _ _ _ o refl f, lent_undotted o l.attributes.domain) (cond-forms (are_decoded (layout_record l)) (lent o l.name.text.now) (lent o l.value.text.now) _ _)
-
-lent-borrowed : (t : Bor (List ℕ)) (p : Option (List ℕ)) → option_and_then (lent (source.Borrowed t)) p ≡ p
-lent-borrowed t None = refl
-lent-borrowed t (Some b) = refl
-
--- a borrowed source lends the texts themselves
-lent_decoded-borrowed : (t : Bor (List ℕ)) (r : Record) → lent_decoded_forms (source.Borrowed t) r ≡ lent_decoded r
-lent_decoded-borrowed t r = rw (lent-borrowed t r.path, lent-borrowed t r.domain) refl
-
--- an own source lends nothing
-cond-same : (b : Bool) (f : RawForms) → cond b f f ≡ f
-cond-same true f = refl
-cond-same false f = refl
-
-lent-none : (o : Source) → ((b : List ℕ) → lent o b ≡ None) → (p : Option (List ℕ)) → option_and_then (lent o) p ≡ None
-lent-none o h None = refl
-lent-none o h (Some b) = h b
-
-lent_decoded-none : (o : Source) (r : Record) → ((b : List ℕ) → lent o b ≡ None) → lent_decoded_forms o r ≡ no_raw_forms
-lent_decoded-none o r h = rw (h r.name, h r.value, lent-none o h r.path, lent-none o h r.domain) (cond-same (are_decoded r) no_raw_forms)
-
-pub LendsDecoded-borrowed : (t : Bor (List ℕ)) (o : Result CookieView ParseError) → IfOk o (λ c. (r : Record) × (cookie_of false t.now ≡ Some r) × (c.raw ≡ lent_decoded_forms (source.Borrowed t) r)) → IfOk o (λ c. LendsDecoded t.now c.raw)
-LendsDecoded-borrowed t (Ok c) (r, e, f) = ap (option_map lent_decoded) e ∙ ap Some (sym (f ∙ lent_decoded-borrowed t r))
-LendsDecoded-borrowed t (Err e) h = tt
-
-pub no_raw_forms-source : (o : Source) (t : Option Record) (a : Result CookieView ParseError) → ((b : List ℕ) → lent o b ≡ None) → IfOk a (λ c. (r : Record) × (t ≡ Some r) × (c.raw ≡ lent_decoded_forms o r)) → IfOk a (λ c. c.raw ≡ no_raw_forms)
-no_raw_forms-source o t (Ok c) h (r, e, f) = f ∙ lent_decoded-none o r h
-no_raw_forms-source o t (Err e) h k = tt
+pub no_raw_forms-decoded : (t : List ℕ) (o : Result CookieView ParseError) → IfOk o (λ c. (r : Record) × (cookie_of false t ≡ Some r) × (c.raw ≡ decoded_forms r no_raw_forms)) → IfOk o (λ c. c.raw ≡ no_raw_forms)
+no_raw_forms-decoded t (Ok c) (r, e, f) = f ∙ same_forms (are_decoded r) no_raw_forms
+no_raw_forms-decoded t (Err e) h = tt
 
 -- ---- texts of its own
 

@@ -17,9 +17,9 @@ pub mod NormalFormLemmas
 pub mod NormalLemmas
 pub mod OutcomeLemmas
 pub mod PartLemmas
+pub mod LayoutLemmas
 pub mod PieceLemmas
 pub mod PieceWalkLemmas
-pub mod PlaceLemmas
 pub mod ReadingLemmas
 pub mod SpanLemmas
 pub mod SplitLemmas

@@ -1,5 +1,5 @@
 -- Pieces, and what they set.
-use Rattle.std.proofs.Common.{◌≡◌, false, option_map, ℕ, ◌+◌, List, [], ◌∷◌, ◌++◌, length, get_or, Option, Some, None, Ok, Err, MatchOption, inl, inr, refl, sym, ap, ◌∙◌, subst, zero, suc, append_assoc, add-one, arith}
+use Rattle.std.proofs.Common.{◌≡◌, Bool, false, option_map, ℕ, ◌+◌, List, [], ◌∷◌, ◌++◌, length, get_or, Option, Some, None, Ok, Err, MatchOption, inl, inr, refl, sym, ap, ◌∙◌, subst, zero, suc, append_assoc, add-one, arith}
 use Rattle.std.proofs.Math.Seq.{get_or-append_seam}
 use Rattle.std.proofs.lemmas.List.{length-append}
 use Rattle.std.proofs.lemmas.Bool.{false≢true, cases_lt}
@@ -20,7 +20,10 @@ use mathlib.Core.Logic.{◌≢◌}
 use Rattle.cookie_core.specs.Pieces.{Lacks, joined_pieces, IsPieces}
 use Rattle.cookie_core.specs.Reads.{Reads}
 use Rattle.cookie_core.specs.Attributes.{IsPair, IsAttribute, IsWord, Skips, IsLastSet, SetsAttributes, Setting, http_only, secure, partitioned, same_site, path, domain, max_age, expires, key_of, GivesSetting, Sets, SetsNothing, nanos_of_seconds, max_age_seconds}
-use Rattle.cookie_core.specs.Settings.{Value, setting_at, field_at, only, either, word_of, GivesNothing, IsGiven, ReadsParts}
+use Rattle.cookie_core.specs.Parts.{part_text}
+use Rattle.cookie_core.specs.Spans.{span_text}
+use Rattle.cookie_core.specs.declared.span.Span.{Span}
+use Rattle.cookie_core.specs.Settings.{Value, setting_at, field_at, only, either, word_of, GivesNothing, IsGiven}
 use Rattle.cookie_core.specs.declared.attributes.Key.{Key}
 use Rattle.cookie_core.specs.declared.attributes.Key.TheVariants as key
 
@@ -89,9 +92,9 @@ Skips-own : (p t : List ℕ) (v : Option (List ℕ)) (k : Key) → IsAttribute p
 Skips-own p t v k att none x (t', v', att', is', gives) =
     none x (subst (λ (q : Option (List ℕ)). GivesSetting q (setting_at k x)) (sym (IsAttribute-unique p t v t' v' att att').1) gives)
 
-pub undotted-field : (v : Part) (o : Option Part) → MatchOption o (v.text.now ≡ []) (λ p. (p ≡ v) × (v.text.now ≢ [])) → MatchOption (option_map (λ (p : Part). without_leading_dot p.text.now) o) (GivesNothing key.Domain (Some v.text.now)) (λ x. GivesSetting (Some v.text.now) (domain x))
+pub undotted-field : (v : Part) (o : Option Span) → MatchOption o (part_text v ≡ []) (λ p. (p ≡ v.span) × (part_text v ≢ [])) → MatchOption (option_map without_leading_dot (option_map (span_text v.whole.now) o)) (GivesNothing key.Domain (Some (part_text v))) (λ x. GivesSetting (Some (part_text v)) (domain x))
 undotted-field v None e = λ x h. h.0 e
-undotted-field v (Some p) h = (h.1, ap (λ (q : Part). without_leading_dot q.text.now) h.0)
+undotted-field v (Some p) h = (h.1, ap (λ (q : Span). without_leading_dot (span_text v.whole.now q)) h.0)
 
 pub age-field : (t : List ℕ) (o : Option SignedDuration) → option_map signed_nanos o ≡ option_map nanos_of_seconds (max_age_seconds t) → MatchOption (option_map signed_nanos o) (GivesNothing key.MaxAge (Some t)) (λ x. GivesSetting (Some t) (max_age x))
 age-field t None e = λ x h. cc
@@ -237,7 +240,7 @@ rest_pieces (Some t) =
     (q.0 ∷ q.1, ap Some q.2, All-append (Lacks 59) (q.0 ∷ []) q.1 (All-one (Lacks 59) q.0 q.3) q.4)
 
 -- what a cut leaves
-pub behind-cut : (t p : List ℕ) (o : Option Part) → MatchOption o (p ≡ t) (λ after. t ≡ p ++ 59 ∷ after.text.now) → t ≡ p ++ behind (option_map (λ (a : Part). a.text.now) o)
+pub behind-cut : (t p : List ℕ) (o : Option Part) → MatchOption o (p ≡ t) (λ after. t ≡ p ++ 59 ∷ part_text after) → t ≡ p ++ behind (option_map part_text o)
 behind-cut t p None e = sym (append-nil p ∙ e)
 behind-cut t p (Some a) e = e
 
@@ -245,11 +248,11 @@ pub first_piece : (t p : List ℕ) (o : Option (List ℕ)) → t ≡ p ++ behind
 first_piece t p o e l ps f a =
     record { joined = e ∙ ap (λ u. p ++ behind u) f ∙ sym (joined-before_rest p ps); first = l; later = a }
 
-pub Reads-no_pair : (t p : List ℕ) (o : Option (List ℕ)) → t ≡ p ++ behind o → Lacks 59 p → Lacks 61 p → ReadsParts t (Err MissingPair)
+pub Reads-no_pair : (t p : List ℕ) (o : Option (List ℕ)) → t ≡ p ++ behind o → Lacks 59 p → Lacks 61 p → (decode : Bool) → Reads decode t (Err MissingPair)
 Reads-no_pair t p o e l h decode =
     let q = rest_pieces o in (p, q.0, first_piece t p o e l q.0 q.1 q.2, h)
 
-pub Reads-empty_name : (t p v : List ℕ) (o : Option (List ℕ)) → t ≡ p ++ behind o → Lacks 59 p → IsPair p [] v → ReadsParts t (Err EmptyName)
+pub Reads-empty_name : (t p v : List ℕ) (o : Option (List ℕ)) → t ≡ p ++ behind o → Lacks 59 p → IsPair p [] v → (decode : Bool) → Reads decode t (Err EmptyName)
 Reads-empty_name t p v o e l h decode =
     let q = rest_pieces o in (p, q.0, first_piece t p o e l q.0 q.1 q.2, (v, h))
 
@@ -257,9 +260,9 @@ pub SetsAttributes-named : (ps : List (List ℕ)) (r : Record) (n v : List ℕ) 
 SetsAttributes-named ps r n v a =
     record { http_only = a.http_only; secure = a.secure; partitioned = a.partitioned; same_site = a.same_site; path = a.path; domain = a.domain; max_age = a.max_age; expires = a.expires }
 
-pub Reads-record : (t p n v : List ℕ) (o : Option (List ℕ)) (r : Record) → t ≡ p ++ behind o → Lacks 59 p → IsPair p n v → n ≢ [] → HasRead o r None → ReadsParts t (Ok (record r { name = n; value = v }))
+pub Reads-record : (t p n v : List ℕ) (o : Option (List ℕ)) (r : Record) → t ≡ p ++ behind o → Lacks 59 p → IsPair p n v → n ≢ [] → HasRead o r None → Reads false t (Ok (record r { name = n; value = v }))
 Reads-record t p n v o r e l h m a =
-    (p, a.pieces, IsPieces-read t p o r e l a, h, m, SetsAttributes-named a.pieces r n v a.sets)
+    (p, a.pieces, IsPieces-read t p o r e l a, (n, v, h, m, refl, refl, SetsAttributes-named a.pieces r n v a.sets))
 
 All-tail : {X : Type 0} (P : X → Type 0) (x : X) (xs : List X) → All P (x ∷ xs) → All P xs
 All-tail P x xs h k d lt = h (suc k) d (omega arith)
@@ -278,10 +281,6 @@ IsPieces-unique t p (r ∷ rs) q (u ∷ us) h k =
     let m : IsPieces (joined_pieces 59 r rs) u us = rw c.1 (tail_pieces t q u us k) in
     let i = IsPieces-unique (joined_pieces 59 r rs) r rs u us (tail_pieces t p r rs h) m in
     (c.0, rw (i.0, i.1) refl)
-
--- the parts of a text that is read as it stands
-pub Reads-plain : (t : List ℕ) (r : Record) → ReadsParts t (Ok r) → Reads false t (Ok r)
-Reads-plain t r (p, ps, pieces, pair, filled, sets) = (p, ps, pieces, (r.name, r.value, pair, filled, refl, refl, sets))
 
 -- every text has a list of pieces
 pub IsPieces-some : (t : List ℕ) → (p : List ℕ) × (ps : List (List ℕ)) × IsPieces t p ps

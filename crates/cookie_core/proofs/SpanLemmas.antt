@@ -1,117 +1,127 @@
--- The spans of a layout.
-use Rattle.std.proofs.Common.{◌≡◌, ℕ, ◌+◌, ◌-◌, List, ◌++◌, length, slice_range, Option, Some, None, option_map, IfSome, refl, ap, arith}
-use Rattle.std.proofs.Math.Seq.{drop-append_seam, take-append_seam}
-use Rattle.std.specs.Option.{option_and_then}
-use Rattle.cookie_core.specs.Place.{IsPartAt}
-use Rattle.cookie_core.specs.Record.{without_leading_dot}
+-- Spans of a text, and spans within them.
+use Rattle.std.proofs.Common.{◌≡◌, ℕ, ◌+◌, ◌-◌, ◌<◌, ◌≤◌, List, ◌∷◌, ◌++◌, length, get_or, take, drop, slice_range, suc, Option, Some, None, IfSome, MatchOption, option_map, refl, sym, ap, ◌∙◌, subst, inl, inr, arith, length-drop, length-append}
+use Rattle.std.proofs.lemmas.Bool.{cases_lt}
+use Rattle.std.proofs.lemmas.List.{length-take, length-take-le, get_or-take, take-take, drop-take, drop-drop, drop_all}
+use Rattle.std.proofs.lemmas.Str.{IsCharBoundary-start, IsCharBoundary-end, IsCharBoundary-from_drop, IsCharBoundary-from_take, IsCharBoundary-from_rest}
+use Rattle.std.proofs.Math.Seq.{drop-length}
+use Rattle.std.specs.Str.{IsUtf8, IsCharBoundary, IsTrimStart, IsTrimEnd}
+use mathlib.Core.Logic.{◌≢◌}
+use Rattle.cookie_core.specs.Pieces.{Lacks}
+use Rattle.cookie_core.specs.Parts.{part_text, IsPartOf, IsOptionalPartOf}
+use Rattle.cookie_core.specs.Spans.{StandsIn, span_text}
+use Rattle.cookie_core.specs.Walk.{behind}
 use Rattle.cookie_core.specs.declared.part.Part.{Part}
-use Rattle.cookie_core.specs.Settings.{layout_record}
-use Rattle.cookie_core.specs.CookieStr.{source_bytes, text_bytes, raw_bytes, Fits, lent, lent_forms, IsSpanOf, IsOptionalSpanOf}
-use Rattle.cookie_core.specs.Cookie.{cookie_view, HasFittingSpans}
-use Rattle.cookie_core.specs.declared.cookie.Cookie.TheInside.{Inside}
-use Rattle.cookie_core.specs.declared.layout.Layout.{Layout}
-use Rattle.cookie_core.specs.declared.source.Source.{Source}
-use Rattle.cookie_core.specs.declared.source.Source.TheVariants as source
-use Rattle.cookie_core.specs.declared.cookie_str.CookieStr.{CookieStr}
-use Rattle.cookie_core.specs.declared.cookie_str.CookieStr.TheVariants as text
+use Rattle.cookie_core.specs.declared.span.Span.{Span}
+use Rattle.cookie_core.proofs.ReadingLemmas.{behind-cut}
 
-slice_range-part : (s b before after : List ℕ) (i : ℕ) → s ≡ before ++ (b ++ after) → i ≡ length before → slice_range s i (i + length b) ≡ b
-slice_range-part s b before after i e f =
-    let n : i + length b - i ≡ length b = omega arith in
-    rw (n, e, f, drop-append_seam before (b ++ after)) (take-append_seam b after)
+-- the span at these places
+abbrev pub span : ℕ → ℕ → Span
+span i j = record { start = i; end = j }
 
-lent-span : (o : Source) (i j : ℕ) (b : List ℕ) → slice_range (source_bytes o) i j ≡ b → raw_bytes o (text.Span i j) ≡ lent o b
-lent-span source.None i j b e = refl
-lent-span (source.Borrowed s) i j b e = ap Some e
-lent-span (source.Owned s) i j b e = refl
+-- a span's text is as long as the span
+length-span_text : (s : List ℕ) (p : Span) → StandsIn s p → length (span_text s p) ≡ p.end - p.start
+length-span_text s p (le, a, b) =
+    let last : p.end ≤ length s = b.0 in
+    length-take-le (p.end - p.start) (drop p.start s) (omega (arith, length-drop p.start s))
 
-pub IsSpanOf-part : (s : List ℕ) (i : ℕ) (b : List ℕ) → IsPartAt s i b → IsSpanOf s b (text.Span i (i + length b))
-IsSpanOf-part s i b p =
-    let e = slice_range-part s b p.before p.after i p.whole p.at in
-    record {
-      fits = (omega arith, p.start, p.end);
-      bytes = e;
-      raw = λ o q. lent-span o i (i + length b) b (rw q e);
-    }
+-- what stands in a span ends where the span does, or before
+pub within_end : (s : List ℕ) (p q : Span) → StandsIn s p → StandsIn (span_text s p) q → p.start + q.end ≤ p.end
+within_end s p q h (le, a, b) =
+    let low : q.end ≤ length (span_text s p) = b.0 in
+    let forward : p.start ≤ p.end = h.0 in
+    omega (arith, length-span_text s p h)
 
--- the texts of a are the spans of the layout, and the rest is its attributes
-pub record IsOfLayout (l : Layout) (a : Inside) : Type 0 where
-  pub name : IsSpanOf (source_bytes a.source) l.name.text.now a.name
-  pub value : IsSpanOf (source_bytes a.source) l.value.text.now a.value
-  pub path : IsOptionalSpanOf (source_bytes a.source) (option_map (λ p. p.text.now) l.attributes.path) a.path
-  pub domain : IsOptionalSpanOf (source_bytes a.source) (option_map (λ p. p.text.now) l.attributes.domain) a.domain
-  pub http_only : a.http_only ≡ l.attributes.http_only
-  pub secure : a.secure ≡ l.attributes.secure
-  pub partitioned : a.partitioned ≡ l.attributes.partitioned
-  pub same_site : a.same_site ≡ l.attributes.same_site
-  pub max_age : a.max_age ≡ l.attributes.max_age
-  pub expires : a.expires ≡ l.attributes.expires
+-- the span q of the span p, in the whole text
+abbrev within : Span → Span → Span
+within p q = span (p.start + q.start) (p.start + q.end)
 
-optional_fits : (s : List ℕ) (o : Option (List ℕ)) (t : Option CookieStr) → IsOptionalSpanOf s o t → IfSome t (Fits s)
-optional_fits s o None h = tt
-optional_fits s (Some b) (Some t) h = h.fits
-optional_fits s None (Some t) h = absurd h
+pub span_text-within : (s : List ℕ) (p q : Span) → StandsIn s p → StandsIn (span_text s p) q → span_text s (within p q) ≡ span_text (span_text s p) q
+span_text-within s p q h k =
+    let forward : q.start ≤ q.end = k.0 in
+    let end : p.start + q.end ≤ p.end = within_end s p q h k in
+    let width : p.start + q.end - (p.start + q.start) ≡ q.end - q.start = omega arith in
+    let rest : q.start + (p.end - p.start - q.start) ≡ p.end - p.start = omega arith in
+    let short : q.end - q.start ≤ p.end - p.start - q.start = omega arith in
+    let inner : drop q.start (span_text s p) ≡ take (p.end - p.start - q.start) (drop q.start (drop p.start s)) =
+    ap (λ n. drop q.start (take n (drop p.start s))) (sym rest) ∙ drop-take q.start (p.end - p.start - q.start) (drop p.start s) in
+    let inside : span_text (span_text s p) q ≡ take (q.end - q.start) (drop (p.start + q.start) s) =
+    ap (take (q.end - q.start)) inner ∙ take-take (q.end - q.start) (p.end - p.start - q.start) (drop q.start (drop p.start s)) short ∙ ap (take (q.end - q.start)) (drop-drop q.start p.start s) in
+    ap (λ n. take n (drop (p.start + q.start) s)) width ∙ sym inside
 
-optional_bytes : (s : List ℕ) (o : Option (List ℕ)) (t : Option CookieStr) → IsOptionalSpanOf s o t → option_map (text_bytes s) t ≡ o
-optional_bytes s None None h = refl
-optional_bytes s (Some b) (Some t) h = ap Some h.bytes
-optional_bytes s None (Some t) h = absurd h
-optional_bytes s (Some b) None h = absurd h
+-- ---- all of a text, and its parts before and behind a mark
 
-pub optional_raw : (s : List ℕ) (o : Option (List ℕ)) (t : Option CookieStr) (u : Source) → source_bytes u ≡ s → IsOptionalSpanOf s o t → option_and_then (raw_bytes u) t ≡ option_and_then (lent u) o
-optional_raw s None None u e h = refl
-optional_raw s (Some b) (Some t) u e h = h.raw u e
-optional_raw s None (Some t) u e h = absurd h
-optional_raw s (Some b) None u e h = absurd h
+pub StandsIn-all : (t : List ℕ) → IsUtf8 t → StandsIn t (span 0 (length t))
+StandsIn-all t u = (omega arith, IsCharBoundary-start t u, IsCharBoundary-end t)
 
-pub HasFittingSpans-layout : (l : Layout) (a : Inside) → IsOfLayout l a → HasFittingSpans a
-HasFittingSpans-layout l a h =
-    record {
-      name = h.name.fits;
-      value = h.value.fits;
-      path = optional_fits _ _ _ h.path;
-      domain = optional_fits _ _ _ h.domain;
-    }
+slice_range-front : (t : List ℕ) (n : ℕ) → slice_range t 0 n ≡ take n t
+slice_range-front t n = let z : n - 0 ≡ n = omega arith in rw z refl
 
-undotted : (o : Option Part) → option_map without_leading_dot (option_map (λ (p : Part). p.text.now) o) ≡ option_map (λ (p : Part). without_leading_dot p.text.now) o
-undotted None = refl
-undotted (Some p) = refl
+pub Lacks-front : (c : ℕ) (t : List ℕ) (n : ℕ) (r : List ℕ) → r ≡ take n t → ((i : ℕ) → i < n → get_or t i 0 ≢ c) → Lacks c r
+Lacks-front c t n r e h i lt q =
+    let below : i < n = omega (arith, ap length e, length-take n t) in
+    h i below (sym (get_or-take n t i 0 below) ∙ ap (λ x. get_or x i 0) (sym e) ∙ q)
 
-pub lent_undotted : (u : Source) (o : Option Part) → option_map without_leading_dot (option_and_then (lent u) (option_map (λ (p : Part). p.text.now) o)) ≡ option_and_then (lent u) (option_map (λ (p : Part). without_leading_dot p.text.now) o)
-lent_undotted u None = refl
-lent_undotted source.None (Some p) = refl
-lent_undotted (source.Borrowed s) (Some p) = refl
-lent_undotted (source.Owned s) (Some p) = refl
+pub Lacks-before : (c : ℕ) (t : List ℕ) (n : ℕ) → ((i : ℕ) → i < n → get_or t i 0 ≢ c) → Lacks c (span_text t (span 0 n))
+Lacks-before c t n h = Lacks-front c t n _ (slice_range-front t n) h
 
-pub fields-layout : (l : Layout) (a : Inside) → IsOfLayout l a → (cookie_view a).fields ≡ layout_record l
-fields-layout l a h =
-    rw (h.name.bytes, h.value.bytes, optional_bytes _ _ _ h.path, optional_bytes _ _ _ h.domain, h.http_only, h.secure, h.partitioned, h.same_site, h.max_age, h.expires, undotted l.attributes.domain) refl
+-- ---- a text without the white space at its ends
 
-pub raw-layout : (l : Layout) (a : Inside) → IsOfLayout l a → (cookie_view a).raw ≡ lent_forms a.source (layout_record l)
-raw-layout l a h =
-    rw (h.name.raw a.source refl, h.value.raw a.source refl, optional_raw _ _ _ a.source refl h.path, optional_raw _ _ _ a.source refl h.domain, lent_undotted a.source l.attributes.domain) refl
+drop_by_length : (t : List ℕ) (n : ℕ) (r : List ℕ) → r ≡ drop n t → r ≡ drop (length t - length r) t
+drop_by_length t n r e =
+    let k : length r ≡ length t - n = ap length e ∙ length-drop n t in
+    elim (cases_lt n (length t)) [
+      | inl lt ↦ let m : length t - length r ≡ n = omega arith in rw m e
+      | inr ge ↦ let m : length t - length r ≡ length t = omega arith in rw (m, drop-length t) (e ∙ drop_all n t ge)
+    ]
 
--- a cookie with these texts and the attributes of the layout
-abbrev pub inside : Source → CookieStr → CookieStr → Option CookieStr → Option CookieStr → Layout → Inside
-inside o n v p d l =
-    record {
-      source = o;
-      name = n;
-      value = v;
-      http_only = l.attributes.http_only;
-      secure = l.attributes.secure;
-      partitioned = l.attributes.partitioned;
-      same_site = l.attributes.same_site;
-      path = p;
-      domain = d;
-      max_age = l.attributes.max_age;
-      expires = l.attributes.expires;
-    }
+-- what is left of t where what is left of its front is `kept`, and what is left of that is r
+pub span_text-trimmed : (t kept r : List ℕ) → IsTrimStart t kept → IsTrimEnd kept r → span_text t (span (length t - length kept) (length t - length kept + length r)) ≡ r
+span_text-trimmed t kept r (n, e, _, _, bound) (m, f, _, _, l, le) =
+    let start = length t - length kept in
+    let width : start + length r - start ≡ m = omega (arith, l) in
+    rw (width, ← drop_by_length t n kept e) (sym f)
 
-pub IsOfLayout-inside : (o : Source) (n v : CookieStr) (p d : Option CookieStr) (l : Layout) → IsSpanOf (source_bytes o) l.name.text.now n → IsSpanOf (source_bytes o) l.value.text.now v → IsOptionalSpanOf (source_bytes o) (option_map (λ p. p.text.now) l.attributes.path) p → IsOptionalSpanOf (source_bytes o) (option_map (λ p. p.text.now) l.attributes.domain) d → IsOfLayout l (inside o n v p d l)
-IsOfLayout-inside o n v p d l a b e f =
-    record { name = a; value = b; path = e; domain = f; http_only = refl; secure = refl; partitioned = refl; same_site = refl; max_age = refl; expires = refl }
+pub StandsIn-trimmed : (t kept r : List ℕ) → IsTrimStart t kept → IsUtf8 kept → IsTrimEnd kept r → IsUtf8 r → StandsIn t (span (length t - length kept) (length t - length kept + length r))
+StandsIn-trimmed t kept r (n, e, _, _, bound) u (m, f, _, _, l, le) w =
+    let here : kept ≡ drop (length t - length kept) t = drop_by_length t n kept e in
+    let low : length t - length kept ≤ length t = omega arith in
+    let last : IsCharBoundary kept (length r) = rw l (IsCharBoundary-from_take kept m u le (rw f at w)) in (
+      omega arith,
+      IsCharBoundary-from_drop t (length t - length kept) low (subst IsUtf8 here u),
+      IsCharBoundary-from_rest t (length t - length kept) (length r) low (subst (λ k. IsCharBoundary k (length r)) here last),
+    )
 
-pub fields-inside : (o : Source) (n v : CookieStr) (p d : Option CookieStr) (l : Layout) (bn bv : List ℕ) → text_bytes (source_bytes o) n ≡ bn → text_bytes (source_bytes o) v ≡ bv → IsOptionalSpanOf (source_bytes o) (option_map (λ p. p.text.now) l.attributes.path) p → IsOptionalSpanOf (source_bytes o) (option_map (λ p. p.text.now) l.attributes.domain) d → (cookie_view (inside o n v p d l)).fields ≡ record (layout_record l) { name = bn; value = bv }
-fields-inside o n v p d l bn bv a b e f =
-    rw (a, b, optional_bytes _ _ _ e, optional_bytes _ _ _ f, undotted l.attributes.domain) refl
+-- ---- parts
+
+pub StandsIn-part : (s : List ℕ) (p : Part) → IsPartOf s p → StandsIn s p.span
+StandsIn-part s p e = subst (λ t. StandsIn t p.span) e p.stands
+
+-- a part has the same bytes in its text
+pub span_text-part : (s : List ℕ) (p : Part) → IsPartOf s p → span_text s p.span ≡ part_text p
+span_text-part s p e = ap (λ t. span_text t p.span) (sym e)
+
+-- so does the rest behind a part
+rest_text : (s : List ℕ) (o : Option Part) → IsOptionalPartOf s o → option_map (span_text s) (option_map (λ (p : Part). p.span) o) ≡ option_map part_text o
+rest_text s None h = refl
+rest_text s (Some p) h = ap Some (span_text-part s p h)
+
+rest_stands : (s : List ℕ) (o : Option Part) → IsOptionalPartOf s o → IfSome (option_map (λ (p : Part). p.span) o) (StandsIn s)
+rest_stands s None h = tt
+rest_stands s (Some p) h = StandsIn-part s p h
+
+-- what a cut of a part leaves, where its rest is passed on as a span
+pub after-cut : (s : List ℕ) (p : Span) (all first : Part) (o : Option Part) (rest : Option Span) → IsPartOf s all → part_text all ≡ span_text s p → MatchOption o (part_text first ≡ part_text all) (λ after. part_text all ≡ part_text first ++ 59 ∷ part_text after) → IsOptionalPartOf all.whole.now o → rest ≡ option_map (λ (q : Part). q.span) o
+    → (span_text s p ≡ part_text first ++ behind (option_map (span_text s) rest)) × IfSome rest (StandsIn s)
+after-cut s p all first o rest e text cut h is =
+    let here : IsOptionalPartOf s o = subst (λ t. IsOptionalPartOf t o) e h in
+    let same : option_map (span_text s) rest ≡ option_map part_text o = ap (option_map (span_text s)) is ∙ rest_text s o here in
+    (sym text ∙ behind-cut _ _ o cut ∙ ap (λ r. part_text first ++ behind r) (sym same), subst (λ r. IfSome r (StandsIn s)) (sym is) (rest_stands s o here))
+
+-- how much of a text is left
+abbrev pub left_length : List ℕ → Option Span → ℕ
+left_length s None = 0
+left_length s (Some p) = suc (length (span_text s p))
+
+pub left_length-cut : (s : List ℕ) (p : Span) (piece : List ℕ) (rest : Option Span) → span_text s p ≡ piece ++ behind (option_map (span_text s) rest) → left_length s rest < left_length s (Some p)
+left_length-cut s p piece None e = omega arith
+left_length-cut s p piece (Some q) e = omega (arith, ap length e, length-append piece (59 ∷ span_text s q))

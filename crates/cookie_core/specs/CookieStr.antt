@@ -1,6 +1,7 @@
 -- Mirrors private code: what the texts of a cookie are, in the source that it was read from.
-use Rattle.std.specs.Prelude.{◌≡◌, ℕ, ◌≤◌, List, Option, Some, None, [], slice_range, string_bytes, IsCharBoundary, option_map, option_and_then, IfSome}
-use Rattle.cookie_core.specs.Record.{Record, RawForms}
+use Rattle.std.specs.Prelude.{◌≡◌, ℕ, List, Option, Some, None, [], string_bytes, option_map, option_and_then, IfSome}
+use Rattle.cookie_core.specs.Record.{Record, RawForms, all_lent, no_raw_forms}
+use Rattle.cookie_core.specs.Spans.{StandsIn, span_text}
 use Rattle.cookie_core.specs.declared.source.Source.{Source}
 use Rattle.cookie_core.specs.declared.cookie_str.CookieStr.{CookieStr}
 use Rattle.cookie_core.specs.declared.source.Source.TheVariants as source
@@ -14,18 +15,18 @@ source_bytes (source.Owned s) = string_bytes s
 
 -- the bytes of a text in the source s
 abbrev pub text_bytes : List ℕ → CookieStr → List ℕ
-text_bytes s (text.Span i j) = slice_range s i j
+text_bytes s (text.Span p) = span_text s p
 text_bytes s (text.Borrowed t) = t.now
 text_bytes s (text.Owned t) = string_bytes t
 
 -- the bytes of a text that is a span of a borrowed source
 abbrev pub raw_bytes : Source → CookieStr → Option (List ℕ)
-raw_bytes (source.Borrowed s) (text.Span i j) = Some (slice_range s.now i j)
+raw_bytes (source.Borrowed s) (text.Span p) = Some (span_text s.now p)
 raw_bytes _ _ = None
 
--- a span stands in the source s, and cuts no character
+-- a span stands in the source s
 abbrev pub Fits : List ℕ → CookieStr → Type 0
-Fits s (text.Span i j) = (i ≤ j) × IsCharBoundary s i × IsCharBoundary s j
+Fits s (text.Span p) = StandsIn s p
 Fits s _ = Unit {0}
 
 -- no text is a raw form of this source
@@ -49,24 +50,7 @@ pub record IsSameOptionalText (o o' : Option CookieStr) : Type 0 where
   pub fits : (s : List ℕ) → IfSome o (Fits s) → IfSome o' (Fits s)
   pub lent : (s : Source) → option_and_then (raw_bytes s) o' ≡ option_and_then (raw_bytes s) o
 
--- the bytes b, where the source lends its parts
-abbrev pub lent : Source → List ℕ → Option (List ℕ)
-lent (source.Borrowed s) b = Some b
-lent _ b = None
-
 -- the raw forms of a cookie whose texts are all spans of its source
 abbrev pub lent_forms : Source → Record → RawForms
-lent_forms o r =
-    record { name = lent o r.name; value = lent o r.value; path = option_and_then (lent o) r.path; domain = option_and_then (lent o) r.domain }
-
--- the text t is a span of the text s, with the bytes b
-pub record IsSpanOf (s b : List ℕ) (t : CookieStr) : Type 0 where
-  pub fits : Fits s t
-  pub bytes : text_bytes s t ≡ b
-  pub raw : (o : Source) → source_bytes o ≡ s → raw_bytes o t ≡ lent o b
-
--- the same of a text that may be unset
-abbrev pub IsOptionalSpanOf : List ℕ → Option (List ℕ) → Option CookieStr → Type 0
-IsOptionalSpanOf s (Some b) (Some t) = IsSpanOf s b t
-IsOptionalSpanOf s None None = Unit {0}
-IsOptionalSpanOf s _ _ = ⊥
+lent_forms (source.Borrowed s) r = all_lent r
+lent_forms _ r = no_raw_forms

@@ -50,10 +50,10 @@ are_decoded r = has_escape r.name || has_escape r.value
 abbrev pub IsCertain : {C : Type 0} → List ℕ → Result C ParseError → Type 0
 IsCertain t o = (r : Record) → cookie_of false t ≡ Some r → are_decoded r ≡ false → IsOk o
 
--- what a decoded cookie lends, of the record that its text has as it stands
-abbrev pub lent_decoded : Record → RawForms
-lent_decoded r = if are_decoded r then record (all_lent r) { name = None; value = None } else all_lent r
+-- the raw forms of a cookie once it is decoded, of its record and its raw forms before
+abbrev pub decoded_forms : Record → RawForms → RawForms
+decoded_forms r raw = if are_decoded r then record raw { name = None; value = None } else raw
 
 -- the raw forms of the cookie that the text is with decoding
 abbrev pub LendsDecoded : List ℕ → RawForms → Type 0
-LendsDecoded t raw = option_map lent_decoded (cookie_of false t) ≡ Some raw
+LendsDecoded t raw = option_map (λ r. decoded_forms r (all_lent r)) (cookie_of false t) ≡ Some raw

@@ -1,15 +1,11 @@
 -- Mirrors private code: what the decoder's own answers mean.
-use Rattle.std.specs.Prelude.{◌≡◌, ℕ, ◌||◌, Bool, List, IsUtf8, None, if◌then◌else◌}
+use Rattle.std.specs.Prelude.{◌≡◌, ℕ, List, IsUtf8, true, Result, Ok, Err}
 use Rattle.std.specs.Str.{valid_up_to, error_len}
-use Rattle.cookie_core.specs.CookieStr.{Fits, source_bytes, text_bytes, raw_bytes, lent, lent_forms}
-use Rattle.cookie_core.specs.Decoding.{are_decoded, IsFaultOf, blamed_text}
-use Rattle.cookie_core.specs.EscapeTest.{has_escape}
+use Rattle.cookie_core.specs.Decoding.{are_decoded, decoded_forms, IsFaultOf, blamed_text}
 use Rattle.cookie_core.specs.Escapes.{unescape}
-use Rattle.cookie_core.specs.Record.{Record, RawForms}
+use Rattle.cookie_core.specs.Record.{Record, CookieView}
 use Rattle.cookie_core.specs.declared.parse_error.ParseError.{ParseError}
 use Rattle.cookie_core.specs.declared.parse_error.ParseError.TheVariants.{Utf8Error, OutOfMemory}
-use Rattle.cookie_core.specs.declared.cookie_str.CookieStr.{CookieStr}
-use Rattle.cookie_core.specs.declared.source.Source.{Source}
 
 -- the refusal is one that decoding the text t can have
 abbrev pub IsRefusedFor : List ℕ → ParseError → Type 0
@@ -23,17 +19,12 @@ IsRefusedForPair n v (Utf8Error e) = IsFaultOf (blamed_text n v) (valid_up_to e)
 IsRefusedForPair n v OutOfMemory = Unit {0}
 IsRefusedForPair n v _ = ⊥
 
--- in the source s the text u is what the text t stands for, and lends t unless it is an own text
-pub record IsDecodedIn (own : Bool) (s t : List ℕ) (u : CookieStr) : Type 0 where
-  pub fits : Fits s u
-  pub bytes : text_bytes s u ≡ unescape t
-  pub utf8 : IsUtf8 (unescape t)
-  pub raw : (o : Source) → source_bytes o ≡ s → raw_bytes o u ≡ (if own then None else lent o t)
+-- the record with the name and the value that its own stand for
+abbrev pub decoded_record : Record → Record
+decoded_record r = record r { name = unescape r.name; value = unescape r.value }
 
--- a name or a value becomes an own text where one of them holds an escape
-abbrev pub is_own : List ℕ → List ℕ → Bool
-is_own n v = has_escape n || has_escape v
-
--- the raw forms of a decoded cookie, of the record that its source has as it stands
-abbrev pub lent_decoded_forms : Source → Record → RawForms
-lent_decoded_forms o r = if are_decoded r then record (lent_forms o r) { name = None; value = None } else lent_forms o r
+-- what becomes of a cookie whose name and value are decoded; it is refused only where one of them holds an escape
+abbrev pub Decodes : CookieView → Result CookieView ParseError → Type 0
+Decodes c (Ok d) = (d.fields ≡ decoded_record c.fields) × (d.raw ≡ decoded_forms c.fields c.raw)
+    × IsUtf8 (unescape c.fields.name) × IsUtf8 (unescape c.fields.value)
+Decodes c (Err e) = (are_decoded c.fields ≡ true) × IsRefusedForPair c.fields.name c.fields.value e

@@ -8,7 +8,6 @@ pub mod Display
 pub mod EscapeTest
 pub mod Escapes
 pub mod Expiration
-pub mod Fit
 pub mod Header
 pub mod Laws
 pub mod Lending
@@ -17,8 +16,8 @@ pub mod Normal
 pub mod OwnedCode
 pub mod ParseError
 pub mod Permanent
+pub mod Parts
 pub mod Pieces
-pub mod Place
 pub mod Printers
 pub mod Quotes
 pub mod Reads
@@ -28,6 +27,7 @@ pub mod Removal
 pub mod Same
 pub mod SameSite
 pub mod Settings
+pub mod Spans
 pub mod SplitCode
 pub mod SplitCookies
 pub mod SplitInside

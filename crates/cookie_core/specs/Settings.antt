@@ -1,17 +1,13 @@
 -- Mirrors private code: what the reader's own types mean.
-use Rattle.std.specs.Prelude.{◌≡◌, ◌≢◌, ℕ, ℤ, Bool, List, [], Option, None, option_map, IfSome, Result, Ok, Err, codes, MatchOption}
+use Rattle.std.specs.Prelude.{◌≡◌, ℕ, ℤ, Bool, List, [], Option, None, option_map, IfSome, codes, MatchOption}
 use Rattle.std.specs.Option.{option_or}
 use Rattle.jiff.specs.Words.{signed_nanos}
-use Rattle.cookie_core.specs.Pieces.{IsPieces}
-use Rattle.cookie_core.specs.Place.{IsPartAt}
 use Rattle.cookie_core.specs.Record.{Record, plain, without_leading_dot}
+use Rattle.cookie_core.specs.Spans.{StandsIn, span_text}
 use Rattle.cookie_core.specs.Attributes as attributes
 use Rattle.cookie_core.specs.Attributes.{IsPair, SetsAttributes, GivesSetting, key_of}
-use Rattle.cookie_core.specs.Reads.{Reads}
 use Rattle.cookie_core.specs.declared.same_site.SameSite.{SameSite}
 use Rattle.cookie_core.specs.declared.expiration.Expiration.{Expiration}
-use Rattle.cookie_core.specs.declared.parse_error.ParseError.{ParseError}
-use Rattle.cookie_core.specs.declared.part.Part.{Part}
 use Rattle.cookie_core.specs.declared.attributes.Attributes.{Attributes}
 use Rattle.cookie_core.specs.declared.layout.Layout.{Layout}
 use Rattle.cookie_core.specs.declared.attributes.Key.{Key}
@@ -97,21 +93,17 @@ either r r' =
       expires = option_or r.expires r'.expires;
     }
 
--- the part, if there is one, stands in the text s
-abbrev pub IsTextIn : List ℕ → Option Part → Type 0
-IsTextIn s o = IfSome o (λ p. IsPartAt s p.start p.text.now)
-
 -- the path and the domain stand in the text s
-abbrev pub AreTextsIn : List ℕ → Attributes → Type 0
-AreTextsIn s a = IsTextIn s a.path × IsTextIn s a.domain
+abbrev pub AreIn : List ℕ → Attributes → Type 0
+AreIn s a = IfSome a.path (StandsIn s) × IfSome a.domain (StandsIn s)
 
 -- no attribute is set
 abbrev pub no_attributes : Attributes
 no_attributes = record { http_only = None; secure = None; partitioned = None; same_site = None; path = None; domain = None; max_age = None; expires = None }
 
--- the record of the attributes, with an empty name and an empty value
-abbrev pub attributes_of : Attributes → Record
-attributes_of a =
+-- the record of the attributes in the text s, with an empty name and an empty value
+abbrev pub attributes_of : List ℕ → Attributes → Record
+attributes_of s a =
     record {
       name = [];
       value = [];
@@ -119,23 +111,18 @@ attributes_of a =
       secure = a.secure;
       partitioned = a.partitioned;
       same_site = a.same_site;
-      path = option_map (λ p. p.text.now) a.path;
-      domain = option_map (λ p. without_leading_dot p.text.now) a.domain;
+      path = option_map (span_text s) a.path;
+      domain = option_map without_leading_dot (option_map (span_text s) a.domain);
       max_age = option_map signed_nanos a.max_age;
       expires = a.expires;
     }
 
--- the record of a layout
-abbrev pub layout_record : Layout → Record
-layout_record l = record (attributes_of l.attributes) { name = l.name.text.now; value = l.value.text.now }
+-- the record of a layout in the text s
+abbrev pub layout_record : List ℕ → Layout → Record
+layout_record s l = record (attributes_of s l.attributes) { name = span_text s l.name; value = span_text s l.value }
 
--- the parts of the layout stand in the text s
+-- the spans of the layout stand in the text s
 pub record IsLayoutIn (s : List ℕ) (l : Layout) : Type 0 where
-  pub name : IsPartAt s l.name.start l.name.text.now
-  pub value : IsPartAt s l.value.start l.value.text.now
-  pub attributes : AreTextsIn s l.attributes
-
--- the text t has the name and value of r as they stand, and its attributes; or is refused, with decoding or without
-abbrev pub ReadsParts : List ℕ → Result Record ParseError → Type 0
-ReadsParts t (Ok r) = (p : List ℕ) × (ps : List (List ℕ)) × IsPieces t p ps × IsPair p r.name r.value × (r.name ≢ []) × SetsAttributes ps r
-ReadsParts t (Err e) = (decode : Bool) → Reads decode t (Err e)
+  pub name : StandsIn s l.name
+  pub value : StandsIn s l.value
+  pub attributes : AreIn s l.attributes

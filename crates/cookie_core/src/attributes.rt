@@ -4,42 +4,42 @@ ghost use Rattle.std.specs.List.{list_all, starts_with};
 ghost use Rattle.std.specs.Char.{is_ascii_digit, to_ascii_lowercase};
 ghost use Rattle.jiff.specs.Words.{signed_nanos};
 ghost use Rattle.cookie_core.specs.declared.expiration.Expiration.{Expiration};
-ghost use Rattle.cookie_core.specs.Fit.{Fit};
-ghost use Rattle.cookie_core.specs.Place.{IsPartAt};
+ghost use Rattle.cookie_core.specs.Parts.{part_text, IsOptionalPartOf};
 ghost use Rattle.cookie_core.specs.Record.{plain};
+ghost use Rattle.cookie_core.specs.Spans.{StandsIn, span_text};
 ghost use Rattle.cookie_core.specs.Walk.{HasRead};
-ghost use Rattle.cookie_core.specs.Settings.{no_attributes, attributes_of, either, IsTextIn, AreTextsIn, word_of, IsGiven};
+ghost use Rattle.cookie_core.specs.Settings.{no_attributes, attributes_of, either, AreIn, word_of, IsGiven};
 ghost use Rattle.cookie_core.specs.Attributes.{IsAttribute, IsWord, SetsAttributes, GivesExpiry, seconds_of_digits, max_age_seconds, nanos_of_seconds, same_site_key};
 
 use crate::expiration::Expiration;
 use crate::part::Part;
 use crate::same_site::SameSite;
+use crate::span::Span;
 use cookie_date::read_date;
 use jiff::SignedDuration;
 
 /// The attributes of a cookie, as the pieces behind its pair give them.
 #[derive(Clone, Copy)]
-pub(crate) struct Attributes<'t> {
+pub(crate) struct Attributes {
     pub(crate) http_only: Option<bool>,
     pub(crate) secure: Option<bool>,
     pub(crate) partitioned: Option<bool>,
     pub(crate) same_site: Option<SameSite>,
-    pub(crate) path: Option<Part<'t>>,
-    pub(crate) domain: Option<Part<'t>>,
+    pub(crate) path: Option<Span>,
+    pub(crate) domain: Option<Span>,
     pub(crate) max_age: Option<SignedDuration>,
     pub(crate) expires: Option<Expiration>,
 }
 
-/// The key of a piece, and its value if there is a `=`.
+// The key of a piece, and its value if there is a `=`.
 fn attribute<'t>(piece: Part<'t>) -> (&'t str, Option<Part<'t>>)
-    requires { Fit piece }
-    ensures fits { IfSome result.1 Fit }
-    ensures attribute { IsAttribute piece.entry.text.now result.0.now (option_map (λ v. v.text.now) result.1) }
-    ensures place { (s : List ℕ) → IsPartAt s piece.entry.start piece.entry.text.now → IfSome result.1 (λ v. IsPartAt s v.start v.text.now) }
+    ensures attribute { IsAttribute (part_text piece.entry) result.0.now
+        (option_map part_text result.1) }
+    ensures place { IsOptionalPartOf piece.entry.whole.now result.1 }
 {
     match piece.cut('=') {
-        (key, Some(value)) => (key.trim().text, Some(value.trim())),
-        (key, None) => (key.trim().text, None),
+        (key, Some(value)) => (key.trim().text(), Some(value.trim())),
+        (key, None) => (key.trim().text(), None),
     }
 }
 
@@ -55,7 +55,7 @@ fn are_digits(text: &str) -> bool
     text.as_bytes().iter().all(|byte| byte.is_ascii_digit())
 }
 
-/// The seconds that the digits give, at most the greatest; `None` where there is no digit, or anything else.
+// The seconds that the digits give, at most the greatest; `None` where there is no digit, or anything else.
 fn seconds(digits: &str) -> Option<i64>
     ensures { result ≡ option_map pos (seconds_of_digits digits.now) }
 {
@@ -68,7 +68,7 @@ fn seconds(digits: &str) -> Option<i64>
     }
 }
 
-/// The age that the value of `Max-Age` gives, none below zero (RFC 6265 5.2.2).
+// The age that the value of `Max-Age` gives, none below zero (RFC 6265 5.2.2).
 fn max_age(value: &str) -> Option<SignedDuration>
     ensures { option_map signed_nanos result
         ≡ option_map nanos_of_seconds (max_age_seconds value.now) }
@@ -94,9 +94,10 @@ pub(crate) enum Key {
 }
 
 impl Key {
-    /// The key that the text is, in any ASCII case.
+    // The key that the text is, in any ASCII case.
     fn of(text: &str) -> Option<Key>
-        ensures { MatchOption result ((k : Key) → ¬ (IsWord text.now (word_of k))) (λ k. IsWord text.now (word_of k)) }
+        ensures { MatchOption result ((k : Key) → ¬ (IsWord text.now (word_of k)))
+            (λ k. IsWord text.now (word_of k)) }
     {
         if is_key(text, "httponly") {
             return Some(Key::HttpOnly);
@@ -126,20 +127,22 @@ impl Key {
     }
 }
 
-/// The part, if it is not empty.
-fn filled(part: Part<'_>) -> Option<Part<'_>>
-    ensures { MatchOption result (part.entry.text.now ≡ []) (λ p. (p ≡ part.entry) × (part.entry.text.now ≢ [])) }
+// The part, if it is not empty.
+fn unless_empty(part: Part<'_>) -> Option<Span>
+    ensures { MatchOption result (part_text part.entry ≡ [])
+        (λ p. (p ≡ part.entry.span) × (part_text part.entry ≢ [])) }
 {
-    if part.text.is_empty() {
+    if part.text().is_empty() {
         None
     } else {
-        Some(part)
+        Some(part.span)
     }
 }
 
-/// The rule for requests from other sites that the text names, in any ASCII case.
+// The rule for requests from other sites that the text names, in any ASCII case.
 fn same_site(text: &str) -> Option<SameSite>
-    ensures { MatchOption result ((x : SameSite) → ¬ (IsWord text.now (same_site_key x))) (λ x. IsWord text.now (same_site_key x)) }
+    ensures { MatchOption result ((x : SameSite) → ¬ (IsWord text.now (same_site_key x)))
+        (λ x. IsWord text.now (same_site_key x)) }
 {
     if is_key(text, "strict") {
         return Some(SameSite::Strict);
@@ -153,9 +156,10 @@ fn same_site(text: &str) -> Option<SameSite>
     None
 }
 
-/// The expiry that the text gives.
+// The expiry that the text gives.
 fn expiration(text: &str) -> Option<Expiration>
-    ensures { MatchOption result ((x : Expiration) → ¬ (GivesExpiry text.now x)) (GivesExpiry text.now) }
+    ensures { MatchOption result ((x : Expiration) → ¬ (GivesExpiry text.now x))
+        (GivesExpiry text.now) }
 {
     match read_date(text) {
         Some(moment) => Some(Expiration::DateTime(moment)),
@@ -163,8 +167,8 @@ fn expiration(text: &str) -> Option<Expiration>
     }
 }
 
-impl<'t> Attributes<'t> {
-    fn unset() -> Attributes<'t>
+impl Attributes {
+    fn unset() -> Attributes
         ensures { result ≡ no_attributes }
     {
         Attributes {
@@ -179,10 +183,10 @@ impl<'t> Attributes<'t> {
         }
     }
 
-    /// What an attribute with this key and without a value sets.
-    fn without_value(key: Key) -> Attributes<'t>
-        ensures gives { IsGiven key None (attributes_of result) }
-        ensures place { (s : List ℕ) → AreTextsIn s result }
+    // What an attribute with this key and without a value sets.
+    fn without_value(key: Key) -> Attributes
+        ensures gives { (s : List ℕ) → IsGiven key None (attributes_of s result) }
+        ensures place { (s : List ℕ) → AreIn s result }
     {
         let unset = Attributes::unset();
         match key {
@@ -206,10 +210,11 @@ impl<'t> Attributes<'t> {
         }
     }
 
-    /// What an attribute with this key and value sets.
-    fn with_value(key: Key, value: Part<'t>) -> Attributes<'t>
-        ensures gives { IsGiven key (Some value.entry.text.now) (attributes_of result) }
-        ensures place { (s : List ℕ) → IsPartAt s value.entry.start value.entry.text.now → AreTextsIn s result }
+    // What an attribute with this key and value sets.
+    fn with_value(key: Key, value: Part<'_>) -> Attributes
+        ensures gives { IsGiven key (Some (part_text value.entry))
+            (attributes_of value.entry.whole.now result) }
+        ensures place { AreIn value.entry.whole.now result }
     {
         let unset = Attributes::unset();
         match key {
@@ -226,33 +231,33 @@ impl<'t> Attributes<'t> {
                 ..unset
             },
             Key::SameSite => Attributes {
-                same_site: same_site(value.text),
+                same_site: same_site(value.text()),
                 ..unset
             },
             Key::Path => Attributes {
-                path: Some(value),
+                path: Some(value.span),
                 ..unset
             },
             Key::Domain => Attributes {
-                domain: filled(value),
+                domain: unless_empty(value),
                 ..unset
             },
             Key::MaxAge => Attributes {
-                max_age: max_age(value.text),
+                max_age: max_age(value.text()),
                 ..unset
             },
             Key::Expires => Attributes {
-                expires: expiration(value.text),
+                expires: expiration(value.text()),
                 ..unset
             },
         }
     }
 
-    /// What the piece sets.
-    fn of(piece: Part<'t>) -> Attributes<'t>
-        requires { Fit piece }
-        ensures sets { SetsAttributes (piece.entry.text.now ∷ []) (attributes_of result) }
-        ensures place { (s : List ℕ) → IsPartAt s piece.entry.start piece.entry.text.now → AreTextsIn s result }
+    // What the piece sets.
+    fn of(piece: Part<'_>) -> Attributes
+        ensures sets { SetsAttributes (part_text piece.entry ∷ [])
+            (attributes_of piece.entry.whole.now result) }
+        ensures place { AreIn piece.entry.whole.now result }
     {
         let (key, value) = attribute(piece);
         match Key::of(key) {
@@ -264,10 +269,11 @@ impl<'t> Attributes<'t> {
         }
     }
 
-    /// Sets each attribute that `later` sets.
-    fn update(&mut self, later: Attributes<'t>)
-        ensures or { attributes_of self.new ≡ either (attributes_of later.entry) (attributes_of self.old) }
-        ensures place { (s : List ℕ) → AreTextsIn s later.entry → AreTextsIn s self.old → AreTextsIn s self.new }
+    // Sets each attribute that `later` sets.
+    fn update(&mut self, later: Attributes)
+        ensures or { (s : List ℕ)
+            → attributes_of s self.new ≡ either (attributes_of s later) (attributes_of s self.old) }
+        ensures place { (s : List ℕ) → AreIn s later → AreIn s self.old → AreIn s self.new }
     {
         self.http_only = later.http_only.or(self.http_only);
         self.secure = later.secure.or(self.secure);
@@ -279,18 +285,19 @@ impl<'t> Attributes<'t> {
         self.expires = later.expires.or(self.expires);
     }
 
-    /// The attributes that the pieces of `later` set.
-    pub(crate) fn read(later: Option<Part<'t>>) -> Attributes<'t>
-        requires { IfSome later Fit }
-        ensures read { HasRead (option_map (λ p. p.text.now) later.entry) (attributes_of result) None }
-        ensures place { (s : List ℕ) → IsTextIn s later.entry → AreTextsIn s result }
+    // The attributes that the pieces of `later` in the text set.
+    pub(crate) fn read(text: &str, later: Option<Span>) -> Attributes
+        requires { IfSome later (StandsIn text.now) }
+        ensures read { HasRead (option_map (span_text text.now) later)
+            (attributes_of text.now result) None }
+        ensures place { AreIn text.now result }
     {
         let mut attributes = Attributes::unset();
         let mut rest = later;
-        while let Some(part) = rest {
-            let (piece, after) = part.cut(';');
+        while let Some(span) = rest {
+            let (piece, after) = Part::at(text, span).cut(';');
             attributes.update(Attributes::of(piece));
-            rest = after;
+            rest = Part::span_of(after);
         }
         attributes
     }

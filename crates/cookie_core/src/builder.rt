@@ -77,7 +77,8 @@ impl<'c> Builder<Cookie<'c>> {
 
     /// Sets the expiry. A date and time past 9999-12-31 23:59:59.999999 counts as that one.
     pub fn expires(mut self, when: Expiration) -> CookieBuilder<'c>
-        ensures fields { result.fields ≡ record self.entry.fields { expires = Some (capped_expiry when) } }
+        ensures fields { result.fields
+            ≡ record self.entry.fields { expires = Some (capped_expiry when) } }
         ensures raw { result.raw ≡ self.entry.raw }
     {
         self.inner.set_expires(when);
@@ -96,7 +97,8 @@ impl<'c> Builder<Cookie<'c>> {
 
     /// Sets the domain, of which one leading dot doesn't count.
     pub fn domain(mut self, domain: &'c str) -> CookieBuilder<'c>
-        ensures fields { result.fields ≡ record self.entry.fields { domain = Some (without_leading_dot domain.now) } }
+        ensures fields { result.fields
+            ≡ record self.entry.fields { domain = Some (without_leading_dot domain.now) } }
         ensures raw { result.raw ≡ record self.entry.raw { domain = None } }
     {
         self.inner.set_domain(domain);

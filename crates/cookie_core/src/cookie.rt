@@ -1,25 +1,20 @@
-//! The cookie: its record, its reading and its copies (RFC 6265 5.2, 5.3).
-ghost use Rattle.std.specs.Prelude.{false, ◌≡◌, ◌↔◌, pos, int_div, Option, None, Some, Ok, [], option_map, IfOk, alloc_error};
+//! The cookie: its fields, and a copy of it (RFC 6265 5.3).
+ghost use Rattle.std.specs.Prelude.{◌≡◌, pos, int_div, [], option_map, alloc_error};
 ghost use Rattle.cookie_core.specs.Memory.{Gives};
-ghost use Rattle.std.specs.Result.{result_ok};
 ghost use Rattle.std.specs.Option.{option_and_then};
 ghost use Rattle.jiff.specs.Words.{signed_nanos};
-ghost use Rattle.cookie_core.specs.Reads.{Reads, fields_of};
 ghost use Rattle.cookie_core.specs.Expiration.{datetime_of};
-ghost use Rattle.cookie_core.specs.CookieStr.{source_bytes, lent_forms};
-ghost use Rattle.cookie_core.specs.CookieOf.{cookie_of};
 ghost use Rattle.cookie_core.specs.Quotes.{trimmed_value};
-ghost use Rattle.cookie_core.specs.Record.{Record, IsCookie, no_raw_forms, all_lent, plain, without_leading_dot};
+ghost use Rattle.cookie_core.specs.Record.{IsCookie, no_raw_forms, plain, without_leading_dot};
 ghost use Rattle.cookie_core.specs.Same.{same, IsEquality};
 
 pub(crate) mod owned;
+mod parse;
 mod raw;
 mod setters;
 
 use crate::cookie_str::{self, CookieStr};
 use crate::expiration::Expiration;
-use crate::layout::Layout;
-use crate::parse_error::ParseError;
 use crate::quotes;
 use crate::same_site::SameSite;
 use crate::source::Source;
@@ -85,76 +80,6 @@ impl<'c> Cookie<'c> {
         ensures { result ≡ record { fields = plain name.now []; raw = no_raw_forms } }
     {
         Cookie::new(name, "")
-    }
-
-    /// Reads a text as a cookie (RFC 6265 5.2). It takes no memory: the parts are spans of the text.
-    pub fn parse(text: &'c str) -> Result<Cookie<'c>, ParseError>
-        ensures reads { Reads false text.now (fields_of result) }
-        ensures value { result_ok (fields_of result) ≡ cookie_of false text.now }
-        ensures agrees { (r : Record) → (cookie_of false text.now ≡ Some r) ↔ Reads false text.now (Ok r) }
-        ensures raw { IfOk result (λ c. c.raw ≡ all_lent c.fields) }
-    {
-        Cookie::read(Source::Borrowed(text))
-    }
-
-    fn read(source: Source<'c>) -> Result<Cookie<'c>, ParseError>
-        ensures reads { Reads false (source_bytes source.entry) (fields_of result) }
-        ensures raw { IfOk result (λ c. c.raw ≡ lent_forms source.entry c.fields) }
-    {
-        let layout = match Layout::of(source.as_str()) {
-            Ok(layout) => layout,
-            Err(error) => return Err(error),
-        };
-        let name = CookieStr::span(layout.name);
-        let value = CookieStr::span(layout.value);
-        let attributes = layout.attributes;
-        let path = cookie_str::span(attributes.path);
-        let domain = cookie_str::span(attributes.domain);
-        Ok(Cookie {
-            name,
-            value,
-            http_only: attributes.http_only,
-            secure: attributes.secure,
-            partitioned: attributes.partitioned,
-            same_site: attributes.same_site,
-            path,
-            domain,
-            max_age: attributes.max_age,
-            expires: attributes.expires,
-            source,
-        })
-    }
-
-    /// The same cookie with texts of its own.
-    pub fn into_owned(self, alloc: Global) -> Result<Cookie<'static>, AllocError>
-        ensures { Gives alloc_error result (λ c. c ≡ record { fields = self.entry.fields; raw = no_raw_forms }) }
-    {
-        let Cookie {
-            source,
-            name,
-            value,
-            http_only,
-            secure,
-            partitioned,
-            same_site,
-            path,
-            domain,
-            max_age,
-            expires,
-        } = self;
-        Ok(Cookie {
-            source: source.into_owned(alloc)?,
-            name: name.into_owned(alloc)?,
-            value: value.into_owned(alloc)?,
-            http_only,
-            secure,
-            partitioned,
-            same_site,
-            path: cookie_str::into_owned(path, alloc)?,
-            domain: cookie_str::into_owned(domain, alloc)?,
-            max_age,
-            expires,
-        })
     }
 
     /// A copy, with the same raw forms.

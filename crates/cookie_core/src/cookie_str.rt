@@ -1,37 +1,26 @@
 //! Where a cookie's texts stand.
-ghost use Rattle.std.specs.Prelude.{◌≡◌, List, ℕ, IfOk, IfSome, option_map};
-ghost use Rattle.cookie_core.specs.CookieStr.{source_bytes, text_bytes, raw_bytes, Fits, IsSameText, IsSameOptionalText, IsSpanOf, IsOptionalSpanOf};
-ghost use Rattle.cookie_core.specs.Fit.{Fit};
-ghost use Rattle.cookie_core.specs.Place.{IsPartAt};
-ghost use Rattle.cookie_core.specs.Settings.{IsTextIn};
+ghost use Rattle.std.specs.Prelude.{◌≡◌, IfOk, option_map};
+ghost use Rattle.cookie_core.specs.CookieStr.{source_bytes, text_bytes, raw_bytes, Fits, IsSameText, IsSameOptionalText};
 
-use crate::part::Part;
 use crate::source::Source;
+use crate::span::Span;
 use std::alloc::{AllocError, Global};
 
 /// A text of a cookie: a span of its source, or a text of its own.
 #[derive(Drop)]
 pub(crate) enum CookieStr<'c> {
-    Span(usize, usize),
+    Span(Span),
     Borrowed(&'c str),
     Owned(String),
 }
 
 impl<'c> CookieStr<'c> {
-    /// The span of the part.
-    pub(crate) fn span(part: Part<'_>) -> CookieStr<'c>
-        requires { Fit part }
-        ensures { (s : List ℕ) → IsPartAt s part.entry.start part.entry.text.now → IsSpanOf s part.entry.text.now result }
-    {
-        CookieStr::Span(part.start, part.start + part.text.len())
-    }
-
     pub(crate) fn as_str<'s>(&'s self, source: &'s Source<'c>) -> &'s str
         requires { Fits (source_bytes source.now) self.now }
         ensures { result.now ≡ text_bytes (source_bytes source.now) self.now }
     {
         match self {
-            CookieStr::Span(start, end) => &source.as_str()[*start..*end],
+            CookieStr::Span(span) => &source.as_str()[span.start..span.end],
             CookieStr::Borrowed(text) => text,
             CookieStr::Owned(text) => text.as_str(),
         }
@@ -42,7 +31,7 @@ impl<'c> CookieStr<'c> {
         ensures { option_map (λ r. r.now) result ≡ raw_bytes source.now self.now }
     {
         match (self, source) {
-            (CookieStr::Span(start, end), Source::Borrowed(text)) => Some(&text[*start..*end]),
+            (CookieStr::Span(span), Source::Borrowed(text)) => Some(&text[span.start..span.end]),
             _ => None,
         }
     }
@@ -51,7 +40,7 @@ impl<'c> CookieStr<'c> {
         ensures { IfOk result (IsSameText self.entry) }
     {
         match self {
-            CookieStr::Span(start, end) => Ok(CookieStr::Span(start, end)),
+            CookieStr::Span(span) => Ok(CookieStr::Span(span)),
             CookieStr::Borrowed(text) => Ok(CookieStr::Owned(String::from_str(alloc, text)?)),
             CookieStr::Owned(text) => Ok(CookieStr::Owned(text)),
         }
@@ -61,7 +50,7 @@ impl<'c> CookieStr<'c> {
         ensures { IfOk result (IsSameText self.now) }
     {
         match self {
-            CookieStr::Span(start, end) => Ok(CookieStr::Span(*start, *end)),
+            CookieStr::Span(span) => Ok(CookieStr::Span(*span)),
             CookieStr::Borrowed(text) => Ok(CookieStr::Borrowed(text)),
             CookieStr::Owned(text) => Ok(CookieStr::Owned(String::from_str(alloc, text.as_str())?)),
         }
@@ -94,13 +83,12 @@ pub(crate) fn clone<'c>(
     }
 }
 
-/// The span of the part, if there is one.
-pub(crate) fn span<'c>(part: Option<Part<'_>>) -> Option<CookieStr<'c>>
-    requires { IfSome part Fit }
-    ensures { (s : List ℕ) → IsTextIn s part.entry → IsOptionalSpanOf s (option_map (λ p. p.text.now) part.entry) result }
+// The text at the span, if there is one.
+pub(crate) fn span<'c>(span: Option<Span>) -> Option<CookieStr<'c>>
+    ensures { result ≡ option_map (λ p. CookieStr.Span p) span }
 {
-    match part {
-        Some(part) => Some(CookieStr::span(part)),
+    match span {
+        Some(span) => Some(CookieStr::Span(span)),
         None => None,
     }
 }

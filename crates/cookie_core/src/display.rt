@@ -255,7 +255,8 @@ impl<'a, 'c> Display<'a, 'c> {
 impl<'c> Cookie<'c> {
     /// The cookie as a `Set-Cookie` header has it, its name and value escaped.
     pub fn encoded(&self) -> Display<'_, 'c>
-        ensures { result ≡ record { fields = self.now.fields; is_encoded = true; is_stripped = false } }
+        ensures { result
+            ≡ record { fields = self.now.fields; is_encoded = true; is_stripped = false } }
     {
         Display {
             cookie: self,
@@ -266,7 +267,8 @@ impl<'c> Cookie<'c> {
 
     /// The cookie as a `Cookie` header has it: its name and value as they are, without its attributes.
     pub fn stripped(&self) -> Display<'_, 'c>
-        ensures { result ≡ record { fields = self.now.fields; is_encoded = false; is_stripped = true } }
+        ensures { result
+            ≡ record { fields = self.now.fields; is_encoded = false; is_stripped = true } }
     {
         Display {
             cookie: self,

@@ -59,7 +59,8 @@ impl Expiration {
     /// The expiry at what the function makes of its date and time; the end of the session stays.
     pub fn map<F: FnOnce(DateTime) -> DateTime + Drop>(self, f: F) -> Expiration
         requires { IfSome (datetime_of self) (F.pre f) }
-        ensures { MatchOption (datetime_of self) (datetime_of result ≡ None) (λ m. IsSomeAnd (datetime_of result) (F.post f m)) }
+        ensures { MatchOption (datetime_of self) (datetime_of result ≡ None)
+            (λ m. IsSomeAnd (datetime_of result) (F.post f m)) }
     {
         match self {
             Expiration::DateTime(moment) => Expiration::DateTime(f(moment)),

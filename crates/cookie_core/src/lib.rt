@@ -16,6 +16,7 @@ mod quotes;
 mod same;
 mod same_site;
 mod source;
+mod span;
 mod split;
 
 pub use builder::{Builder, CookieBuilder};

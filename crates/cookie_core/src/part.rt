@@ -1,81 +1,117 @@
-//! Parts of a text, with their places.
-ghost use Rattle.std.specs.Prelude.{◌≡◌, ◌+◌, ◌<◌, ◌≤◌, ◌++◌, ◌∷◌, List, ℕ, length, MatchOption, IfSome, Some};
+//! Parts of a text.
+ghost use Rattle.std.specs.Prelude.{◌≡◌, ◌<◌, ◌≤◌, ◌++◌, ◌∷◌, List, ℕ, length, MatchOption, option_map};
 ghost use Rattle.std.specs.Str.{trim};
 ghost use Rattle.cookie_core.specs.Pieces.{Lacks};
-ghost use Rattle.cookie_core.specs.Place.{IsPartAt};
-ghost use Rattle.cookie_core.specs.Fit.{Fit};
+ghost use Rattle.cookie_core.specs.Spans.{StandsIn, span_text};
 ghost use Rattle.cookie_core.specs.Trim.{IsTrimmed, IsBarePart};
 
-/// A part of a text, and where it begins there.
+use crate::span::Span;
+
+/// A part of a text, which knows that it stands there.
 #[derive(Clone, Copy)]
 pub(crate) struct Part<'t> {
-    pub(crate) start: usize,
-    pub(crate) text: &'t str,
+    pub(crate) whole: &'t str,
+    pub(crate) span: Span,
+    pub(crate) ghost stands: { StandsIn whole.now span },
 }
 
 impl<'t> Part<'t> {
-    pub(crate) fn whole(text: &'t str) -> Part<'t>
-        ensures text { result.text.now ≡ text.now }
-        ensures fits { Fit result }
-        ensures place { IsPartAt text.now result.start result.text.now }
+    ghost use Rattle.cookie_core.specs.Parts.{part_text, IsPartOf, IsOptionalPartOf};
+
+    // All of the text.
+    pub(crate) fn all(text: &'t str) -> Part<'t>
+        ensures place { IsPartOf text.now result }
+        ensures text { part_text result ≡ text.now }
     {
-        Part { start: 0, text }
+        let span = Span {
+            start: 0,
+            end: text.len(),
+        };
+        Part { whole: text, span }
     }
 
-    /// The parts before and after the first `mark`.
-    pub(crate) fn cut(self, mark: char) -> (Part<'t>, Option<Part<'t>>)
-        requires ascii { mark < 128 }
-        requires fits { Fit self }
-        ensures cut { MatchOption result.1 (result.0.text.now ≡ self.entry.text.now) (λ after. self.entry.text.now ≡ result.0.text.now ++ mark ∷ after.text.now) }
-        ensures fits { Fit result.0 }
-        ensures after_fits { IfSome result.1 Fit }
-        ensures before { Lacks mark result.0.text.now }
-        ensures place { (s : List ℕ) → IsPartAt s self.entry.start self.entry.text.now → IsPartAt s result.0.start result.0.text.now }
-        ensures after_place { (s : List ℕ) → IsPartAt s self.entry.start self.entry.text.now → IfSome result.1 (λ after. IsPartAt s after.start after.text.now) }
+    // The part of the text at the span.
+    pub(crate) fn at(text: &'t str, span: Span) -> Part<'t>
+        requires { StandsIn text.now span }
+        ensures place { IsPartOf text.now result }
+        ensures text { part_text result ≡ span_text text.now span }
     {
-        match self.text.find(mark) {
-            Some(at) => {
-                let before = Part {
-                    start: self.start,
-                    text: &self.text[..at],
-                };
-                let after = Part {
-                    start: self.start + at + 1,
-                    text: &self.text[at + 1..],
-                };
-                (before, Some(after))
-            }
-            None => (self, None),
-        }
+        Part { whole: text, span }
     }
 
-    /// The part without white space at its ends.
-    pub(crate) fn trim(self) -> Part<'t>
-        requires { Fit self }
-        ensures fits { Fit result }
-        ensures text { result.text.now ≡ trim self.entry.text.now }
-        ensures trimmed { IsTrimmed self.entry.text.now result.text.now }
-        ensures only { (part : List ℕ) → IsTrimmed self.entry.text.now part → part ≡ result.text.now }
-        ensures longest { (part : List ℕ) → IsBarePart self.entry.text.now part → length part ≤ length result.text.now }
-        ensures place { (s : List ℕ) → IsPartAt s self.entry.start self.entry.text.now → IsPartAt s result.start result.text.now }
+    // Where the part stands, if there is one.
+    pub(crate) fn span_of(part: Option<Part<'_>>) -> Option<Span>
+        ensures { result ≡ option_map (λ p. p.span) part.entry }
     {
-        let (skipped, text) = trimmed(self.text);
+        part.map(|part| part.span)
+    }
+
+    pub(crate) fn text(self) -> &'t str
+        ensures { result.now ≡ part_text self.entry }
+    {
+        &self.whole[self.span.start..self.span.end]
+    }
+
+    // The part at the span within this one.
+    fn inner(self, span: Span) -> Part<'t>
+        requires { StandsIn (part_text self) span }
+        ensures place { IsPartOf self.entry.whole.now result }
+        ensures text { part_text result ≡ span_text (part_text self.entry) span }
+    {
+        let start = self.span.start;
+        let span = Span {
+            start: start + span.start,
+            end: start + span.end,
+        };
         Part {
-            start: self.start + skipped,
-            text,
+            whole: self.whole,
+            span,
         }
+    }
+
+    // The parts before and after the first `mark`.
+    pub(crate) fn cut(self, mark: char) -> (Part<'t>, Option<Part<'t>>)
+        requires { mark < 128 }
+        ensures cut { MatchOption result.1 (part_text result.0 ≡ part_text self.entry)
+            (λ after. part_text self.entry ≡ part_text result.0 ++ mark ∷ part_text after) }
+        ensures before { Lacks mark (part_text result.0) }
+        ensures place { IsPartOf self.entry.whole.now result.0 }
+        ensures after_place { IsOptionalPartOf self.entry.whole.now result.1 }
+    {
+        let text = self.text();
+        let Some(at) = text.find(mark) else {
+            return (self, None);
+        };
+        let before = Span { start: 0, end: at };
+        let after = Span {
+            start: at + 1,
+            end: text.len(),
+        };
+        (self.inner(before), Some(self.inner(after)))
+    }
+
+    // The part without white space at its ends.
+    pub(crate) fn trim(self) -> Part<'t>
+        ensures text { part_text result ≡ trim (part_text self.entry) }
+        ensures place { IsPartOf self.entry.whole.now result }
+    {
+        self.inner(trim_span(self.text()))
     }
 }
 
-// How many bytes of white space stand at the start, and the text without the white space at its ends.
-fn trimmed(text: &str) -> (usize, &str)
-    ensures within { result.0 + length result.1.now ≤ length text.now }
-    ensures text { result.1.now ≡ trim text.now }
-    ensures trimmed { IsTrimmed text.now result.1.now }
-    ensures only { (part : List ℕ) → IsTrimmed text.now part → part ≡ result.1.now }
-    ensures longest { (part : List ℕ) → IsBarePart text.now part → length part ≤ length result.1.now }
-    ensures place { (s : List ℕ) (start : ℕ) → IsPartAt s start text.now → IsPartAt s (start + result.0) result.1.now }
+// What is left of the text without the white space at its ends (RFC 6265 5.2).
+fn trim_span(text: &str) -> Span
+    ensures stands { StandsIn text.now result }
+    ensures text { span_text text.now result ≡ trim text.now }
+    ensures trimmed { IsTrimmed text.now (span_text text.now result) }
+    ensures only { (part : List ℕ) → IsTrimmed text.now part → part ≡ span_text text.now result }
+    ensures longest { (part : List ℕ) → IsBarePart text.now part
+        → length part ≤ length (span_text text.now result) }
 {
     let kept = text.trim_start();
-    (text.len() - kept.len(), kept.trim_end())
+    let start = text.len() - kept.len();
+    Span {
+        start,
+        end: start + kept.trim_end().len(),
+    }
 }

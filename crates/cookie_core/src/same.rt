@@ -48,7 +48,8 @@ impl<'c> Cookie<'c> {
 }
 
 fn are_same(one: Option<&str>, other: Option<&str>) -> bool
-    ensures { result ≡ option_eq same_ignoring_case (option_map (λ t. t.now) one.entry) (option_map (λ t. t.now) other.entry) }
+    ensures { result ≡ option_eq same_ignoring_case
+        (option_map (λ t. t.now) one.entry) (option_map (λ t. t.now) other.entry) }
 {
     match (one, other) {
         (Some(one), Some(other)) => one.eq_ignore_ascii_case(other),

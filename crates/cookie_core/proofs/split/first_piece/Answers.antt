@@ -1,47 +1,38 @@
-use Rattle.std.proofs.Common.{◌≡◌, ◌==◌, ◌<◌, ℕ, suc, List, ◌∷◌, ◌++◌, length, length-append, Option, Some, None, MatchOption, sym, ap, ◌∙◌, arith}
-use Rattle.cookie_core.specs.Header.{header_texts}
+use Rattle.std.proofs.Common.{◌==◌, ℕ, List, ◌∷◌, length, sym, ap, ◌∙◌}
+use Rattle.cookie_core.specs.Parts.{part_text}
+use Rattle.cookie_core.specs.SplitCode.{texts_in}
 use Rattle.cookie_core.proofs.PieceLemmas.{header_texts-blank, header_texts-filled}
-use Rattle.cookie_core.proofs.PlaceLemmas.{IsPartAt-range}
-use Rattle.cookie_core.proofs.ReadingLemmas.{behind-cut}
-use Rattle.cookie_core.specs.declared.part.Part.{Part}
-use Rattle.cookie_core.proofs.split.first_piece.Invariants.{left_length}
+use Rattle.cookie_core.proofs.SpanLemmas.{after-cut, StandsIn-part, span_text-part, left_length-cut}
 use Rattle.cookie_core.proofs.split.first_piece.Goals as goal
 
-pub loop-left-init : goal.loop-left-init
-loop-left-init c =
-    record {
-      texts = ap header_texts c.range.ensures.value;
-      place = IsPartAt-range _ _ _ _ c.requires c.range.ensures.value c.range.utf8;
-      fits = omega (arith, c.range.ensures.len, c.requires.0, c.requires.2.0);
-    }
+pub at-requires : goal.at-requires
+at-requires c = rw c.in-Some.is at c.loop-left.invariant.fits
 
 pub returns-then-not-is_empty : goal.returns-then-not-is_empty
 returns-then-not-is_empty c =
-    let place = rw c.in-Some.is at c.loop-left.invariant.place in
+    let whole = c.trim-piece.ensures.place ∙ c.cut.ensures.place ∙ c.at.ensures.place in
+    let (text, stands) = after-cut c.args.text.now c.in-Some.span c.at.result c.cut.result.0 c.cut.result.1 c.span_of-after.result c.at.ensures.place c.at.ensures.text c.cut.ensures.cut c.cut.ensures.after_place c.span_of-after.ensures in
     let left = rw c.in-Some.is at c.loop-left.invariant.texts in
-    let piece = c.of.ensures _ (c.trim-piece.ensures.place _ (c.cut.ensures.place _ place)) in
-    let after = c.after_piece.ensures _ (c.cut.ensures.after_place _ place) in (
-      piece.0,
-      after.0,
-      rw (piece.1, after.1, c.trim-piece.ensures.text) (sym left
-          ∙ header_texts-filled c.in-Some.part.text.now c.cut.result.0.text.now _ (behind-cut _ _ _ c.cut.ensures.cut) c.cut.ensures.before
-          (ap (λ (t : List ℕ). length t == 0) (sym c.trim-piece.ensures.text) ∙ sym c.is_empty.ensures ∙ c.if-not-is_empty.true)),
+    let piece = span_text-part c.args.text.now c.trim-piece.result whole ∙ c.trim-piece.ensures.text in (
+      StandsIn-part c.args.text.now c.trim-piece.result whole,
+      stands,
+      sym left
+          ∙ header_texts-filled _ (part_text c.cut.result.0) _ text c.cut.ensures.before
+          (ap (λ (t : List ℕ). length t == 0) (sym c.trim-piece.ensures.text ∙ sym c.text.ensures) ∙ sym c.is_empty.ensures ∙ c.if-not-is_empty.true)
+          ∙ ap (λ t. t ∷ texts_in c.args.text.now c.span_of-after.result) (sym piece),
     )
 
 pub loop-left-preserved : goal.loop-left-preserved
 loop-left-preserved c =
-    let place = rw c.in-Some.is at c.loop-left.invariant.place in
+    let (text, stands) = after-cut c.args.text.now c.in-Some.span c.at.result c.cut.result.0 c.cut.result.1 c.span_of-after.result c.at.ensures.place c.at.ensures.text c.cut.ensures.cut c.cut.ensures.after_place c.span_of-after.ensures in
     let left = rw c.in-Some.is at c.loop-left.invariant.texts in
     record {
-      texts = sym (header_texts-blank c.in-Some.part.text.now c.cut.result.0.text.now _ (behind-cut _ _ _ c.cut.ensures.cut) c.cut.ensures.before
-          (ap (λ (t : List ℕ). length t == 0) (sym c.trim-piece.ensures.text) ∙ sym c.is_empty.ensures ∙ c.if-not-is_empty.false)) ∙ left;
-      place = c.cut.ensures.after_place _ place;
-      fits = c.cut.ensures.after_fits;
+      texts = sym (header_texts-blank _ (part_text c.cut.result.0) _ text c.cut.ensures.before
+          (ap (λ (t : List ℕ). length t == 0) (sym c.trim-piece.ensures.text ∙ sym c.text.ensures) ∙ sym c.is_empty.ensures ∙ c.if-not-is_empty.false)) ∙ left;
+      fits = stands;
     }
 
-shorter : (t p : List ℕ) (o : Option Part) → MatchOption o (p ≡ t) (λ after. t ≡ p ++ 59 ∷ after.text.now) → left_length o < suc (length t)
-shorter t p None e = omega arith
-shorter t p (Some a) e = omega (arith, ap length e, length-append p (59 ∷ a.text.now))
-
 pub loop-left-smaller : goal.loop-left-smaller
-loop-left-smaller c = rw c.in-Some.is (shorter _ c.cut.result.0.text.now c.cut.result.1 c.cut.ensures.cut)
+loop-left-smaller c =
+    let (text, stands) = after-cut c.args.text.now c.in-Some.span c.at.result c.cut.result.0 c.cut.result.1 c.span_of-after.result c.at.ensures.place c.at.ensures.text c.cut.ensures.cut c.cut.ensures.after_place c.span_of-after.ensures in
+    rw c.in-Some.is (left_length-cut c.args.text.now c.in-Some.span (part_text c.cut.result.0) c.span_of-after.result text)

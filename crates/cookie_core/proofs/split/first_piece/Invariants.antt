@@ -1,22 +1,15 @@
-use Rattle.std.proofs.Common.{◌≡◌, ℕ, suc, length, option_map, IfSome, Option, Some, None}
-use Rattle.cookie_core.specs.Fit.{Fit}
+use Rattle.std.proofs.Common.{◌≡◌, IfSome}
 use Rattle.cookie_core.specs.Header.{header_texts}
-use Rattle.cookie_core.specs.Settings.{IsTextIn}
-use Rattle.cookie_core.specs.SplitCode.{cut_out}
-use Rattle.cookie_core.specs.SplitCookies.{texts_left}
-use Rattle.cookie_core.specs.declared.part.Part.{Part}
+use Rattle.cookie_core.specs.Spans.{StandsIn, span_text}
+use Rattle.cookie_core.specs.SplitCode.{texts_in}
+use Rattle.cookie_core.proofs.SpanLemmas.{left_length}
 use Rattle.cookie_core.proofs.split.first_piece.Given as goal
-
-abbrev pub left_length : Option Part → ℕ
-left_length None = 0
-left_length (Some p) = suc (length p.text.now)
 
 abbrev pub invariant-loop-left : goal.invariant-loop-left
 invariant-loop-left l = record {
-  texts : texts_left (option_map (λ (p : Part). p.text.now) l.left) ≡ header_texts (cut_out l.fn.text l.fn.rest);
-  place : IsTextIn l.fn.text l.left;
-  fits : IfSome l.left Fit;
+  texts : texts_in l.fn.text l.left ≡ header_texts (span_text l.fn.text l.fn.rest);
+  fits : IfSome l.left (StandsIn l.fn.text);
 }
 
 abbrev pub decreases-loop-left : goal.decreases-loop-left
-decreases-loop-left l = left_length l.left
+decreases-loop-left l = left_length l.fn.text l.left

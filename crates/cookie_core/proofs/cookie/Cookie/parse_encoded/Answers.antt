@@ -1,7 +1,7 @@
 use Rattle.std.proofs.Common.{true, ap, ◌∙◌}
 use Rattle.cookie_core.specs.CookieOf.{cookie_of}
 use Rattle.cookie_core.proofs.CookieOfLemmas.{cookie_of-Reads}
-use Rattle.cookie_core.proofs.DecodeLemmas.{AgreesInMemory-reads, LendsDecoded-borrowed}
+use Rattle.cookie_core.proofs.DecodeLemmas.{AgreesInMemory-reads, LendsDecoded-raw}
 use Rattle.cookie_core.proofs.LawLemmas.{agreed-gives}
 use Rattle.cookie_core.proofs.NormalFormLemmas.{cookie_of-normal_form, cookie_of-stripped}
 use Rattle.cookie_core.proofs.NormalLemmas.{normal_form-second, normal_form-third}
@@ -11,7 +11,7 @@ pub returns-clause-value : goal.returns-clause-value
 returns-clause-value c = AgreesInMemory-reads true c.args.text.now _ c.read_encoded.ensures.reads
 
 pub returns-clause-raw : goal.returns-clause-raw
-returns-clause-raw c = LendsDecoded-borrowed c.args.text _ c.read_encoded.ensures.raw
+returns-clause-raw c = LendsDecoded-raw c.args.text.now _ c.read_encoded.ensures.raw
 
 pub returns-clause-normal : goal.returns-clause-normal
 returns-clause-normal c r is can e =

@@ -1,7 +1,6 @@
-use Rattle.std.proofs.Common.{true, refl, ap, ◌∙◌, string_bytes}
+use Rattle.std.proofs.Common.{true, ap, ◌∙◌, string_bytes}
 use Rattle.cookie_core.specs.CookieOf.{cookie_of}
-use Rattle.cookie_core.specs.declared.source.Source.TheVariants as source
-use Rattle.cookie_core.proofs.DecodeLemmas.{AgreesInMemory-reads, no_raw_forms-source}
+use Rattle.cookie_core.proofs.DecodeLemmas.{AgreesInMemory-reads, no_raw_forms-decoded}
 use Rattle.cookie_core.proofs.LawLemmas.{agreed-gives}
 use Rattle.cookie_core.proofs.NormalFormLemmas.{cookie_of-normal_form, cookie_of-stripped}
 use Rattle.cookie_core.proofs.cookie.Cookie.parse_encoded_owned.Goals as goal
@@ -10,7 +9,7 @@ pub returns-clause-value : goal.returns-clause-value
 returns-clause-value c = AgreesInMemory-reads true (string_bytes c.args.text) _ c.read_encoded.ensures.reads
 
 pub returns-clause-raw : goal.returns-clause-raw
-returns-clause-raw c = no_raw_forms-source (source.Owned c.args.text) _ _ (λ b. refl) c.read_encoded.ensures.raw
+returns-clause-raw c = no_raw_forms-decoded (string_bytes c.args.text) _ c.read_encoded.ensures.raw
 
 pub returns-clause-normal : goal.returns-clause-normal
 returns-clause-normal c r is can e =

@@ -1,47 +1,31 @@
-use Rattle.std.proofs.Common.{true, Ok, refl, sym, ap, subst, ◌∙◌}
-use Rattle.std.proofs.lemmas.Option.{same_Some}
-use Rattle.cookie_core.specs.CookieStr.{source_bytes}
-use Rattle.cookie_core.specs.Decoding.{ReadsInMemory, are_decoded}
-use Rattle.cookie_core.specs.Record.{Record}
-use Rattle.cookie_core.specs.Settings.{layout_record}
-use Rattle.cookie_core.proofs.DecodeLemmas.{NamesFault-error, NamesFault-refused, ReadsDecoded-error, ReadsDecoded-refused, ReadsDecoded-record, cookie_of-parts, not_refused, raw-inside}
-use Rattle.cookie_core.proofs.SpanLemmas.{fields-inside}
+use Rattle.std.proofs.lemmas.Result.{err_from_is_err_and}
+use Rattle.cookie_core.specs.CookieStr.{lent_forms}
+use Rattle.cookie_core.proofs.DecodeLemmas.{ReadsInMemory-decoded, NamesFault-decoded, IsCertain-decoded, raw-decoded, ReadsInMemory-refused, NamesFault-refused, IsCertain-refused}
 use Rattle.cookie_core.proofs.cookie.Cookie.read_encoded.Goals as goal
 
-pub returns-in-Err-clause-reads : goal.returns-in-Err-clause-reads
-returns-in-Err-clause-reads c = ReadsDecoded-error _ _ (rw c.as_str.ensures at c.in-Err.ensures.reads)
+pub returns-in_err-cookie-clause-reads : goal.returns-in_err-cookie-clause-reads
+returns-in_err-cookie-clause-reads c =
+    let p = err_from_is_err_and c.from_residual.result c.from_residual.ensures.1 in
+    rw (p.1, p.2) (ReadsInMemory-refused _ c.in_err-cookie.field-0.0 c.in_err-cookie.ensures.reads)
 
-pub returns-in-Err-decode_pair-clause-reads : goal.returns-in-Err-decode_pair-clause-reads
-returns-in-Err-decode_pair-clause-reads c =
-    ReadsDecoded-refused _ (layout_record c.in-Ok.layout) c.in-Err-decode_pair.error (rw c.as_str.ensures at c.in-Ok.ensures.reads) c.in-Err-decode_pair.ensures.refused
+pub returns-in_err-cookie-clause-fault : goal.returns-in_err-cookie-clause-fault
+returns-in_err-cookie-clause-fault c =
+    let p = err_from_is_err_and c.from_residual.result c.from_residual.ensures.1 in
+    rw (p.1, p.2) (NamesFault-refused _ c.in_err-cookie.field-0.0 c.in_err-cookie.ensures.reads)
+
+pub returns-in_err-cookie-clause-certain : goal.returns-in_err-cookie-clause-certain
+returns-in_err-cookie-clause-certain c =
+    IsCertain-refused _ c.in_err-cookie.field-0.0 c.from_residual.result c.in_err-cookie.ensures.reads
 
 pub returns-clause-reads : goal.returns-clause-reads
-returns-clause-reads c =
-    let p = rw c.as_str.ensures at c.in-Ok.ensures.place in
-    let h = c.in-Ok-decode_pair.ensures.name _ p.name in
-    let k = c.in-Ok-decode_pair.ensures.value _ p.value in
-    let e = fields-inside c.args.source c.in-Ok-decode_pair.pair.0 c.in-Ok-decode_pair.pair.1 c.span-path.result c.span-domain.result c.in-Ok.layout _ _ h.bytes k.bytes (c.span-path.ensures _ p.attributes.0) (c.span-domain.ensures _ p.attributes.1) in
-    subst (λ (r : Record). ReadsInMemory true (source_bytes c.args.source) (Ok r)) (sym e) (ReadsDecoded-record _ _ (source_bytes c.args.source) _ (layout_record c.in-Ok.layout) c.in-Ok-decode_pair.pair.0 c.in-Ok-decode_pair.pair.1 (rw c.as_str.ensures at c.in-Ok.ensures.reads) h k)
+returns-clause-reads c = ReadsInMemory-decoded _ c.in_ok-cookie.cookie _ c.in_ok-cookie.ensures.reads c.decode.ensures
+
+pub returns-clause-fault : goal.returns-clause-fault
+returns-clause-fault c = NamesFault-decoded _ c.in_ok-cookie.cookie _ c.in_ok-cookie.ensures.reads c.decode.ensures
+
+pub returns-clause-certain : goal.returns-clause-certain
+returns-clause-certain c = IsCertain-decoded _ c.in_ok-cookie.cookie _ c.in_ok-cookie.ensures.reads c.decode.ensures
 
 pub returns-clause-raw : goal.returns-clause-raw
 returns-clause-raw c =
-    let p = rw c.as_str.ensures at c.in-Ok.ensures.place in
-    let h = c.in-Ok-decode_pair.ensures.name _ p.name in
-    let k = c.in-Ok-decode_pair.ensures.value _ p.value in
-    (layout_record c.in-Ok.layout, cookie_of-parts _ _ (rw c.as_str.ensures at c.in-Ok.ensures.reads), raw-inside c.args.source _ _ _ _ c.in-Ok.layout (h.raw c.args.source refl) (k.raw c.args.source refl) (c.span-path.ensures _ p.attributes.0) (c.span-domain.ensures _ p.attributes.1))
-
-pub returns-in-Err-clause-fault : goal.returns-in-Err-clause-fault
-returns-in-Err-clause-fault c = NamesFault-error _ _ (rw c.as_str.ensures at c.in-Err.ensures.reads)
-
-pub returns-in-Err-decode_pair-clause-fault : goal.returns-in-Err-decode_pair-clause-fault
-returns-in-Err-decode_pair-clause-fault c =
-    NamesFault-refused _ (layout_record c.in-Ok.layout) c.in-Err-decode_pair.error (rw c.as_str.ensures at c.in-Ok.ensures.reads) c.in-Err-decode_pair.ensures.refused
-
-pub returns-in-Err-clause-certain : goal.returns-in-Err-clause-certain
-returns-in-Err-clause-certain c r s d =
-    absurd (not_refused _ r c.in-Err.error (rw c.as_str.ensures at c.in-Err.ensures.reads) s)
-
-pub returns-in-Err-decode_pair-clause-certain : goal.returns-in-Err-decode_pair-clause-certain
-returns-in-Err-decode_pair-clause-certain c r s d =
-    let parts = cookie_of-parts _ _ (rw c.as_str.ensures at c.in-Ok.ensures.reads) in
-    c.in-Err-decode_pair.ensures.certain (ap are_decoded (same_Some _ _ (sym parts ∙ s)) ∙ d)
+    raw-decoded _ c.in_ok-cookie.cookie (lent_forms c.args.source) _ c.in_ok-cookie.ensures.reads c.in_ok-cookie.ensures.raw c.decode.ensures

@@ -1,12 +1,13 @@
 use Rattle.std.proofs.Common.{refl, ap, ◌∙◌}
-use Rattle.cookie_core.specs.SplitCode.{header_bytes, cut_out, texts_in}
+use Rattle.cookie_core.specs.Spans.{span_text}
+use Rattle.cookie_core.specs.SplitCode.{header_bytes, texts_in}
 use Rattle.cookie_core.proofs.split.SplitCookiesIterator.next.Goals as goal
 
 pub returns-clause-steps : goal.returns-clause-steps
 returns-clause-steps c =
     let first = rw c.text.ensures at c.in_ok-piece.ensures in
     rw (← c.self.view_is) (
-      cut_out (header_bytes c.self.inside.header) c.in_ok-piece.piece,
+      span_text (header_bytes c.self.inside.header) c.in_ok-piece.piece,
       ap (texts_in (header_bytes c.self.inside.header)) c.in_ok-self.was ∙ first.2,
       record {
         reads = c.item.ensures.reads;

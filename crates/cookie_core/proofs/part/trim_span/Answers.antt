@@ -1,0 +1,35 @@
+use Rattle.std.proofs.Common.{◌≡◌, sym, ap, subst, ◌∙◌}
+use Rattle.std.specs.Str.{trim, trim_end}
+use Rattle.cookie_core.specs.Spans.{span_text}
+use Rattle.cookie_core.specs.Trim.{IsTrimmed}
+use Rattle.cookie_core.proofs.SpanLemmas.{span, StandsIn-trimmed, span_text-trimmed}
+use Rattle.cookie_core.proofs.TrimLemmas.{exactly, trims, longest}
+use Rattle.cookie_core.proofs.part.trim_span.Goals as goal
+use Rattle.cookie_core.proofs.part.trim_span.Goals.{After-trim_end}
+use Rattle.std.proofs.Common.{◌+◌, ◌-◌, length}
+
+is_trim : (c : After-trim_end) → span_text c.args.text.now (span (length c.args.text.now - length c.trim_start-kept.result.now) (length c.args.text.now - length c.trim_start-kept.result.now + length c.trim_end.result.now)) ≡ trim c.args.text.now
+is_trim c =
+    span_text-trimmed c.args.text.now c.trim_start-kept.result.now c.trim_end.result.now c.trim_start-kept.ensures.value c.trim_end.ensures.value
+    ∙ c.trim_end.ensures.trim
+    ∙ ap trim_end c.trim_start-kept.ensures.trim
+
+pub returns-clause-stands : goal.returns-clause-stands
+returns-clause-stands c =
+    StandsIn-trimmed c.args.text.now c.trim_start-kept.result.now c.trim_end.result.now c.trim_start-kept.ensures.value c.trim_start-kept.utf8 c.trim_end.ensures.value c.trim_end.utf8
+
+pub returns-clause-text : goal.returns-clause-text
+returns-clause-text c = is_trim (goal.at.returns-clause-text c).After-trim_end
+
+pub returns-clause-trimmed : goal.returns-clause-trimmed
+returns-clause-trimmed c =
+    subst (IsTrimmed c.args.text.now) (sym (is_trim (goal.at.returns-clause-trimmed c).After-trim_end)) (trims c.args.text.now c.utf8.text)
+
+pub returns-clause-only : goal.returns-clause-only
+returns-clause-only c part t =
+    exactly c.args.text.now part t ∙ sym (is_trim (goal.at.returns-clause-only c).After-trim_end)
+
+pub returns-clause-longest : goal.returns-clause-longest
+returns-clause-longest c part bare =
+    let is = is_trim (goal.at.returns-clause-longest c).After-trim_end in
+    longest c.args.text.now _ part (subst (IsTrimmed c.args.text.now) (sym is) (trims c.args.text.now c.utf8.text)) bare

@@ -1,0 +1,11 @@
+-- Mirrors private code: where a part of a text stands.
+use Rattle.std.specs.Prelude.{ℕ, ◌≤◌, List, slice_range, IsCharBoundary}
+use Rattle.cookie_core.specs.declared.span.Span.{Span}
+
+-- the span stands in the text s, and cuts no character
+abbrev pub StandsIn : List ℕ → Span → Type 0
+StandsIn s p = (p.start ≤ p.end) × IsCharBoundary s p.start × IsCharBoundary s p.end
+
+-- the bytes of the span in the text s
+abbrev pub span_text : List ℕ → Span → List ℕ
+span_text s p = slice_range s p.start p.end
