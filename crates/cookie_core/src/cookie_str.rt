@@ -57,7 +57,7 @@ impl<'c> CookieStr<'c> {
     }
 }
 
-/// The same text, if there is one, with no borrow.
+// The same text, if there is one, with no borrow.
 pub(crate) fn into_owned<'c>(
     text: Option<CookieStr<'c>>,
     alloc: Global,
@@ -70,7 +70,7 @@ pub(crate) fn into_owned<'c>(
     }
 }
 
-/// A copy of the text, if there is one.
+// A copy of the text, if there is one.
 pub(crate) fn clone<'c>(
     text: &Option<CookieStr<'c>>,
     alloc: Global,

@@ -91,7 +91,7 @@ impl<'c> Cookie<'c> {
         matches!(self.same_site(), Some(SameSite::None))
     }
 
-    /// Whether `Secure` is printed.
+    // Whether `Secure` is printed.
     fn shows_secure(&self) -> bool
         ensures { result ≡ prints_secure self.now.fields }
     {

@@ -67,7 +67,7 @@ impl<'a> fmt::Display for EncodedText<'a> {
     }
 }
 
-/// Whether a `%` with two hexadecimal digits stands in the text.
+// Whether a `%` with two hexadecimal digits stands in the text.
 pub(crate) fn has_escape(text: &str) -> bool
     ensures { result ≡ has_escape text.now }
 {

@@ -14,7 +14,7 @@ pub enum Expiration {
     Session,
 }
 
-/// The last expiry that a cookie keeps.
+// The last expiry that a cookie keeps.
 fn last_expiry() -> DateTime
     ensures { (other : Moment) → result ≡ last_expiry other }
 {
@@ -68,7 +68,7 @@ impl Expiration {
         }
     }
 
-    /// The expiry, or the last one that a cookie keeps if it is later.
+    // The expiry, or the last one that a cookie keeps if it is later.
     pub(crate) fn cap(self) -> Expiration
         ensures { result ≡ capped_expiry self }
     {

@@ -74,7 +74,8 @@ impl<'c> Cookie<'c> {
 
     /// Sets the path to a text of its own, which is no longer lent.
     pub fn set_path_owned(&mut self, path: String)
-        ensures fields { self.new.fields ≡ record self.old.fields { path = Some (string_bytes path) } }
+        ensures fields { self.new.fields
+            ≡ record self.old.fields { path = Some (string_bytes path) } }
         ensures raw { self.new.raw ≡ record self.old.raw { path = None } }
     {
         self.path = Some(CookieStr::Owned(path));
@@ -82,7 +83,8 @@ impl<'c> Cookie<'c> {
 
     /// Sets the domain to a text of its own, which is no longer lent. One leading dot isn't part of the domain.
     pub fn set_domain_owned(&mut self, domain: String)
-        ensures fields { self.new.fields ≡ record self.old.fields { domain = Some (without_leading_dot (string_bytes domain)) } }
+        ensures fields { self.new.fields
+            ≡ record self.old.fields { domain = Some (without_leading_dot (string_bytes domain)) } }
         ensures raw { self.new.raw ≡ record self.old.raw { domain = None } }
     {
         self.domain = Some(CookieStr::Owned(domain));

@@ -82,7 +82,8 @@ impl<'c> Cookie<'c> {
 
     /// Sets the domain, of which one leading dot doesn't count.
     pub fn set_domain(&mut self, domain: &'c str)
-        ensures fields { self.new.fields ≡ record self.old.fields { domain = Some (without_leading_dot domain.now) } }
+        ensures fields { self.new.fields
+            ≡ record self.old.fields { domain = Some (without_leading_dot domain.now) } }
         ensures raw { self.new.raw ≡ record self.old.raw { domain = None } }
     {
         self.domain = Some(CookieStr::Borrowed(domain));
@@ -108,7 +109,8 @@ impl<'c> Cookie<'c> {
 
     /// Sets the expiry. A date and time past 9999-12-31 23:59:59.999999 counts as that one.
     pub fn set_expires(&mut self, when: Expiration)
-        ensures fields { self.new.fields ≡ record self.old.fields { expires = Some (capped_expiry when) } }
+        ensures fields { self.new.fields
+            ≡ record self.old.fields { expires = Some (capped_expiry when) } }
         ensures raw { self.new.raw ≡ self.old.raw }
     {
         self.expires = Some(when.cap());
