@@ -9,7 +9,7 @@ use Rattle.std.specs.FinMap.{FinMap, empty, get, insert, get-empty}
 use Rattle.std.specs.List.{list_any}
 use Rattle.std.specs.Str.{bytes_eq}
 use Rattle.jiff.specs.Types.{DateTime}
-use Rattle.cookie.specs.History.{after_all, original_by, last_original, is_forced}
+use Rattle.cookie.specs.History.{after_all, original_by, forces, last_original, is_forced, originals_of}
 use Rattle.cookie.specs.Jar.{Name, name_cmp, Marked, JarState, empty_jar, Change, AddOriginal, Add, Remove, ForceRemove, ResetDelta, after, overlay}
 use Rattle.cookie.specs.Record.{Record}
 use Rattle.cookie.proofs.HistoryLemmas.{looks_back}
@@ -18,7 +18,7 @@ use Rattle.cookie.proofs.OutcomeLemmas.{nameless_outcome}
 use Rattle.cookie_client.specs.Agreement.{Agrees, AreDeltaTexts, HoldsOriginals, alters_original, value_of}
 use Rattle.cookie_client.specs.Calls.{IsFit, IsKnownChange}
 use Rattle.cookie_client.specs.Client.{Values, after_texts}
-use Rattle.cookie_client.specs.Originals.{holding, holds_originals, originals_of}
+use Rattle.cookie_client.specs.Originals.{holding, holds_originals}
 use Rattle.cookie_client.proofs.ChangeLemmas.{are_kept, are_fit}
 use Rattle.cookie_client.proofs.EntryLemmas.{AreEntries, AreEntries-empty, chosen}
 use Rattle.cookie_client.proofs.FitLemmas.{IsFitEntry, decided_fit}
@@ -26,7 +26,7 @@ use Rattle.cookie_client.proofs.ReadTextLemmas.{IsKept, effect, decided, read_at
 
 -- ---- what the client held
 
-some_value : (b : Bool) (cookie : Record) (o : Option Record) → cond b (Some cookie.value) (value_of o) ≡ value_of (cond b (Some cookie) o)
+pub some_value : (b : Bool) (cookie : Record) (o : Option Record) → cond b (Some cookie.value) (value_of o) ≡ value_of (cond b (Some cookie) o)
 some_value true cookie o = refl
 some_value false cookie o = refl
 
@@ -92,31 +92,13 @@ decided_unnamed now delta kept (Some entry) e before = ap (λ o. effect now o be
 
 -- ---- names that are removed by force
 
-abbrev forces : Name → Change → Bool
-forces name (AddOriginal cookie) = false
-forces name (Add cookie) = false
-forces name (Remove cookie now) = false
-forces name (ForceRemove forced) = bytes_eq name forced
-forces name ResetDelta = false
-
-is_forced-first : (name : Name) (change : Change) (changes : List Change) → is_forced name (change ∷ changes) ≡ forces name change || is_forced name changes
-is_forced-first name (AddOriginal cookie) changes = refl
-is_forced-first name (Add cookie) changes = refl
-is_forced-first name (Remove cookie now) changes = refl
-is_forced-first name (ForceRemove forced) changes = refl
-is_forced-first name ResetDelta changes = refl
-
-unforced_parts : (name : Name) (change : Change) (changes : List Change) → is_forced name (change ∷ changes) ≡ false → (forces name change ≡ false) × (is_forced name changes ≡ false)
-unforced_parts name change changes e =
-    or_parts (forces name change) (is_forced name changes) (sym (is_forced-first name change changes) ∙ e)
-
 unforced_first : (name : Name) (change : Change) (changes : List Change) → forces name change ≡ false → is_forced name changes ≡ false → is_forced name (change ∷ changes) ≡ false
-unforced_first name change changes e f = is_forced-first name change changes ∙ ap (λ b. b || is_forced name changes) e ∙ f
+unforced_first name change changes e f = ap (λ b. b || is_forced name changes) e ∙ f
 
 unforced_back : (name : Name) (changes earlier : List Change) → is_forced name changes ≡ false → is_forced name earlier ≡ false → is_forced name (reverse_aux changes earlier) ≡ false
 unforced_back name [] earlier front back = back
 unforced_back name (change ∷ changes) earlier front back =
-    let parts = unforced_parts name change changes front in
+    let parts = or_parts (forces name change) (is_forced name changes) front in
     unforced_back name changes (change ∷ earlier) parts.1 (unforced_first name change earlier parts.0 back)
 
 -- ---- what a client holds that was told of each original

@@ -5,11 +5,12 @@ use Rattle.std.proofs.lemmas.Slice.Eq.{bytes_eq-Decides}
 use Rattle.std.specs.FinMap.{get}
 use Rattle.std.specs.List.{filter_map, cons_option}
 use Rattle.std.specs.Option.{option_to_list}
+use Rattle.cookie.specs.History.{originals_of}
 use Rattle.cookie.specs.Jar.{Name, JarState, Change, AddOriginal, after}
 use Rattle.cookie.specs.Record.{Record}
 use Rattle.cookie.proofs.NameLemmas.{get_inserted}
 use Rattle.cookie_client.specs.Client.{Values}
-use Rattle.cookie_client.specs.Originals.{holding, originals_of, with_originals}
+use Rattle.cookie_client.specs.Originals.{holding, with_originals}
 use Rattle.cookie_client.specs.Steps.{HoldsAdded}
 
 module _ (reading : List ℕ → Option Record) where

@@ -26,7 +26,7 @@ use Rattle.cookie_client.specs.Steps.{IsHeaderOf}
 use Rattle.cookie_client.specs.declared.call.JarCall.{JarCall}
 use Rattle.cookie_client.specs.declared.exchange.Played.{Played}
 use Rattle.cookie_client.specs.declared.request.Request.{Request}
-use Rattle.cookie_client.proofs.AgreementLemmas.{kept_originals}
+use Rattle.cookie_client.proofs.AgreementLemmas.{kept_originals, some_value}
 use Rattle.cookie_client.proofs.EntriesLemmas.{T-true, find_below}
 use Rattle.cookie_client.proofs.HeaderLemmas.{Pair, plain_of}
 
@@ -97,10 +97,6 @@ original_of client name =
 
 -- ---- the client that holds the cookies of its header
 
-inserted_value : (b : Bool) (cookie : Record) (o : Option Record) → cond b (Some cookie.value) (value_of o) ≡ value_of (cond b (Some cookie) o)
-inserted_value true cookie o = refl
-inserted_value false cookie o = refl
-
 -- it has the values of the originals
 held_values : (cookies : List Record) (values : Values) (jar : JarState) (name : Name) → get values name ≡ value_of (get jar.originals name)
     → get (holding cookies values) name ≡ value_of (get (with_originals cookies jar).originals name)
@@ -109,7 +105,7 @@ held_values (cookie ∷ cookies) values jar name same =
     held_values cookies (insert values cookie.name cookie.value) (after (AddOriginal cookie) jar) name
     (get_inserted values cookie.name cookie.value name
     ∙ ap (cond (bytes_eq name cookie.name) (Some cookie.value)) same
-    ∙ inserted_value (bytes_eq name cookie.name) cookie (get jar.originals name)
+    ∙ some_value (bytes_eq name cookie.name) cookie (get jar.originals name)
     ∙ ap value_of (sym (get_inserted jar.originals cookie.name cookie name)))
 
 value_of-plain : (name : Name) (o : Option (List ℕ)) → value_of (option_map (plain name) o) ≡ o

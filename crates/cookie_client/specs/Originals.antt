@@ -2,7 +2,7 @@
 use Rattle.std.specs.Prelude.{ℕ, true, List, [], ◌∷◌, map}
 use Rattle.std.specs.FinMap.{empty, insert}
 use Rattle.cookie.specs.CookieOf.{header_cookies}
-use Rattle.cookie.specs.History.{after_all}
+use Rattle.cookie.specs.History.{after_all, originals_of}
 use Rattle.cookie.specs.Jar.{JarState, Change, AddOriginal, empty_jar}
 use Rattle.cookie.specs.Record.{Record}
 use Rattle.cookie_client.specs.Client.{Values}
@@ -23,12 +23,6 @@ jar_for header = with_originals (header_cookies true header) empty_jar
 -- a client that holds the cookies of a header
 abbrev pub client_for : List ℕ → Values
 client_for header = holding (header_cookies true header) empty
-
--- the cookies that changes add as originals, in their order
-abbrev pub originals_of : List Change → List Record
-originals_of [] = []
-originals_of (AddOriginal cookie ∷ changes) = cookie ∷ originals_of changes
-originals_of (change ∷ changes) = originals_of changes
 
 -- what a client holds that was told of the value of each name's last original
 abbrev pub holds_originals : List Change → Values

@@ -3,10 +3,11 @@ use Rattle.std.specs.Prelude.{◌≡◌, ℕ, true, List, [], ◌∷◌, map, On
 use Rattle.std.specs.FinMap.{get, entries}
 use Rattle.cookie.specs.CookieOf.{cookie_of}
 use Rattle.cookie.specs.Header.{header_texts}
+use Rattle.cookie.specs.History.{originals_of}
 use Rattle.cookie.specs.Jar.{Change, JarState, after}
 use Rattle.cookie.specs.Record.{plain}
 use Rattle.cookie_client.specs.Client.{Values, header_text}
-use Rattle.cookie_client.specs.Originals.{holding, originals_of}
+use Rattle.cookie_client.specs.Originals.{holding}
 use Rattle.cookie_client.specs.declared.originals.Originals.{Originals}
 use Rattle.cookie_client.specs.declared.originals.Originals.TheVariants as originals
 

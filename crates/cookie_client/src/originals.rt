@@ -3,10 +3,10 @@ ghost use Rattle.std.specs.Prelude.{◌≡◌, ◌∷◌, [], IfOk, OnOk};
 ghost use Rattle.std.specs.FinMap.{get};
 ghost use Rattle.std.specs.List.{AllZip};
 ghost use Rattle.std.specs.Option.{option_to_list};
-ghost use Rattle.cookie.specs.History.{after_all};
+ghost use Rattle.cookie.specs.History.{after_all, originals_of};
 ghost use Rattle.cookie.specs.Record.{Record};
 ghost use Rattle.cookie_client.specs.Calls.{IsOutcome, Storing, asked_of_child, change_of, changes_of, prefixed_by, stored_by};
-ghost use Rattle.cookie_client.specs.Originals.{holding, originals_of};
+ghost use Rattle.cookie_client.specs.Originals.{holding};
 ghost use Rattle.cookie_client.specs.Steps.{HoldsAdded, after_originals};
 
 use crate::call::JarCall;

@@ -1,8 +1,8 @@
 //! Sessions of the program, over bytes in memory.
 use super::MOMENT;
-use cookie::JarError;
-use cookie_client::{ClientError, RunError, run};
+use cookie_client::{ClientError, RunError, run, run_with_hasher};
 use std::alloc::Global;
+use std::hash::RandomState;
 use std::test::Fail;
 
 // The text of a session.
@@ -104,15 +104,25 @@ fn faults_are_told_in_their_order(rt: HostRuntime) -> Result<(), Fail> {
 }
 
 #[test]
+fn drawn_keys_change_no_text(rt: HostRuntime) -> Result<(), Fail> {
+    let state = RandomState::new(&rt)?;
+    let mut reader: &[u8] = b"name=val\nadd a=1\nremove name\n";
+    let mut written = Vec::new(rt.alloc());
+    run_with_hasher(rt.alloc(), state, MOMENT, &mut reader, &mut written)?;
+    assert_eq!(
+        rt;
+        str::from_utf8(&written)?,
+        "Set-Cookie: a=1\nSet-Cookie: name=; Max-Age=0; Expires=Tue, 21 Oct 2014 07:28:00 GMT\nCookie: a=1\n",
+    );
+    Ok(())
+}
+
+#[test]
 fn other_faults_have_their_texts(rt: HostRuntime) -> Result<(), Fail> {
     for (error, wanted) in [
         (RunError::OutOfMemory, "cookiejar: out of memory"),
         (
             RunError::from(ClientError::OutOfMemory),
-            "cookiejar: out of memory",
-        ),
-        (
-            RunError::from(JarError::OutOfMemory),
             "cookiejar: out of memory",
         ),
         (RunError::Input, "cookiejar: input or output failed"),

@@ -1,9 +1,9 @@
 use Rattle.std.proofs.Common.{ap, subst, sym, ◌∙◌, reverse}
 use Rattle.std.proofs.lemmas.Result.{IfOk-weaker}
-use Rattle.cookie.specs.History.{after_all, LooksBack}
+use Rattle.cookie.specs.History.{after_all, LooksBack, originals_of}
 use Rattle.cookie.specs.Jar.{JarState}
 use Rattle.cookie_client.specs.Exchange.{IsExchange, changes_by}
-use Rattle.cookie_client.specs.Originals.{holding, holds_originals, originals_of}
+use Rattle.cookie_client.specs.Originals.{holding, holds_originals}
 use Rattle.cookie_client.proofs.AgreementLemmas.{holds_each}
 use Rattle.cookie_client.proofs.exchange.mirror.Goals as goal
 

@@ -1,8 +1,8 @@
 use Rattle.std.proofs.Common.{ap, ◌∙◌, [], append-nil, drop_of_length-le, subst, sym}
 use Rattle.std.specs.List.{AllZip}
-use Rattle.cookie.specs.History.{after_all}
+use Rattle.cookie.specs.History.{after_all, originals_of}
 use Rattle.cookie_client.specs.Calls.{IsOutcome, changes_of}
-use Rattle.cookie_client.specs.Originals.{holding, originals_of}
+use Rattle.cookie_client.specs.Originals.{holding}
 use Rattle.cookie_client.proofs.originals.replay_told.Goals as goal
 
 pub returns-clause-jar : goal.returns-clause-jar

@@ -1,8 +1,8 @@
 use Rattle.std.proofs.Common.{◌≡◌, ◌≤◌, List, Bool, ◌++◌, drop, length, vec_capacity}
 use Rattle.std.specs.List.{AllZip}
-use Rattle.cookie.specs.History.{after_all}
+use Rattle.cookie.specs.History.{after_all, originals_of}
 use Rattle.cookie_client.specs.Calls.{IsOutcome, changes_of}
-use Rattle.cookie_client.specs.Originals.{holding, originals_of}
+use Rattle.cookie_client.specs.Originals.{holding}
 use Rattle.cookie_client.proofs.originals.replay_told.Given as goal
 
 -- any outcomes of the calls that are left complete the outcomes so far
