@@ -1,0 +1,2 @@
+-- The words of the uses' contracts.
+pub mod Words

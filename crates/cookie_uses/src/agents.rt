@@ -1,0 +1,24 @@
+//! A browser's view of a response.
+ghost use Rattle.std.specs.Prelude.{[], IfOk, string_bytes};
+ghost use Rattle.cookie_agent.specs.Sent.{IsOrderedHeader};
+ghost use Rattle.cookie_agent.specs.Store.{after_text, standard_key};
+
+use cookie_agent::{Agent, AgentError, Site};
+use jiff::civil::DateTime;
+use std::alloc::Global;
+
+/// The `Cookie` header that a browser sends a site right after the site's response with this `Set-Cookie` text. `now` is
+/// in UTC.
+pub fn next_header(
+    alloc: Global,
+    site: &Site,
+    text: &str,
+    now: DateTime,
+) -> Result<String, AgentError>
+    ensures { IfOk result (λ header. IsOrderedHeader site.now now
+        (after_text standard_key site.now now text.now []) (string_bytes header)) }
+{
+    let mut agent = Agent::new(alloc);
+    agent.read(site, text, now)?;
+    agent.header(site, now)
+}

@@ -1,0 +1,36 @@
+//! Calls as values, and a client that follows them.
+ghost use Rattle.std.specs.Prelude.{◌≡◌, ◌↔◌, false, IsTrue, IfOk, IfSome, All};
+ghost use Rattle.std.specs.FinMap.{get};
+ghost use Rattle.cookie.specs.History.{is_forced};
+ghost use Rattle.cookie.specs.Jar.{Name, view};
+ghost use Rattle.cookie_client.specs.Agreement.{value_of};
+ghost use Rattle.cookie_client.specs.Calls.{IsFitCall, changes_of};
+
+use cookie_client::{ClientError, JarCall, Played, mirror};
+use jiff::civil::DateTime;
+use std::alloc::Global;
+
+/// Whether a client can follow all the calls at the moment `now` in UTC.
+fn are_fit(calls: &[JarCall<'_>], now: DateTime) -> bool
+    ensures { IsTrue result ↔ All (IsFitCall now) calls.now }
+{
+    calls.iter().all(|call| call.is_fit(now))
+}
+
+/// Makes calls on a new jar, and has a client follow it, unless one of them is unfit. At each name that no call removes
+/// by force the client then holds the value that the jar shows.
+pub fn follow(
+    alloc: Global,
+    calls: &[JarCall<'_>],
+    now: DateTime,
+) -> Result<Option<Played>, ClientError>
+    ensures { IfOk result (λ answer. IfSome answer (λ played. (name : Name)
+        → is_forced name (changes_of played.outcomes.items calls.now) ≡ false
+        → get played.client name ≡ value_of (view played.jar name))) }
+{
+    if are_fit(calls, now) {
+        Ok(Some(mirror(alloc, calls, &[], now)?))
+    } else {
+        Ok(None)
+    }
+}

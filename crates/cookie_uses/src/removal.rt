@@ -1,0 +1,29 @@
+//! A removal that a browser obeys.
+ghost use Rattle.std.specs.Prelude.{◌≡◌, Some, OnOk, OnErr};
+ghost use Rattle.std.specs.FinMap.{get};
+ghost use Rattle.cookie.specs.Jar.{dropped};
+ghost use Rattle.cookie.specs.Record.{Record};
+ghost use Rattle.cookie.specs.Removal.{removal};
+
+use cookie::{Cookie, CookieJar, JarError};
+use jiff::civil::DateTime;
+use std::alloc::Global;
+
+/// Removes a cookie as it was set: the client is told to drop it with the same path and domain, without which a browser
+/// drops another cookie or none. `now` is in UTC. After an error the jar is as before.
+pub fn remove_as_set(
+    alloc: Global,
+    jar: &mut CookieJar,
+    set: &Cookie<'static>,
+    now: DateTime,
+) -> Result<(), JarError>
+    ensures told { OnOk result ((original : Record)
+        → get jar.old.originals set.now.fields.name ≡ Some original
+        → get jar.new.delta set.now.fields.name ≡ Some (dropped (removal now set.now.fields))) }
+    ensures path { (removal now set.now.fields).path ≡ set.now.fields.path }
+    ensures domain { (removal now set.now.fields).domain ≡ set.now.fields.domain }
+    ensures err { OnErr result (jar.new ≡ jar.old) }
+{
+    jar.remove(set.clone(alloc)?, now)?;
+    Ok(())
+}

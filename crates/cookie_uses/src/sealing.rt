@@ -1,0 +1,20 @@
+//! A text that is sealed and opened.
+ghost use Rattle.std.specs.Prelude.{◌≡◌};
+ghost use Rattle.std.specs.Bool.{OnTrue};
+ghost use Rattle.cookie_crypt.specs.Gcm.{IsWithin};
+ghost use Rattle.std.specs.Prelude.{◌↔◌, IsTrue, length};
+
+use cookie_crypt::{Gcm, Steps};
+
+/// Seals a text in place and opens it again. It is then the same text, and only one that is too long is refused.
+pub fn comes_back(key: &[u8; 32], nonce: &[u8; 12], name: &[u8], text: &mut [u8]) -> bool
+    ensures same { text.new ≡ text.old }
+    ensures limits { IsTrue result ↔ IsWithin (length name.now) (length text.old) }
+{
+    let cipher = Gcm::new(key);
+    let mut steps = Steps::new();
+    match cipher.seal_in_place(nonce, name, text, &mut steps) {
+        Some(tag) => cipher.open_in_place(nonce, name, text, &tag, &mut steps),
+        None => false,
+    }
+}
