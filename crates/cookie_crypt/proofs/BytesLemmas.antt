@@ -14,7 +14,7 @@ use Rattle.cookie_crypt.specs.Aes.{cell, sub_bytes, shift_rows, word, word_sum, 
 use Rattle.cookie_crypt.specs.Gcm.{bytes_of, key_stream, counter_block, gctr, masked_hash, tag_of, SealsToBytes}
 
 -- a list made of bytes
-bytes_made : (f : ℕ → ℕ) (n : ℕ) → ((k : ℕ) → f k < 256) → IsBytes (map f (range_with_len 0 n))
+pub bytes_made : (f : ℕ → ℕ) (n : ℕ) → ((k : ℕ) → f k < 256) → IsBytes (map f (range_with_len 0 n))
 bytes_made f n each = λ i.
     ⊎_elim
     (λ inside. let e : get_or (map f (range_with_len 0 n)) i 0 ≡ f i = get_or-map-range_with_len f 0 n i i 0 inside (omega arith) in omega (arith, e, each i))
@@ -143,7 +143,7 @@ bytes_high : (k n : ℕ) → IsBytes (bytes_high_first k n)
 bytes_high zero n = bytes_none
 bytes_high (suc k) n = bytes_first (byte_at k n) (bytes_high_first k n) (byte_at-lt k n) (bytes_high k n)
 
-bytes_number : (n : ℕ) → IsBytes (bytes_of n)
+pub bytes_number : (n : ℕ) → IsBytes (bytes_of n)
 unfolding bytes_of
 bytes_number n = bytes_high 16 n
 

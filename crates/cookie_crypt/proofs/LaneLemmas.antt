@@ -99,3 +99,20 @@ key_lane w s k m low e p q =
     ∙ ap (bit_xor (cell s (i % 4) (i / 4))) (
     get_or-chunk 0 16 part i 0 h ∙ ap (λ j. get_or part j 0) start ∙ get_or-take m (drop (16 * k) w) i 0 (omega arith) ∙ get_or-drop (16 * k) w i 0
     ∙ ap (λ j. get_or w j 0) place ∙ sym (get_or-map-range_with_len (λ j. get_or w (4 * (4 * k + i / 4) + j) 0) 0 4 (i % 4) (i % 4) 0 (omega arith) (omega arith))))
+
+-- sixteen bytes of a list, from p on
+pub loaded : (xs : List ℕ) (p : ℕ) → p + 16 ≤ length xs → chunk p 16 xs ≡ map (λ j. get_or xs (p + j) 0) (range_with_len 0 16)
+loaded xs p h = fill_by_all (λ j. get_or xs (p + j) 0) (chunk p 16 xs) 16 0 (length-chunk p 16 xs h) (λ j k. get_or-chunk p 16 xs j 0 k)
+
+-- a block added to sixteen bytes
+pub length-sum : (xs ys : List ℕ) (p : ℕ) → p + 16 ≤ length xs → length ys ≡ 16 → length (zip2 bit_xor (chunk p 16 xs) ys) ≡ 16
+length-sum xs ys p h long =
+    let sixteen : length (chunk p 16 xs) ≡ 16 = length-chunk p 16 xs h in
+    length-zip2 bit_xor (chunk p 16 xs) ys (sixteen ∙ sym long) ∙ sixteen
+
+pub sum_at : (xs ys : List ℕ) (p j : ℕ) → p + 16 ≤ length xs → length ys ≡ 16 → j < 16
+    → get_or (zip2 bit_xor (chunk p 16 xs) ys) j 0 ≡ bit_xor (get_or xs (p + j) 0) (get_or ys j 0)
+sum_at xs ys p j h long k =
+    let sixteen : length (chunk p 16 xs) ≡ 16 = length-chunk p 16 xs h in
+    get_or-zip2 bit_xor (chunk p 16 xs) ys j 0 0 0 (omega arith) (omega arith)
+    ∙ ap (λ x. bit_xor x (get_or ys j 0)) (get_or-chunk p 16 xs j 0 k)

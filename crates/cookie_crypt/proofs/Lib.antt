@@ -1,5 +1,6 @@
 mod AesLemmas
 pub mod BytesLemmas
+mod ColumnLemmas
 pub mod GcmLemmas
 pub mod HornerLemmas
 mod LaneLemmas

@@ -1,13 +1,10 @@
 -- Laws of the product of blocks.
-use Rattle.std.proofs.Common.{map, get_or, slice_index, ◌≡◌, ◌≢◌, ℕ, zero, suc, ◌+◌, ◌-◌, ◌*◌, ◌/◌, ◌%◌, ◌^◌, ◌<◌, refl, sym, ap, ◌∙◌, subst, arith, bit_xor, bit_and}
+use Rattle.std.proofs.Common.{◌≡◌, ◌≢◌, ℕ, zero, suc, ◌+◌, ◌-◌, ◌*◌, ◌/◌, ◌%◌, ◌^◌, ◌<◌, refl, sym, ap, ◌∙◌, arith, bit_xor, bit_and}
 use Rattle.std.specs.Int.{bit_at}
 use Rattle.std.specs.Int.Bits.{shifted_half, shifted_even, xor_assoc, xor_comm, xor_self, xor_zero_r, xor_shr, xor_lt, xor_add_and, xor_shifted}
 use Rattle.std.proofs.Math.Nat.{add-zero, pow-suc, div-add-mod', mul_comm, mul_assoc, add-mul}
-use Rattle.std.proofs.lemmas.Nat.{pow_pos, shr-shr, mod-pow-add, pow-add, shl_below, shl_whole, and_mask, mod_below}
+use Rattle.std.proofs.lemmas.Nat.{pow_pos, shr-shr}
 use Rattle.std.proofs.lemmas.Nat.Bits.{bit_at_xor, bit_at-lt, bit_at-zero, shr_and_one, bit_at_cat_low}
-use Rattle.std.specs.List.{range_with_len}
-use Rattle.std.proofs.lemmas.List.FromFn.{get_or-map-range_with_len}
-use Rattle.cookie_crypt.specs.declared.block_field.TheConstants.{FOLDED}
 use Rattle.cookie_crypt.specs.BlockField.{reduction, times_x, times_power, coefficient, product_below, field_product}
 
 -- ---- sums of blocks
@@ -295,69 +292,11 @@ unfolding times_power
 times_power-shifted zero q j k e = let s : k ≡ j = omega arith in ap (λ x. q * 2 ^ x) s
 times_power-shifted (suc i) q j k e = ap times_x (times_power-shifted i q (suc j) k (omega arith)) ∙ times_x-shifted q j
 
-folded : map (times_power 4) (range_with_len 0 16) ≡ map (λ j. slice_index FOLDED j * 2 ^ 112) (range_with_len 0 16)
-unfolding times_power times_x
-folded = refl
-
-folded_at : (j : ℕ) → j < 16 → times_power 4 j ≡ slice_index FOLDED j * 2 ^ 112
-folded_at j h =
-    sym (get_or-map-range_with_len (times_power 4) 0 16 j j 0 h (omega arith)) ∙ ap (λ xs. get_or xs j 0) folded
-    ∙ get_or-map-range_with_len (λ i. slice_index FOLDED i * 2 ^ 112) 0 16 j j 0 h (omega arith)
-
-folded-lt : (j : ℕ) → j < 16 → slice_index FOLDED j < 2 ^ 16
-folded-lt j h =
-    let none : slice_index FOLDED j / 2 ^ 16 ≡ 0 =
-    sym (get_or-map-range_with_len (λ i. slice_index FOLDED i / 2 ^ 16) 0 16 j j 0 h (omega arith)) ∙ get_or-map-range_with_len (λ i. 0) 0 16 j j 0 h (omega arith) in
-    omega (arith, none)
-
--- x ^ 4 times a block, by the table of what falls out
-pub times_power-four : (b : ℕ) → bit_xor (b / 16) (slice_index FOLDED (bit_and b 15) * 2 ^ 112 % 2 ^ 128) ≡ times_power 4 b
-times_power-four b =
-    let low : b % 16 < 16 = omega arith in
-    let whole : b ≡ b / 16 * 2 ^ 4 + b % 16 = omega arith in
-    let high : b / 16 * 2 ^ 0 ≡ b / 16 = omega arith in
-    ap (λ j. bit_xor (b / 16) (slice_index FOLDED j * 2 ^ 112 % 2 ^ 128)) (and_mask b 4)
-    ∙ ap (bit_xor (b / 16)) (shl_whole (slice_index FOLDED (b % 16)) 16 112 128 (folded-lt (b % 16) low) (omega arith))
-    ∙ sym (ap (times_power 4) (whole ∙ sym (xor_shifted (b / 16) 4 (b % 16) low))
-    ∙ times_power-xor 4 (b / 16 * 2 ^ 4) (b % 16)
-    ∙ ap (λ x. bit_xor x (times_power 4 (b % 16))) (times_power-shifted 4 (b / 16) 0 4 refl ∙ high)
-    ∙ ap (bit_xor (b / 16)) (folded_at (b % 16) low))
-
 pub field_product-times_power_left : (i a b : ℕ) → a < 2 ^ 128 → b < 2 ^ 128 → field_product (times_power i a) b ≡ times_power i (field_product a b)
 unfolding times_power
 field_product-times_power_left zero a b p q = refl
 field_product-times_power_left (suc i) a b p q =
     field_product-times_x_left (times_power i a) b (times_power-lt i a p) q ∙ ap times_x (field_product-times_power_left i a b p q)
-
--- the low m + 4 bits of x, moved to the left end, from the low m bits and the nibble above them
-low_nibbles : (x m k : ℕ) → m + (k + 4) ≡ 128
-    → x % 2 ^ (4 + m) * 2 ^ k ≡ bit_xor (x / 2 ^ m % 16 * 2 ^ 124) (times_power 4 (x % 2 ^ m * 2 ^ (k + 4)))
-low_nibbles x m k e =
-    let nibble : ℕ = x / 2 ^ m % 16 in
-    let low : ℕ = x % 2 ^ m in
-    let top : m + k ≡ 124 = omega arith in
-    ap (λ y. y * 2 ^ k) (mod-pow-add x 4 m)
-    ∙ add-mul (nibble * 2 ^ m) low (2 ^ k)
-    ∙ ap (λ y. y + low * 2 ^ k) (mul_assoc nibble (2 ^ m) (2 ^ k) ∙ ap (λ y. nibble * y) (sym (pow-add 2 m k) ∙ ap (λ y. 2 ^ y) top))
-    ∙ sym (xor_shifted nibble 124 (low * 2 ^ k) (low_fits x m k top))
-    ∙ ap (bit_xor (nibble * 2 ^ 124)) (sym (times_power-shifted 4 low k (k + 4) (omega arith)))
-  where
-    low_fits : (x m k : ℕ) → m + k ≡ 124 → x % 2 ^ m * 2 ^ k < 2 ^ 124
-    low_fits x m k e = let fits : x % 2 ^ m * 2 ^ k < 2 ^ (m + k) = shl_below (x % 2 ^ m) m k (mod_below x (2 ^ m) (pow_pos m)) in subst (λ y. x % 2 ^ m * 2 ^ k < 2 ^ y) e fits
-
--- one nibble more: what is multiplied by x four times over, and the nibble's entry
-pub nibble_step : (h x m k s : ℕ) → h < 2 ^ 128 → m + (k + 4) ≡ 128
-    → s ≡ field_product (x % 2 ^ m * 2 ^ (k + 4)) h
-    → bit_xor (times_power 4 s) (field_product (x / 2 ^ m % 16 * 2 ^ 124) h) ≡ field_product (x % 2 ^ (4 + m) * 2 ^ k) h
-nibble_step h x m k s q e p =
-    let low : ℕ = x % 2 ^ m * 2 ^ (k + 4) in
-    let entry : ℕ = x / 2 ^ m % 16 * 2 ^ 124 in
-    let fits : low < 2 ^ 128 = subst (λ y. low < 2 ^ y) e (shl_below (x % 2 ^ m) m (k + 4) (mod_below x (2 ^ m) (pow_pos m))) in
-    ap (λ y. bit_xor (times_power 4 y) (field_product entry h)) p
-    ∙ ap (λ y. bit_xor y (field_product entry h)) (sym (field_product-times_power_left 4 low h fits q))
-    ∙ xor_comm (field_product (times_power 4 low) h) (field_product entry h)
-    ∙ sym (field_product-xor_left entry (times_power 4 low) h)
-    ∙ ap (λ y. field_product y h) (sym (low_nibbles x m k e))
 
 -- the field_product by a nibble alone has four terms
 product_below-nibble : (n j h : ℕ) → product_below (n + 4) (j * 2 ^ 124) h ≡ product_below 4 (j * 2 ^ 124) h

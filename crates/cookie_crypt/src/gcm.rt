@@ -7,9 +7,9 @@ ghost use Rattle.cookie_crypt.specs.Ghash.{HasSum, HasPowersFirst};
 ghost use Rattle.cookie_crypt.specs.Steps.{block_count, with_blocks, no_steps, tag_steps, sealing_steps};
 
 use crate::aes::Aes256;
-use crate::block::{bytes_of, counter_block, number_of};
-use crate::block_field::multiples;
+use crate::block::{add_block, bytes_of, counter_block, number_of};
 use crate::ghash::hash_from;
+use crate::multiples::Multiples;
 use crate::steps::Steps;
 use std::marker::Model;
 
@@ -25,13 +25,10 @@ fn add_key_stream(cipher: &Aes256, nonce: &[u8; 12], text: &mut [u8], steps: &mu
     ensures made { text.new ≡ gctr cipher.now nonce.now text.old }
     ensures counted { steps.new ≡ with_blocks (block_count (length text.old)) steps.old }
 {
-    let mut stream = [0; 16];
-    for k in 0..text.len() {
-        if k % 16 == 0 {
-            let counter = (k / 16) as u32 + 2;
-            stream = steps.encrypt_block(cipher, counter_block(nonce, counter));
-        }
-        text[k] ^= stream[k % 16];
+    for i in 0..text.len().div_ceil(16) {
+        let counter = i as u32 + 2;
+        let stream = steps.encrypt_block(cipher, counter_block(nonce, counter));
+        add_block(text, 16 * i, &stream);
     }
 }
 
@@ -48,7 +45,7 @@ fn tag_of(cipher: &Aes256, nonce: &[u8; 12], aad: &[u8], text: &[u8], steps: &mu
         ≡ with_blocks steps.old.blocks (tag_steps (length aad.now) (length text.now)) }
 {
     let subkey = number_of(steps.encrypt_block(cipher, [0; 16]));
-    let multiples = multiples(subkey);
+    let multiples = Multiples::new(subkey);
     let hash = hash_from(0, &multiples, aad, steps);
     let hash = hash_from(hash, &multiples, text, steps);
     let lengths = ((8 * aad.len() as u128) << 64) + 8 * text.len() as u128;

@@ -1,19 +1,18 @@
 //! The authentication hash of GCM, in Horner's order (SP 800-38D, 6.4).
-ghost use Rattle.std.specs.Prelude.{◌≡◌, ◌<◌, ◌+◌, ◌*◌, ◌^◌, ℕ, length};
-ghost use Rattle.cookie_crypt.specs.Code.{IsMultiples};
+ghost use Rattle.std.specs.Prelude.{◌≡◌, ◌<◌, ◌+◌, ◌*◌, ◌^◌, length};
 ghost use Rattle.cookie_crypt.specs.Gcm.{blocks};
 ghost use Rattle.cookie_crypt.specs.Ghash.{ghash_from};
 ghost use Rattle.cookie_crypt.specs.Steps.{block_count, with_products};
 
 use crate::block::block_at;
+use crate::multiples::Multiples;
 use crate::steps::Steps;
 
 /// The hash after the padded blocks of the data, from what it was before them.
-pub fn hash_from(hash: u128, multiples: &[u128; 16], bytes: &[u8], steps: &mut Steps) -> u128
+pub fn hash_from(hash: u128, multiples: &Multiples, bytes: &[u8], steps: &mut Steps) -> u128
     requires room { steps.old.products + block_count (length bytes.now) < 2 ^ 64 }
     requires room_for_steps { steps.old.table_steps + 32 * block_count (length bytes.now) < 2 ^ 64 }
-    ensures made { (h : ℕ) → h < 2 ^ 128 → IsMultiples h multiples.now
-        → result ≡ ghash_from h hash (blocks bytes.now) }
+    ensures made { result ≡ ghash_from multiples.now hash (blocks bytes.now) }
     ensures counted { steps.new ≡ with_products (block_count (length bytes.now)) steps.old }
 {
     let mut sum = hash;

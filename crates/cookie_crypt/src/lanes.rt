@@ -1,8 +1,10 @@
 //! Sixteen bytes at a time, with no place in memory that rests on them.
-ghost use Rattle.std.specs.Prelude.{◌≡◌, ◌+◌, ◌*◌, ◌/◌, ◌%◌, ℕ, List, map, bit_and, bit_xor};
+ghost use Rattle.std.specs.Prelude.{◌≡◌, ◌+◌, ◌*◌, ◌/◌, ◌%◌, ◌∷◌, ℕ, List, map, take, slice_index, bit_and, bit_xor};
 ghost use Rattle.std.specs.List.{range_with_len};
+ghost use Rattle.std.specs.Simd.Lanes.{zip2};
 ghost use Rattle.cookie_crypt.specs.ByteField.{byte_times_x};
-ghost use Rattle.cookie_crypt.specs.Lanes.{entry, ArePlaces};
+ghost use Rattle.cookie_crypt.specs.Gcm.{number_of};
+ghost use Rattle.cookie_crypt.specs.Lanes.{entry, looked_up, ArePlaces, IsLanes};
 ghost use Rattle.cookie_crypt.specs.Sbox.{s_box};
 
 use std::simd::prelude::*;
@@ -104,4 +106,37 @@ pub fn second_in_column(a: u8x16) -> u8x16
     ensures { (f : ℕ → ℕ) → a ≡ map f (range_with_len 0 16) → result ≡ map (λ i. f (4 * (i / 4) + (i + 2) % 4)) (range_with_len 0 16) }
 {
     a.swizzle([2, 3, 0, 1, 6, 7, 4, 5, 10, 11, 8, 9, 14, 15, 12, 13])
+}
+
+/// The sum of two blocks.
+#[inline(always)]
+pub fn added(a: u8x16, b: u8x16) -> u8x16
+    ensures lanes { IsLanes result }
+    ensures each { result ≡ zip2 bit_xor a b }
+    ensures value { number_of result ≡ bit_xor (number_of a) (number_of b) }
+{
+    a ^ b
+}
+
+/// The bytes one lane on, with the last byte of `before` as the first.
+#[inline(always)]
+pub fn moved(before: u8x16, bytes: u8x16) -> u8x16
+    ensures lanes { IsLanes result }
+    ensures value { result ≡ take 16 (slice_index before 15 ∷ bytes) }
+{
+    before.shuffle(
+        bytes,
+        [
+            15, 16, 17, 18, 19, 20, 21, 22, 23, 24, 25, 26, 27, 28, 29, 30,
+        ],
+    )
+}
+
+/// The sum of what the upper and the lower half of each byte look up, each in its table.
+#[inline(always)]
+pub fn two_looked_up(upper: [u8; 16], lower: [u8; 16], bytes: u8x16) -> u8x16
+    ensures lanes { IsLanes result }
+    ensures value { result ≡ looked_up upper lower bytes }
+{
+    added(looked_up(upper, high(bytes)), looked_up(lower, low(bytes)))
 }

@@ -9,6 +9,7 @@ mod gcm;
 mod ghash;
 mod lanes;
 mod mac;
+mod multiples;
 mod steps;
 
 pub use aes::Aes256;

@@ -1,18 +1,17 @@
 //! What a sealing costs, counted where the work is done.
-ghost use Rattle.std.specs.Prelude.{◌≡◌, ◌<◌, ◌+◌, ◌^◌, ℕ, bit_xor, slice_index};
+ghost use Rattle.std.specs.Prelude.{◌≡◌, ◌<◌, ◌+◌, ◌^◌};
 ghost use Rattle.cookie_crypt.specs.Aes.{encrypt_block};
 ghost use Rattle.cookie_crypt.specs.BlockField.{field_product};
-ghost use Rattle.cookie_crypt.specs.Code.{IsMultiples};
 ghost use Rattle.cookie_crypt.specs.Steps.{no_steps, with_blocks, with_products};
 
 use crate::aes::Aes256;
-use crate::block_field::times_x_to_the_fourth;
+use crate::multiples::Multiples;
 use std::marker::Model;
 
 /// How many blocks were encrypted, how many products were taken in the field of GCM, and how many
 /// entries of a table of multiples were looked up and added.
 ///
-/// Three calls of this file alone raise a count, each as it gives the result of the work that it counts.
+/// Two calls of this file alone raise a count, each as it gives the result of the work that it counts.
 #[derive(Drop)]
 pub struct Steps {
     blocks: u64,
@@ -72,32 +71,15 @@ impl Steps {
         cipher.encrypt_block(block)
     }
 
-    /// The product of a block and the block whose multiples are handed in, four bits at a time.
-    pub(crate) fn product(&mut self, multiples: &[u128; 16], block: u128) -> u128
+    /// The product of a block and the block whose multiples are handed in, four bits of each byte at a time.
+    pub(crate) fn product(&mut self, multiples: &Multiples, block: u128) -> u128
         requires room { self.old.products + 1 < 2 ^ 64 }
         requires room_for_steps { self.old.table_steps + 32 < 2 ^ 64 }
-        ensures made { (h : ℕ) → h < 2 ^ 128 → IsMultiples h multiples.now
-            → result ≡ field_product block h }
+        ensures made { result ≡ field_product block multiples.now }
         ensures counted { self.new ≡ with_products 1 self.old }
     {
         self.products += 1;
-        let mut sum = 0;
-        let mut rest = block;
-        for done in 0..32u32 {
-            sum = self.add_entry(multiples, (rest & 15) as usize, times_x_to_the_fourth(sum));
-            rest >>= 4;
-        }
-        sum
-    }
-
-    // The entry of four bits, added to `sum`.
-    fn add_entry(&mut self, multiples: &[u128; 16], nibble: usize, sum: u128) -> u128
-        requires place { nibble < 16 }
-        requires room { self.old.table_steps + 1 < 2 ^ 64 }
-        ensures made { result ≡ bit_xor sum (slice_index multiples.now nibble) }
-        ensures counted { self.new ≡ record self.old { table_steps = self.old.table_steps + 1 } }
-    {
-        self.table_steps += 1;
-        sum ^ multiples[nibble]
+        self.table_steps += 32;
+        multiples.product(block)
     }
 }

@@ -1,14 +1,12 @@
-use Rattle.std.proofs.Common.{◌≡◌, ◌+◌, ◌/◌, ◌%◌, ◌<◌, bit_xor, slice_index, length}
-use Rattle.cookie_crypt.specs.Aes.{encrypt_block}
-use Rattle.cookie_crypt.specs.Gcm.{counter_block, key_stream}
-use Rattle.cookie_crypt.specs.Steps.{with_blocks, block_count}
-use Rattle.cookie_crypt.proofs.Made.{IsOverwrittenBelow}
+use Rattle.std.proofs.Common.{◌≡◌, ℕ, ◌*◌, ◌<◌, ◌≤◌, bit_xor, slice_index, length}
+use Rattle.cookie_crypt.specs.Gcm.{key_stream}
+use Rattle.cookie_crypt.specs.Steps.{with_blocks}
 use Rattle.cookie_crypt.proofs.gcm.add_key_stream.Given as goal
 
-abbrev pub invariant-loop-k : goal.invariant-loop-k
-invariant-loop-k l = record {
-  counted : l.steps ≡ with_blocks (block_count l.k) l.initial.steps;
-  sixteen : length l.stream ≡ 16;
-  stream_is : 0 < l.k % 16 → l.stream ≡ encrypt_block l.cipher (counter_block l.nonce (l.k / 16 + 2));
-  turned_below : IsOverwrittenBelow (λ k. bit_xor (slice_index l.initial.text k) (key_stream l.cipher l.nonce k)) l.initial.text l.k l.text;
+abbrev pub invariant-loop-i : goal.invariant-loop-i
+invariant-loop-i l = record {
+  counted : l.steps ≡ with_blocks l.i l.initial.steps;
+  places : length l.text ≡ length l.initial.text;
+  turned : (k : ℕ) → k < 16 * l.i → k < length l.initial.text → slice_index l.text k ≡ bit_xor (slice_index l.initial.text k) (key_stream l.cipher l.nonce k);
+  left : (k : ℕ) → 16 * l.i ≤ k → slice_index l.text k ≡ slice_index l.initial.text k;
 }

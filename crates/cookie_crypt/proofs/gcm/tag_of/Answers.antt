@@ -15,16 +15,16 @@ returns-clause-made c =
     let aad : List ℕ = c.args.aad.now in
     let text : List ℕ = c.args.text.now in
     let h : ℕ = c.number_of-subkey.result in
-    let fits : h < 2 ^ 128 = c.number_of-subkey.type_inv in
+    let is_h = c.new-multiples.ensures in
     let key_is : h ≡ hash_subkey key = c.number_of-subkey.ensures ∙ ap number_of c.encrypt_block.ensures.made in
     let last : ℕ = lengths_block (length aad) (length text) in
     let lengths : 8 * length aad * 2 ^ 64 % 2 ^ 128 + 8 * length text ≡ last = omega arith in
-    let first : c.hash_from-hash.result ≡ ghash_from h 0 (blocks aad) = c.hash_from-hash.ensures.made h fits c.multiples-multiples.ensures in
+    let first : c.hash_from-hash.result ≡ ghash_from h 0 (blocks aad) = c.hash_from-hash.ensures.made ∙ ap (λ k. ghash_from k 0 (blocks aad)) is_h in
     let second : c.hash_from-hash-2.result ≡ ghash_from h 0 (blocks aad ++ blocks text) =
-    c.hash_from-hash-2.ensures.made h fits c.multiples-multiples.ensures
+    c.hash_from-hash-2.ensures.made ∙ ap (λ k. ghash_from k c.hash_from-hash.result (blocks text)) is_h
     ∙ ap (λ y. ghash_from h y (blocks text)) first ∙ sym (ghash_from-append h 0 (blocks aad) (blocks text)) in
     let hash : c.product-hash.result ≡ ghash (hash_subkey key) (hashed_blocks aad text) =
-    c.product-hash.ensures.made h fits c.multiples-multiples.ensures
+    c.product-hash.ensures.made ∙ ap (field_product (bit_xor c.hash_from-hash-2.result (8 * length aad * 2 ^ 64 % 2 ^ 128 + 8 * length text))) is_h
     ∙ ap (λ n. field_product (bit_xor c.hash_from-hash-2.result n) h) lengths
     ∙ ap (λ y. field_product (bit_xor y last) h) second
     ∙ sym (ghash_from-push h 0 last (blocks aad ++ blocks text))
