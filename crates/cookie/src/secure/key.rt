@@ -88,7 +88,8 @@ impl Key {
     /// The key derived from a master key, by the whole of it (RFC 5869 2.3). The master key must be random. Fails
     /// exactly where it has fewer than 32 bytes.
     pub fn try_derive_from(master_key: &[u8]) -> Result<Key, KeyError>
-        ensures ok { master_length ≤ length master_key.now → result ≡ Ok (derived_key master_key.now) }
+        ensures ok { master_length ≤ length master_key.now
+            → result ≡ Ok (derived_key master_key.now) }
         ensures too_short { length master_key.now < master_length
             → result ≡ Err (refusal.MasterTooShort (length master_key.now)) }
     {
