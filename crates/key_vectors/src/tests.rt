@@ -3,6 +3,7 @@ mod generators;
 mod keyed_step;
 mod keys;
 mod private;
+mod refusals;
 mod signed;
 
 use cookie::{Cookie, CookieBuilder, CookieJar, Expiration, SameSite};
