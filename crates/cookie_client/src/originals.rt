@@ -128,7 +128,7 @@ fn hold_prefixed(
 fn hold_named(client: &mut Client, jar: &CookieJar, call: &ChildCall) -> Result<(), ClientError>
     ensures { (storing : Storing) → ((cookie : Record) → (storing.stored cookie).name ≡ cookie.name)
         → HoldsAdded (stored_by storing (asked_of_child call.now))
-            jar.now client.old client.new result }
+        jar.now client.old client.new result }
 {
     match call {
         ChildCall::AddOriginal(cookie) => hold_original(client, jar, cookie.name()),

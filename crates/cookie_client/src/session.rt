@@ -165,12 +165,7 @@ fn output(alloc: Global, client: &Client, jar: &CookieJar) -> Result<String, Run
 }
 
 // The text of a session at a moment. A call that is refused ends it.
-fn played(
-    alloc: Global,
-    jar: CookieJar,
-    now: DateTime,
-    text: &str,
-) -> Result<String, RunError>
+fn played(alloc: Global, jar: CookieJar, now: DateTime, text: &str) -> Result<String, RunError>
     requires { jar ≡ empty_jar }
     ensures played { MatchResult result
         (λ answer. played now (lines_of text.now) ≡ Ok (string_bytes answer))
@@ -204,12 +199,7 @@ fn are_accepted(outcomes: &[bool]) -> bool
 }
 
 // The text of a session of bytes at a moment.
-fn answer(
-    alloc: Global,
-    jar: CookieJar,
-    now: DateTime,
-    bytes: &[u8],
-) -> Result<String, RunError>
+fn answer(alloc: Global, jar: CookieJar, now: DateTime, bytes: &[u8]) -> Result<String, RunError>
     requires { jar ≡ empty_jar }
     ensures played { MatchResult result
         (λ text. played_bytes now bytes.now ≡ Ok (string_bytes text))

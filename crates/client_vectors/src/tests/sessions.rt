@@ -109,8 +109,7 @@ fn drawn_keys_change_no_text(rt: HostRuntime) -> Result<(), Fail> {
     let mut reader: &[u8] = b"name=val\nadd a=1\nremove name\n";
     let mut written = Vec::new(rt.alloc());
     run_with_hasher(rt.alloc(), state, MOMENT, &mut reader, &mut written)?;
-    assert_eq!(
-        rt;
+    assert_eq!(rt;
         str::from_utf8(&written)?,
         "Set-Cookie: a=1\nSet-Cookie: name=; Max-Age=0; Expires=Tue, 21 Oct 2014 07:28:00 GMT\nCookie: a=1\n",
     );
