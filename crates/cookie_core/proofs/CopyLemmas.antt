@@ -6,6 +6,7 @@ use Rattle.cookie_core.specs.CookieStr.{source_bytes, text_bytes, raw_bytes, IsN
 use Rattle.cookie_core.specs.Cookie.{cookie_view, HasFittingSpans}
 use Rattle.cookie_core.specs.declared.cookie_str.CookieStr.{CookieStr}
 use Rattle.cookie_core.specs.declared.cookie.Cookie.TheInside.{Inside}
+use Rattle.cookie_core.specs.declared.source.Source.{Source}
 
 pub IsSameOptionalText-some : (o : Option CookieStr) (t t' : CookieStr) → o ≡ Some t → IsSameText t t' → IsSameOptionalText o (Some t')
 IsSameOptionalText-some o t t' e h =
@@ -24,6 +25,26 @@ pub record Copied (a b : Inside) : Type 0 where
   pub same_site : b.same_site ≡ a.same_site
   pub max_age : b.max_age ≡ a.max_age
   pub expires : b.expires ≡ a.expires
+
+-- a cookie with this source and these texts in the place of its own
+abbrev pub copy : Inside → Source → CookieStr → CookieStr → Option CookieStr → Option CookieStr → Inside
+copy a o n v p d = record a { source = o; name = n; value = v; path = p; domain = d }
+
+pub Copied-copy : (a : Inside) (o : Source) (n v : CookieStr) (p d : Option CookieStr) → source_bytes o ≡ source_bytes a.source → IsSameText a.name n → IsSameText a.value v → IsSameOptionalText a.path p → IsSameOptionalText a.domain d → Copied a (copy a o n v p d)
+Copied-copy a o n v p d e name value path domain =
+    record {
+      source = e;
+      name = name;
+      value = value;
+      path = path;
+      domain = domain;
+      http_only = refl;
+      secure = refl;
+      partitioned = refl;
+      same_site = refl;
+      max_age = refl;
+      expires = refl;
+    }
 
 pub HasFittingSpans-copied : (a b : Inside) → Copied a b → HasFittingSpans a → HasFittingSpans b
 HasFittingSpans-copied a b k h =
