@@ -10,7 +10,6 @@ pub mod LineLemmas
 pub mod LiveLemmas
 pub mod OriginalLemmas
 pub mod ReadTextLemmas
-pub mod ResultLemmas
 pub mod StoredLemmas
 pub mod TextMapLemmas
 pub mod SessionLemmas

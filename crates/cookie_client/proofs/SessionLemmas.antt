@@ -1,5 +1,5 @@
 -- The steps of a session.
-use Rattle.std.proofs.Common.{◌≡◌, ℕ, ◌+◌, ◌-◌, ◌≤◌, ◌==◌, ◌&&◌, Bool, true, false, cond, T, List, [], ◌∷◌, ◌++◌, map, Option, Some, None, Result, Ok, Err, length, option_map, refl, sym, ap, subst, ◌∙◌, append_assoc, arith}
+use Rattle.std.proofs.Common.{◌≡◌, ℕ, ◌+◌, ◌≤◌, ◌==◌, ◌&&◌, Bool, true, false, cond, T, List, [], ◌∷◌, ◌++◌, map, Option, Some, None, Result, Ok, Err, length, option_map, refl, sym, ap, subst, ◌∙◌, append_assoc, arith}
 use mathlib.Core.Logic.{◌≢◌}
 use Rattle.std.proofs.lemmas.List.{length-map}
 use Rattle.std.proofs.lemmas.List.Splits.{length-slice_split}
@@ -10,7 +10,6 @@ use Rattle.std.specs.Cmp.Lexicographic.{nat_list_cmp_total, texts_ties}
 use Rattle.std.specs.FinMap.{FinMap, get, insert, entries, find as find_in, is_sorted, from_sorted, get-entries, get-from_sorted, get-insert, entries-from_sorted, entries_sorted, same_map}
 use Rattle.std.specs.FinMap.Entries.{below_all}
 use Rattle.std.specs.List.{find, list_all, slice_split, IsDistinct, AllByRecursion}
-use Rattle.std.specs.Map.Iter.{TakesFirst}
 use Rattle.std.specs.Option.{option_or}
 use Rattle.std.specs.Result.{result_map_both}
 use Rattle.std.specs.Ordering.{is_lt, eq_by_cmp}
@@ -111,19 +110,11 @@ asked_next now n lines o =
       | Some change ↦ result_map_both (λ changes. change ∷ changes) (λ fault. fault) (changes_in now (n + 1) lines)
     ]
 
-pub changes_in-empty : (now : DateTime) (n : ℕ) (line : List ℕ) (lines : List (List ℕ)) → line ≡ [] → changes_in now n (line ∷ lines) ≡ changes_in now (n + 1) lines
-changes_in-empty now n line lines e = ap (λ l. changes_in now n (l ∷ lines)) e
-
 pub changes_in-next : (now : DateTime) (n : ℕ) (line : List ℕ) (lines : List (List ℕ)) (change : Change) → line ≢ [] → call_of now line ≡ Some change
     → changes_in now n (line ∷ lines) ≡ result_map_both (λ changes. change ∷ changes) (λ fault. fault) (changes_in now (n + 1) lines)
 unfolding asked_next
 changes_in-next now n [] lines change some e = absurd (some refl)
 changes_in-next now n (c ∷ cs) lines change some e = ap (asked_next now n lines) e
-
-pub changes_in-bad : (now : DateTime) (n : ℕ) (line : List ℕ) (lines : List (List ℕ)) → line ≢ [] → call_of now line ≡ None → changes_in now n (line ∷ lines) ≡ Err (BadLine n)
-unfolding asked_next
-changes_in-bad now n [] lines some e = absurd (some refl)
-changes_in-bad now n (c ∷ cs) lines some e = ap (asked_next now n lines) e
 
 -- a text with a byte isn't empty
 pub not_empty : (text : List ℕ) (b : Bool) → b ≡ (length text == 0) → b ≡ false → text ≢ []
@@ -180,9 +171,3 @@ pub lines_of-length : (text : List ℕ) → length (lines_of text) ≤ length te
 lines_of-length text =
     let newline : ℕ → Bool = λ b. b == 10 in
     omega (arith, length-map (slice_split newline text) without_return, length-slice_split newline text, count_by-le-length newline text)
-
--- what is left of a list behind its first element
-pub taken-length : {A : Type 0} (shows : A → List ℕ) (lines : List (List ℕ)) (o : Option A) (left : List (List ℕ)) → TakesFirst shows lines o left
-    → length left ≤ length lines - 1
-taken-length shows lines None left (e, f) = rw f (omega arith)
-taken-length shows lines (Some x) left e = omega (arith, ap length e)

@@ -1,5 +1,4 @@
-use Rattle.std.proofs.Common.{ap, refl}
-use Rattle.cookie.specs.Keys.{encryption_half, signing_half}
+use Rattle.std.proofs.Common.{ap}
 use Rattle.cookie_client.specs.Calls.{change_of}
 use Rattle.cookie_client.proofs.OriginalLemmas.{holds_added}
 use Rattle.cookie_client.proofs.originals.hold_added.Goals as goal
