@@ -1,0 +1,181 @@
+//! A second body of the user agent over plain values (RFC 6265 5.3, 5.4).
+use super::draws::{Spot, Text};
+use super::places::Place;
+use super::plain_jar::{Change, PlainJar};
+use std::alloc::{AllocError, Global};
+
+/// A stored cookie. Its expiry is a second of the minute of all rows, or a later one.
+#[derive(Clone, Copy)]
+struct Held {
+    name: Text,
+    value: Text,
+    domain: &'static str,
+    is_host_only: bool,
+    path: &'static str,
+    is_secure: bool,
+    expiry: Option<i64>,
+}
+
+impl Held {
+    fn is_unexpired(&self, second: i8) -> bool {
+        match self.expiry {
+            Some(expiry) => (second as i64) < expiry,
+            None => true,
+        }
+    }
+
+    fn is_sent(&self, spot: Spot, second: i8) -> bool {
+        let is_host = if self.is_host_only {
+            self.domain == spot.host
+        } else {
+            takes_in(self.domain, spot)
+        };
+        self.is_unexpired(second)
+            && is_host
+            && is_below(spot.path, self.path)
+            && (spot.is_secure || !self.is_secure)
+    }
+
+    fn is_same(&self, other: &Held) -> bool {
+        self.name.plain == other.name.plain
+            && self.domain == other.domain
+            && self.path == other.path
+    }
+}
+
+// Whether the domain takes in the host.
+fn takes_in(domain: &str, spot: Spot) -> bool {
+    match spot.host.as_bytes().strip_suffix(domain.as_bytes()) {
+        Some([]) => true,
+        Some([.., before]) => *before == b'.' && !matches!(spot.place, Place::Address(_, _)),
+        None => false,
+    }
+}
+
+// Whether the path of a request is at or below the one of a cookie.
+fn is_below(request: &str, path: &str) -> bool {
+    match request.as_bytes().strip_prefix(path.as_bytes()) {
+        Some([]) => true,
+        Some([next, ..]) => *next == b'/' || path.as_bytes().last() == Some(&b'/'),
+        None => false,
+    }
+}
+
+// The domain of a cookie and whether it is one host's alone, if the site may set it.
+fn domain_at(spot: Spot, domain: Option<&'static str>) -> Option<(&'static str, bool)> {
+    match domain {
+        None => Some((spot.host, true)),
+        Some("") => Some((spot.host, true)),
+        Some(domain) if takes_in(domain, spot) => Some((domain, false)),
+        Some(_) => None,
+    }
+}
+
+fn path_at(spot: Spot, path: Option<&'static str>) -> &'static str {
+    match path {
+        Some(path) if path.as_bytes().first() == Some(&b'/') => path,
+        _ => spot.folder,
+    }
+}
+
+// What is stored of a change that the site sends at the second.
+fn stored_from(spot: Spot, change: Change, second: i8) -> Option<Held> {
+    let cookie = change.cookie;
+    let (domain, is_host_only) = domain_at(spot, cookie.domain)?;
+    let age = if change.is_removal {
+        Some(0)
+    } else {
+        cookie.age
+    };
+    Some(Held {
+        name: cookie.name,
+        value: cookie.value,
+        domain,
+        is_host_only,
+        path: path_at(spot, cookie.path),
+        is_secure: cookie.is_secure,
+        expiry: age.map(|age| age.saturating_add(second as i64)),
+    })
+}
+
+/// Stored cookies in the order of their creation.
+#[derive(Drop)]
+pub(super) struct PlainAgent {
+    alloc: Global,
+    cookies: Vec<Held>,
+}
+
+impl PlainAgent {
+    pub(super) fn new(alloc: Global) -> PlainAgent {
+        PlainAgent {
+            alloc,
+            cookies: Vec::new(alloc),
+        }
+    }
+
+    // Puts a cookie in the place of the same one, or last.
+    fn put(&mut self, cookie: Held) -> Result<(), AllocError> {
+        for held in self.cookies.iter_mut() {
+            if held.is_same(&cookie) {
+                *held = cookie;
+                return Ok(());
+            }
+        }
+        self.cookies.push(cookie)?;
+        Ok(())
+    }
+
+    /// Takes what the site sends at the second. No agent reads a cookie without a name.
+    pub(super) fn read(
+        &mut self,
+        spot: Spot,
+        change: Change,
+        second: i8,
+    ) -> Result<(), AllocError> {
+        self.cookies.retain(|held| held.is_unexpired(second));
+        if change.cookie.name.plain.is_empty() {
+            return Ok(());
+        }
+        if let Some(cookie) = stored_from(spot, change, second) {
+            self.put(cookie)?;
+        }
+        self.cookies.retain(|held| held.is_unexpired(second));
+        Ok(())
+    }
+
+    // What is sent to the site: longer paths first, and then the earlier.
+    fn sent(&self, spot: Spot, second: i8) -> Result<Vec<Held>, AllocError> {
+        let mut sent = Vec::new(self.alloc);
+        for length in [2usize, 1] {
+            for held in &self.cookies {
+                if held.path.len() == length && held.is_sent(spot, second) {
+                    sent.push(*held)?;
+                }
+            }
+        }
+        Ok(sent)
+    }
+
+    /// The header of a request to the site.
+    pub(super) fn header(&self, spot: Spot, second: i8) -> Result<String, AllocError> {
+        let mut header = String::new(self.alloc);
+        for held in &self.sent(spot, second)? {
+            if !header.is_empty() {
+                header.push_str("; ")?;
+            }
+            header.push_str(held.name.escaped)?;
+            header.push_str("=")?;
+            header.push_str(held.value.escaped)?;
+        }
+        Ok(header)
+    }
+
+    /// A jar with what is sent as its originals, the last of a name alone.
+    pub(super) fn jar(&self, spot: Spot, second: i8) -> Result<PlainJar, AllocError> {
+        let mut jar = PlainJar::new(self.alloc);
+        for held in &self.sent(spot, second)? {
+            jar.add_original(held.name, held.value)?;
+        }
+        Ok(jar)
+    }
+}
