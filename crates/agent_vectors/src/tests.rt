@@ -2,6 +2,7 @@
 mod agents;
 mod comparison;
 mod draws;
+mod owned_request;
 mod places;
 mod plain_agent;
 mod plain_jar;

@@ -1,49 +1,35 @@
 //! The user agent against a second body of it, over requests that are drawn.
 use super::at;
 use super::draws::{Drawing, Draws, NAMES, SPOTS};
+use super::owned_request::{OwnedRequest, visited};
 use super::plain_agent::PlainAgent;
 use super::plain_jar::PlainJar;
 use cookie::CookieJar;
-use cookie_agent::{Agent, AgentRequest, Site, Visited, visits};
-use cookie_client::JarCall;
+use cookie_agent::{Agent, Visited};
 use std::alloc::{AllocError, Global};
 use std::test::Fail;
 
 // The drawn numbers that choose the order of reading.
 type Pick = [usize; 2];
 
-// What a request is made of.
-#[derive(Drop)]
-struct Parts {
-    site: Site,
-    calls: Vec<JarCall<'static>>,
-}
-
-fn parts_of(alloc: Global, drawing: &Drawing) -> Result<Parts, Fail> {
+fn request_of(alloc: Global, drawing: &Drawing) -> Result<OwnedRequest, Fail> {
     let mut calls = Vec::new(alloc);
     for one in &drawing.moves {
         calls.push(one.call(alloc)?)?;
     }
-    Ok(Parts {
+    Ok(OwnedRequest {
         site: drawing.spot.place.site(alloc)?,
         calls,
+        moment: at(drawing.second)?,
     })
 }
 
-fn visited(alloc: Global, drawings: &[Drawing], pick: Pick) -> Result<Vec<Visited>, Fail> {
-    let mut all = Vec::new(alloc);
-    for drawing in drawings {
-        all.push(parts_of(alloc, drawing)?)?;
-    }
+fn played(alloc: Global, drawings: &[Drawing], pick: Pick) -> Result<Vec<Visited>, Fail> {
     let mut requests = Vec::new(alloc);
-    for (parts, drawing) in all.iter().zip(drawings.iter()) {
-        requests.push(AgentRequest {
-            site: &parts.site,
-            calls: &parts.calls,
-            moment: at(drawing.second)?,
-        })?;
+    for drawing in drawings {
+        requests.push(request_of(alloc, drawing)?)?;
     }
-    Ok(visits(alloc, &requests, &pick)?)
+    visited(alloc, &requests, &pick)
 }
 
 // The names of the jar's delta, in the order in which their texts are read.
@@ -132,7 +118,7 @@ fn is_visited_alike(
 
 // Whether the requests come to the same with both bodies.
 fn are_visited_alike(alloc: Global, drawings: &[Drawing], pick: Pick) -> Result<bool, Fail> {
-    let visited = visited(alloc, drawings, pick)?;
+    let visited = played(alloc, drawings, pick)?;
     if visited.len() != drawings.len() {
         return Ok(false);
     }

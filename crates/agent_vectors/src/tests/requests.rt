@@ -1,8 +1,9 @@
 //! Many requests of one user agent, and the trap of removals.
 use super::at;
+use super::owned_request::{OwnedRequest, visited};
 use super::places::Place::{self, Http, Https};
 use cookie::{Cookie, CookieBuilder};
-use cookie_agent::{AgentRequest, Site, Visited, visits};
+use cookie_agent::Visited;
 use cookie_client::{ChildCall, JarCall, PrefixKind};
 use jiff::SignedDuration;
 use std::alloc::Global;
@@ -38,47 +39,61 @@ enum Move {
     /// Removes the name through it.
     RemoveHost(&'static str),
     ResetDelta,
+    Nothing,
+}
+
+const NO_MOVES: [Move; 3] = [Move::Nothing, Move::Nothing, Move::Nothing];
+
+fn one(first: Move) -> [Move; 3] {
+    [first, Move::Nothing, Move::Nothing]
+}
+
+fn two(first: Move, second: Move) -> [Move; 3] {
+    [first, second, Move::Nothing]
 }
 
 impl Move {
-    fn call(self) -> Result<JarCall<'static>, Fail> {
+    // The call, unless there is none.
+    fn call(self) -> Result<Option<JarCall<'static>>, Fail> {
         let now = at(0)?;
         Ok(match self {
-            Move::Add(name, value) => JarCall::Add(root(name, value).build()),
+            Move::Add(name, value) => Some(JarCall::Add(root(name, value).build())),
             Move::AddFor(name, value, age) => {
                 let age = SignedDuration::from_secs(age);
-                JarCall::Add(root(name, value).max_age(age).build())
+                Some(JarCall::Add(root(name, value).max_age(age).build()))
             }
             Move::AddWide(name, value, domain) => {
-                JarCall::Add(root(name, value).domain(domain).build())
+                Some(JarCall::Add(root(name, value).domain(domain).build()))
             }
-            Move::RemoveBare(name) => JarCall::Remove(Cookie::named(name), now),
-            Move::Remove(name) => JarCall::Remove(root(name, "").build(), now),
+            Move::RemoveBare(name) => Some(JarCall::Remove(Cookie::named(name), now)),
+            Move::Remove(name) => Some(JarCall::Remove(root(name, "").build(), now)),
             Move::RemoveWide(name, domain) => {
-                JarCall::Remove(root(name, "").domain(domain).build(), now)
+                Some(JarCall::Remove(root(name, "").domain(domain).build(), now))
             }
             Move::AddHost(name, value) => {
-                JarCall::Prefixed(PrefixKind::Host, ChildCall::Add(Cookie::new(name, value)))
+                let call = ChildCall::Add(Cookie::new(name, value));
+                Some(JarCall::Prefixed(PrefixKind::Host, call))
             }
             Move::RemoveHost(name) => {
                 let call = ChildCall::Remove(Cookie::named(name), now);
-                JarCall::Prefixed(PrefixKind::Host, call)
+                Some(JarCall::Prefixed(PrefixKind::Host, call))
             }
-            Move::ResetDelta => JarCall::ResetDelta,
+            Move::ResetDelta => Some(JarCall::ResetDelta),
+            Move::Nothing => None,
         })
     }
 }
 
 // A request of the rows: where and when it is made, its calls, and the header that the agent sends there after it.
 #[derive(Clone, Copy)]
-struct Row<'a> {
+struct Row {
     place: Place,
     second: i8,
-    moves: &'a [Move],
+    moves: [Move; 3],
     header: &'static str,
 }
 
-fn request_to<'a>(place: Place, second: i8, moves: &'a [Move], header: &'static str) -> Row<'a> {
+fn request_to(place: Place, second: i8, moves: [Move; 3], header: &'static str) -> Row {
     Row {
         place,
         second,
@@ -87,50 +102,38 @@ fn request_to<'a>(place: Place, second: i8, moves: &'a [Move], header: &'static 
     }
 }
 
-// What a request is made of.
-#[derive(Drop)]
-struct Parts {
-    site: Site,
-    calls: Vec<JarCall<'static>>,
-}
-
-fn parts_of(alloc: Global, row: Row<'_>) -> Result<Parts, Fail> {
+fn request_of(alloc: Global, row: Row) -> Result<OwnedRequest, Fail> {
     let mut calls = Vec::new(alloc);
-    for one in row.moves {
-        calls.push(one.call()?)?;
+    for one in &row.moves {
+        if let Some(call) = one.call()? {
+            calls.push(call)?;
+        }
     }
-    Ok(Parts {
+    Ok(OwnedRequest {
         site: row.place.site(alloc)?,
         calls,
+        moment: at(row.second)?,
     })
 }
 
 // What comes of the requests.
-fn played(alloc: Global, rows: &[Row<'_>], pick: &[usize]) -> Result<Vec<Visited>, Fail> {
-    let mut all = Vec::new(alloc);
-    for row in rows {
-        all.push(parts_of(alloc, *row)?)?;
-    }
+fn played(alloc: Global, rows: &[Row], pick: &[usize]) -> Result<Vec<Visited>, Fail> {
     let mut requests = Vec::new(alloc);
-    for (parts, row) in all.iter().zip(rows.iter()) {
-        requests.push(AgentRequest {
-            site: &parts.site,
-            calls: &parts.calls,
-            moment: at(row.second)?,
-        })?;
+    for row in rows {
+        requests.push(request_of(alloc, *row)?)?;
     }
-    Ok(visits(alloc, &requests, pick)?)
+    visited(alloc, &requests, pick)
 }
 
 // Whether the request's agent then sends the header to its place.
-fn is_right(alloc: Global, row: Row<'_>, visited: &Visited) -> Result<bool, Fail> {
+fn is_right(alloc: Global, row: Row, visited: &Visited) -> Result<bool, Fail> {
     let site = row.place.site(alloc)?;
     let header = visited.agent.header(&site, at(row.second)?)?;
     Ok(header.as_str() == row.header)
 }
 
 // The place of the first request after which another header is sent.
-fn first_wrong(alloc: Global, rows: &[Row<'_>], pick: &[usize]) -> Result<Option<usize>, Fail> {
+fn first_wrong(alloc: Global, rows: &[Row], pick: &[usize]) -> Result<Option<usize>, Fail> {
     let visited = played(alloc, rows, pick)?;
     if visited.len() != rows.len() {
         return Err(Fail::new("another count"));
@@ -144,17 +147,16 @@ fn first_wrong(alloc: Global, rows: &[Row<'_>], pick: &[usize]) -> Result<Option
 }
 
 // What the last of the requests came to.
-fn last_of(alloc: Global, rows: &[Row<'_>]) -> Result<Visited, Fail> {
+fn last_of(alloc: Global, rows: &[Row]) -> Result<Visited, Fail> {
     let mut visited = played(alloc, rows, &[])?;
     Ok(visited.pop().ok_or("no request")?)
 }
 
 #[test]
 fn a_wrong_row_is_found(rt: HostRuntime) -> Result<(), Fail> {
-    let adds = [Move::Add("n", "1")];
     let rows = [
-        request_to(LOGIN, 0, &adds, "n=1"),
-        request_to(MAIL, 0, &[], "n=2"),
+        request_to(LOGIN, 0, one(Move::Add("n", "1")), "n=1"),
+        request_to(MAIL, 0, NO_MOVES, "n=2"),
     ];
     assert_eq!(rt; first_wrong(rt.alloc(), &rows, &[])?, Some(1));
     Ok(())
@@ -163,13 +165,10 @@ fn a_wrong_row_is_found(rt: HostRuntime) -> Result<(), Fail> {
 // The trap: a removal without the path asks for `/account`.
 #[test]
 fn a_removal_without_the_path_removes_nothing(rt: HostRuntime) -> Result<(), Fail> {
-    let adds = [Move::Add("n", "1")];
-    let bare = [Move::RemoveBare("n")];
-    let removes = [Move::Remove("n")];
     let rows = [
-        request_to(LOGIN, 0, &adds, "n=1"),
-        request_to(MAIL, 1, &bare, "n=1"),
-        request_to(MAIL, 2, &removes, ""),
+        request_to(LOGIN, 0, one(Move::Add("n", "1")), "n=1"),
+        request_to(MAIL, 1, one(Move::RemoveBare("n")), "n=1"),
+        request_to(MAIL, 2, one(Move::Remove("n")), ""),
     ];
     assert_eq!(rt; first_wrong(rt.alloc(), &rows, &[])?, None);
     Ok(())
@@ -178,11 +177,9 @@ fn a_removal_without_the_path_removes_nothing(rt: HostRuntime) -> Result<(), Fai
 // At `/login` it asks for `/`.
 #[test]
 fn a_removal_without_the_path_removes_at_the_top(rt: HostRuntime) -> Result<(), Fail> {
-    let adds = [Move::Add("n", "1")];
-    let bare = [Move::RemoveBare("n")];
     let rows = [
-        request_to(LOGIN, 0, &adds, "n=1"),
-        request_to(LOGIN, 1, &bare, ""),
+        request_to(LOGIN, 0, one(Move::Add("n", "1")), "n=1"),
+        request_to(LOGIN, 1, one(Move::RemoveBare("n")), ""),
     ];
     assert_eq!(rt; first_wrong(rt.alloc(), &rows, &[])?, None);
     Ok(())
@@ -190,14 +187,11 @@ fn a_removal_without_the_path_removes_at_the_top(rt: HostRuntime) -> Result<(), 
 
 #[test]
 fn a_removal_without_the_domain_removes_nothing(rt: HostRuntime) -> Result<(), Fail> {
-    let adds = [Move::AddWide("n", "1", "example.com")];
-    let removes = [Move::Remove("n")];
-    let wide = [Move::RemoveWide("n", "example.com")];
     let rows = [
-        request_to(WWW, 0, &adds, "n=1"),
-        request_to(LOGIN, 0, &[], "n=1"),
-        request_to(WWW, 1, &removes, "n=1"),
-        request_to(WWW, 2, &wide, ""),
+        request_to(WWW, 0, one(Move::AddWide("n", "1", "example.com")), "n=1"),
+        request_to(LOGIN, 0, NO_MOVES, "n=1"),
+        request_to(WWW, 1, one(Move::Remove("n")), "n=1"),
+        request_to(WWW, 2, one(Move::RemoveWide("n", "example.com")), ""),
     ];
     assert_eq!(rt; first_wrong(rt.alloc(), &rows, &[])?, None);
     Ok(())
@@ -205,11 +199,9 @@ fn a_removal_without_the_domain_removes_nothing(rt: HostRuntime) -> Result<(), F
 
 #[test]
 fn a_jar_of_the_host_prefix_always_removes(rt: HostRuntime) -> Result<(), Fail> {
-    let adds = [Move::AddHost("n", "1")];
-    let removes = [Move::RemoveHost("n")];
     let rows = [
-        request_to(LOGIN, 0, &adds, "__Host-n=1"),
-        request_to(MAIL, 1, &removes, ""),
+        request_to(LOGIN, 0, one(Move::AddHost("n", "1")), "__Host-n=1"),
+        request_to(MAIL, 1, one(Move::RemoveHost("n")), ""),
     ];
     assert_eq!(rt; first_wrong(rt.alloc(), &rows, &[])?, None);
     Ok(())
@@ -217,11 +209,15 @@ fn a_jar_of_the_host_prefix_always_removes(rt: HostRuntime) -> Result<(), Fail> 
 
 #[test]
 fn an_age_ends_between_requests(rt: HostRuntime) -> Result<(), Fail> {
-    let adds = [Move::AddFor("n", "1", 5), Move::Add("m", "2")];
     let rows = [
-        request_to(LOGIN, 0, &adds, "n=1; m=2"),
-        request_to(MAIL, 4, &[], "n=1; m=2"),
-        request_to(MAIL, 5, &[], "m=2"),
+        request_to(
+            LOGIN,
+            0,
+            two(Move::AddFor("n", "1", 5), Move::Add("m", "2")),
+            "n=1; m=2",
+        ),
+        request_to(MAIL, 4, NO_MOVES, "n=1; m=2"),
+        request_to(MAIL, 5, NO_MOVES, "m=2"),
     ];
     assert_eq!(rt; first_wrong(rt.alloc(), &rows, &[])?, None);
     Ok(())
@@ -229,11 +225,14 @@ fn an_age_ends_between_requests(rt: HostRuntime) -> Result<(), Fail> {
 
 #[test]
 fn what_is_reset_is_not_sent(rt: HostRuntime) -> Result<(), Fail> {
-    let adds = [Move::Add("n", "1"), Move::ResetDelta];
-    let others = [Move::Add("m", "2"), Move::ResetDelta, Move::Add("o", "3")];
     let rows = [
-        request_to(LOGIN, 0, &adds, ""),
-        request_to(LOGIN, 0, &others, "o=3"),
+        request_to(LOGIN, 0, two(Move::Add("n", "1"), Move::ResetDelta), ""),
+        request_to(
+            LOGIN,
+            0,
+            [Move::Add("m", "2"), Move::ResetDelta, Move::Add("o", "3")],
+            "o=3",
+        ),
     ];
     assert_eq!(rt; first_wrong(rt.alloc(), &rows, &[])?, None);
     Ok(())
@@ -241,12 +240,15 @@ fn what_is_reset_is_not_sent(rt: HostRuntime) -> Result<(), Fail> {
 
 #[test]
 fn escapes_go_through_the_requests(rt: HostRuntime) -> Result<(), Fail> {
-    let adds = [Move::Add("a b", ";")];
-    let others = [Move::Add("\u{e9}", ""), Move::Remove("a b")];
     let rows = [
-        request_to(LOGIN, 0, &adds, "a%20b=%3B"),
-        request_to(MAIL, 0, &[], "a%20b=%3B"),
-        request_to(MAIL, 0, &others, "%C3%A9="),
+        request_to(LOGIN, 0, one(Move::Add("a b", ";")), "a%20b=%3B"),
+        request_to(MAIL, 0, NO_MOVES, "a%20b=%3B"),
+        request_to(
+            MAIL,
+            0,
+            two(Move::Add("\u{e9}", ""), Move::Remove("a b")),
+            "%C3%A9=",
+        ),
     ];
     assert_eq!(rt; first_wrong(rt.alloc(), &rows, &[])?, None);
     Ok(())
@@ -261,11 +263,19 @@ fn no_request_at_all_comes_to_nothing(rt: HostRuntime) -> Result<(), Fail> {
 // The jar shows what the header brought, and the calls that change nothing are accepted.
 #[test]
 fn a_jar_begins_with_the_header(rt: HostRuntime) -> Result<(), Fail> {
-    let adds = [Move::Add("n", "1"), Move::Add("m", "2")];
-    let others = [Move::RemoveBare("n"), Move::RemoveBare("absent")];
     let rows = [
-        request_to(LOGIN, 0, &adds, "n=1; m=2"),
-        request_to(MAIL, 0, &others, "n=1; m=2"),
+        request_to(
+            LOGIN,
+            0,
+            two(Move::Add("n", "1"), Move::Add("m", "2")),
+            "n=1; m=2",
+        ),
+        request_to(
+            MAIL,
+            0,
+            two(Move::RemoveBare("n"), Move::RemoveBare("absent")),
+            "n=1; m=2",
+        ),
     ];
     let last = last_of(rt.alloc(), &rows)?;
     assert_eq!(rt; last.header.as_str(), "n=1; m=2");
