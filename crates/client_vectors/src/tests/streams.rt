@@ -52,6 +52,79 @@ fn a_failed_write_leaves_a_beginning(rt: HostRuntime) -> Result<(), Fail> {
     Ok(())
 }
 
+// Whether a session is refused in this way, though its writer fails as soon as anything is written.
+fn is_refused_unwritten(alloc: Global, moment: &str, input: &[u8], status: u8) -> bool {
+    let mut input = FailingReader::new(input, usize::MAX);
+    let mut output = ShortWriter::new(alloc, 1, 0);
+    match run(alloc, moment, &mut input, &mut output) {
+        Err(error) => error.status() == status && !matches!(error, RunError::Output),
+        Ok(()) => false,
+    }
+}
+
+#[test]
+fn nothing_is_written_before_another_refusal(rt: HostRuntime) {
+    for (moment, input) in [
+        ("", "x=1\nadd a=1"),
+        ("21 Oct -5 00:00:00 GMT", "x=1\nadd a=1"),
+        (MOMENT, "x=1\nadd a=1\nadd bar"),
+        (MOMENT, "x=1\nadd a=1\nadd %FF=1"),
+        (MOMENT, "x=1\nadd a=1\nremove "),
+        (MOMENT, "x=1\nadd a=1\nforce"),
+        (MOMENT, "x=1\nadd a=1\nresets"),
+        (MOMENT, "x=1\nadd a=1\nbar\nadd b=1"),
+    ] {
+        assert!(rt;
+            is_refused_unwritten(rt.alloc(), moment, input.as_bytes(), 2),
+            "{input}"
+        );
+    }
+    assert!(rt; is_refused_unwritten(rt.alloc(), MOMENT, b"x=1\nadd a=1\n\xff", 2));
+    assert!(rt; !is_refused_unwritten(rt.alloc(), MOMENT, INPUT, 2));
+}
+
+// A session with an original, two additions and a removal, and its text.
+const CHANGES: &str =
+    "name=val; x=%C3%A9\nadd a=1; Path=/; Secure\nadd b=2%3B; HttpOnly\nremove name\nreset\nremove x\nadd c=3";
+
+const CHANGES_TEXT: &str =
+    "Set-Cookie: c=3\nSet-Cookie: x=; Max-Age=0; Expires=Tue, 21 Oct 2014 07:28:00 GMT\nCookie: c=3; name=val\n";
+
+// What comes of that session where the writer takes one byte a call, and so many calls.
+fn taken(alloc: Global, left: usize) -> (ShortWriter, bool, bool) {
+    let mut input = CHANGES.as_bytes();
+    let mut output = ShortWriter::new(alloc, 1, left);
+    let outcome = run(alloc, MOMENT, &mut input, &mut output);
+    (
+        output,
+        outcome.is_ok(),
+        matches!(outcome, Err(RunError::Output)),
+    )
+}
+
+#[test]
+fn each_failed_write_leaves_what_was_taken(rt: HostRuntime) {
+    for left in 0..=CHANGES_TEXT.len() {
+        let (output, is_ok, is_output) = taken(rt.alloc(), left);
+        assert_eq!(rt; is_ok, left == CHANGES_TEXT.len(), "after {left}");
+        assert_eq!(rt; is_output, left < CHANGES_TEXT.len(), "after {left}");
+        assert!(rt;
+            Some(output.taken()) == CHANGES_TEXT.as_bytes().get(..left),
+            "after {left}"
+        );
+    }
+}
+
+#[test]
+fn each_failed_read_is_told(rt: HostRuntime) {
+    for left in 0..=CHANGES.len() {
+        let mut input = FailingReader::new(CHANGES.as_bytes(), left);
+        let mut output = ShortWriter::new(rt.alloc(), 1, 0);
+        let outcome = run(rt.alloc(), MOMENT, &mut input, &mut output);
+        assert!(rt; matches!(outcome, Err(RunError::Input)), "after {left}");
+    }
+}
+
 // A name with three digits, and a value of 500 bytes that no other name has.
 fn pair(alloc: Global, number: u32) -> Result<String, Fail> {
     let name = format!(in alloc; "n{number}")?;
