@@ -40,6 +40,11 @@ fn sessions_have_their_texts(rt: HostRuntime) -> Result<(), Fail> {
             "a=x%20y\nadd b=1%3B2",
             "Set-Cookie: b=1%3B2\nCookie: a=x%20y; b=1%3B2\n",
         ),
+        ("a=1; a=2", "Cookie: a=2\n"),
+        (
+            "\nadd a=1%0D%0ASet-Cookie:%20x%3D1",
+            "Set-Cookie: a=1%0D%0ASet-Cookie%3A%20x%3D1\nCookie: a=1%0D%0ASet-Cookie%3A%20x%3D1\n",
+        ),
     ] {
         let text = text_of(rt.alloc(), MOMENT, input.as_bytes())?;
         assert!(rt; text.as_slice() == wanted.as_bytes(), "{input}");
@@ -78,7 +83,9 @@ fn the_first_bad_line_is_told(rt: HostRuntime) -> Result<(), Fail> {
         "x=1\nadd=1",
         "\nadd ",
         "\nadd %FF=1",
+        "\nremove ",
         "\nremove  \n",
+        "\nforce ",
         "\nforce  \n",
         "\nreset \n",
         "\n ",
@@ -95,7 +102,11 @@ fn faults_are_told_in_their_order(rt: HostRuntime) -> Result<(), Fail> {
     let (status, text) = refusal_of(rt.alloc(), MOMENT, b"\xff\nbad")?;
     assert_eq!(rt; status, 2);
     assert_eq!(rt; text.as_str(), "cookiejar: bad input");
-    for moment in ["now", "Wed, 21 Oct -15 07:28:00 GMT"] {
+    for moment in [
+        "now",
+        "21 Oct -5 00:00:00 GMT",
+        "Wed, 21 Oct -15 07:28:00 GMT",
+    ] {
         let (status, text) = refusal_of(rt.alloc(), moment, b"\xff")?;
         assert_eq!(rt; status, 2);
         assert_eq!(rt; text.as_str(), "cookiejar: bad moment");
