@@ -6,7 +6,7 @@ use Rattle.std.specs.FinMap.{FinMap, get, insert, remove, contains_key, get-empt
 use Rattle.std.specs.Str.{bytes_eq}
 use Rattle.cookie_core.specs.Removal.{removal}
 use Rattle.cookie.specs.History.{after_all, original_by, entry_by, removal_by, LooksBack}
-use Rattle.cookie.specs.Jar.{Name, name_cmp, Marked, added, dropped, JarState, empty_jar, Change, AddOriginal, Add, Remove, ForceRemove, ResetDelta, after}
+use Rattle.cookie.specs.Jar.{Name, name_cmp, Marked, added_mark, dropped_mark, JarState, empty_jar, Change, AddOriginal, Add, Remove, ForceRemove, ResetDelta, after}
 use Rattle.cookie.proofs.NameLemmas.{get_inserted, get_removed}
 
 -- the jar after calls, the latest one first
@@ -50,9 +50,9 @@ pub entry_at : (name : Name) (history : List Change) → get (jar_by history).de
 entry_at name [] = get-empty name_cmp name
 entry_at name (AddOriginal cookie ∷ earlier) = entry_at name earlier
 entry_at name (Add cookie ∷ earlier) =
-    get_inserted (jar_by earlier).delta cookie.name (added cookie) name ∙ ap (cond (bytes_eq name cookie.name) (Some (added cookie))) (entry_at name earlier)
+    get_inserted (jar_by earlier).delta cookie.name (added_mark cookie) name ∙ ap (cond (bytes_eq name cookie.name) (Some (added_mark cookie))) (entry_at name earlier)
 entry_at name (Remove cookie now ∷ earlier) =
-    removed_at (contains_key (jar_by earlier).originals cookie.name) (jar_by earlier).delta cookie.name (dropped (removal now cookie)) name
+    removed_at (contains_key (jar_by earlier).originals cookie.name) (jar_by earlier).delta cookie.name (dropped_mark (removal now cookie)) name
     ∙ at_the_key (get (jar_by earlier).originals) (removal_by (removal now cookie)) cookie.name name (get (jar_by earlier).delta name)
     ∙ ap (λ o. cond (bytes_eq name cookie.name) (removal_by (removal now cookie) o) (get (jar_by earlier).delta name)) (original_at name earlier)
     ∙ ap (cond (bytes_eq name cookie.name) (removal_by (removal now cookie) (original_by name earlier))) (entry_at name earlier)

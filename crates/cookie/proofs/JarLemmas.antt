@@ -5,7 +5,7 @@ use Rattle.std.specs.Cmp.Lexicographic.{nat_list_cmp_total}
 use Rattle.std.specs.FinMap.{get, insert, get-insert}
 use Rattle.std.specs.Str.{bytes_eq}
 use Rattle.cookie_core.specs.Record.{Record}
-use Rattle.cookie.specs.Jar.{Name, JarState, Marked, Add, added, after, overlay, view}
+use Rattle.cookie.specs.Jar.{Name, JarState, Marked, Add, added_mark, after, overlay, view}
 
 module _ (jar : JarState) (cookie : Record) (name : Name) where
   abbrev here : Bool
@@ -23,4 +23,4 @@ module _ (jar : JarState) (cookie : Record) (name : Name) where
 
   -- under its name the cookie that was added, and elsewhere what was there
   pub view-added : view (after (Add cookie) jar) name ≡ cond here (Some cookie) (view jar name)
-  view-added = ap (λ e. overlay e (get jar.originals name)) (get-put (added cookie)) ∙ overlay-cond here (Some (added cookie))
+  view-added = ap (λ e. overlay e (get jar.originals name)) (get-put (added_mark cookie)) ∙ overlay-cond here (Some (added_mark cookie))

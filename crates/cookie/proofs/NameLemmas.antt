@@ -12,7 +12,7 @@ use Rattle.std.specs.Ordering.{eq_by_cmp}
 use Rattle.std.specs.Str.{bytes_eq}
 use Rattle.std.specs.String.{string_bytes, string_eq}
 use Rattle.cookie.specs.Jar.{name_cmp}
-use Rattle.cookie.specs.Table.{by_name, IsNamed}
+use Rattle.cookie.specs.Table.{by_name, IsKeyedByName}
 
 pub names_apart : IsAntisymmetric name_cmp
 names_apart = slice_cmp-IsAntisymmetric nat_cmp-IsAntisymmetric
@@ -85,18 +85,18 @@ module _ {Z : Type 0} (m : FinMap name_cmp Z) where
   get_removed key name = get-remove nat_list_cmp_total m key name ∙ ap (λ b. cond b None (get m name)) (is_eq-slice_cmp name key)
 
 module _ {Z : Type 0} (name_of : Z → List ℕ) where
-  pub IsNamed-empty : IsNamed name_of empty
-  IsNamed-empty n = subst (λ o. IfSome o (λ z. name_of z ≡ n)) (sym (get-empty name_cmp n)) tt
+  pub IsKeyedByName-empty : IsKeyedByName name_of empty
+  IsKeyedByName-empty n = subst (λ o. IfSome o (λ z. name_of z ≡ n)) (sym (get-empty name_cmp n)) tt
 
-  pub IsNamed-insert : (m : FinMap name_cmp Z) (v : Z) → IsNamed name_of m → IsNamed name_of (insert m (name_of v) v)
-  IsNamed-insert m v h n = subst (λ o. IfSome o (λ z. name_of z ≡ n)) (sym (get-insert nat_list_cmp_total m (name_of v) v n)) (by (eq_by_cmp name_cmp n (name_of v)) refl)
+  pub IsKeyedByName-insert : (m : FinMap name_cmp Z) (v : Z) → IsKeyedByName name_of m → IsKeyedByName name_of (insert m (name_of v) v)
+  IsKeyedByName-insert m v h n = subst (λ o. IfSome o (λ z. name_of z ≡ n)) (sym (get-insert nat_list_cmp_total m (name_of v) v n)) (by (eq_by_cmp name_cmp n (name_of v)) refl)
     where
       by : (b : Bool) → eq_by_cmp name_cmp n (name_of v) ≡ b → IfSome (cond b (Some v) (get m n)) (λ z. name_of z ≡ n)
       by true e = sym ((bytes_eq-Decides n (name_of v)).0 (sym (is_eq-slice_cmp n (name_of v)) ∙ e))
       by false e = h n
 
-  pub IsNamed-remove : (m : FinMap name_cmp Z) (k : List ℕ) → IsNamed name_of m → IsNamed name_of (remove m k)
-  IsNamed-remove m k h n = subst (λ o. IfSome o (λ z. name_of z ≡ n)) (sym (get-remove nat_list_cmp_total m k n)) (by (eq_by_cmp name_cmp n k))
+  pub IsKeyedByName-remove : (m : FinMap name_cmp Z) (k : List ℕ) → IsKeyedByName name_of m → IsKeyedByName name_of (remove m k)
+  IsKeyedByName-remove m k h n = subst (λ o. IfSome o (λ z. name_of z ≡ n)) (sym (get-remove nat_list_cmp_total m k n)) (by (eq_by_cmp name_cmp n k))
     where
       by : (b : Bool) → IfSome (cond b None (get m n)) (λ z. name_of z ≡ n)
       by true = tt

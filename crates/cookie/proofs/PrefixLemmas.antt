@@ -10,7 +10,7 @@ use Rattle.std.specs.Str.Pattern.{FindsTextPrefix, StripsPrefix}
 use Rattle.cookie_core.specs.Record.{Record, CookieView}
 use Rattle.cookie.specs.Clipped.{LeavesName}
 use Rattle.cookie.specs.Jar.{Name, JarState, Add, after, view}
-use Rattle.cookie.specs.Prefixes.{prefixed, clipped_name, clipped, renamed_raw, applied, pair_of, prefixed_view, KeepsPair}
+use Rattle.cookie.specs.Prefixes.{prefixed_cookie, clipped_name, clipped_cookie, renamed_raw, conforming_cookie, pair_of, prefixed_view, KeepsPair}
 use Rattle.cookie.proofs.JarLemmas.{view-added}
 
 bytes_eq-itself : (name : Name) → bytes_eq name name ≡ true
@@ -35,12 +35,12 @@ clipped_name-prefixed p n =
     ∙ ap (λ b. cond b (drop (length p) (p ++ n)) (p ++ n)) (bytes_eq-itself p)
     ∙ drop-append_seam p n
 
-pub clipped-prefixed : (p : Name) (cookie : Record) → clipped p (prefixed p cookie) ≡ cookie
-clipped-prefixed p cookie = ap (λ n. record cookie { name = n }) (clipped_name-prefixed p cookie.name)
+pub clipped_cookie-prefixed : (p : Name) (cookie : Record) → clipped_cookie p (prefixed_cookie p cookie) ≡ cookie
+clipped_cookie-prefixed p cookie = ap (λ n. record cookie { name = n }) (clipped_name-prefixed p cookie.name)
 
-pub clipped-empty : (p : Name) (cookie : Record) → (length p == 0) ≡ true → clipped p cookie ≡ cookie
-clipped-empty [] cookie empty = clipped-prefixed [] cookie
-clipped-empty (c ∷ p) cookie empty = absurd (let none = eqb-true (length (c ∷ p)) 0 empty in omega (arith, none))
+pub clipped_cookie-empty : (p : Name) (cookie : Record) → (length p == 0) ≡ true → clipped_cookie p cookie ≡ cookie
+clipped_cookie-empty [] cookie empty = clipped_cookie-prefixed [] cookie
+clipped_cookie-empty (c ∷ p) cookie empty = absurd (let none = eqb-true (length (c ∷ p)) 0 empty in omega (arith, none))
 
 clipped_name-apart : (p n : Name) → ((rest : Name) → n ≡ p ++ rest → ⊥) → clipped_name p n ≡ n
 clipped_name-apart p n apart = by (bytes_eq p (take (length p) n)) refl
@@ -78,12 +78,12 @@ renamed_raw-prefixed (c ∷ p) cookie filled =
 
 -- through the prefix, what was added through it
 pub shown-added : (p : Name) (conformed : Record → Record) → KeepsPair conformed → (cookie : Record) (jar : JarState)
-    → option_map pair_of (prefixed_view p (after (Add (applied p conformed cookie)) jar) cookie.name) ≡ Some (pair_of cookie)
+    → option_map pair_of (prefixed_view p (after (Add (conforming_cookie p conformed cookie)) jar) cookie.name) ≡ Some (pair_of cookie)
 shown-added p conformed keeps cookie jar =
-    let stored = applied p conformed cookie in
-    let named : stored.name ≡ p ++ cookie.name = keeps.name (prefixed p cookie) in
-    let shows : Option Record → Option (Name × Name) = λ o. option_map pair_of (option_map (clipped p) o) in
+    let stored = conforming_cookie p conformed cookie in
+    let named : stored.name ≡ p ++ cookie.name = keeps.name (prefixed_cookie p cookie) in
+    let shows : Option Record → Option (Name × Name) = λ o. option_map pair_of (option_map (clipped_cookie p) o) in
     ap shows (view-added jar stored (p ++ cookie.name))
     ∙ ap (λ b. shows (cond b (Some stored) (view jar (p ++ cookie.name)))) (ap (bytes_eq (p ++ cookie.name)) named ∙ bytes_eq-itself (p ++ cookie.name))
     ∙ ap (λ n. Some (n, stored.value)) (ap (clipped_name p) named ∙ clipped_name-prefixed p cookie.name)
-    ∙ ap (λ v. Some (cookie.name, v)) (keeps.value (prefixed p cookie))
+    ∙ ap (λ v. Some (cookie.name, v)) (keeps.value (prefixed_cookie p cookie))

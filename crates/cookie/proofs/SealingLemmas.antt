@@ -16,7 +16,7 @@ use Rattle.cookie_core.specs.Record.{Record, IsCookie}
 use Rattle.cookie.specs.AnswersExactly.{AnswersExactly, AnswersPair}
 use Rattle.cookie.specs.Jar.{JarState, Add, after, view}
 use Rattle.cookie.specs.Opening.{IsSealedBytes}
-use Rattle.cookie.specs.Sealing.{IsNonce, IsSealable, IsSealed, IsSealingOf, sealed, sealed_bytes, sealing}
+use Rattle.cookie.specs.Sealing.{IsNonce, IsSealable, IsSealed, IsSealingOf, sealed_cookie, sealed_bytes, sealing}
 use Rattle.cookie.specs.declared.jar_error.JarError.{JarError}
 use Rattle.cookie.specs.declared.jar_error.JarError.TheVariants as refusal
 use Rattle.cookie.proofs.AnswerLemmas.{answered_added, if_added}
@@ -272,7 +272,7 @@ module _ (key name text : List ℕ) (seals : SealsToBytes key) (answer : Option 
 -- ---- private jars
 
 -- a sealed cookie is a cookie
-pub IsCookie-sealed : (key nonce : List ℕ) (cookie : Record) → IsCookie cookie → IsCookie (sealed key nonce cookie)
+pub IsCookie-sealed : (key nonce : List ℕ) (cookie : Record) → IsCookie cookie → IsCookie (sealed_cookie key nonce cookie)
 unfolding sealing
 IsCookie-sealed key nonce cookie is =
     record {

@@ -16,7 +16,7 @@ use Rattle.cookie_crypt.specs.Hmac.{hmac}
 use Rattle.cookie_crypt.proofs.MacLemmas.{length-hmac}
 use Rattle.cookie.specs.AnswersExactly.{AnswersPair}
 use Rattle.cookie.specs.Jar.{Name, JarState, Add, after, view}
-use Rattle.cookie.specs.Signing.{CoversOnePair, IsSigningOf, signed_message, signature, signing, signed}
+use Rattle.cookie.specs.Signing.{CoversOnePair, IsSigningOf, signed_message, signature, signing, signed_cookie}
 use Rattle.cookie.proofs.AnswerLemmas.{answered_added}
 
 -- ---- the signature
@@ -108,7 +108,7 @@ signing-from key name value front back made joined is_front is_back =
     joined ∙ ap (λ xs. xs ++ back) is_front ∙ ap (λ xs. signature key name value ++ xs) is_back
 
 -- a signed cookie is a cookie
-pub IsCookie-signed : (key : List ℕ) (cookie : Record) → IsCookie cookie → IsCookie (signed key cookie)
+pub IsCookie-signed : (key : List ℕ) (cookie : Record) → IsCookie cookie → IsCookie (signed_cookie key cookie)
 unfolding signing
 IsCookie-signed key cookie is =
     let mark = signature key cookie.name cookie.value in
@@ -147,5 +147,5 @@ module _ (key : List ℕ) (name : Name) (s front rest : List ℕ) (is_front : fr
 
 -- a signed cookie that was added is answered with the name and the value that it was added with
 pub signed_shown : (key : List ℕ) (cookie : Record) (jar : JarState)
-    → AnswersPair (IsSigningOf key) (view (after (Add (signed key cookie)) jar) cookie.name) cookie
-signed_shown key cookie jar = answered_added (IsSigningOf key) (signed key cookie) cookie jar refl refl
+    → AnswersPair (IsSigningOf key) (view (after (Add (signed_cookie key cookie)) jar) cookie.name) cookie
+signed_shown key cookie jar = answered_added (IsSigningOf key) (signed_cookie key cookie) cookie jar refl refl

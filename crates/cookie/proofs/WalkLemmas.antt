@@ -9,7 +9,7 @@ use Rattle.std.specs.Option.{option_map}
 use Rattle.std.specs.Str.{bytes_eq}
 use Rattle.std.specs.String.{string_bytes, string_eq, string_eq_equiv}
 use Rattle.cookie_core.specs.Record.{Record}
-use Rattle.cookie.specs.Table.{by_name, IsNamed}
+use Rattle.cookie.specs.Table.{by_name, IsKeyedByName}
 use Rattle.cookie.specs.Walk.{Walks}
 use Rattle.cookie.proofs.NameLemmas.{at_text, get-by_name, option_map-cond}
 
@@ -27,7 +27,7 @@ module _ {X Z W : Type 0} (shows : X → Z) (part_of : Z → W) (name_of : W →
     abbrev AreOwnNames : List (String Y × X) → Type 0
     AreOwnNames es = AllByRecursion (λ e. name_of (part e.1) ≡ string_bytes e.0) es
 
-    own_names : (es : List (String Y × X)) → IsDistinct string_eq (keys_of es) → IsNamed (λ z. name_of (part_of z)) (by_name shows es) → AreOwnNames es
+    own_names : (es : List (String Y × X)) → IsDistinct string_eq (keys_of es) → IsKeyedByName (λ z. name_of (part_of z)) (by_name shows es) → AreOwnNames es
     own_names es distinct named = recursion_from_All (λ e. name_of (part e.1) ≡ string_bytes e.0) es (λ k d inside.
         let e = slice_index_or es k d in
         let found = lookup-from_Contains string_eq_equiv e.0 e.1 es distinct (All-contains_itself es k d inside) in
@@ -51,7 +51,7 @@ module _ {X Z W : Type 0} (shows : X → Z) (part_of : Z → W) (name_of : W →
         ∙ ap (cond (bytes_eq n (string_bytes e.0)) (Some (part e.1))) (found_in es own.1 n)
         ∙ sym (option_map-cond part (bytes_eq n (string_bytes e.0)) (Some e.1) (at_text shows es n))
 
-    module _ (es : List (String Y × X)) (distinct : IsDistinct string_eq (keys_of es)) (named : IsNamed (λ z. name_of (part_of z)) (by_name shows es)) where
+    module _ (es : List (String Y × X)) (distinct : IsDistinct string_eq (keys_of es)) (named : IsKeyedByName (λ z. name_of (part_of z)) (by_name shows es)) where
       -- the parts have each name once
       pub values_once : IsDistinct bytes_eq (map name_of (map part (values_of es)))
       values_once = once_each es (own_names es distinct named) distinct
@@ -63,7 +63,7 @@ module _ {X Z W : Type 0} (shows : X → Z) (part_of : Z → W) (name_of : W →
 
 -- the cookies of a table are those that its finite map has, each name once
 pub walks_values : {X Y Z : Type 0} (shows : X → Z) (cookie_of : Z → Record) (es : List (String Y × X)) → IsDistinct string_eq (keys_of es)
-    → IsNamed (λ z. (cookie_of z).name) (by_name shows es) → Walks (λ n. option_map cookie_of (get (by_name shows es) n)) (map (λ x. cookie_of (shows x)) (values_of es))
+    → IsKeyedByName (λ z. (cookie_of z).name) (by_name shows es) → Walks (λ n. option_map cookie_of (get (by_name shows es) n)) (map (λ x. cookie_of (shows x)) (values_of es))
 walks_values shows cookie_of es distinct named =
     record {
       found = values_found shows cookie_of (λ c. c.name) es distinct named;

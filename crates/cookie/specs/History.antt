@@ -5,7 +5,7 @@ use Rattle.std.specs.List.{find, list_any}
 use Rattle.std.specs.Str.{bytes_eq}
 use Rattle.cookie_core.specs.Record.{Record}
 use Rattle.cookie_core.specs.Removal.{removal}
-use Rattle.cookie.specs.Jar.{Name, Marked, added, dropped, JarState, Change, AddOriginal, Add, Remove, ForceRemove, ResetDelta, after}
+use Rattle.cookie.specs.Jar.{Name, Marked, added_mark, dropped_mark, JarState, Change, AddOriginal, Add, Remove, ForceRemove, ResetDelta, after}
 
 -- the jar after calls, the first one first
 abbrev pub after_all : List Change → JarState → JarState
@@ -13,10 +13,11 @@ after_all [] jar = jar
 after_all (change ∷ changes) jar = after_all changes (after change jar)
 
 -- the calls whose outcome is true; a call without an outcome was not made
-abbrev pub accepted : {X : Type 0} → List Bool → List X → List X
-accepted [] calls = []
-accepted (outcome ∷ outcomes) [] = []
-accepted (outcome ∷ outcomes) (call ∷ calls) = if outcome then call ∷ accepted outcomes calls else accepted outcomes calls
+abbrev pub accepted_items : {X : Type 0} → List Bool → List X → List X
+accepted_items [] calls = []
+accepted_items (outcome ∷ outcomes) [] = []
+accepted_items (outcome ∷ outcomes) (call ∷ calls) =
+    if outcome then call ∷ accepted_items outcomes calls else accepted_items outcomes calls
 
 -- ---- looking back: the latest call stands first
 
@@ -29,13 +30,13 @@ original_by name (change ∷ earlier) = original_by name earlier
 
 -- what a removal leaves in the delta: a cookie that tells the client to drop the name, where there was an original
 abbrev pub removal_by : Record → Option Record → Option Marked
-removal_by cookie original = if is_some original then Some (dropped cookie) else None
+removal_by cookie original = if is_some original then Some (dropped_mark cookie) else None
 
 -- what the last of the additions, removals and forced removals of the name and the resets decides
 abbrev pub entry_by : Name → List Change → Option Marked
 entry_by name [] = None
 entry_by name (AddOriginal cookie ∷ earlier) = entry_by name earlier
-entry_by name (Add cookie ∷ earlier) = if bytes_eq name cookie.name then Some (added cookie) else entry_by name earlier
+entry_by name (Add cookie ∷ earlier) = if bytes_eq name cookie.name then Some (added_mark cookie) else entry_by name earlier
 entry_by name (Remove cookie now ∷ earlier) =
     if bytes_eq name cookie.name then removal_by (removal now cookie) (original_by name earlier) else entry_by name earlier
 entry_by name (ForceRemove forced ∷ earlier) = if bytes_eq name forced then None else entry_by name earlier

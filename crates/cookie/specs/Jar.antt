@@ -24,12 +24,12 @@ pub record Marked : Type 0 where
   pub removed : Bool
 
 -- as a cookie that was added
-abbrev pub added : Record → Marked
-added cookie = record { cookie = cookie; removed = false }
+abbrev pub added_mark : Record → Marked
+added_mark cookie = record { cookie = cookie; removed = false }
 
 -- as one that tells the client to drop its name (RFC 6265 3.1)
-abbrev pub dropped : Record → Marked
-dropped cookie = record { cookie = cookie; removed = true }
+abbrev pub dropped_mark : Record → Marked
+dropped_mark cookie = record { cookie = cookie; removed = true }
 
 -- the original cookies, and the changes since, each under its cookie's name
 pub record JarState : Type 0 where
@@ -52,11 +52,11 @@ pub data Change : Type 0 where
 -- the name from both maps and leaves nothing to tell the client. A reset forgets all changes.
 abbrev pub after : Change → JarState → JarState
 after (AddOriginal cookie) jar = record jar { originals = insert jar.originals cookie.name cookie }
-after (Add cookie) jar = record jar { delta = insert jar.delta cookie.name (added cookie) }
+after (Add cookie) jar = record jar { delta = insert jar.delta cookie.name (added_mark cookie) }
 after (Remove cookie now) jar =
     record jar {
       delta = if contains_key jar.originals cookie.name
-          then insert jar.delta cookie.name (dropped (removal now cookie))
+          then insert jar.delta cookie.name (dropped_mark (removal now cookie))
           else remove jar.delta cookie.name;
     }
 after (ForceRemove name) jar = record { originals = remove jar.originals name; delta = remove jar.delta name }

@@ -19,8 +19,8 @@ abbrev pub encryption_half : List ℕ → List ℕ
 encryption_half key = drop 32 key
 
 -- the key in at least 64 bytes: the first 64
-abbrev pub key_of : List ℕ → List ℕ
-key_of bytes = take key_length bytes
+abbrev pub key_bytes : List ℕ → List ℕ
+key_bytes bytes = take key_length bytes
 
 -- what the expansion of a master key is for (RFC 5869 3.2)
 abbrev pub key_info : List ℕ

@@ -9,16 +9,16 @@ use Rattle.cookie.specs.declared.name_hash.NameHasher.{NameHasher}
 use Rattle.cookie.specs.declared.name_hash.NameHasher.TheVariants as state
 
 -- the state before the first write
-abbrev pub begun : NameHash → NameHasher
-begun hash.Fixed = state.Fixed folding.initial
-begun (hash.Keyed keys) = state.Keyed (initial_hasher keys)
+abbrev pub first_state : NameHash → NameHasher
+first_state hash.Fixed = state.Fixed folding.initial
+first_state (hash.Keyed keys) = state.Keyed (initial_hasher keys)
 
 -- the state after a write
-abbrev pub written : NameHasher → List ℕ → NameHasher
-written (state.Fixed s) bytes = state.Fixed (folding.write s bytes)
-written (state.Keyed s) bytes = state.Keyed (sip.write s bytes)
+abbrev pub state_after : NameHasher → List ℕ → NameHasher
+state_after (state.Fixed s) bytes = state.Fixed (folding.write s bytes)
+state_after (state.Keyed s) bytes = state.Keyed (sip.write s bytes)
 
 -- what is answered at the end
-abbrev pub finished : NameHasher → ℕ
-finished (state.Fixed s) = folding.finish s
-finished (state.Keyed s) = sip.finish s
+abbrev pub hash_of : NameHasher → ℕ
+hash_of (state.Fixed s) = folding.finish s
+hash_of (state.Keyed s) = sip.finish s

@@ -5,24 +5,24 @@ use Rattle.cookie_core.specs.Record.{Record, RawForms, CookieView}
 use Rattle.cookie.specs.Jar.{Name, JarState, view}
 
 -- the cookie with the prefix before its name
-abbrev pub prefixed : Name → Record → Record
-prefixed prefix cookie = record cookie { name = prefix ++ cookie.name }
+abbrev pub prefixed_cookie : Name → Record → Record
+prefixed_cookie prefix cookie = record cookie { name = prefix ++ cookie.name }
 
 -- the name without the prefix, where it begins with it, else the name
 abbrev pub clipped_name : Name → Name → Name
 clipped_name prefix name = if bytes_eq prefix (take (length prefix) name) then drop (length prefix) name else name
 
 -- the cookie with that name
-abbrev pub clipped : Name → Record → Record
-clipped prefix cookie = record cookie { name = clipped_name prefix cookie.name }
+abbrev pub clipped_cookie : Name → Record → Record
+clipped_cookie prefix cookie = record cookie { name = clipped_name prefix cookie.name }
 
 -- what a cookie lends once it has this name, which counts as set where it is another one
 abbrev pub renamed_raw : Name → CookieView → RawForms
 renamed_raw name cookie = if bytes_eq name cookie.fields.name then cookie.raw else record cookie.raw { name = None }
 
 -- the cookie as a prefix stores it: with the prefix before its name, and then conforming
-abbrev pub applied : Name → (Record → Record) → Record → Record
-applied prefix conformed cookie = conformed (prefixed prefix cookie)
+abbrev pub conforming_cookie : Name → (Record → Record) → Record → Record
+conforming_cookie prefix conformed cookie = conformed (prefixed_cookie prefix cookie)
 
 -- the name and the value of a cookie
 abbrev pub pair_of : Record → Name × Name
@@ -30,7 +30,7 @@ pair_of cookie = (cookie.name, cookie.value)
 
 -- the cookie that a jar shows under a name through a prefix
 abbrev pub prefixed_view : Name → JarState → Name → Option Record
-prefixed_view prefix jar name = option_map (clipped prefix) (view jar (prefix ++ name))
+prefixed_view prefix jar name = option_map (clipped_cookie prefix) (view jar (prefix ++ name))
 
 -- ---- the laws of a prefix
 
@@ -50,8 +50,8 @@ abbrev pub secure_prefix : Name
 secure_prefix = codes "__Secure-"
 
 -- a cookie for secure connections
-abbrev pub secured : Record → Record
-secured cookie = record cookie { secure = Some true }
+abbrev pub secure_cookie : Record → Record
+secure_cookie cookie = record cookie { secure = Some true }
 
 -- what stands before the name of a cookie that is bound to its host
 abbrev pub host_prefix : Name

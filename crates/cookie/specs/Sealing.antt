@@ -32,8 +32,8 @@ pub record IsSealed (key name text value : List ℕ) : Type 0 where
   pub sealed : (nonce : List ℕ) × IsNonce nonce × (text ≡ sealing key name nonce value)
 
 -- the cookie as a private jar stores it
-abbrev pub sealed : List ℕ → List ℕ → Record → Record
-sealed key nonce cookie = record cookie { value = sealing key cookie.name nonce cookie.value }
+abbrev pub sealed_cookie : List ℕ → List ℕ → Record → Record
+sealed_cookie key nonce cookie = record cookie { value = sealing key cookie.name nonce cookie.value }
 
 -- the cookie's value is a sealing of v, under its name
 abbrev pub IsSealingOf : List ℕ → Record → List ℕ → Type 0

@@ -29,8 +29,8 @@ unfoldable pub signing : List ℕ → Name → List ℕ → List ℕ
 signing key name value = signature key name value ++ value
 
 -- the cookie as a signed jar stores it
-abbrev pub signed : List ℕ → Record → Record
-signed key cookie = record cookie { value = signing key cookie.name cookie.value }
+abbrev pub signed_cookie : List ℕ → Record → Record
+signed_cookie key cookie = record cookie { value = signing key cookie.name cookie.value }
 
 -- the cookie's value is the signing of v
 abbrev pub IsSigningOf : List ℕ → Record → List ℕ → Type 0

@@ -12,18 +12,18 @@ abbrev pub by_name : {Y X Z : Type 0} → (X → Z) → List (String Y × X) →
 by_name shows entries = from_entries (map (λ e. (string_bytes e.0, shows e.1)) entries)
 
 -- what an original shows
-abbrev pub unmarked : Original → Record
-unmarked entry = entry.cookie.fields
+abbrev pub original_fields : Original → Record
+original_fields entry = entry.cookie.fields
 
 -- what a cookie of the delta shows
-abbrev pub marked : DeltaCookie → Marked
-marked entry = record { cookie = entry.cookie.fields; removed = entry.removed }
+abbrev pub delta_mark : DeltaCookie → Marked
+delta_mark entry = record { cookie = entry.cookie.fields; removed = entry.removed }
 
 -- each name is that of its value
-abbrev pub IsNamed : {Z : Type 0} → (Z → Name) → FinMap name_cmp Z → Type 0
-IsNamed name_of table = (n : Name) → IfSome (get table n) (λ z. name_of z ≡ n)
+abbrev pub IsKeyedByName : {Z : Type 0} → (Z → Name) → FinMap name_cmp Z → Type 0
+IsKeyedByName name_of table = (n : Name) → IfSome (get table n) (λ z. name_of z ≡ n)
 
 -- each name is that of its cookie
 pub record AreNamed (jar : JarState) : Type 0 where
-  pub originals : IsNamed (λ r. r.name) jar.originals
-  pub delta : IsNamed (λ m. m.cookie.name) jar.delta
+  pub originals : IsKeyedByName (λ r. r.name) jar.originals
+  pub delta : IsKeyedByName (λ m. m.cookie.name) jar.delta

@@ -1,7 +1,7 @@
 //! The cookies of a jar's delta.
 ghost use Rattle.std.specs.Prelude.{◌≡◌};
-ghost use Rattle.cookie.specs.Jar.{added, dropped};
-ghost use Rattle.cookie.specs.Table.{marked};
+ghost use Rattle.cookie.specs.Jar.{added_mark, dropped_mark};
+ghost use Rattle.cookie.specs.Table.{delta_mark};
 ghost use Rattle.cookie_core.specs.Removal.{removal};
 
 use cookie_core::Cookie;
@@ -16,7 +16,7 @@ pub(crate) struct DeltaCookie {
 
 impl DeltaCookie {
     pub(crate) fn added(cookie: Cookie<'static>) -> DeltaCookie
-        ensures { marked result ≡ added cookie.entry.fields }
+        ensures { delta_mark result ≡ added_mark cookie.entry.fields }
     {
         DeltaCookie {
             cookie,
@@ -25,7 +25,7 @@ impl DeltaCookie {
     }
 
     pub(crate) fn removed(mut cookie: Cookie<'static>, now: DateTime) -> DeltaCookie
-        ensures { marked result ≡ dropped (removal now cookie.entry.fields) }
+        ensures { delta_mark result ≡ dropped_mark (removal now cookie.entry.fields) }
     {
         cookie.make_removal(now);
         DeltaCookie {

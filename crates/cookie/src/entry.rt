@@ -3,7 +3,7 @@ ghost use Rattle.std.specs.Prelude.{◌≡◌, ℕ, List, OnOk, OnErr, IfOk};
 ghost use Rattle.std.specs.FinMap as map;
 ghost use Rattle.std.specs.Option.{option_map};
 ghost use Rattle.std.specs.String.{string_bytes};
-ghost use Rattle.cookie.specs.Table.{by_name, marked, unmarked, IsNamed};
+ghost use Rattle.cookie.specs.Table.{by_name, delta_mark, original_fields, IsKeyedByName};
 ghost use Rattle.cookie_core.specs.Record.{Record};
 ghost use Rattle.cookie.specs.Jar.{Marked};
 
@@ -34,7 +34,7 @@ pub(crate) trait Entry: Drop {
 impl Entry for Original {
     ghost Shown = { Record };
 
-    ghost shows = { unmarked };
+    ghost shows = { original_fields };
 
     ghost name_of = { λ r. r.name };
 
@@ -51,7 +51,7 @@ impl Entry for Original {
 impl Entry for DeltaCookie {
     ghost Shown = { Marked };
 
-    ghost shows = { marked };
+    ghost shows = { delta_mark };
 
     ghost name_of = { λ m. m.cookie.name };
 
@@ -92,8 +92,8 @@ pub(crate) fn put<X: Entry>(
         (X.name_of (X.shows entry)) (X.shows entry)) }
     ensures err { OnErr result (by_name X.shows table.new.entries
         ≡ by_name X.shows table.old.entries) }
-    ensures named { IsNamed X.name_of (by_name X.shows table.old.entries)
-        → IsNamed X.name_of (by_name X.shows table.new.entries) }
+    ensures named { IsKeyedByName X.name_of (by_name X.shows table.old.entries)
+        → IsKeyedByName X.name_of (by_name X.shows table.new.entries) }
 {
     let key = String::from_str(*table.allocator(), entry.own_name())?;
     set(table, key, entry)?;
@@ -119,8 +119,8 @@ fn set<X: Entry>(
 pub(crate) fn discard<X: Entry>(table: &mut IndexMap<String, X, NameHash>, name: &str)
     ensures removed { by_name X.shows table.new.entries
         ≡ map.remove (by_name X.shows table.old.entries) name.now }
-    ensures named { IsNamed X.name_of (by_name X.shows table.old.entries)
-        → IsNamed X.name_of (by_name X.shows table.new.entries) }
+    ensures named { IsKeyedByName X.name_of (by_name X.shows table.old.entries)
+        → IsKeyedByName X.name_of (by_name X.shows table.new.entries) }
 {
     table.swap_remove(name);
 }

@@ -3,7 +3,7 @@ ghost use Rattle.std.specs.Prelude.{◌≡◌, ◌++◌, map};
 ghost use Rattle.std.specs.Map.{values_of};
 ghost use Rattle.std.specs.Map.Iter.{TakesFirst};
 ghost use Rattle.cookie.specs.Shown.{additions, uncovered};
-ghost use Rattle.cookie.specs.Table.{by_name, marked, unmarked};
+ghost use Rattle.cookie.specs.Table.{by_name, delta_mark, original_fields};
 
 use crate::delta::DeltaCookie;
 use crate::entry::find;
@@ -67,13 +67,13 @@ pub struct Iter<'a> {
 impl<'a> Model for Iter<'a> {
     ghost use Rattle.std.specs.Prelude.{List, ◌++◌, map};
     ghost use Rattle.cookie.specs.Shown.{additions, uncovered};
-    ghost use Rattle.cookie.specs.Table.{by_name, marked, unmarked};
+    ghost use Rattle.cookie.specs.Table.{by_name, delta_mark, original_fields};
     ghost use Rattle.cookie_core.specs.Record.{Record};
 
     ghost Value = { List Record };
 
-    ghost view = { λ a. additions (map marked a.changes)
-        ++ uncovered (by_name marked a.delta.now.entries) (map unmarked a.originals) };
+    ghost view = { λ a. additions (map delta_mark a.changes)
+        ++ uncovered (by_name delta_mark a.delta.now.entries) (map original_fields a.originals) };
 }
 
 impl<'a> Iter<'a> {
@@ -82,9 +82,9 @@ impl<'a> Iter<'a> {
         delta: &'a IndexMap<String, DeltaCookie, NameHash>,
         originals: &'a IndexMap<String, Original, NameHash>,
     ) -> Iter<'a>
-        ensures { result ≡ additions (map marked (values_of delta.now.entries))
-            ++ uncovered (by_name marked delta.now.entries)
-            (map unmarked (values_of originals.now.entries)) }
+        ensures { result ≡ additions (map delta_mark (values_of delta.now.entries))
+            ++ uncovered (by_name delta_mark delta.now.entries)
+            (map original_fields (values_of originals.now.entries)) }
     {
         Iter {
             delta,
@@ -115,8 +115,8 @@ impl<'a> Iterator for Iter<'a> {
 
 // The next cookie that was added.
 fn next_added<'a>(changes: &mut Values<'a, String, DeltaCookie>) -> Option<&'a Cookie<'static>>
-    ensures { TakesFirst (λ c. c.now.fields) (additions (map marked changes.old))
-        result (additions (map marked changes.new)) }
+    ensures { TakesFirst (λ c. c.now.fields) (additions (map delta_mark changes.old))
+        result (additions (map delta_mark changes.new)) }
 {
     while let Some(entry) = changes.next() {
         if !entry.removed {
@@ -132,8 +132,9 @@ fn next_uncovered<'a>(
     originals: &mut Values<'a, String, Original>,
 ) -> Option<&'a Cookie<'static>>
     ensures { TakesFirst (λ c. c.now.fields)
-        (uncovered (by_name marked delta.now.entries) (map unmarked originals.old)) result
-        (uncovered (by_name marked delta.now.entries) (map unmarked originals.new)) }
+        (uncovered (by_name delta_mark delta.now.entries) (map original_fields originals.old))
+        result
+        (uncovered (by_name delta_mark delta.now.entries) (map original_fields originals.new)) }
 {
     while let Some(original) = originals.next() {
         if find(delta, original.cookie.name()).is_none() {

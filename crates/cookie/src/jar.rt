@@ -31,21 +31,21 @@ pub struct CookieJar {
 // Contracts see the jar as two finite maps from names to the records of cookies.
 impl Model for CookieJar {
     ghost use Rattle.cookie.specs.Jar.{JarState, jar_code};
-    ghost use Rattle.cookie.specs.Table.{AreNamed, by_name, marked, unmarked};
+    ghost use Rattle.cookie.specs.Table.{AreNamed, by_name, delta_mark, original_fields};
 
     ghost Value = { JarState };
 
     ghost coded = { jar_code };
 
     ghost view = { λ a. record {
-      originals = by_name unmarked a.originals.entries;
-      delta = by_name marked a.delta.entries;
+      originals = by_name original_fields a.originals.entries;
+      delta = by_name delta_mark a.delta.entries;
     } };
 
     // Each key is its cookie's name.
     ghost invariant = { λ a. AreNamed (record {
-      originals = by_name unmarked a.originals.entries;
-      delta = by_name marked a.delta.entries;
+      originals = by_name original_fields a.originals.entries;
+      delta = by_name delta_mark a.delta.entries;
     }) };
 }
 

@@ -18,9 +18,9 @@ pub(crate) enum NameHasher {
 }
 
 impl Hasher for NameHasher {
-    ghost write = { names.written };
+    ghost write = { names.state_after };
 
-    ghost finish = { names.finished };
+    ghost finish = { names.hash_of };
 
     fn finish(&self) -> u64 {
         match self {
@@ -40,7 +40,7 @@ impl Hasher for NameHasher {
 impl BuildHasher for NameHash {
     type Hasher = NameHasher;
 
-    ghost build_hasher = { names.begun };
+    ghost build_hasher = { names.first_state };
 
     fn build_hasher(&self) -> NameHasher {
         match self {

@@ -4,7 +4,7 @@ ghost use Rattle.cookie_core.specs.Memory.{Gives};
 ghost use Rattle.cookie_core.specs.Record.{Record, RawForms, CookieView};
 ghost use Rattle.cookie.specs.Clipped.{LeavesName};
 ghost use Rattle.cookie.specs.Jar.{Name};
-ghost use Rattle.cookie.specs.Prefixes.{KeepsPair, IsConforming, applied, clipped, clipped_name, prefixed, renamed_raw};
+ghost use Rattle.cookie.specs.Prefixes.{KeepsPair, IsConforming, conforming_cookie, clipped_cookie, clipped_name, prefixed_cookie, renamed_raw};
 
 mod host_prefix;
 mod jars;
@@ -55,11 +55,11 @@ pub trait Prefixing: Prefix {
     /// The cookie with the prefix before its name. The name counts as set, where the prefix isn't empty.
     fn prefix<'c>(alloc: Global, mut cookie: Cookie<'c>) -> Result<Cookie<'c>, AllocError>
         ensures fields { Gives alloc_error result (λ c.
-            c.fields ≡ prefixed Self.PREFIX cookie.entry.fields) }
+            c.fields ≡ prefixed_cookie Self.PREFIX cookie.entry.fields) }
         ensures raw { Gives alloc_error result (λ c.
             c.raw ≡ renamed_raw (Self.PREFIX ++ cookie.entry.fields.name) cookie.entry) }
         ensures back { Gives alloc_error result (λ c.
-            clipped Self.PREFIX c.fields ≡ cookie.entry.fields) }
+            clipped_cookie Self.PREFIX c.fields ≡ cookie.entry.fields) }
     {
         if !Self::PREFIX.as_str().is_empty() {
             let name = Self::prefixed_name(alloc, cookie.name())?;
@@ -72,7 +72,7 @@ pub trait Prefixing: Prefix {
     /// changes.
     fn clip<'c>(alloc: Global, mut cookie: Cookie<'c>) -> Result<Cookie<'c>, AllocError>
         ensures fields { Gives alloc_error result (λ c.
-            c.fields ≡ clipped Self.PREFIX cookie.entry.fields) }
+            c.fields ≡ clipped_cookie Self.PREFIX cookie.entry.fields) }
         ensures raw { Gives alloc_error result (λ c.
             c.raw ≡ renamed_raw (clipped_name Self.PREFIX cookie.entry.fields.name) cookie.entry) }
     {
@@ -86,10 +86,10 @@ pub trait Prefixing: Prefix {
     /// The cookie as it is stored: with the prefix before its name, and then conforming.
     fn apply<'c>(alloc: Global, cookie: Cookie<'c>) -> Result<Cookie<'c>, AllocError>
         ensures fields { Gives alloc_error result (λ c.
-            c.fields ≡ applied Self.PREFIX Self.conformed cookie.entry.fields) }
+            c.fields ≡ conforming_cookie Self.PREFIX Self.conformed cookie.entry.fields) }
         ensures raw { Gives alloc_error result (λ c.
             c.raw ≡ Self.conformed_raw (record {
-              fields = prefixed Self.PREFIX cookie.entry.fields;
+              fields = prefixed_cookie Self.PREFIX cookie.entry.fields;
               raw = renamed_raw (Self.PREFIX ++ cookie.entry.fields.name) cookie.entry;
             })) }
         ensures conforms { Gives alloc_error result (λ c. Self.conformed c.fields ≡ c.fields) }

@@ -9,7 +9,7 @@ use Rattle.jiff.specs.Types.{DateTime}
 use Rattle.jiff.proofs.SpanFacts.{signed_arith}
 use Rattle.cookie.specs.Normal.{IsNamed, IsUncut}
 use Rattle.cookie.specs.Pieces.{Lacks}
-use Rattle.cookie.specs.Prefixes.{applied, host_prefix, host_bound, secure_prefix, secured}
+use Rattle.cookie.specs.Prefixes.{conforming_cookie, host_prefix, host_bound, secure_prefix, secure_cookie}
 use Rattle.cookie.specs.Record.{Record}
 use Rattle.cookie.specs.Removal.{removal}
 use Rattle.cookie.proofs.ByteLemmas.{Lacks-from_test}
@@ -53,22 +53,22 @@ bound_read site cookie h =
 
 pub all_host_bound : (site : SiteView) → AreHostBound site
 all_host_bound site cookie h =
-    (bound_read site (applied host_prefix host_bound cookie) h, λ now. bound_read site (removal now (applied host_prefix host_bound cookie)) (named_removal now (applied host_prefix host_bound cookie) h))
+    (bound_read site (conforming_cookie host_prefix host_bound cookie) h, λ now. bound_read site (removal now (conforming_cookie host_prefix host_bound cookie)) (named_removal now (conforming_cookie host_prefix host_bound cookie) h))
 
 -- ---- `__Secure-`
 
-secured_read : (cookie : Record) → IsNamed (secured cookie) → IsUncut cookie → IsSecured (secured cookie)
+secured_read : (cookie : Record) → IsNamed (secure_cookie cookie) → IsUncut cookie → IsSecured (secure_cookie cookie)
 secured_read cookie h uncut =
-    let read : Record = raw_record (secured cookie) in
+    let read : Record = raw_record (secure_cookie cookie) in
     record {
       read = read;
-      is = plain_form (secured cookie) h (record { path = uncut.path; domain = uncut.domain });
+      is = plain_form (secure_cookie cookie) h (record { path = uncut.path; domain = uncut.domain });
       secure = or_true (not (begins secure_prefix read.name));
     }
 
 pub all_secured : AreSecured
 all_secured cookie h uncut =
-    let stored : Record = applied secure_prefix secured cookie in
+    let stored : Record = conforming_cookie secure_prefix secure_cookie cookie in
     let same : IsUncut stored = record { path = uncut.path; domain = uncut.domain } in (
       secured_read stored h same,
       λ now. secured_read (removal now stored) (named_removal now stored h) (record { path = uncut.path; domain = uncut.domain }),

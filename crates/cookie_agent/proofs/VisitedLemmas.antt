@@ -2,7 +2,7 @@
 use Rattle.std.proofs.Common.{◌≡◌, ℕ, List, [], ◌∷◌, length, refl, sym, subst, All, string_bytes, arith}
 use Rattle.std.proofs.lemmas.List.Elements.{All-map}
 use Rattle.std.specs.List.{AllZip}
-use Rattle.cookie.specs.History.{accepted, after_all}
+use Rattle.cookie.specs.History.{accepted_items, after_all}
 use Rattle.cookie.specs.Jar.{Name}
 use Rattle.cookie_client.specs.Agreement.{AreDeltaTexts}
 use Rattle.cookie_client.specs.Calls.{IsKnownChange, IsOutcome, change_of, changes_of}
@@ -41,7 +41,7 @@ module _ (before : Store) (request : AgentRequest) (visited : Visited) (is : IsP
       subst (IsFollowable scopes before request.site.now request.moment header) (sym is.jar)
       (followable scopes before ours request.site.now request.moment header is.sent.is (changes_of visited.outcomes.items request.calls.now)
       (known_changes visited.outcomes.items request.calls.now is.known)
-      (All-map (IsScopedChange request.site.now request.moment scopes) change_of (accepted visited.outcomes.items request.calls.now) scoped))
+      (All-map (IsScopedChange request.site.now request.moment scopes) change_of (accepted_items visited.outcomes.items request.calls.now) scoped))
 
   pub is_visited : IsVisited before request visited
   is_visited =

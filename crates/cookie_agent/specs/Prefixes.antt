@@ -6,7 +6,7 @@ use Rattle.jiff.specs.Types.{DateTime}
 use Rattle.cookie.specs.CookieOf.{cookie_of}
 use Rattle.cookie.specs.Jar.{Name}
 use Rattle.cookie.specs.Normal.{IsNamed, IsUncut}
-use Rattle.cookie.specs.Prefixes.{applied, host_prefix, host_bound, secure_prefix, secured}
+use Rattle.cookie.specs.Prefixes.{conforming_cookie, host_prefix, host_bound, secure_prefix, secure_cookie}
 use Rattle.cookie.specs.Record.{Record}
 use Rattle.cookie.specs.Removal.{removal}
 use Rattle.cookie.specs.Text.{cookie_text, is_true, is_unset, prints_secure}
@@ -47,9 +47,9 @@ pub record IsHostBound (site : SiteView) (cookie : Record) : Type 0 where
 -- So it is of what the jar with the prefix `__Host-` stores, and of what tells the agent to drop it.
 abbrev pub AreHostBound : SiteView → Type 0
 AreHostBound site =
-    (cookie : Record) → IsNamed (applied host_prefix host_bound cookie)
-    → IsHostBound site (applied host_prefix host_bound cookie)
-    × ((now : DateTime) → IsHostBound site (removal now (applied host_prefix host_bound cookie)))
+    (cookie : Record) → IsNamed (conforming_cookie host_prefix host_bound cookie)
+    → IsHostBound site (conforming_cookie host_prefix host_bound cookie)
+    × ((now : DateTime) → IsHostBound site (removal now (conforming_cookie host_prefix host_bound cookie)))
 
 -- The text of a cookie is read as one that meets what its name asks for.
 pub record IsSecured (cookie : Record) : Type 0 where
@@ -60,9 +60,9 @@ pub record IsSecured (cookie : Record) : Type 0 where
 -- So it is of what the jar with the prefix `__Secure-` stores, and of what tells the agent to drop it, where path and domain set no other field.
 abbrev pub AreSecured : Type 0
 AreSecured =
-    (cookie : Record) → IsNamed (applied secure_prefix secured cookie) → IsUncut cookie
-    → IsSecured (applied secure_prefix secured cookie)
-    × ((now : DateTime) → IsSecured (removal now (applied secure_prefix secured cookie)))
+    (cookie : Record) → IsNamed (conforming_cookie secure_prefix secure_cookie cookie) → IsUncut cookie
+    → IsSecured (conforming_cookie secure_prefix secure_cookie cookie)
+    × ((now : DateTime) → IsSecured (removal now (conforming_cookie secure_prefix secure_cookie cookie)))
 
 -- Each cookie with the path `/` and without a domain has the whole host as its scope, and the site sees it: one scope serves all names.
 abbrev pub IsScopedWhole : SiteView → Type 0

@@ -26,15 +26,15 @@ Store = List Stored
 -- ---- what a cookie is stored as (5.3, steps 2 to 10)
 
 -- when an expiry is
-abbrev pub moment_of : Option Expiration → Option ℤ
-moment_of (Some (AtDateTime moment)) = Some (civil_nanos moment)
-moment_of (Some Session) = None
-moment_of None = None
+abbrev pub expiry_nanos : Option Expiration → Option ℤ
+expiry_nanos (Some (AtDateTime moment)) = Some (civil_nanos moment)
+expiry_nanos (Some Session) = None
+expiry_nanos None = None
 
 -- the age beats the expiry (5.3, step 3)
 abbrev pub expiry_by : DateTime → Option ℤ → Option Expiration → Option ℤ
 expiry_by now (Some age) expires = Some (civil_nanos now +ℤ age)
-expiry_by now None expires = moment_of expires
+expiry_by now None expires = expiry_nanos expires
 
 -- what a cookie that was read at the moment is stored as
 abbrev pub stored_in : ScopeView → DateTime → Record → Stored

@@ -2,7 +2,7 @@
 use Rattle.std.specs.Prelude.{◌≡◌, ℕ, List, [], ◌∷◌, length, All, string_bytes}
 use Rattle.std.specs.List.{AllZip}
 use Rattle.jiff.specs.Types.{DateTime}
-use Rattle.cookie.specs.History.{accepted, after_all}
+use Rattle.cookie.specs.History.{accepted_items, after_all}
 use Rattle.cookie.specs.Jar.{Name}
 use Rattle.cookie_client.specs.Agreement.{AreDeltaTexts}
 use Rattle.cookie_client.specs.Calls.{IsOutcome, changes_of}
@@ -19,7 +19,7 @@ use Rattle.cookie_agent.specs.declared.visited.Visited.{Visited}
 -- each call of the request that its jar accepted is in its name's scope, which takes in the site
 abbrev pub AreScoped : (Name → ScopeView) → AgentRequest → Visited → Type 0
 AreScoped scopes request visited =
-    All (IsScopedCall request.site.now request.moment scopes) (accepted visited.outcomes.items request.calls.now)
+    All (IsScopedCall request.site.now request.moment scopes) (accepted_items visited.outcomes.items request.calls.now)
 
 -- What a request came to, for the agent before it.
 pub record IsVisited (before : Store) (request : AgentRequest) (visited : Visited) : Type 0 where

@@ -2,7 +2,7 @@
 use Rattle.std.proofs.Common.{Bool, true, false, inl, inr, List, [], ◌∷◌, refl, All}
 use Rattle.std.proofs.lemmas.List.Elements.{All-nil, All-cons, All-head, All-tail, All-map, All-weaker}
 use Rattle.jiff.specs.Types.{DateTime}
-use Rattle.cookie.specs.History.{after_all, accepted}
+use Rattle.cookie.specs.History.{after_all, accepted_items}
 use Rattle.cookie.specs.Jar.{JarState, Change, AddOriginal, Add, Remove, ForceRemove, ResetDelta}
 use Rattle.cookie.specs.Keys.{encryption_half, signing_half}
 use Rattle.cookie_client.specs.Calls.{Storing, asked_of, change_of, changes_of, storing_of, stored_by, IsFit, IsFitCall, IsKnownChange}
@@ -47,21 +47,21 @@ known_change call known = known_stored (storing_of call) (faithful call) (asked_
 fit_change : (now : DateTime) (call : JarCall) → IsFitCall now call → IsFit now (change_of call)
 fit_change now call fit = fit_stored (storing_of call) (faithful call) now (asked_of call) fit
 
-pub All-accepted : {X : Type 0} (P : X → Type 0) (outcomes : List Bool) (xs : List X) → All P xs → All P (accepted outcomes xs)
-All-accepted P [] xs all = All-nil P
-All-accepted P (b ∷ bs) [] all = All-nil P
-All-accepted P (true ∷ bs) (x ∷ xs) all = All-cons P x (accepted bs xs) (All-head P x xs all) (All-accepted P bs xs (All-tail P x xs all))
-All-accepted P (false ∷ bs) (x ∷ xs) all = All-accepted P bs xs (All-tail P x xs all)
+pub All-accepted_items : {X : Type 0} (P : X → Type 0) (outcomes : List Bool) (xs : List X) → All P xs → All P (accepted_items outcomes xs)
+All-accepted_items P [] xs all = All-nil P
+All-accepted_items P (b ∷ bs) [] all = All-nil P
+All-accepted_items P (true ∷ bs) (x ∷ xs) all = All-cons P x (accepted_items bs xs) (All-head P x xs all) (All-accepted_items P bs xs (All-tail P x xs all))
+All-accepted_items P (false ∷ bs) (x ∷ xs) all = All-accepted_items P bs xs (All-tail P x xs all)
 
 -- the changes of the accepted calls
 pub known_changes : (outcomes : List Bool) (cs : List JarCall) → All (λ call. IsKnownChange (change_of call)) cs → All IsKnownChange (changes_of outcomes cs)
 known_changes outcomes cs all =
-    All-map IsKnownChange change_of (accepted outcomes cs) (All-accepted (λ call. IsKnownChange (change_of call)) outcomes cs all)
+    All-map IsKnownChange change_of (accepted_items outcomes cs) (All-accepted_items (λ call. IsKnownChange (change_of call)) outcomes cs all)
 
 -- what is fit as it was handed in is fit as it is stored
-pub fit_changes : (now : DateTime) (outcomes : List Bool) (cs : List JarCall) → All (IsFitCall now) (accepted outcomes cs) → All (IsFit now) (changes_of outcomes cs)
+pub fit_changes : (now : DateTime) (outcomes : List Bool) (cs : List JarCall) → All (IsFitCall now) (accepted_items outcomes cs) → All (IsFit now) (changes_of outcomes cs)
 fit_changes now outcomes cs all =
-    All-map (IsFit now) change_of (accepted outcomes cs) (All-weaker (IsFitCall now) (λ call. IsFit now (change_of call)) (fit_change now) (accepted outcomes cs) all)
+    All-map (IsFit now) change_of (accepted_items outcomes cs) (All-weaker (IsFitCall now) (λ call. IsFit now (change_of call)) (fit_change now) (accepted_items outcomes cs) all)
 
 -- ---- what changes put into the delta
 

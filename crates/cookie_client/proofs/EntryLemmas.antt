@@ -6,7 +6,7 @@ use Rattle.std.proofs.lemmas.Slice.Eq.{bytes_eq-Decides}
 use Rattle.std.specs.FinMap.{FinMap, empty, get, insert, remove, contains_key, get-empty}
 use Rattle.std.specs.Str.{bytes_eq}
 use Rattle.cookie.specs.History.{after_all}
-use Rattle.cookie.specs.Jar.{Name, name_cmp, Marked, added, dropped, JarState, Change, AddOriginal, Add, Remove, ForceRemove, ResetDelta, after}
+use Rattle.cookie.specs.Jar.{Name, name_cmp, Marked, added_mark, dropped_mark, JarState, Change, AddOriginal, Add, Remove, ForceRemove, ResetDelta, after}
 use Rattle.cookie.specs.Removal.{removal}
 use Rattle.cookie.proofs.NameLemmas.{get_inserted, get_removed}
 
@@ -23,8 +23,8 @@ module _ (P : Name → Marked → Type 0) where
   -- it holds of what the change puts there
   abbrev pub Puts : Change → Type 0
   Puts (AddOriginal cookie) = Unit {0}
-  Puts (Add cookie) = P cookie.name (added cookie)
-  Puts (Remove cookie now) = P cookie.name (dropped (removal now cookie))
+  Puts (Add cookie) = P cookie.name (added_mark cookie)
+  Puts (Remove cookie now) = P cookie.name (dropped_mark (removal now cookie))
   Puts (ForceRemove name) = Unit {0}
   Puts ResetDelta = Unit {0}
 
@@ -51,9 +51,9 @@ module _ (P : Name → Marked → Type 0) where
 
   AreEntries-after : (change : Change) (jar : JarState) → Puts change → AreEntries jar.delta → AreEntries (after change jar).delta
   AreEntries-after (AddOriginal cookie) jar p all = all
-  AreEntries-after (Add cookie) jar p all = inserted jar.delta cookie.name (added cookie) p all
+  AreEntries-after (Add cookie) jar p all = inserted jar.delta cookie.name (added_mark cookie) p all
   AreEntries-after (Remove cookie now) jar p all =
-      either_way (contains_key jar.originals cookie.name) jar.delta cookie.name (dropped (removal now cookie)) p all
+      either_way (contains_key jar.originals cookie.name) jar.delta cookie.name (dropped_mark (removal now cookie)) p all
   AreEntries-after (ForceRemove name) jar p all = dropped_name jar.delta name all
   AreEntries-after ResetDelta jar p all = AreEntries-empty
 

@@ -18,61 +18,61 @@ use Rattle.cookie_client.specs.Lines.{lines_of}
 use Rattle.cookie_client.specs.Exchange.{IsExchange}
 use Rattle.cookie_client.specs.Originals.{client_for, jar_for}
 use Rattle.cookie_client.specs.Run.{IsOfAgreement, IsPlayed, Refuses, changes_in, header_line}
-use Rattle.cookie_client.specs.Session.{Fault, BadMoment, BadInput, cookie_line, delta_texts, finished, moment_of, played, played_bytes, session, set_cookie_lines, written}
+use Rattle.cookie_client.specs.Session.{Fault, BadMoment, BadInput, cookie_line, delta_texts, session_end, moment_of, session_of_lines, session_of_bytes, session, set_cookie_lines, session_text}
 use Rattle.cookie_client.specs.declared.call.JarCall.{JarCall}
 use Rattle.cookie_client.specs.declared.exchange.Played.{Played}
 use Rattle.cookie_client.specs.declared.run_error.RunError.{RunError}
 use Rattle.cookie_client.specs.declared.run_error.RunError.TheVariants as errors
 use Rattle.cookie_client.proofs.EntriesLemmas.{are_texts}
 use Rattle.cookie_client.proofs.RoundLemmas.{holds_kept}
-use Rattle.cookie_client.proofs.SessionLemmas.{accepted-all, jar_after-changes}
+use Rattle.cookie_client.proofs.SessionLemmas.{accepted_items-all, jar_after-changes}
 
-pub played_bytes-text : (now : DateTime) (bytes : List ℕ) → IsUtf8 bytes → played_bytes now bytes ≡ played now (lines_of bytes)
-played_bytes-text now bytes text = ap (λ b. cond b (played now (lines_of bytes)) (Err BadInput)) (is_utf8-from_IsUtf8 bytes text)
+pub session_of_bytes-text : (now : DateTime) (bytes : List ℕ) → IsUtf8 bytes → session_of_bytes now bytes ≡ session_of_lines now (lines_of bytes)
+session_of_bytes-text now bytes text = ap (λ b. cond b (session_of_lines now (lines_of bytes)) (Err BadInput)) (is_utf8-from_IsUtf8 bytes text)
 
-pub played_bytes-bad : (now : DateTime) (bytes : List ℕ) → ¬ (IsUtf8 bytes) → played_bytes now bytes ≡ Err BadInput
-played_bytes-bad now bytes bad =
-    ap (λ b. cond b (played now (lines_of bytes)) (Err BadInput)) (false_from_ne_true (is_utf8 bytes) (λ e. bad (IsUtf8-from_is_utf8 bytes e)))
+pub session_of_bytes-bad : (now : DateTime) (bytes : List ℕ) → ¬ (IsUtf8 bytes) → session_of_bytes now bytes ≡ Err BadInput
+session_of_bytes-bad now bytes bad =
+    ap (λ b. cond b (session_of_lines now (lines_of bytes)) (Err BadInput)) (false_from_ne_true (is_utf8 bytes) (λ e. bad (IsUtf8-from_is_utf8 bytes e)))
 
 -- ---- the text of a session
 
 -- the session of lines, by what the lines behind the first ask for
 by_changes : (now : DateTime) (lines : List (List ℕ))
-    → played now lines ≡ finished now (client_for (header_line lines))
+    → session_of_lines now lines ≡ session_end now (client_for (header_line lines))
     (result_map_both (λ changes. after_all changes (jar_for (header_line lines))) (λ fault. fault) (changes_in now 2 (drop 1 lines)))
 by_changes now [] = refl
 by_changes now (header ∷ lines) =
-    ap (finished now (client_for header)) (jar_after-changes now 2 lines (jar_for header))
+    ap (session_end now (client_for header)) (jar_after-changes now 2 lines (jar_for header))
 
 -- the session as it is finished from what the lines ask for
 asked : DateTime → List (List ℕ) → Result (List Change) Fault → Result (List ℕ) Fault
 asked now lines r =
-    finished now (client_for (header_line lines))
+    session_end now (client_for (header_line lines))
     (result_map_both (λ changes. after_all changes (jar_for (header_line lines))) (λ fault. fault) r)
 
-pub played-refused : (now : DateTime) (lines : List (List ℕ)) (e : RunError) → Refuses (changes_in now 2 (drop 1 lines)) e → Refuses (played now lines) e
+pub session_of_lines-refused : (now : DateTime) (lines : List (List ℕ)) (e : RunError) → Refuses (changes_in now 2 (drop 1 lines)) e → Refuses (session_of_lines now lines) e
 unfolding asked
-played-refused now lines errors.BadMoment h = h
-played-refused now lines errors.BadInput h = by_changes now lines ∙ ap (asked now lines) h
-played-refused now lines (errors.BadLine line) h = by_changes now lines ∙ ap (asked now lines) h
-played-refused now lines errors.OutOfMemory h = h
-played-refused now lines errors.Input h = h
-played-refused now lines errors.Output h = h
+session_of_lines-refused now lines errors.BadMoment h = h
+session_of_lines-refused now lines errors.BadInput h = by_changes now lines ∙ ap (asked now lines) h
+session_of_lines-refused now lines (errors.BadLine line) h = by_changes now lines ∙ ap (asked now lines) h
+session_of_lines-refused now lines errors.OutOfMemory h = h
+session_of_lines-refused now lines errors.Input h = h
+session_of_lines-refused now lines errors.Output h = h
 
 -- what is written of a visit is the session's text, and of a client that agrees with the jar
 pub written_by : (now : DateTime) (lines : List (List ℕ)) (calls : List JarCall) (p : Played) (text : List ℕ) → changes_in now 2 (drop 1 lines) ≡ Ok (map change_of calls)
     → IsExchange now (jar_for (header_line lines)) (client_for (header_line lines)) calls p → list_all (λ b. b) p.outcomes.items ≡ true → text ≡ set_cookie_lines (delta_texts p.jar) ++ cookie_line p.client
-    → (played now lines ≡ Ok text) × IsOfAgreement now lines text
+    → (session_of_lines now lines ≡ Ok text) × IsOfAgreement now lines text
 unfolding asked
 written_by now lines calls p text asks visit all is =
     let values = client_for (header_line lines) in
     let start : JarState = jar_for (header_line lines) in
     let changes : List Change = map change_of calls in
-    let same : changes_of p.outcomes.items calls ≡ changes = ap (map change_of) (accepted-all p.outcomes.items calls (AllZip-long IsOutcome calls p.outcomes.items visit.outcomes) all) in
+    let same : changes_of p.outcomes.items calls ≡ changes = ap (map change_of) (accepted_items-all p.outcomes.items calls (AllZip-long IsOutcome calls p.outcomes.items visit.outcomes) all) in
     let made : p.jar ≡ after_all changes start = visit.jar ∙ ap (λ cs. after_all cs start) same in
     let client : p.client ≡ after_texts now (delta_texts p.jar) values = visit.agreement.in_any_order (delta_texts p.jar) (are_texts p.jar) in (
       by_changes now lines ∙ ap (asked now lines) asks
-          ∙ sym (ap Ok (is ∙ ap (λ v. set_cookie_lines (delta_texts p.jar) ++ cookie_line v) client ∙ ap (λ jar. written now values jar) made)),
+          ∙ sym (ap Ok (is ∙ ap (λ v. set_cookie_lines (delta_texts p.jar) ++ cookie_line v) client ∙ ap (λ jar. session_text now values jar) made)),
       record {
         changes = changes;
         asked = asks;
@@ -94,19 +94,19 @@ matched (Err e) P P' Q weaker wanting h = subst Q (sym h) wanting
 -- ---- the session of a moment
 
 at_moment : List ℕ → Option DateTime → Result (List ℕ) Fault
-at_moment bytes o = elim o as (λ _. Result (List ℕ) Fault) [ None ↦ Err BadMoment | Some now ↦ played_bytes now bytes ]
+at_moment bytes o = elim o as (λ _. Result (List ℕ) Fault) [ None ↦ Err BadMoment | Some now ↦ session_of_bytes now bytes ]
 
-pub session-played : (moment bytes : List ℕ) (now : DateTime) → moment_of moment ≡ Some now → session moment bytes ≡ played_bytes now bytes
+pub session-at_moment : (moment bytes : List ℕ) (now : DateTime) → moment_of moment ≡ Some now → session moment bytes ≡ session_of_bytes now bytes
 unfolding at_moment
-session-played moment bytes now e = ap (at_moment bytes) e
+session-at_moment moment bytes now e = ap (at_moment bytes) e
 
 -- a refusal of the session, before anything is written
 pub refused : (moment bytes : List ℕ) (now : DateTime) → moment_of moment ≡ Some now → (is_read : List ℕ → Type 0) → is_read bytes
-    → (old new : Option (List ℕ)) → Keeps old new → (e : RunError) → Refuses (played_bytes now bytes) e
+    → (old new : Option (List ℕ)) → Keeps old new → (e : RunError) → Refuses (session_of_bytes now bytes) e
     → IsPlayed {T = Unit {0}} moment is_read old new (Err e)
 refused moment bytes now good is_read read old new keeps errors.BadMoment h = absurd h
-refused moment bytes now good is_read read old new keeps errors.BadInput h = (bytes, read, session-played moment bytes now good ∙ h, keeps)
-refused moment bytes now good is_read read old new keeps (errors.BadLine line) h = (bytes, read, session-played moment bytes now good ∙ h, keeps)
+refused moment bytes now good is_read read old new keeps errors.BadInput h = (bytes, read, session-at_moment moment bytes now good ∙ h, keeps)
+refused moment bytes now good is_read read old new keeps (errors.BadLine line) h = (bytes, read, session-at_moment moment bytes now good ∙ h, keeps)
 refused moment bytes now good is_read read old new keeps errors.OutOfMemory h = keeps
 refused moment bytes now good is_read read old new keeps errors.Input h = absurd h
 refused moment bytes now good is_read read old new keeps errors.Output h = absurd h

@@ -15,7 +15,7 @@ use Rattle.std.specs.Result.{result_map_both}
 use Rattle.std.specs.Ordering.{is_lt, eq_by_cmp}
 use Rattle.std.specs.Str.{bytes_eq}
 use Rattle.jiff.specs.Types.{DateTime}
-use Rattle.cookie.specs.History.{accepted, after_all}
+use Rattle.cookie.specs.History.{accepted_items, after_all}
 use Rattle.cookie.specs.Jar.{Change, JarState, Marked, Name, name_cmp, after}
 use Rattle.cookie.specs.Record.{Record}
 use Rattle.cookie_client.specs.Lines.{lines_of, without_return}
@@ -159,12 +159,12 @@ jar_after-changes now n ((c ∷ cs) ∷ lines) jar = by (λ next. jar_after-chan
     by later (Some change) = later (after change jar) ∙ through change (changes_in now (n + 1) lines)
 
 -- all calls were accepted
-pub accepted-all : {X : Type 0} (outcomes : List Bool) (xs : List X) → length outcomes ≡ length xs → list_all (λ b. b) outcomes ≡ true → accepted outcomes xs ≡ xs
-accepted-all [] [] same all = refl
-accepted-all [] (x ∷ xs) same all = absurd (omega (arith, same))
-accepted-all (b ∷ bs) [] same all = refl
-accepted-all (true ∷ bs) (x ∷ xs) same all = ap (λ ys. x ∷ ys) (accepted-all bs xs (omega (arith, same)) all)
-accepted-all (false ∷ bs) (x ∷ xs) same all = absurd (subst T (sym all) tt)
+pub accepted_items-all : {X : Type 0} (outcomes : List Bool) (xs : List X) → length outcomes ≡ length xs → list_all (λ b. b) outcomes ≡ true → accepted_items outcomes xs ≡ xs
+accepted_items-all [] [] same all = refl
+accepted_items-all [] (x ∷ xs) same all = absurd (omega (arith, same))
+accepted_items-all (b ∷ bs) [] same all = refl
+accepted_items-all (true ∷ bs) (x ∷ xs) same all = ap (λ ys. x ∷ ys) (accepted_items-all bs xs (omega (arith, same)) all)
+accepted_items-all (false ∷ bs) (x ∷ xs) same all = absurd (subst T (sym all) tt)
 
 -- a text has at most one line more than bytes
 pub lines_of-length : (text : List ℕ) → length (lines_of text) ≤ length text + 1

@@ -8,8 +8,8 @@ use Rattle.jiff.specs.Types.{DateTime}
 use Rattle.cookie.specs.Pieces.{Lacks}
 use Rattle.cookie.specs.Prefixes.{host_prefix, secure_prefix}
 use Rattle.cookie.specs.Record.{Record, IsCookie}
-use Rattle.cookie.specs.Sealing.{sealed}
-use Rattle.cookie.specs.Signing.{signed}
+use Rattle.cookie.specs.Sealing.{sealed_cookie}
+use Rattle.cookie.specs.Signing.{signed_cookie}
 use Rattle.cookie.proofs.ByteLemmas.{Lacks-from_test}
 use Rattle.cookie.proofs.SealingLemmas.{IsCookie-sealed}
 use Rattle.cookie.proofs.SigningLemmas.{IsCookie-signed}
@@ -75,10 +75,10 @@ IsStoring-prefixed kind =
 
 -- ---- signed
 
-IsFitAddition-signed : (key : List ℕ) (now : DateTime) (c : Record) → IsFitAddition now c → IsFitAddition now (signed key c)
+IsFitAddition-signed : (key : List ℕ) (now : DateTime) (c : Record) → IsFitAddition now c → IsFitAddition now (signed_cookie key c)
 IsFitAddition-signed key now c fit = record { name = fit.name; live = fit.live; uncut = record { path = fit.uncut.path; domain = fit.uncut.domain } }
 
-pub IsStoring-signed : (key : List ℕ) → IsStoring (signed key)
+pub IsStoring-signed : (key : List ℕ) → IsStoring (signed_cookie key)
 IsStoring-signed key =
     record {
       cookie = IsCookie-signed key;
@@ -88,10 +88,10 @@ IsStoring-signed key =
 
 -- ---- sealed
 
-IsFitAddition-sealed : (key nonce : List ℕ) (now : DateTime) (c : Record) → IsFitAddition now c → IsFitAddition now (sealed key nonce c)
+IsFitAddition-sealed : (key nonce : List ℕ) (now : DateTime) (c : Record) → IsFitAddition now c → IsFitAddition now (sealed_cookie key nonce c)
 IsFitAddition-sealed key nonce now c fit = record { name = fit.name; live = fit.live; uncut = record { path = fit.uncut.path; domain = fit.uncut.domain } }
 
-pub IsStoring-sealed : (key nonce : List ℕ) → IsStoring (sealed key nonce)
+pub IsStoring-sealed : (key nonce : List ℕ) → IsStoring (sealed_cookie key nonce)
 IsStoring-sealed key nonce =
     record {
       cookie = IsCookie-sealed key nonce;

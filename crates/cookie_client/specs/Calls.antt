@@ -1,14 +1,14 @@
 -- What each call on a jar changes, and what each call is to a client.
 use Rattle.std.specs.Prelude.{◌≡◌, ◌≢◌, ℕ, Bool, true, false, List, [], map, string_bytes}
 use Rattle.jiff.specs.Types.{DateTime}
-use Rattle.cookie.specs.History.{accepted}
+use Rattle.cookie.specs.History.{accepted_items}
 use Rattle.cookie.specs.Jar.{Name, Change, AddOriginal, Add, Remove, ForceRemove, ResetDelta}
 use Rattle.cookie.specs.Keys.{encryption_half, signing_half}
 use Rattle.cookie.specs.Normal.{IsUncut}
-use Rattle.cookie.specs.Prefixes.{applied, host_prefix, host_bound, secure_prefix, secured}
+use Rattle.cookie.specs.Prefixes.{conforming_cookie, host_prefix, host_bound, secure_prefix, secure_cookie}
 use Rattle.cookie.specs.Record.{Record, IsCookie}
-use Rattle.cookie.specs.Sealing.{CanSeal, sealed}
-use Rattle.cookie.specs.Signing.{signed}
+use Rattle.cookie.specs.Sealing.{CanSeal, sealed_cookie}
+use Rattle.cookie.specs.Signing.{signed_cookie}
 use Rattle.cookie_client.specs.Live.{is_live}
 use Rattle.cookie_client.specs.declared.call.JarCall.{JarCall}
 use Rattle.cookie_client.specs.declared.call.JarCall.TheVariants as calls
@@ -35,21 +35,21 @@ prefix_of kinds.Secure = secure_prefix
 -- what conforming to it makes of a cookie
 abbrev pub conformed_to : PrefixKind → Record → Record
 conformed_to kinds.Host = host_bound
-conformed_to kinds.Secure = secured
+conformed_to kinds.Secure = secure_cookie
 
 -- the cookie as a child jar of this prefix stores it
 abbrev pub stored_with : PrefixKind → Record → Record
-stored_with kind cookie = applied (prefix_of kind) (conformed_to kind) cookie
+stored_with kind cookie = conforming_cookie (prefix_of kind) (conformed_to kind) cookie
 
 -- how the child jars of a prefix and of a key store cookies; for a key, what is removed stays as it is
 abbrev pub prefixed_by : PrefixKind → Storing
 prefixed_by kind = storing (stored_with kind) (stored_with kind)
 
 abbrev pub signed_by : List ℕ → Storing
-signed_by key = storing (signed (signing_half key)) (λ cookie. cookie)
+signed_by key = storing (signed_cookie (signing_half key)) (λ cookie. cookie)
 
 abbrev pub sealed_by : List ℕ → List ℕ → Storing
-sealed_by key nonce = storing (sealed (encryption_half key) nonce) (λ cookie. cookie)
+sealed_by key nonce = storing (sealed_cookie (encryption_half key) nonce) (λ cookie. cookie)
 
 -- how the jar of a call stores cookies: a child jar in its way, and the jar itself as they are
 abbrev pub storing_of : JarCall → Storing
@@ -90,7 +90,7 @@ change_of call = stored_by (storing_of call) (asked_of call)
 
 -- the changes of the calls whose outcome is true
 abbrev pub changes_of : List Bool → List JarCall → List Change
-changes_of outcomes calls = map change_of (accepted outcomes calls)
+changes_of outcomes calls = map change_of (accepted_items outcomes calls)
 
 -- what the type of a cookie says of the one in a change
 abbrev pub IsKnownChange : Change → Type 0

@@ -2,7 +2,7 @@
 use Rattle.std.specs.Prelude.{◌≡◌, List, All}
 use Rattle.std.specs.List.{AllZip}
 use Rattle.jiff.specs.Types.{DateTime}
-use Rattle.cookie.specs.History.{accepted, after_all}
+use Rattle.cookie.specs.History.{accepted_items, after_all}
 use Rattle.cookie.specs.Jar.{JarState, Change}
 use Rattle.cookie_client.specs.Agreement.{Agrees}
 use Rattle.cookie_client.specs.Calls.{IsFit, IsFitCall, IsOutcome, changes_of}
@@ -12,7 +12,7 @@ use Rattle.cookie_client.specs.declared.exchange.Played.{Played}
 
 -- the calls that were accepted
 abbrev pub accepted_calls : List JarCall → Played → List JarCall
-accepted_calls calls played = accepted played.outcomes.items calls
+accepted_calls calls played = accepted_items played.outcomes.items calls
 
 -- their changes
 abbrev pub changes_by : List JarCall → Played → List Change

@@ -48,15 +48,15 @@ call_of now line =
     else discarding_of line
 
 -- the jar after a line: an empty line changes nothing, and another that asks for no call is bad
-abbrev pub followed : DateTime → List ℕ → JarState → Option JarState
-followed now [] jar = Some jar
-followed now (c ∷ cs) jar = option_map (λ call. after call jar) (call_of now (c ∷ cs))
+abbrev pub jar_after_line : DateTime → List ℕ → JarState → Option JarState
+jar_after_line now [] jar = Some jar
+jar_after_line now (c ∷ cs) jar = option_map (λ call. after call jar) (call_of now (c ∷ cs))
 
 -- the jar after the lines, of which the first is number n, or the first bad line
 abbrev pub jar_after : DateTime → ℕ → List (List ℕ) → JarState → Result JarState Fault
 jar_after now n [] jar = Ok jar
 jar_after now n (line ∷ lines) jar =
-    elim (followed now line jar) as (λ _. Result JarState Fault) [
+    elim (jar_after_line now line jar) as (λ _. Result JarState Fault) [
       | None ↦ Err (BadLine n)
       | Some next ↦ jar_after now (n + 1) lines next
     ]
@@ -75,28 +75,28 @@ abbrev pub cookie_line : Values → List ℕ
 cookie_line values = codes "Cookie: " ++ (header_text values ++ codes "\n")
 
 -- what is written of a jar, and of a client that reads its delta at the moment
-abbrev pub written : DateTime → Values → JarState → List ℕ
-written now values jar =
+abbrev pub session_text : DateTime → Values → JarState → List ℕ
+session_text now values jar =
     set_cookie_lines (delta_texts jar) ++ cookie_line (after_texts now (delta_texts jar) values)
 
 -- the text of a jar's session, or its fault
-abbrev pub finished : DateTime → Values → Result JarState Fault → Result (List ℕ) Fault
-finished now values (Ok jar) = Ok (written now values jar)
-finished now values (Err fault) = Err fault
+abbrev pub session_end : DateTime → Values → Result JarState Fault → Result (List ℕ) Fault
+session_end now values (Ok jar) = Ok (session_text now values jar)
+session_end now values (Err fault) = Err fault
 
 -- the session of a header and the lines behind it
-abbrev pub played_lines : DateTime → List ℕ → List (List ℕ) → Result (List ℕ) Fault
-played_lines now header lines =
-    finished now (client_for header) (jar_after now 2 lines (jar_for header))
+abbrev pub session_of_header : DateTime → List ℕ → List (List ℕ) → Result (List ℕ) Fault
+session_of_header now header lines =
+    session_end now (client_for header) (jar_after now 2 lines (jar_for header))
 
 -- the session of lines, of which the first is the header
-abbrev pub played : DateTime → List (List ℕ) → Result (List ℕ) Fault
-played now [] = played_lines now [] []
-played now (header ∷ lines) = played_lines now header lines
+abbrev pub session_of_lines : DateTime → List (List ℕ) → Result (List ℕ) Fault
+session_of_lines now [] = session_of_header now [] []
+session_of_lines now (header ∷ lines) = session_of_header now header lines
 
 -- the session of bytes at a moment, if they are UTF-8
-abbrev pub played_bytes : DateTime → List ℕ → Result (List ℕ) Fault
-played_bytes now bytes = if is_utf8 bytes then played now (lines_of bytes) else Err BadInput
+abbrev pub session_of_bytes : DateTime → List ℕ → Result (List ℕ) Fault
+session_of_bytes now bytes = if is_utf8 bytes then session_of_lines now (lines_of bytes) else Err BadInput
 
 -- the moment that a text stands for, of the year 100 or later
 abbrev pub moment_of : List ℕ → Option DateTime
@@ -108,5 +108,5 @@ abbrev pub session : List ℕ → List ℕ → Result (List ℕ) Fault
 session moment bytes =
     elim (moment_of moment) as (λ _. Result (List ℕ) Fault) [
       | None ↦ Err BadMoment
-      | Some now ↦ played_bytes now bytes
+      | Some now ↦ session_of_bytes now bytes
     ]

@@ -3,7 +3,7 @@ ghost use Rattle.std.specs.Prelude.{◌≡◌, ◌∷◌, [], true, length, IsOk
 ghost use Rattle.std.specs.List.{AllZip};
 ghost use Rattle.cookie.specs.History.{after_all};
 ghost use Rattle.cookie.specs.Jar.{after};
-ghost use Rattle.cookie.specs.Prefixes.{applied};
+ghost use Rattle.cookie.specs.Prefixes.{conforming_cookie};
 ghost use Rattle.cookie_client.specs.Calls.{IsOutcome, IsTooLong, IsUnsealable, asked_of_child, change_of, changes_of, is_certain, sealed_by, signed_by, stored_by, storing};
 
 use crate::call::JarCall;
@@ -47,7 +47,7 @@ fn play_prefixed<P: Prefix>(
     prefix: P,
     call: &ChildCall,
 ) -> Result<(), JarError>
-    ensures ok { OnOk result (let stored = applied P.PREFIX P.conformed in jar.new ≡ after
+    ensures ok { OnOk result (let stored = conforming_cookie P.PREFIX P.conformed in jar.new ≡ after
         (stored_by (storing stored stored) (asked_of_child call.now)) jar.old) }
     ensures err { OnErr result (jar.new ≡ jar.old) }
 {

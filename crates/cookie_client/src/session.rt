@@ -9,7 +9,7 @@ ghost use Rattle.cookie.specs.Text.{cookie_text};
 ghost use Rattle.cookie_client.specs.Calls.{change_of};
 ghost use Rattle.cookie_client.specs.Lines.{lines_of};
 ghost use Rattle.cookie_client.specs.Run.{IsAgreed, IsOfAgreement, IsPlayed, IsRead, Refuses, changes_in, header_line};
-ghost use Rattle.cookie_client.specs.Session.{moment_of, call_of, removal_of, forced_removal_of, discarding_of, set_cookie_lines, delta_texts, cookie_line, played, played_bytes};
+ghost use Rattle.cookie_client.specs.Session.{moment_of, call_of, removal_of, forced_removal_of, discarding_of, set_cookie_lines, delta_texts, cookie_line, session_of_lines, session_of_bytes};
 ghost use Rattle.cookie_client.specs.declared.run_error.RunError.TheVariants as errors;
 
 use crate::call::JarCall;
@@ -168,8 +168,8 @@ fn output(alloc: Global, client: &Client, jar: &CookieJar) -> Result<String, Run
 fn played(alloc: Global, jar: CookieJar, now: DateTime, text: &str) -> Result<String, RunError>
     requires { jar ≡ empty_jar }
     ensures played { MatchResult result
-        (λ answer. played now (lines_of text.now) ≡ Ok (string_bytes answer))
-        (Refuses (played now (lines_of text.now))) }
+        (λ answer. session_of_lines now (lines_of text.now) ≡ Ok (string_bytes answer))
+        (Refuses (session_of_lines now (lines_of text.now))) }
     ensures agreement { IfOk result (λ answer.
         IsOfAgreement now (lines_of text.now) (string_bytes answer)) }
 {
@@ -202,8 +202,8 @@ fn are_accepted(outcomes: &[bool]) -> bool
 fn answer(alloc: Global, jar: CookieJar, now: DateTime, bytes: &[u8]) -> Result<String, RunError>
     requires { jar ≡ empty_jar }
     ensures played { MatchResult result
-        (λ text. played_bytes now bytes.now ≡ Ok (string_bytes text))
-        (Refuses (played_bytes now bytes.now)) }
+        (λ text. session_of_bytes now bytes.now ≡ Ok (string_bytes text))
+        (Refuses (session_of_bytes now bytes.now)) }
     ensures agreement { IfOk result (λ text.
         IsOfAgreement now (lines_of bytes.now) (string_bytes text)) }
 {

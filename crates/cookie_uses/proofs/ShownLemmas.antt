@@ -7,18 +7,18 @@ use Rattle.std.specs.FinMap.{get, insert, remove, get-insert, get-remove}
 use Rattle.std.specs.Str.{bytes_eq}
 use Rattle.jiff.specs.Types.{DateTime}
 use Rattle.cookie.proofs.JarLemmas.{view-added}
-use Rattle.cookie.specs.Jar.{Name, JarState, Marked, Add, Remove, after, dropped, overlay, view}
+use Rattle.cookie.specs.Jar.{Name, JarState, Marked, Add, Remove, after, dropped_mark, overlay, view}
 use Rattle.cookie.specs.Record.{Record}
 use Rattle.cookie.specs.AnswersExactly.{IsStoredFor}
 use Rattle.cookie.specs.Removal.{removal}
-use Rattle.cookie.specs.Sealing.{CanSeal, IsNonce, IsSealingOf, sealed}
+use Rattle.cookie.specs.Sealing.{CanSeal, IsNonce, IsSealingOf, sealed_cookie}
 
 bytes_eq-itself : (name : Name) → bytes_eq name name ≡ true
 bytes_eq-itself name = (bytes_eq-Decides name name).1 refl
 
 module _ (jar : JarState) (cookie : Record) (now : DateTime) where
   abbrev gone : Marked
-  gone = dropped (removal now cookie)
+  gone = dropped_mark (removal now cookie)
 
   same : (entry other : Option Marked) → cond (bytes_eq cookie.name cookie.name) entry other ≡ entry
   same entry other = ap (λ b. cond b entry other) (bytes_eq-itself cookie.name)
@@ -60,7 +60,7 @@ module _ (jar new : JarState) (cookie : Record) (name : Name) (named : cookie.na
 
 -- the client of a jar with an original of the name is told of the removal
 pub told-removed : (jar new : JarState) (cookie original : Record) (now : DateTime) → new ≡ after (Remove cookie now) jar
-    → get jar.originals cookie.name ≡ Some original → get new.delta cookie.name ≡ Some (dropped (removal now cookie))
+    → get jar.originals cookie.name ≡ Some original → get new.delta cookie.name ≡ Some (dropped_mark (removal now cookie))
 told-removed jar new cookie original now is has =
     ap (λ j. get j.delta cookie.name) is
     ∙ ap (λ o. get (cond (is_some o) (insert jar.delta cookie.name (gone jar cookie now)) (remove jar.delta cookie.name)) cookie.name) has
@@ -68,9 +68,9 @@ told-removed jar new cookie original now is has =
 
 -- the user whose name was sealed into the cookie that was added
 pub sealed-added : (key nonce user : List ℕ) (jar new : JarState) (cookie : Record) (name : Name) → IsNonce nonce → CanSeal cookie → IsUtf8 user
-    → cookie.name ≡ name → cookie.value ≡ user → new ≡ after (Add (sealed key nonce cookie)) jar → IsStoredFor (IsSealingOf key) (view new name) user
+    → cookie.name ≡ name → cookie.value ≡ user → new ≡ after (Add (sealed_cookie key nonce cookie)) jar → IsStoredFor (IsSealingOf key) (view new name) user
 sealed-added key nonce user jar new cookie name is_nonce within is_text named valued is =
-    let stands : IsSealingOf key (sealed key nonce cookie) cookie.value =
+    let stands : IsSealingOf key (sealed_cookie key nonce cookie) cookie.value =
     record { is_text = subst IsUtf8 (sym valued) is_text; sealable = within; sealed = (nonce, is_nonce, refl) } in
-    subst (λ shown. IsStoredFor (IsSealingOf key) shown user) (sym (shown-added jar new (sealed key nonce cookie) name named is))
-    (subst (IsSealingOf key (sealed key nonce cookie)) valued stands)
+    subst (λ shown. IsStoredFor (IsSealingOf key) shown user) (sym (shown-added jar new (sealed_cookie key nonce cookie) name named is))
+    (subst (IsSealingOf key (sealed_cookie key nonce cookie)) valued stands)

@@ -1,7 +1,7 @@
 //! A removal that a browser obeys.
 ghost use Rattle.std.specs.Prelude.{◌≡◌, Some, OnOk, OnErr};
 ghost use Rattle.std.specs.FinMap.{get};
-ghost use Rattle.cookie.specs.Jar.{dropped};
+ghost use Rattle.cookie.specs.Jar.{dropped_mark};
 ghost use Rattle.cookie.specs.Record.{Record};
 ghost use Rattle.cookie.specs.Removal.{removal};
 
@@ -19,7 +19,8 @@ pub fn remove_as_set(
 ) -> Result<(), JarError>
     ensures told { OnOk result ((original : Record)
         → get jar.old.originals set.now.fields.name ≡ Some original
-        → get jar.new.delta set.now.fields.name ≡ Some (dropped (removal now set.now.fields))) }
+        → get jar.new.delta set.now.fields.name
+        ≡ Some (dropped_mark (removal now set.now.fields))) }
     ensures path { (removal now set.now.fields).path ≡ set.now.fields.path }
     ensures domain { (removal now set.now.fields).domain ≡ set.now.fields.domain }
     ensures err { OnErr result (jar.new ≡ jar.old) }

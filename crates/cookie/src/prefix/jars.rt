@@ -2,7 +2,7 @@
 ghost use Rattle.std.specs.Prelude.{◌≡◌, Some, option_map};
 ghost use Rattle.cookie_core.specs.Memory.{Gives};
 ghost use Rattle.cookie.specs.ChildJars.{Changes, jar_of};
-ghost use Rattle.cookie.specs.Prefixes.{applied, pair_of, prefixed_view};
+ghost use Rattle.cookie.specs.Prefixes.{conforming_cookie, pair_of, prefixed_view};
 ghost use Rattle.cookie.specs.declared.jar_error.JarError.TheVariants as refusal;
 
 use crate::child::{ChildJar, Storing};
@@ -40,9 +40,9 @@ pub struct Prefixer<P: Prefix> {
 }
 
 impl<P: Prefix> Storing for Prefixer<P> {
-    ghost stored = { λ _. applied P.PREFIX P.conformed };
+    ghost stored = { λ _. conforming_cookie P.PREFIX P.conformed };
 
-    ghost dropped = { λ _. applied P.PREFIX P.conformed };
+    ghost dropped = { λ _. conforming_cookie P.PREFIX P.conformed };
 
     ghost DropsFreely = { ⊥ };
 

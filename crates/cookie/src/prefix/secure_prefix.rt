@@ -1,6 +1,6 @@
 //! The prefix `__Secure-` (RFC 6265bis 4.1.3.1).
 ghost use Rattle.std.specs.Prelude.{refl};
-ghost use Rattle.cookie.specs.Prefixes.{secured, secure_prefix};
+ghost use Rattle.cookie.specs.Prefixes.{secure_cookie, secure_prefix};
 
 use crate::prefix::{NamePrefix, Prefix};
 use cookie_core::Cookie;
@@ -14,7 +14,7 @@ impl Prefix for Secure {
 
     ghost PREFIX = { secure_prefix };
 
-    ghost conformed = { secured };
+    ghost conformed = { secure_cookie };
 
     ghost conformed_raw = { λ c. c.raw };
 

@@ -5,7 +5,7 @@ ghost use Rattle.std.specs.Cmp.{partial_equiv_from_equiv};
 ghost use Rattle.std.specs.Cmp.Lexicographic.{nat_list_eq_equiv};
 ghost use Rattle.cookie_crypt.specs.Bytes.{IsBytes};
 ghost use Rattle.rand_core.specs.Stream.{fill_bytes};
-ghost use Rattle.cookie.specs.Keys.{derived_key, encryption_half, key_length, key_of, master_length, signing_half};
+ghost use Rattle.cookie.specs.Keys.{derived_key, encryption_half, key_length, key_bytes, master_length, signing_half};
 ghost use Rattle.cookie.specs.declared.secure.key_error.KeyError.TheVariants as refusal;
 
 use crate::secure::key_error::KeyError;
@@ -52,7 +52,7 @@ impl Key {
     /// The caller sees to it that there are as many, and that they are random; `try_from` takes any number.
     pub fn from(key: &[u8]) -> Key
         requires { key_length ≤ length key.now }
-        ensures { result ≡ key_of key.now }
+        ensures { result ≡ key_bytes key.now }
     {
         let mut bytes = [0; KEY_LENGTH];
         bytes.copy_from_slice(&key[..KEY_LENGTH]);
@@ -61,7 +61,7 @@ impl Key {
 
     /// The key of the first 64 bytes, which must be random. Fails exactly where there are fewer.
     pub fn try_from(key: &[u8]) -> Result<Key, KeyError>
-        ensures ok { key_length ≤ length key.now → result ≡ Ok (key_of key.now) }
+        ensures ok { key_length ≤ length key.now → result ≡ Ok (key_bytes key.now) }
         ensures too_short { length key.now < key_length
             → result ≡ Err (refusal.TooShort (length key.now)) }
     {

@@ -6,7 +6,7 @@ ghost use Rattle.cookie.specs.AnswersExactly.{AnswersExactly, AnswersPair};
 ghost use Rattle.cookie.specs.Jar.{Add, AddOriginal, Remove, after, view};
 ghost use Rattle.cookie.specs.Keys.{encryption_half};
 ghost use Rattle.cookie.specs.ChildJars.{Changes, ChangesSame, jar_of, key_of};
-ghost use Rattle.cookie.specs.Sealing.{CanSeal, IsNonce, IsSealingOf, sealed};
+ghost use Rattle.cookie.specs.Sealing.{CanSeal, IsNonce, IsSealingOf, sealed_cookie};
 ghost use Rattle.cookie.specs.declared.jar_error.JarError.TheVariants as refusal;
 
 use crate::child::ChildJar;
@@ -157,7 +157,8 @@ impl<'a> PrivateJarMut<'a> {
         ensures ok { OnOk result ((nonce : List ℕ) × IsNonce nonce
             × R.may_fill rng.old nonce rng.new
             × (jar_of self.new ≡ after
-            (AddOriginal (sealed (key_of self.old) nonce cookie.entry.fields)) (jar_of self.old))) }
+            (AddOriginal (sealed_cookie (key_of self.old) nonce cookie.entry.fields))
+            (jar_of self.old))) }
         ensures within { OnOk result (CanSeal cookie.entry.fields) }
 
         // Where memory was wanting the nonce was drawn too.
@@ -188,7 +189,7 @@ impl<'a> PrivateJarMut<'a> {
         ensures ok { OnOk result ((nonce : List ℕ) × IsNonce nonce
             × R.may_fill rng.old nonce rng.new
             × (jar_of self.new ≡ after
-            (Add (sealed (key_of self.old) nonce cookie.entry.fields)) (jar_of self.old))) }
+            (Add (sealed_cookie (key_of self.old) nonce cookie.entry.fields)) (jar_of self.old))) }
         ensures within { OnOk result (CanSeal cookie.entry.fields) }
 
         // Where memory was wanting the nonce was drawn too.
@@ -225,7 +226,8 @@ impl<'a> PrivateJarMut<'a> {
     ) -> Result<(), JarError>
         ensures gives { CanSeal cookie.entry.fields → Gives refusal.OutOfMemory result (λ _.
             jar_of self.new ≡ after
-            (AddOriginal (sealed (key_of self.old) nonce cookie.entry.fields)) (jar_of self.old)) }
+            (AddOriginal (sealed_cookie (key_of self.old) nonce cookie.entry.fields))
+            (jar_of self.old)) }
         ensures within { OnOk result (CanSeal cookie.entry.fields) }
 
         // Past the cipher's limits it is refused as such.
@@ -255,7 +257,7 @@ impl<'a> PrivateJarMut<'a> {
     ) -> Result<(), JarError>
         ensures gives { CanSeal cookie.entry.fields → Gives refusal.OutOfMemory result (λ _.
             jar_of self.new ≡ after
-            (Add (sealed (key_of self.old) nonce cookie.entry.fields)) (jar_of self.old)) }
+            (Add (sealed_cookie (key_of self.old) nonce cookie.entry.fields)) (jar_of self.old)) }
         ensures within { OnOk result (CanSeal cookie.entry.fields) }
 
         // Past the cipher's limits it is refused as such.

@@ -7,7 +7,7 @@ ghost use Rattle.cookie_core.specs.Memory.{Gives};
 ghost use Rattle.cookie_crypt.specs.Bytes.{IsBytes};
 ghost use Rattle.cookie.specs.AnswersExactly.{AnswersExactly};
 ghost use Rattle.cookie.specs.Opening.{IsSealedBytes};
-ghost use Rattle.cookie.specs.Sealing.{CanSeal, IsNonce, IsSealable, IsSealed, IsSealingOf, sealed, sealed_bytes, sealing};
+ghost use Rattle.cookie.specs.Sealing.{CanSeal, IsNonce, IsSealable, IsSealed, IsSealingOf, sealed_cookie, sealed_bytes, sealing};
 
 use crate::secure::key::are_bytes;
 use base64::DecodeAllocError;
@@ -48,7 +48,7 @@ pub(crate) fn seal<'c>(
 ) -> Result<Cookie<'c>, AllocError>
     requires { CanSeal cookie.fields }
     ensures gives { Gives alloc_error result (λ c.
-        c.fields ≡ sealed key.now nonce.now cookie.entry.fields) }
+        c.fields ≡ sealed_cookie key.now nonce.now cookie.entry.fields) }
     ensures stands { IfOk result (λ c. IsSealingOf key.now c.fields cookie.entry.fields.value) }
 {
     is_nonce(nonce);

@@ -5,7 +5,7 @@ ghost use Rattle.cookie.specs.AnswersExactly.{AnswersExactly, AnswersPair};
 ghost use Rattle.cookie.specs.Jar.{view};
 ghost use Rattle.cookie.specs.Keys.{signing_half};
 ghost use Rattle.cookie.specs.ChildJars.{Changes, jar_of, key_of};
-ghost use Rattle.cookie.specs.Signing.{CoversOnePair, IsSigningOf, signed};
+ghost use Rattle.cookie.specs.Signing.{CoversOnePair, IsSigningOf, signed_cookie};
 ghost use Rattle.cookie.specs.declared.jar_error.JarError.TheVariants as refusal;
 
 use crate::child::{ChildJar, Storing};
@@ -55,7 +55,7 @@ impl Model for Signer {
 }
 
 impl Storing for Signer {
-    ghost stored = { signed };
+    ghost stored = { signed_cookie };
 
     ghost dropped = { λ _ cookie. cookie };
 

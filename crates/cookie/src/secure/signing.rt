@@ -3,7 +3,7 @@ ghost use Rattle.std.specs.Prelude.{◌≡◌, ◌↔◌, List, ℕ, Some, alloc
 ghost use Rattle.std.specs.Option.{option_copied};
 ghost use Rattle.cookie_core.specs.Memory.{Gives};
 ghost use Rattle.cookie.specs.AnswersExactly.{AnswersExactly};
-ghost use Rattle.cookie.specs.Signing.{IsSigningOf, signature, signed, signing};
+ghost use Rattle.cookie.specs.Signing.{IsSigningOf, signature, signed_cookie, signing};
 
 use base64::engine::general_purpose::STANDARD;
 use cookie_core::Cookie;
@@ -29,7 +29,7 @@ pub(crate) fn sign<'c>(
     key: &[u8],
     mut cookie: Cookie<'c>,
 ) -> Result<Cookie<'c>, AllocError>
-    ensures { Gives alloc_error result (λ c. c.fields ≡ signed key.now cookie.entry.fields) }
+    ensures { Gives alloc_error result (λ c. c.fields ≡ signed_cookie key.now cookie.entry.fields) }
 {
     let signature = signature(key, cookie.name(), cookie.value());
     let Ok(signature) = str::from_utf8(&signature) else {

@@ -1,4 +1,4 @@
-use Rattle.cookie.proofs.NameLemmas.{remove_shows, IsNamed-remove}
+use Rattle.cookie.proofs.NameLemmas.{remove_shows, IsKeyedByName-remove}
 use Rattle.cookie.proofs.entry.discard.Goals as goal
 
 pub returns-clause-removed : goal.returns-clause-removed
@@ -6,4 +6,4 @@ returns-clause-removed g c = remove_shows g.X.Entry.shows c.args.table.now c.swa
 
 pub returns-clause-named : goal.returns-clause-named
 returns-clause-named g c = λ named.
-    rw (returns-clause-removed g c) (IsNamed-remove g.X.Entry.name_of _ c.args.name.now named)
+    rw (returns-clause-removed g c) (IsKeyedByName-remove g.X.Entry.name_of _ c.args.name.now named)

@@ -1,7 +1,7 @@
 use Rattle.std.proofs.Common.{ap, ◌∙◌}
 use Rattle.std.specs.FinMap.{insert}
 use Rattle.cookie.specs.Table.{by_name}
-use Rattle.cookie.proofs.NameLemmas.{IsNamed-insert}
+use Rattle.cookie.proofs.NameLemmas.{IsKeyedByName-insert}
 use Rattle.cookie.proofs.entry.put.Goals as goal
 
 pub returns-clause-ok : goal.returns-clause-ok
@@ -11,4 +11,4 @@ returns-clause-ok g c =
 
 pub returns-clause-named : goal.returns-clause-named
 returns-clause-named g c = λ named.
-    rw (returns-clause-ok g c) (IsNamed-insert g.X.Entry.name_of _ (g.X.Entry.shows c.args.entry) named)
+    rw (returns-clause-ok g c) (IsKeyedByName-insert g.X.Entry.name_of _ (g.X.Entry.shows c.args.entry) named)

@@ -6,9 +6,9 @@ use Rattle.cookie_client.specs.Exchange.{IsExchange}
 use Rattle.cookie_client.specs.Lines.{lines_of}
 use Rattle.cookie_client.specs.Originals.{client_for, jar_for}
 use Rattle.cookie_client.specs.Run.{IsOfAgreement, Refuses, changes_in, header_line}
-use Rattle.cookie_client.specs.Session.{cookie_line, delta_texts, played, set_cookie_lines}
+use Rattle.cookie_client.specs.Session.{cookie_line, delta_texts, session_of_lines, set_cookie_lines}
 use Rattle.cookie_client.specs.declared.call.JarCall.{JarCall}
-use Rattle.cookie_client.proofs.RunLemmas.{matched, played-refused, written_by}
+use Rattle.cookie_client.proofs.RunLemmas.{matched, session_of_lines-refused, written_by}
 use Rattle.cookie_client.proofs.SessionLemmas.{lines_of-length}
 use Rattle.cookie_client.proofs.session.played.Goals as goal
 
@@ -20,12 +20,12 @@ pub returns-in_err-calls-clause-played : goal.returns-in_err-calls-clause-played
 returns-in_err-calls-clause-played c =
     let p = err_from_is_err_and c.from_residual.result c.from_residual.ensures.1 in
     let rest = c.header_of-header.ensures.rest ∙ ap (drop 1) c.of-lines.ensures in
-    rw (p.1, p.2) (played-refused c.args.now (lines_of c.args.text.now) c.in_err-calls.field-0.0
+    rw (p.1, p.2) (session_of_lines-refused c.args.now (lines_of c.args.text.now) c.in_err-calls.field-0.0
     (subst (λ ls. Refuses (changes_in c.args.now 2 ls) c.in_err-calls.field-0.0) rest c.in_err-calls.ensures))
 
 -- what is written is the session's text, and of an agreement
 told : (c : goal.After-drop-calls-2) (text : List ℕ) → text ≡ set_cookie_lines (delta_texts c.in_ok-visited.visited.jar) ++ cookie_line c.in_ok-visited.visited.client
-    → (played c.args.now (lines_of c.args.text.now) ≡ Ok text) × IsOfAgreement c.args.now (lines_of c.args.text.now) text
+    → (session_of_lines c.args.now (lines_of c.args.text.now) ≡ Ok text) × IsOfAgreement c.args.now (lines_of c.args.text.now) text
 told c text is =
     let now = c.args.now in
     let calls : List JarCall = c.in_ok-calls.calls.items in
@@ -41,7 +41,7 @@ told c text is =
 
 pub returns-clause-played : goal.returns-clause-played
 returns-clause-played c =
-    matched c.output.result _ _ (Refuses (played c.args.now (lines_of c.args.text.now))) (λ answer is. (told c (string_bytes answer) is).0) tt c.output.ensures
+    matched c.output.result _ _ (Refuses (session_of_lines c.args.now (lines_of c.args.text.now))) (λ answer is. (told c (string_bytes answer) is).0) tt c.output.ensures
 
 pub returns-clause-agreement : goal.returns-clause-agreement
 returns-clause-agreement c = matched c.output.result _ _ _ (λ answer is. (told c (string_bytes answer) is).1) tt c.output.ensures

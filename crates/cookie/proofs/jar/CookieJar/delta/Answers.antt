@@ -4,7 +4,7 @@ use Rattle.std.specs.Map.{values_of}
 use Rattle.std.specs.Option.{option_map}
 use Rattle.std.specs.Prelude.{map}
 use Rattle.cookie.specs.Jar.{JarState}
-use Rattle.cookie.specs.Table.{marked}
+use Rattle.cookie.specs.Table.{delta_mark}
 use Rattle.cookie.specs.Walk.{Walks}
 use Rattle.cookie.proofs.WalkLemmas.{walks_values}
 use Rattle.cookie.proofs.jar.CookieJar.delta.Goals as goal
@@ -14,4 +14,4 @@ returns c =
     let entries = c.self.inside.delta.entries in
     rw (c.new.ensures, c.values-entries.ensures.rest) (
     subst (λ (s : JarState). Walks (λ n. option_map (λ m. m.cookie) (get s.delta n)) (map (λ d. d.cookie.fields) (values_of entries))) c.self.view_is (
-    walks_values marked (λ m. m.cookie) entries c.len-len.ensures.unique c.self.invariant.delta))
+    walks_values delta_mark (λ m. m.cookie) entries c.len-len.ensures.unique c.self.invariant.delta))

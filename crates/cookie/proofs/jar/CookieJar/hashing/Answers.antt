@@ -1,11 +1,11 @@
 use Rattle.cookie.proofs.HistoryLemmas.{looks_back}
-use Rattle.cookie.proofs.NameLemmas.{IsNamed-empty}
+use Rattle.cookie.proofs.NameLemmas.{IsKeyedByName-empty}
 use Rattle.cookie.proofs.jar.CookieJar.hashing.Goals as goal
 
 pub invariant_of-result : goal.invariant_of-result
 invariant_of-result c = record {
-  originals = rw c.with_hasher.ensures.empty (IsNamed-empty _);
-  delta = rw c.with_hasher-2.ensures.empty (IsNamed-empty _);
+  originals = rw c.with_hasher.ensures.empty (IsKeyedByName-empty _);
+  delta = rw c.with_hasher-2.ensures.empty (IsKeyedByName-empty _);
 }
 
 pub returns-clause-history : goal.returns-clause-history

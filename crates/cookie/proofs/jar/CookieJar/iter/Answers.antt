@@ -3,7 +3,7 @@ use Rattle.std.specs.FinMap.{get}
 use Rattle.std.specs.Map.{values_of}
 use Rattle.cookie.specs.Jar.{JarState, view}
 use Rattle.cookie.specs.Shown.{additions, uncovered}
-use Rattle.cookie.specs.Table.{by_name, marked, unmarked}
+use Rattle.cookie.specs.Table.{by_name, delta_mark, original_fields}
 use Rattle.cookie.specs.Walk.{Walks}
 use Rattle.cookie.proofs.ShownLemmas.{walks_shown, option_map-itself}
 use Rattle.cookie.proofs.WalkLemmas.{values_found, values_once}
@@ -16,11 +16,11 @@ returns c =
     let delta_once = c.len-changes.ensures.unique in
     let originals_once = c.len-originals.ensures.unique in
     rw c.new.ensures (
-    subst (λ (s : JarState). Walks (view s) (additions (map marked (values_of delta)) ++ uncovered (by_name marked delta) (map unmarked (values_of originals)))) c.self.view_is (
-    walks_shown (by_name marked delta) (by_name unmarked originals) (map marked (values_of delta)) (map unmarked (values_of originals))
-    (λ n. values_found marked (λ m. m) (λ m. m.cookie.name) delta delta_once c.self.invariant.delta n ∙ option_map-itself (get (by_name marked delta) n))
-    (values_once marked (λ m. m) (λ m. m.cookie.name) delta delta_once c.self.invariant.delta)
+    subst (λ (s : JarState). Walks (view s) (additions (map delta_mark (values_of delta)) ++ uncovered (by_name delta_mark delta) (map original_fields (values_of originals)))) c.self.view_is (
+    walks_shown (by_name delta_mark delta) (by_name original_fields originals) (map delta_mark (values_of delta)) (map original_fields (values_of originals))
+    (λ n. values_found delta_mark (λ m. m) (λ m. m.cookie.name) delta delta_once c.self.invariant.delta n ∙ option_map-itself (get (by_name delta_mark delta) n))
+    (values_once delta_mark (λ m. m) (λ m. m.cookie.name) delta delta_once c.self.invariant.delta)
     (record {
-      found = λ n. values_found unmarked (λ r. r) (λ r. r.name) originals originals_once c.self.invariant.originals n ∙ option_map-itself (get (by_name unmarked originals) n);
-      once = values_once unmarked (λ r. r) (λ r. r.name) originals originals_once c.self.invariant.originals;
+      found = λ n. values_found original_fields (λ r. r) (λ r. r.name) originals originals_once c.self.invariant.originals n ∙ option_map-itself (get (by_name original_fields originals) n);
+      once = values_once original_fields (λ r. r) (λ r. r.name) originals originals_once c.self.invariant.originals;
     })))

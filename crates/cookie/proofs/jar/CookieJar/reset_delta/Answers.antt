@@ -1,19 +1,19 @@
 use Rattle.std.proofs.Common.{Global, [], ap, ◌∙◌}
 use Rattle.std.specs.FinMap.{get}
 use Rattle.cookie.specs.Jar.{JarState, overlay}
-use Rattle.cookie.specs.Table.{by_name, marked, unmarked}
-use Rattle.cookie.proofs.NameLemmas.{IsNamed-empty, get-by_name}
+use Rattle.cookie.specs.Table.{by_name, delta_mark, original_fields}
+use Rattle.cookie.proofs.NameLemmas.{IsKeyedByName-empty, get-by_name}
 use Rattle.cookie.proofs.jar.CookieJar.reset_delta.Goals as goal
 
 pub invariant_of-self : goal.invariant_of-self
 invariant_of-self c = record {
   originals = c.self.invariant.originals;
-  delta = rw c.truncate.ensures.entries (IsNamed-empty _);
+  delta = rw c.truncate.ensures.entries (IsKeyedByName-empty _);
 }
 
 pub returns-clause-originals : goal.returns-clause-originals
 returns-clause-originals c = λ name.
-    let original = get (by_name unmarked c.self.inside.originals.entries) name in
-    ap (λ es. overlay (get (by_name marked es) name) original) c.truncate.ensures.entries
-    ∙ ap (λ entry. overlay entry original) (get-by_name marked {Y = Global} [] name)
+    let original = get (by_name original_fields c.self.inside.originals.entries) name in
+    ap (λ es. overlay (get (by_name delta_mark es) name) original) c.truncate.ensures.entries
+    ∙ ap (λ entry. overlay entry original) (get-by_name delta_mark {Y = Global} [] name)
     ∙ ap (λ (jar : JarState). get jar.originals name) c.self.view_is

@@ -1,8 +1,8 @@
 use Rattle.std.proofs.Common.{◌++◌, ◌==◌, length, ap, sym, ◌∙◌}
 use Rattle.std.specs.String.{string_bytes}
 use Rattle.cookie_core.specs.Record.{CookieView}
-use Rattle.cookie.specs.Prefixes.{clipped}
-use Rattle.cookie.proofs.PrefixLemmas.{clipped-prefixed, clipped-empty, renamed_raw-empty, renamed_raw-prefixed}
+use Rattle.cookie.specs.Prefixes.{clipped_cookie}
+use Rattle.cookie.proofs.PrefixLemmas.{clipped_cookie-prefixed, clipped_cookie-empty, renamed_raw-empty, renamed_raw-prefixed}
 use Rattle.cookie.proofs.prefix.Prefixing.prefix.Goals.{then-not-is_empty+in_ok-name, else-not-is_empty}
 use Rattle.cookie.proofs.prefix.Prefixing.prefix.Goals as goal
 
@@ -26,11 +26,11 @@ returns-clause-back g c =
     let cookie = c.args.cookie in
     elim c.if-not-is_empty.branch [
       | then-not-is_empty+in_ok-name w ↦
-          ap (λ (v : CookieView). clipped prefix v.fields) w.cookie-is
-          ∙ ap (clipped prefix) {y = record cookie.fields { name = string_bytes w.in_ok-name.name }} w.set_name_owned.ensures.fields
-          ∙ ap (λ n. clipped prefix (record cookie.fields { name = n })) (w.in_ok-name.ensures ∙ ap (λ n. prefix ++ n) w.name.ensures)
-          ∙ clipped-prefixed prefix cookie.fields
+          ap (λ (v : CookieView). clipped_cookie prefix v.fields) w.cookie-is
+          ∙ ap (clipped_cookie prefix) {y = record cookie.fields { name = string_bytes w.in_ok-name.name }} w.set_name_owned.ensures.fields
+          ∙ ap (λ n. clipped_cookie prefix (record cookie.fields { name = n })) (w.in_ok-name.ensures ∙ ap (λ n. prefix ++ n) w.name.ensures)
+          ∙ clipped_cookie-prefixed prefix cookie.fields
       | else-not-is_empty w ↦
-          ap (λ (v : CookieView). clipped prefix v.fields) w.cookie-is
-          ∙ clipped-empty prefix cookie.fields (ap (λ t. length t == 0) (sym text) ∙ sym w.if-not-is_empty.ensures)
+          ap (λ (v : CookieView). clipped_cookie prefix v.fields) w.cookie-is
+          ∙ clipped_cookie-empty prefix cookie.fields (ap (λ t. length t == 0) (sym text) ∙ sym w.if-not-is_empty.ensures)
     ]
