@@ -1,6 +1,6 @@
 //! AES-256, forward (FIPS 197).
-ghost use Rattle.std.specs.Prelude.{◌≡◌, ◌<◌, ◌≤◌, List, ℕ, take};
-ghost use Rattle.cookie_crypt.specs.Aes.{sub_bytes, shift_rows, mix_columns, word, word_sum, sub_word, added_word, key_expansion, add_round_key, cipher, encrypt_block};
+ghost use Rattle.std.specs.Prelude.{◌≡◌, ◌+◌, ◌<◌, ◌≤◌, List, ℕ, take};
+ghost use Rattle.cookie_crypt.specs.Aes.{sub_bytes, shift_rows, mix_columns, word, word_sum, sub_word, added_word, key_expansion, add_round_key, rounds, cipher, encrypt_block};
 ghost use Rattle.cookie_crypt.specs.ByteField.{IsInverse, inverse};
 
 use crate::lanes::{doubled, next_in_column, second_in_column, substituted, sum};
@@ -101,13 +101,37 @@ fn key_expansion(key: &[u8; 32]) -> [u8; 240]
     words
 }
 
+// One round more than were done.
+#[inline(always)]
+fn round(words: &[u8; 240], done: usize, state: u8x16) -> u8x16
+    requires { done < 13 }
+    ensures { (block : List ℕ) → state ≡ rounds words.now done block
+        → result ≡ rounds words.now (done + 1) block }
+{
+    add_round_key(words, done + 1, mix_columns(shift_rows(sub_bytes(state))))
+}
+
+#[inline(always)]
+fn four_rounds(words: &[u8; 240], done: usize, state: u8x16) -> u8x16
+    requires { done < 10 }
+    ensures { (block : List ℕ) → state ≡ rounds words.now done block
+        → result ≡ rounds words.now (done + 4) block }
+{
+    let state = round(words, done, state);
+    let state = round(words, done + 1, state);
+    let state = round(words, done + 2, state);
+    round(words, done + 3, state)
+}
+
+// The rounds stand one behind the other, so that their tables stay in registers.
 fn cipher(words: &[u8; 240], block: [u8; 16]) -> [u8; 16]
     ensures { result ≡ cipher words.now block }
 {
-    let mut state = add_round_key(words, 0, u8x16::from_array(block));
-    for round in 1..14usize {
-        state = add_round_key(words, round, mix_columns(shift_rows(sub_bytes(state))));
-    }
+    let state = add_round_key(words, 0, u8x16::from_array(block));
+    let state = four_rounds(words, 0, state);
+    let state = four_rounds(words, 4, state);
+    let state = four_rounds(words, 8, state);
+    let state = round(words, 12, state);
     add_round_key(words, 14, shift_rows(sub_bytes(state))).to_array()
 }
 
