@@ -1,7 +1,7 @@
 -- The words of the key, one after the other, and the length of a block.
-use Rattle.std.proofs.Common.{◌≡◌, ℕ, zero, suc, ◌+◌, ◌-◌, ◌*◌, ◌<◌, ◌≤◌, List, [], ◌∷◌, ◌++◌, length, get_or, take, set, ap, sym, refl, ◌∙◌, arith}
+use Rattle.std.proofs.Common.{◌≡◌, ℕ, zero, suc, ◌+◌, ◌-◌, ◌*◌, ◌<◌, ◌≤◌, List, [], ◌∷◌, ◌++◌, length, get_or, take, set, ap, sym, ◌∙◌, arith}
 use Rattle.std.proofs.lemmas.List.{get_or-take, length-take-le, ext_get_or, take_all, take-append-le, length-append}
-use Rattle.cookie_crypt.specs.Aes.{word, word_sum, added_word, next_word, words, key_expansion, add_round_key, cipher, encrypt_block}
+use Rattle.cookie_crypt.specs.Aes.{word, word_sum, added_word, next_word, words, key_expansion}
 use Rattle.cookie_crypt.proofs.Made.{take_four}
 
 -- a word that stands in a beginning of the list
@@ -52,7 +52,3 @@ words_first key (suc n) h =
 pub key_first : (key : List ℕ) → length key ≡ 32 → take 32 (key_expansion key) ≡ key
 unfolding key_expansion
 key_first key h = (words_first key 52 h).1
-
-pub length-encrypt_block : (key block : List ℕ) → length (encrypt_block key block) ≡ 16
-unfolding encrypt_block cipher add_round_key
-length-encrypt_block key block = refl

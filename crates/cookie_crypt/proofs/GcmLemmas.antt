@@ -1,5 +1,5 @@
 -- Laws of sealing: encryption twice over gives the text back, and the tag is one by the sum and by the steps.
-use Rattle.std.proofs.Common.{◌≡◌, ℕ, ◌<◌, List, length, get_or, refl, ap, sym, ◌∙◌, arith, bit_xor}
+use Rattle.std.proofs.Common.{◌≡◌, ℕ, ◌<◌, List, length, get_or, refl, ap, ◌∙◌, arith, bit_xor}
 use Rattle.std.specs.Int.Bits.{xor_assoc, xor_self, xor_zero_r}
 use Rattle.std.proofs.lemmas.List.{ext_get_or}
 use Rattle.std.proofs.lemmas.List.FromFn.{length-map-range_with_len, get_or-map-range_with_len}
@@ -37,11 +37,6 @@ length-tag_of key nonce aad text = refl
 pub sealing_of : (key nonce aad plain : List ℕ) → IsWithin (length aad) (length plain)
     → IsSealing key nonce aad plain (gctr key nonce plain) (tag_of key nonce aad (gctr key nonce plain))
 sealing_of key nonce aad plain within = record { within = within; text_is = refl; tag_is = refl }
-
--- text and tag are the sealing of one plain text at most
-pub one_plain : (key nonce aad text tag p q : List ℕ) → IsSealing key nonce aad p text tag → IsSealing key nonce aad q text tag → p ≡ q
-one_plain key nonce aad text tag p q a b =
-    sym (gctr-gctr key nonce p) ∙ ap (gctr key nonce) (sym a.text_is ∙ b.text_is) ∙ gctr-gctr key nonce q
 
 pub length-sealed : (key nonce aad plain text tag : List ℕ) → IsSealing key nonce aad plain text tag → length text ≡ length plain
 length-sealed key nonce aad plain text tag h = ap length h.text_is ∙ length-gctr key nonce plain

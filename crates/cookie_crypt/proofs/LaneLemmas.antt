@@ -10,9 +10,6 @@ use Rattle.cookie_crypt.specs.ByteField.{byte_times_x}
 use Rattle.cookie_crypt.specs.Lanes.{entry, is_place, ArePlaces}
 use Rattle.cookie_crypt.proofs.SboxLemmas.{on_bytes}
 
-abbrev pub IsBlock : List ℕ → Type 0
-IsBlock v = (length v ≡ 16) × Each1 (Fits w8) v
-
 true_T : (b : Bool) → b ≡ true → T b
 true_T b e = subst T (sym e) tt
 

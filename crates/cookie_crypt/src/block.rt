@@ -54,7 +54,8 @@ pub fn add_block(bytes: &mut [u8], start: usize, block: &[u8; 16])
     requires { start < length bytes.old }
     ensures length { length bytes.new ≡ length bytes.old }
     ensures added { (j : ℕ) → j < 16 → start + j < length bytes.old
-        → slice_index bytes.new (start + j) ≡ bit_xor (slice_index bytes.old (start + j)) (slice_index block.now j) }
+        → slice_index bytes.new (start + j)
+        ≡ bit_xor (slice_index bytes.old (start + j)) (slice_index block.now j) }
     ensures before { (k : ℕ) → k < start → slice_index bytes.new k ≡ slice_index bytes.old k }
     ensures after { (k : ℕ) → start + 16 ≤ k → slice_index bytes.new k ≡ slice_index bytes.old k }
 {

@@ -36,14 +36,16 @@ const SECOND: [u8; 16] = [
 #[inline(always)]
 fn looked_up(table: [u8; 16], places: u8x16) -> u8x16
     requires { ArePlaces places }
-    ensures { (f : ℕ → ℕ) (v : List ℕ) → places ≡ map f v → result ≡ map (λ b. entry table (f b)) v }
+    ensures { (f : ℕ → ℕ) (v : List ℕ) → places ≡ map f v
+        → result ≡ map (λ b. entry table (f b)) v }
 {
     u8x16::from_array(table).swizzle_dyn(places)
 }
 
 #[inline(always)]
 pub fn sum(a: u8x16, b: u8x16) -> u8x16
-    ensures { (f g : ℕ → ℕ) (v : List ℕ) → a ≡ map f v → b ≡ map g v → result ≡ map (λ x. bit_xor (f x) (g x)) v }
+    ensures { (f g : ℕ → ℕ) (v : List ℕ) → a ≡ map f v → b ≡ map g v
+        → result ≡ map (λ x. bit_xor (f x) (g x)) v }
 {
     a ^ b
 }
@@ -95,7 +97,8 @@ pub fn doubled(a: u8x16) -> u8x16
 /// The byte one row further down in each column, and in the last row the first.
 #[inline(always)]
 pub fn next_in_column(a: u8x16) -> u8x16
-    ensures { (f : ℕ → ℕ) → a ≡ map f (range_with_len 0 16) → result ≡ map (λ i. f (4 * (i / 4) + (i + 1) % 4)) (range_with_len 0 16) }
+    ensures { (f : ℕ → ℕ) → a ≡ map f (range_with_len 0 16)
+        → result ≡ map (λ i. f (4 * (i / 4) + (i + 1) % 4)) (range_with_len 0 16) }
 {
     a.swizzle([1, 2, 3, 0, 5, 6, 7, 4, 9, 10, 11, 8, 13, 14, 15, 12])
 }
@@ -103,7 +106,8 @@ pub fn next_in_column(a: u8x16) -> u8x16
 /// The byte two rows further.
 #[inline(always)]
 pub fn second_in_column(a: u8x16) -> u8x16
-    ensures { (f : ℕ → ℕ) → a ≡ map f (range_with_len 0 16) → result ≡ map (λ i. f (4 * (i / 4) + (i + 2) % 4)) (range_with_len 0 16) }
+    ensures { (f : ℕ → ℕ) → a ≡ map f (range_with_len 0 16)
+        → result ≡ map (λ i. f (4 * (i / 4) + (i + 2) % 4)) (range_with_len 0 16) }
 {
     a.swizzle([2, 3, 0, 1, 6, 7, 4, 5, 10, 11, 8, 9, 14, 15, 12, 13])
 }

@@ -80,7 +80,8 @@ impl Model for Multiples {
 
     ghost view = { λ m. m.block };
 
-    ghost invariant = { λ m. (m.block < 2 ^ 128) × (m.upper ≡ columns m.block) × (m.lower ≡ columns (times_power 4 m.block)) };
+    ghost invariant = { λ m. (m.block < 2 ^ 128) × (m.upper ≡ columns m.block)
+        × (m.lower ≡ columns (times_power 4 m.block)) };
 }
 
 impl Multiples {

@@ -25,7 +25,8 @@ impl Model for Steps {
 
     ghost Value = { StepCounts };
 
-    ghost view = { λ s. record { blocks = s.blocks; products = s.products; table_steps = s.table_steps } };
+    ghost view = { λ s.
+        record { blocks = s.blocks; products = s.products; table_steps = s.table_steps } };
 }
 
 impl Steps {
