@@ -1,4 +1,4 @@
-use Rattle.std.proofs.Common.{◌≡◌, ◌*◌, ◌/◌, ◌%◌, ap, ◌∙◌, arith, bit_xor, bit_and}
+use Rattle.std.proofs.Common.{◌*◌, ◌/◌, ap, bit_xor}
 use Rattle.std.proofs.lemmas.Nat.{and_mask}
 use Rattle.cookie_crypt.specs.BlockField.{times_x, reduction}
 use Rattle.cookie_crypt.proofs.block_field.times_x.Goals as goal

@@ -1,4 +1,4 @@
-use Rattle.std.proofs.Common.{◌≡◌, ℕ, ◌+◌, ◌*◌, ◌%◌, ◌^◌, ◌<◌, List, ◌++◌, length, ap, sym, subst, ◌∙◌, arith, bit_xor}
+use Rattle.std.proofs.Common.{◌≡◌, ℕ, ◌+◌, ◌*◌, ◌%◌, ◌^◌, List, ◌++◌, length, ap, sym, subst, ◌∙◌, arith, bit_xor}
 use Rattle.cookie_crypt.specs.Aes.{encrypt_block}
 use Rattle.cookie_crypt.specs.BlockField.{field_product}
 use Rattle.cookie_crypt.specs.Ghash.{ghash, ghash_from}

@@ -1,4 +1,4 @@
-use Rattle.std.proofs.Common.{◌≡◌, ℕ, ◌+◌, ◌-◌, ◌*◌, ◌/◌, ◌%◌, ◌^◌, List, [], replicate, slice_index, get_or, refl, ap, sym, ◌∙◌, arith, bit_xor}
+use Rattle.std.proofs.Common.{◌≡◌, ℕ, ◌/◌, List, [], slice_index, get_or, refl, ap, sym, ◌∙◌, arith, bit_xor}
 use Rattle.std.specs.Int.Bits.{xor_zero_r}
 use Rattle.cookie_crypt.specs.BlockField.{times_power}
 use Rattle.cookie_crypt.specs.Gcm.{number_of}
