@@ -1,6 +1,7 @@
 mod AesLemmas
 pub mod BytesLemmas
 mod ColumnLemmas
+mod EqualLemmas
 pub mod GcmLemmas
 pub mod HornerLemmas
 mod LaneLemmas

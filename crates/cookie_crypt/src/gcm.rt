@@ -8,6 +8,7 @@ ghost use Rattle.cookie_crypt.specs.Steps.{block_count, with_blocks, no_steps, t
 
 use crate::aes::Aes256;
 use crate::block::{add_block, bytes_of, counter_block, number_of};
+use crate::equal::are_equal;
 use crate::ghash::hash_from;
 use crate::multiples::Multiples;
 use crate::steps::Steps;
@@ -119,7 +120,7 @@ impl Gcm {
     }
 
     /// Decrypts the text in place and answers true where text and tag are a sealing (SP 800-38D, 7.2).
-    /// Else it leaves the text as it was. The comparison of tags may end at the first byte that differs.
+    /// Else it leaves the text as it was. The tags are compared to their last byte, wherever they differ.
     ///
     /// `steps` is set to what was done, whatever it held.
     pub fn open_in_place(
@@ -149,7 +150,7 @@ impl Gcm {
         if text.len() > LONGEST_TEXT || aad.len() > LONGEST_DATA {
             return false;
         }
-        if tag_of(cipher, nonce, aad, text, steps) != *tag {
+        if !are_equal(&tag_of(cipher, nonce, aad, text, steps), tag) {
             return false;
         }
         add_key_stream(cipher, nonce, text, steps);

@@ -4,6 +4,7 @@
 mod aes;
 mod block;
 mod block_field;
+mod equal;
 mod expand;
 mod gcm;
 mod ghash;
@@ -13,6 +14,7 @@ mod multiples;
 mod steps;
 
 pub use aes::Aes256;
+pub use equal::are_equal;
 pub use expand::expand64;
 pub use gcm::Gcm;
 pub use mac::hmac;

@@ -33,8 +33,8 @@ returns-clause-only c = λ plain h.
 pub returns-then-text-gt-LONGEST_TEXT-clause-bytes : goal.returns-then-text-gt-LONGEST_TEXT-clause-bytes
 returns-then-text-gt-LONGEST_TEXT-clause-bytes c = seals_to_bytes_as c.args.self.now _ c.self.invariant c.self.view_is
 
-pub returns-then-ne-clause-bytes : goal.returns-then-ne-clause-bytes
-returns-then-ne-clause-bytes c = seals_to_bytes_as c.args.self.now _ c.self.invariant c.self.view_is
-
 pub returns-clause-bytes : goal.returns-clause-bytes
 returns-clause-bytes c = seals_to_bytes_as c.args.self.now _ c.self.invariant c.self.view_is
+
+pub returns-then-not-are_equal-clause-bytes : goal.returns-then-not-are_equal-clause-bytes
+returns-then-not-are_equal-clause-bytes c = seals_to_bytes_as c.args.self.now _ c.self.invariant c.self.view_is
