@@ -159,6 +159,13 @@ impl Aes256 {
         }
     }
 
+    // The same cipher.
+    pub(crate) fn copy(&self) -> Aes256
+        ensures { result ≡ self.now }
+    {
+        Aes256 { words: self.words }
+    }
+
     /// The block, encrypted (FIPS 197, 5.1).
     pub fn encrypt_block(&self, block: [u8; 16]) -> [u8; 16]
         ensures value { result ≡ encrypt_block self.now block }

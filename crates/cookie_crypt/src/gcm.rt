@@ -1,5 +1,5 @@
 //! AES-256-GCM with a nonce of twelve bytes (SP 800-38D).
-ghost use Rattle.std.specs.Prelude.{◌≡◌, ◌<◌, ◌≤◌, ◌+◌, ◌-◌, ◌^◌, ◌↔◌, ℕ, List, length, IsSome, IfSome, IfNone, OnSome};
+ghost use Rattle.std.specs.Prelude.{◌≡◌, ◌<◌, ◌≤◌, ◌+◌, ◌-◌, ◌^◌, ◌↔◌, ⊤, ℕ, List, length, IsSome, IfSome, IfNone, OnSome};
 ghost use Rattle.std.specs.Bool.{OnTrue, OnFalse};
 ghost use Rattle.cookie_crypt.specs.Bytes.{IsBytes};
 ghost use Rattle.cookie_crypt.specs.Gcm.{gctr, tag_of, tag_by_steps, hash_subkey, IsWithin, IsSealing, SealsToBytes};
@@ -12,6 +12,7 @@ use crate::equal::are_equal;
 use crate::ghash::hash_from;
 use crate::multiples::Multiples;
 use crate::steps::Steps;
+use std::alloc::AllocError;
 use std::marker::Model;
 
 // The most bytes of a text, and of associated data (SP 800-38D, 5.2.1.1).
@@ -78,6 +79,13 @@ impl Gcm {
         Gcm {
             cipher: Aes256::new(key),
         }
+    }
+
+    /// What holds of every cipher: its sealings of bytes are bytes. The call does nothing; its contract is for proofs.
+    pub fn known(&self)
+        ensures { SealsToBytes self.now }
+    {
+        let _cipher = &self.cipher;
     }
 
     /// Encrypts the text in place, and gives the tag of it and of the associated data `aad`
@@ -155,5 +163,18 @@ impl Gcm {
         }
         add_key_stream(cipher, nonce, text, steps);
         true
+    }
+}
+
+/// It takes no memory, so it never fails.
+impl Clone for Gcm {
+    ghost is_clone = { λ gcm copy. copy ≡ gcm };
+
+    ghost is_infallible = { λ _. ⊤ };
+
+    fn clone(&self) -> Result<Gcm, AllocError> {
+        Ok(Gcm {
+            cipher: self.cipher.copy(),
+        })
     }
 }

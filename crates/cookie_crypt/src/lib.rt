@@ -17,7 +17,7 @@ pub use aes::Aes256;
 pub use equal::are_equal;
 pub use expand::expand64;
 pub use gcm::Gcm;
-pub use mac::hmac;
+pub use mac::{Mac, hmac};
 pub use steps::Steps;
 
 #[cfg(test)]

@@ -1,6 +1,7 @@
-//! HMAC-SHA256 and its expansion, at rows of other makers.
-use super::hex::fill;
-use crate::{expand64, hmac};
+//! HMAC-SHA256 and its expansion, at rows of other makers, and the comparison of codes.
+use super::hex::{fill, key_of};
+use crate::{Mac, are_equal, expand64, hmac};
+use std::test::Fail;
 
 const LONGEST: usize = 256;
 
@@ -143,5 +144,46 @@ fn keys_are_expanded(rt: HostRuntime) {
         let (mut keys, mut infos, mut bytes) = ([0; LONGEST], [0; LONGEST], [0; LONGEST]);
         let answer = expand64(fill(prk, &mut keys), fill(info, &mut infos));
         assert!(rt; answer.starts_with(fill(expected, &mut bytes)), "row {i}");
+    }
+}
+
+// The rows whose key has 32 bytes, in two pieces, and whole by a copy.
+#[test]
+fn messages_are_hashed_under_a_key_that_stays(rt: HostRuntime) -> Result<(), Fail> {
+    for (i, (key, message, expected)) in MACS.into_iter().enumerate() {
+        if key.len() == 64 {
+            let mac = Mac::new(&key_of(key));
+            let (mut messages, mut bytes) = ([0; LONGEST], [0; LONGEST]);
+            let message = fill(message, &mut messages);
+            let expected = fill(expected, &mut bytes);
+            let (front, back) = message.split_at(message.len() / 2);
+            assert!(rt; mac.code(&[front, back]).starts_with(expected), "row {i}");
+            assert!(rt;
+                mac.clone()?.code(&[message]).starts_with(expected),
+                "row {i}"
+            );
+        }
+    }
+    Ok(())
+}
+
+const COMPARED: [(&str, &str, bool); 8] = [
+    ("", "", true),
+    ("a", "a", true),
+    ("a", "b", false),
+    ("a", "", false),
+    ("", "a", false),
+    ("0123456789abcdef", "0123456789abcdef", true),
+    ("0123456789abcdef", "1123456789abcdef", false),
+    ("0123456789abcdef", "0123456789abcdeg", false),
+];
+
+#[test]
+fn bytes_are_compared(rt: HostRuntime) {
+    for (first, second, same) in COMPARED {
+        assert!(rt;
+            are_equal(first.as_bytes(), second.as_bytes()) == same,
+            "{first}, {second}"
+        );
     }
 }

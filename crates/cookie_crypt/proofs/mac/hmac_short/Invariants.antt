@@ -1,9 +1,0 @@
-use Rattle.std.proofs.Common.{◌++◌, map, take}
-use Rattle.std.specs.List.{concat}
-use Rattle.sha2.specs.Hashers.{Holds256}
-use Rattle.cookie_crypt.specs.Hmac.{masked}
-use Rattle.cookie_crypt.proofs.mac.hmac_short.Given as goal
-
--- the inner hasher holds the masked key and the pieces so far
-abbrev pub invariant-loop-piece : goal.invariant-loop-piece
-invariant-loop-piece l = Holds256 l.inner (masked l.fn.key 0x36 ++ concat (map (λ piece. piece.now) (take l.piece-index l.pieces)))
