@@ -2,5 +2,7 @@
 mod blocks;
 mod hex;
 mod macs;
+mod plain_cipher;
 mod sealings;
 mod standards;
+mod two_bodies;
