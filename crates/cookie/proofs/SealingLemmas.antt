@@ -1,7 +1,7 @@
 -- Sealed values: what is sealed opens, and nothing else does.
-use Rattle.std.proofs.Common.{◌≡◌, ◌↔◌, ℕ, zero, suc, ◌+◌, ◌-◌, ◌/◌, ◌<◌, ◌≤◌, Bool, true, false, cond, ltb, List, [], ◌∷◌, ◌++◌, length, take, drop, get_or, slice_index, Option, None, Some, Result, Ok, Err, IfOk, IsUtf8, refl, sym, ap, subst, ◌∙◌, arith, ⊎_elim}
-use Rattle.std.proofs.lemmas.Bool.{cases_lt, and_parts, ltb-true}
-use Rattle.std.proofs.lemmas.List.{append_assoc, length-append, length-drop, append-nil, take_all, drop_all, take_at, drop_at, take-append-drop, length-take-le, get_or_append_left, get_or-append_right}
+use Rattle.std.proofs.Common.{◌≡◌, ◌↔◌, ℕ, ◌+◌, ◌-◌, ◌/◌, ◌<◌, ◌≤◌, true, ltb, List, [], ◌∷◌, ◌++◌, length, take, drop, Option, None, Some, Result, Ok, Err, IfOk, IsUtf8, refl, sym, ap, subst, ◌∙◌, arith, ⊎_elim}
+use Rattle.std.proofs.lemmas.Bool.{and_parts, ltb-true}
+use Rattle.std.proofs.lemmas.List.{append_assoc, length-append, length-drop, append-nil, take_all, drop_all, take_at, drop_at, take-append-drop, length-take-le}
 use Rattle.std.proofs.lemmas.Str.{IsUtf8-from_ascii}
 use borrow.Rule.Slice.PartMut.{mid_of, post_of, put_mid}
 use lib.Utf8.{scalar, scalars, scalar_cases, encode, encodes, next}
@@ -10,6 +10,7 @@ use Rattle.base64.specs.GeneralPurpose.{encode_of}
 use Rattle.base64.proofs.EngineFacts.{IsAscii-encode_of, front_bytes}
 use Rattle.cookie_crypt.specs.Bytes.{IsBytes}
 use Rattle.cookie_crypt.specs.Gcm.{IsSealing, SealsToBytes, gctr, tag_of}
+use Rattle.cookie_crypt.proofs.BytesLemmas.{bytes_either, bytes_first, bytes_joined, bytes_none}
 use Rattle.cookie_crypt.proofs.GcmLemmas.{length-gctr, length-sealed, length-tag_of, sealing_of}
 use Rattle.cookie_core.specs.Memory.{Gives}
 use Rattle.cookie_core.specs.Record.{Record, IsCookie}
@@ -22,27 +23,6 @@ use Rattle.cookie.specs.declared.jar_error.JarError.TheVariants as refusal
 use Rattle.cookie.proofs.AnswerLemmas.{answered_added, if_added}
 
 -- ---- bytes
-
-bytes_none : IsBytes []
-bytes_none = λ i. omega arith
-
-bytes_first : (x : ℕ) (xs : List ℕ) → x < 256 → IsBytes xs → IsBytes (x ∷ xs)
-bytes_first x xs h p = at
-  where
-    at : (i : ℕ) → slice_index (x ∷ xs) i < 256
-    at zero = h
-    at (suc i) = p i
-
-bytes_joined : (xs ys : List ℕ) → IsBytes xs → IsBytes ys → IsBytes (xs ++ ys)
-bytes_joined xs ys p q = λ i.
-    ⊎_elim
-    (λ inside. let e : get_or (xs ++ ys) i 0 ≡ get_or xs i 0 = get_or_append_left xs ys 0 i inside in omega (arith, e, p i))
-    (λ past. let e : get_or (xs ++ ys) i 0 ≡ get_or ys (i - length xs) 0 = get_or-append_right xs ys (length xs) i 0 refl past in omega (arith, e, q (i - length xs)))
-    (cases_lt i (length xs))
-
-bytes_either : (t : Bool) (xs ys : List ℕ) → (t ≡ true → IsBytes xs) → IsBytes ys → IsBytes (cond t xs ys)
-bytes_either true xs ys p q = p refl
-bytes_either false xs ys p q = q
 
 -- a byte that goes on with a character
 bytes_next : (c : ℕ) (xs : List ℕ) → IsBytes xs → IsBytes (next c ∷ xs)

@@ -21,25 +21,25 @@ bytes_made f n each = λ i.
     (λ past. let e : get_or (map f (range_with_len 0 n)) i 0 ≡ 0 = get_or_past (map f (range_with_len 0 n)) i 0 (omega (arith, length-map-range_with_len f 0 n)) in omega (arith, e))
     (cases_lt i n)
 
-bytes_joined : (xs ys : List ℕ) → IsBytes xs → IsBytes ys → IsBytes (xs ++ ys)
+pub bytes_joined : (xs ys : List ℕ) → IsBytes xs → IsBytes ys → IsBytes (xs ++ ys)
 bytes_joined xs ys p q = λ i.
     ⊎_elim
     (λ inside. let e : get_or (xs ++ ys) i 0 ≡ get_or xs i 0 = get_or_append_left xs ys 0 i inside in omega (arith, e, p i))
     (λ past. let e : get_or (xs ++ ys) i 0 ≡ get_or ys (i - length xs) 0 = get_or-append_right xs ys (length xs) i 0 refl past in omega (arith, e, q (i - length xs)))
     (cases_lt i (length xs))
 
-bytes_none : IsBytes []
+pub bytes_none : IsBytes []
 bytes_none = λ i. omega arith
 
-bytes_first : (x : ℕ) (xs : List ℕ) → x < 256 → IsBytes xs → IsBytes (x ∷ xs)
+pub bytes_first : (x : ℕ) (xs : List ℕ) → x < 256 → IsBytes xs → IsBytes (x ∷ xs)
 bytes_first x xs h p = at
   where
     at : (i : ℕ) → slice_index (x ∷ xs) i < 256
     at zero = h
     at (suc i) = p i
 
-bytes_either : (b : Bool) (xs ys : List ℕ) → IsBytes xs → IsBytes ys → IsBytes (if b then xs else ys)
-bytes_either true xs ys p q = p
+pub bytes_either : (t : Bool) (xs ys : List ℕ) → (t ≡ true → IsBytes xs) → IsBytes ys → IsBytes (if t then xs else ys)
+bytes_either true xs ys p q = p refl
 bytes_either false xs ys p q = q
 
 -- ---- S
@@ -94,8 +94,8 @@ bytes_added : (x : List ℕ) (i : ℕ) → IsBytes x → IsBytes (added_word x i
 unfolding added_word
 bytes_added x i p =
     bytes_either (i % 8 == 0) (word_sum (sub_word (rot_word x)) (round_constant (i / 8))) (if i % 8 == 4 then sub_word x else x)
-    (bytes_sum (sub_word (rot_word x)) (round_constant (i / 8)) (bytes_sub_word (rot_word x)) (bytes_constant (i / 8)))
-    (bytes_either (i % 8 == 4) (sub_word x) x (bytes_sub_word x) p)
+    (λ _. bytes_sum (sub_word (rot_word x)) (round_constant (i / 8)) (bytes_sub_word (rot_word x)) (bytes_constant (i / 8)))
+    (bytes_either (i % 8 == 4) (sub_word x) x (λ _. bytes_sub_word x) p)
 
 bytes_next : (w : List ℕ) (i : ℕ) → IsBytes w → IsBytes (next_word w i)
 unfolding next_word
