@@ -3,13 +3,12 @@ ghost use Rattle.std.specs.Prelude.{◌≡◌, ◌≤◌, ◌<◌, ℕ, List, Ok
 ghost use Rattle.std.specs.Str.{bytes_eq};
 ghost use Rattle.std.specs.Cmp.{partial_equiv_from_equiv};
 ghost use Rattle.std.specs.Cmp.Lexicographic.{nat_list_eq_equiv};
-ghost use Rattle.cookie_crypt.specs.Bytes.{IsBytes};
 ghost use Rattle.rand_core.specs.Stream.{fill_bytes};
 ghost use Rattle.cookie.specs.Keys.{derived_key, encryption_half, key_length, key_bytes, master_length, signing_half};
 ghost use Rattle.cookie.specs.declared.secure.key_error.KeyError.TheVariants as refusal;
 
 use crate::secure::key_error::KeyError;
-use cookie_crypt::expand64;
+use cookie_crypt::{Gcm, Mac, are_equal, expand64};
 use rand_core::{Rng, TryRng};
 use std::alloc::AllocError;
 use std::fmt;
@@ -24,6 +23,16 @@ const MASTER_LENGTH: usize = 32;
 // What the expansion of a master key is for (RFC 5869 3.2).
 const KEY_INFO: &[u8] = b"COOKIE;SIGNED:HMAC-SHA256;PRIVATE:AEAD-AES-256-GCM";
 
+// Thirty-two bytes as an array.
+pub(crate) fn half_of(bytes: &[u8]) -> [u8; 32]
+    requires { length bytes.now ≡ 32 }
+    ensures { result ≡ bytes.now }
+{
+    let mut half = [0; 32];
+    half.copy_from_slice(bytes);
+    half
+}
+
 // Each byte of an array is below 256.
 pub(crate) fn are_bytes(bytes: &[u8])
     ensures { All (λ b. b < 256) bytes.now }
@@ -32,21 +41,36 @@ pub(crate) fn are_bytes(bytes: &[u8])
 /// Sixty-four secret bytes: the first half signs, the second half encrypts. Contracts see them as a list.
 ///
 /// A key is only as safe as its bytes are random: they must come from a cryptographic generator, or from a master
-/// key that does. Under one key at most 2^32 random nonces may be drawn (SP 800-38D 8.3). A comparison of keys,
-/// signatures or tags may end at the first byte that differs, so its time may tell where that is. A key that is let
-/// go isn't wiped from memory.
+/// key that does. Under one key at most 2^32 random nonces may be drawn (SP 800-38D 8.3). Keys, signatures and tags
+/// are compared to their last byte, wherever they differ. A key that is let go isn't wiped from memory.
 #[derive(Drop)]
 pub struct Key {
     bytes: [u8; KEY_LENGTH],
+    mac: Mac,
+    cipher: Gcm,
 }
 
 impl Model for Key {
     ghost Value = { List ℕ };
 
     ghost view = { λ k. k.bytes };
+
+    ghost invariant = { λ k. (k.mac ≡ signing_half k.bytes) × (k.cipher ≡ encryption_half k.bytes)
+        × (length k.bytes ≡ key_length) };
 }
 
 impl Key {
+    // The key of these bytes, with what each half alone gives.
+    fn of(bytes: &[u8; KEY_LENGTH]) -> Key
+        ensures { result ≡ bytes.now }
+    {
+        Key {
+            bytes: *bytes,
+            mac: Mac::new(&half_of(&bytes[..SIGNING_LENGTH])),
+            cipher: Gcm::new(&half_of(&bytes[SIGNING_LENGTH..])),
+        }
+    }
+
     /// The key of the first 64 bytes.
     ///
     /// The caller sees to it that there are as many, and that they are random; `try_from` takes any number.
@@ -56,7 +80,7 @@ impl Key {
     {
         let mut bytes = [0; KEY_LENGTH];
         bytes.copy_from_slice(&key[..KEY_LENGTH]);
-        Key { bytes }
+        Key::of(&bytes)
     }
 
     /// The key of the first 64 bytes, which must be random. Fails exactly where there are fewer.
@@ -80,9 +104,7 @@ impl Key {
         requires { master_length ≤ length master_key.now }
         ensures { result ≡ derived_key master_key.now }
     {
-        Key {
-            bytes: expand64(master_key, KEY_INFO),
-        }
+        Key::of(&expand64(master_key, KEY_INFO))
     }
 
     /// The key derived from a master key, by the whole of it (RFC 5869 2.3). The master key must be random. Fails
@@ -105,7 +127,7 @@ impl Key {
     {
         let mut bytes = [0; KEY_LENGTH];
         rng.fill_bytes(&mut bytes);
-        Key { bytes }
+        Key::of(&bytes)
     }
 
     /// The key of 64 bytes that one draw from a generator gave, or `None` where it failed. `rng` must be a
@@ -116,7 +138,7 @@ impl Key {
     {
         let mut bytes = [0; KEY_LENGTH];
         rng.try_fill_bytes(&mut bytes).ok()?;
-        Some(Key { bytes })
+        Some(Key::of(&bytes))
     }
 
     /// The half that signs.
@@ -140,24 +162,24 @@ impl Key {
         &self.bytes[..]
     }
 
-    // The half that signs, as an array.
-    pub(crate) fn signing_key(&self) -> [u8; 32]
+    // What signs under the first half.
+    pub(crate) fn mac(&self) -> Mac
         ensures { result ≡ signing_half self.now }
     {
-        let mut half = [0; 32];
-        half.copy_from_slice(&self.bytes[..SIGNING_LENGTH]);
-        half
+        let Ok(mac) = self.mac.clone() else {
+            unreachable!();
+        };
+        mac
     }
 
-    // The half that encrypts, as an array.
-    pub(crate) fn encryption_key(&self) -> [u8; 32]
-        ensures value { result ≡ encryption_half self.now }
-        ensures bytes { IsBytes result }
+    // What encrypts under the second half.
+    pub(crate) fn cipher(&self) -> Gcm
+        ensures { result ≡ encryption_half self.now }
     {
-        let mut half = [0; 32];
-        half.copy_from_slice(&self.bytes[SIGNING_LENGTH..]);
-        are_bytes(&half);
-        half
+        let Ok(cipher) = self.cipher.clone() else {
+            unreachable!();
+        };
+        cipher
     }
 }
 
@@ -168,18 +190,22 @@ impl Clone for Key {
     ghost is_infallible = { λ _. ⊤ };
 
     fn clone(&self) -> Result<Key, AllocError> {
-        Ok(Key { bytes: self.bytes })
+        Ok(Key {
+            bytes: self.bytes,
+            mac: self.mac.clone()?,
+            cipher: self.cipher.clone()?,
+        })
     }
 }
 
-/// Equal where all 64 bytes are. The comparison may end at the first byte that differs.
+/// Equal where all 64 bytes are. They are compared to the last one, wherever they differ.
 impl PartialEq for Key {
     ghost eq = { bytes_eq };
 
     ghost laws = { partial_equiv_from_equiv nat_list_eq_equiv };
 
     fn eq(&self, other: &Key) -> bool {
-        self.bytes == other.bytes
+        are_equal(&self.bytes, &other.bytes)
     }
 }
 

@@ -15,6 +15,7 @@ use crate::jar_error::JarError;
 use crate::secure::key::Key;
 use crate::secure::sealing::{can_seal, decrypt, is_nonce, seal};
 use cookie_core::Cookie;
+use cookie_crypt::Gcm;
 use jiff::civil::DateTime;
 use rand_core::TryRng;
 use std::marker::Model;
@@ -23,7 +24,7 @@ use std::marker::Model;
 #[derive(Drop)]
 pub struct PrivateJar<'a> {
     jar: &'a CookieJar,
-    key: [u8; 32],
+    cipher: Gcm,
 }
 
 impl<'a> Model for PrivateJar<'a> {
@@ -33,7 +34,7 @@ impl<'a> Model for PrivateJar<'a> {
 
     ghost coded = { keyed_code };
 
-    ghost view = { λ a. record { jar = a.jar.now; key = a.key } };
+    ghost view = { λ a. record { jar = a.jar.now; key = a.cipher } };
 }
 
 /// A jar, seen and changed through a key that encrypts.
@@ -42,13 +43,13 @@ pub type PrivateJarMut<'a> = ChildJar<'a, Sealer>;
 /// The half of a key that encrypts. Contracts see it as the list of its bytes.
 #[derive(Drop)]
 pub struct Sealer {
-    key: [u8; 32],
+    cipher: Gcm,
 }
 
 impl Model for Sealer {
     ghost Value = { List ℕ };
 
-    ghost view = { λ a. a.key };
+    ghost view = { λ a. a.cipher };
 }
 
 impl CookieJar {
@@ -58,7 +59,7 @@ impl CookieJar {
     {
         PrivateJar {
             jar: self,
-            key: key.encryption_key(),
+            cipher: key.cipher(),
         }
     }
 
@@ -72,20 +73,20 @@ impl CookieJar {
         ChildJar {
             jar: self,
             storing: Sealer {
-                key: key.encryption_key(),
+                cipher: key.cipher(),
             },
         }
     }
 
     // The cookie that the jar shows under the name, with the value that its own is a sealing of.
-    fn get_decrypted(&self, key: &[u8; 32], name: &str) -> Result<Option<Cookie<'static>>, JarError>
+    fn get_decrypted(&self, cipher: &Gcm, name: &str) -> Result<Option<Cookie<'static>>, JarError>
         ensures { Gives refusal.OutOfMemory result (λ answer.
-            AnswersExactly (IsSealingOf key.now) (view self.now name.now)
+            AnswersExactly (IsSealingOf cipher.now) (view self.now name.now)
             (option_map (λ c. c.fields) answer)) }
     {
         let alloc = self.allocator();
         match self.get(name) {
-            Some(cookie) => Ok(decrypt(alloc, key, cookie.clone(alloc)?)?),
+            Some(cookie) => Ok(decrypt(alloc, cipher, cookie.clone(alloc)?)?),
             None => Ok(None),
         }
     }
@@ -101,7 +102,7 @@ impl<'a> PrivateJar<'a> {
             AnswersExactly (IsSealingOf self.now.key) (view self.now.jar name.now)
             (option_map (λ c. c.fields) answer)) }
     {
-        self.jar.get_decrypted(&self.key, name)
+        self.jar.get_decrypted(&self.cipher, name)
     }
 
     /// The cookie with the value that was sealed. There is no answer where its value isn't sealed under the key and
@@ -113,7 +114,7 @@ impl<'a> PrivateJar<'a> {
             AnswersExactly (IsSealingOf self.now.key) (Some cookie.entry.fields)
             (option_map (λ c. c.fields) answer)) }
     {
-        Ok(decrypt(self.jar.allocator(), &self.key, cookie)?)
+        Ok(decrypt(self.jar.allocator(), &self.cipher, cookie)?)
     }
 }
 
@@ -127,7 +128,7 @@ impl<'a> PrivateJarMut<'a> {
             AnswersExactly (IsSealingOf (key_of self.now)) (view (jar_of self.now) name.now)
             (option_map (λ c. c.fields) answer)) }
     {
-        self.jar.get_decrypted(&self.storing.key, name)
+        self.jar.get_decrypted(&self.storing.cipher, name)
     }
 
     /// The cookie with the value that was sealed. There is no answer where its value isn't sealed under the key and
@@ -139,7 +140,7 @@ impl<'a> PrivateJarMut<'a> {
             AnswersExactly (IsSealingOf (key_of self.now)) (Some cookie.entry.fields)
             (option_map (λ c. c.fields) answer)) }
     {
-        Ok(decrypt(self.jar.allocator(), &self.storing.key, cookie)?)
+        Ok(decrypt(self.jar.allocator(), &self.storing.cipher, cookie)?)
     }
 
     /// Adds an original cookie, with its value sealed under its name and a nonce that one draw of twelve bytes from
@@ -240,7 +241,7 @@ impl<'a> PrivateJarMut<'a> {
         if !can_seal(&cookie) {
             return Err(JarError::TooLong);
         }
-        let original = seal(self.jar.allocator(), &self.storing.key, &nonce, cookie)?;
+        let original = seal(self.jar.allocator(), &self.storing.cipher, &nonce, cookie)?;
         self.jar.add_original(original)
     }
 
@@ -275,7 +276,7 @@ impl<'a> PrivateJarMut<'a> {
         if !can_seal(&cookie) {
             return Err(JarError::TooLong);
         }
-        let added = seal(self.jar.allocator(), &self.storing.key, &nonce, cookie)?;
+        let added = seal(self.jar.allocator(), &self.storing.cipher, &nonce, cookie)?;
         self.jar.add(added)
     }
 

@@ -42,17 +42,17 @@ pub(crate) fn is_nonce(nonce: &[u8; 12])
 // The cookie with its value sealed under its name. It then stands for that value.
 pub(crate) fn seal<'c>(
     alloc: Global,
-    key: &[u8; 32],
+    cipher: &Gcm,
     nonce: &[u8; 12],
     mut cookie: Cookie<'c>,
 ) -> Result<Cookie<'c>, AllocError>
     requires { CanSeal cookie.fields }
     ensures gives { Gives alloc_error result (λ c.
-        c.fields ≡ sealed_cookie key.now nonce.now cookie.entry.fields) }
-    ensures stands { IfOk result (λ c. IsSealingOf key.now c.fields cookie.entry.fields.value) }
+        c.fields ≡ sealed_cookie cipher.now nonce.now cookie.entry.fields) }
+    ensures stands { IfOk result (λ c. IsSealingOf cipher.now c.fields cookie.entry.fields.value) }
 {
     is_nonce(nonce);
-    let value = sealed_text(alloc, key, cookie.name(), nonce, cookie.value())?;
+    let value = sealed_text(alloc, cipher, cookie.name(), nonce, cookie.value())?;
     cookie.set_value_owned(value);
     Ok(cookie)
 }
@@ -60,14 +60,14 @@ pub(crate) fn seal<'c>(
 // The cookie with the value that its own is a sealing of, where it is one.
 pub(crate) fn decrypt<'c>(
     alloc: Global,
-    key: &[u8; 32],
+    cipher: &Gcm,
     mut cookie: Cookie<'c>,
 ) -> Result<Option<Cookie<'c>>, AllocError>
     ensures { Gives alloc_error result (λ answer.
-        AnswersExactly (IsSealingOf key.now) (Some cookie.entry.fields)
+        AnswersExactly (IsSealingOf cipher.now) (Some cookie.entry.fields)
         (option_map (λ c. c.fields) answer)) }
 {
-    let Some(value) = unseal(alloc, key, cookie.name(), cookie.value())? else {
+    let Some(value) = unseal(alloc, cipher, cookie.name(), cookie.value())? else {
         return Ok(None);
     };
     cookie.set_value_owned(value);
@@ -77,35 +77,34 @@ pub(crate) fn decrypt<'c>(
 // The sealing of the value under the name and the nonce.
 fn sealed_text(
     alloc: Global,
-    key: &[u8; 32],
+    cipher: &Gcm,
     name: &str,
     nonce: &[u8; 12],
     value: &str,
 ) -> Result<String, AllocError>
     requires { IsSealable name.now value.now }
     ensures { IfOk result (λ text.
-        string_bytes text ≡ sealing key.now name.now nonce.now value.now) }
+        string_bytes text ≡ sealing cipher.now name.now nonce.now value.now) }
 {
-    let bytes = sealed_bytes(alloc, key, name, nonce, value)?;
+    let bytes = sealed_bytes(alloc, cipher, name, nonce, value)?;
     STANDARD.encode(alloc, bytes.as_slice())
 }
 
 // The nonce, the encrypted value and the tag.
 fn sealed_bytes(
     alloc: Global,
-    key: &[u8; 32],
+    cipher: &Gcm,
     name: &str,
     nonce: &[u8; 12],
     value: &str,
 ) -> Result<Vec<u8>, AllocError>
     requires { IsSealable name.now value.now }
     ensures { IfOk result (λ bytes.
-        bytes.items ≡ sealed_bytes key.now name.now nonce.now value.now) }
+        bytes.items ≡ sealed_bytes cipher.now name.now nonce.now value.now) }
 {
     let mut bytes = Vec::from_slice(alloc, nonce)?;
     bytes.extend_from_slice(value.as_bytes())?;
     let text = &mut bytes[NONCE_LENGTH..];
-    let cipher = Gcm::new(key);
     let Some(tag) = cipher.seal_in_place(nonce, name.as_bytes(), text, &mut Steps::new()) else {
         unreachable!();
     };
@@ -114,21 +113,16 @@ fn sealed_bytes(
 }
 
 // The value that the text is a sealing of under the name, if it is one.
-fn unseal(
-    alloc: Global,
-    key: &[u8; 32],
-    name: &str,
-    text: &str,
-) -> Result<Option<String>, AllocError>
+fn unseal(alloc: Global, cipher: &Gcm, name: &str, text: &str) -> Result<Option<String>, AllocError>
     ensures { IfOk result (λ answer.
         (v : List ℕ)
-        → (option_map string_bytes answer ≡ Some v) ↔ IsSealed key.now name.now text.now v) }
+        → (option_map string_bytes answer ≡ Some v) ↔ IsSealed cipher.now name.now text.now v) }
 {
-    let cipher = Gcm::new(key);
+    cipher.known();
     let Some(bytes) = decoded(alloc, text)? else {
         return Ok(None);
     };
-    let Some(plain) = opened(alloc, &cipher, name, bytes.as_slice())? else {
+    let Some(plain) = opened(alloc, cipher, name, bytes.as_slice())? else {
         return Ok(None);
     };
     match String::from_utf8(plain) {

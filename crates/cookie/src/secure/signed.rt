@@ -14,6 +14,7 @@ use crate::jar_error::JarError;
 use crate::secure::key::Key;
 use crate::secure::signing::{sign, verify};
 use cookie_core::Cookie;
+use cookie_crypt::Mac;
 use std::alloc::{AllocError, Global};
 use std::marker::Model;
 
@@ -24,7 +25,7 @@ use std::marker::Model;
 #[derive(Drop)]
 pub struct SignedJar<'a> {
     jar: &'a CookieJar,
-    key: [u8; 32],
+    mac: Mac,
 }
 
 impl<'a> Model for SignedJar<'a> {
@@ -34,7 +35,7 @@ impl<'a> Model for SignedJar<'a> {
 
     ghost coded = { keyed_code };
 
-    ghost view = { λ a. record { jar = a.jar.now; key = a.key } };
+    ghost view = { λ a. record { jar = a.jar.now; key = a.mac } };
 }
 
 /// A jar, seen and changed through a key that signs.
@@ -43,7 +44,7 @@ pub type SignedJarMut<'a> = ChildJar<'a, Signer>;
 /// The half of a key that signs. Contracts see it as the list of its bytes.
 #[derive(Drop)]
 pub struct Signer {
-    key: [u8; 32],
+    mac: Mac,
 }
 
 impl Model for Signer {
@@ -51,7 +52,7 @@ impl Model for Signer {
 
     ghost Value = { List ℕ };
 
-    ghost view = { λ a. a.key };
+    ghost view = { λ a. a.mac };
 }
 
 impl Storing for Signer {
@@ -69,7 +70,7 @@ impl Storing for Signer {
         alloc: Global,
         cookie: Cookie<'static>,
     ) -> Result<Cookie<'static>, AllocError> {
-        sign(alloc, &self.key, cookie)
+        sign(alloc, &self.mac, cookie)
     }
 
     fn to_remove(
@@ -88,7 +89,7 @@ impl CookieJar {
     {
         SignedJar {
             jar: self,
-            key: key.signing_key(),
+            mac: key.mac(),
         }
     }
 
@@ -101,21 +102,19 @@ impl CookieJar {
     {
         ChildJar {
             jar: self,
-            storing: Signer {
-                key: key.signing_key(),
-            },
+            storing: Signer { mac: key.mac() },
         }
     }
 
     // The cookie that the jar shows under the name, with the value that its own is the signing of.
-    fn get_verified(&self, key: &[u8], name: &str) -> Result<Option<Cookie<'static>>, JarError>
+    fn get_verified(&self, mac: &Mac, name: &str) -> Result<Option<Cookie<'static>>, JarError>
         ensures { Gives refusal.OutOfMemory result (λ answer.
-            AnswersExactly (IsSigningOf key.now) (view self.now name.now)
+            AnswersExactly (IsSigningOf mac.now) (view self.now name.now)
             (option_map (λ c. c.fields) answer)) }
     {
         let alloc = self.allocator();
         match self.get(name) {
-            Some(cookie) => Ok(verify(alloc, key, cookie.clone(alloc)?)?),
+            Some(cookie) => Ok(verify(alloc, mac, cookie.clone(alloc)?)?),
             None => Ok(None),
         }
     }
@@ -131,7 +130,7 @@ impl<'a> SignedJar<'a> {
             AnswersExactly (IsSigningOf self.now.key) (view self.now.jar name.now)
             (option_map (λ c. c.fields) answer)) }
     {
-        self.jar.get_verified(&self.key, name)
+        self.jar.get_verified(&self.mac, name)
     }
 
     /// The cookie with the value that was signed. There is no answer where its value isn't signed under the key
@@ -146,7 +145,7 @@ impl<'a> SignedJar<'a> {
         // What a signature covers says where the name ends and the value begins.
         ensures one_pair { CoversOnePair }
     {
-        Ok(verify(self.jar.allocator(), &self.key, cookie)?)
+        Ok(verify(self.jar.allocator(), &self.mac, cookie)?)
     }
 }
 
@@ -160,7 +159,7 @@ impl<'a> SignedJarMut<'a> {
             AnswersExactly (IsSigningOf (key_of self.now)) (view (jar_of self.now) name.now)
             (option_map (λ c. c.fields) answer)) }
     {
-        self.jar.get_verified(&self.storing.key, name)
+        self.jar.get_verified(&self.storing.mac, name)
     }
 
     /// The cookie with the value that was signed. There is no answer where its value isn't signed under the key
@@ -175,6 +174,6 @@ impl<'a> SignedJarMut<'a> {
         // What a signature covers says where the name ends and the value begins.
         ensures one_pair { CoversOnePair }
     {
-        Ok(verify(self.jar.allocator(), &self.storing.key, cookie)?)
+        Ok(verify(self.jar.allocator(), &self.storing.mac, cookie)?)
     }
 }

@@ -7,17 +7,17 @@ ghost use Rattle.cookie.specs.Signing.{IsSigningOf, signature, signed_cookie, si
 
 use base64::engine::general_purpose::STANDARD;
 use cookie_core::Cookie;
-use cookie_crypt::hmac;
+use cookie_crypt::{Mac, are_equal};
 use std::alloc::{AllocError, Global};
 
 const SIGNATURE_LENGTH: usize = 44;
 
 // The signature of a value, for a cookie of that name: of the length of the name, the name and the value.
-fn signature(key: &[u8], name: &str, value: &str) -> [u8; 44]
-    ensures { result ≡ signature key.now name.now value.now }
+fn signature(mac: &Mac, name: &str, value: &str) -> [u8; 44]
+    ensures { result ≡ signature mac.now name.now value.now }
 {
     let length = (name.len() as u64).to_be_bytes();
-    let digest = hmac(key, &[&length, name.as_bytes(), value.as_bytes()]);
+    let digest = mac.code(&[&length, name.as_bytes(), value.as_bytes()]);
     let mut text = [0; SIGNATURE_LENGTH];
     let _ = STANDARD.encode_slice(&digest, &mut text);
     text
@@ -26,12 +26,12 @@ fn signature(key: &[u8], name: &str, value: &str) -> [u8; 44]
 // The cookie with its value signed.
 pub(crate) fn sign<'c>(
     alloc: Global,
-    key: &[u8],
+    mac: &Mac,
     mut cookie: Cookie<'c>,
 ) -> Result<Cookie<'c>, AllocError>
-    ensures { Gives alloc_error result (λ c. c.fields ≡ signed_cookie key.now cookie.entry.fields) }
+    ensures { Gives alloc_error result (λ c. c.fields ≡ signed_cookie mac.now cookie.entry.fields) }
 {
-    let signature = signature(key, cookie.name(), cookie.value());
+    let signature = signature(mac, cookie.name(), cookie.value());
     let Ok(signature) = str::from_utf8(&signature) else {
         unreachable!();
     };
@@ -42,14 +42,14 @@ pub(crate) fn sign<'c>(
 }
 
 // What stands behind the signature in a value, where it is signed.
-fn verified<'v>(key: &[u8], name: &str, value: &'v str) -> Option<&'v str>
+fn verified<'v>(mac: &Mac, name: &str, value: &'v str) -> Option<&'v str>
     ensures { (v : List ℕ)
-        → (option_copied result ≡ Some v) ↔ (value.now ≡ signing key.now name.now v) }
+        → (option_copied result ≡ Some v) ↔ (value.now ≡ signing mac.now name.now v) }
 {
     let Some((front, rest)) = value.split_at_checked(SIGNATURE_LENGTH) else {
         return None;
     };
-    if front.as_bytes() == signature(key, name, rest).as_slice() {
+    if are_equal(front.as_bytes(), &signature(mac, name, rest)) {
         Some(rest)
     } else {
         None
@@ -59,14 +59,14 @@ fn verified<'v>(key: &[u8], name: &str, value: &'v str) -> Option<&'v str>
 // The cookie with the value that its own is the signing of, where it is one.
 pub(crate) fn verify<'c>(
     alloc: Global,
-    key: &[u8],
+    mac: &Mac,
     mut cookie: Cookie<'c>,
 ) -> Result<Option<Cookie<'c>>, AllocError>
     ensures { Gives alloc_error result (λ answer.
-        AnswersExactly (IsSigningOf key.now) (Some cookie.entry.fields)
+        AnswersExactly (IsSigningOf mac.now) (Some cookie.entry.fields)
         (option_map (λ c. c.fields) answer)) }
 {
-    let Some(value) = verified(key, cookie.name(), cookie.value()) else {
+    let Some(value) = verified(mac, cookie.name(), cookie.value()) else {
         return Ok(None);
     };
     let value = String::from_str(alloc, value)?;
@@ -78,10 +78,10 @@ pub(crate) fn verify<'c>(
 mod tests {
     use super::signature;
     use base64::engine::general_purpose::STANDARD;
-    use cookie_crypt::hmac;
+    use cookie_crypt::{Mac, hmac};
     use std::test::Fail;
 
-    const KEY: &[u8] = b"a key that signs";
+    const KEY: &[u8; 32] = b"a key that signs, of 32 bytes...";
 
     // Name, value, and what is signed of them: the length of the name in eight bytes, the name and the value.
     const MESSAGES: [(&str, &str, &[u8]); 5] = [
@@ -97,7 +97,7 @@ mod tests {
         for (name, value, message) in MESSAGES {
             let expected = STANDARD.encode(rt.alloc(), &hmac(KEY, &[message]))?;
             assert!(rt;
-                expected.as_bytes() == signature(KEY, name, value).as_slice(),
+                expected.as_bytes() == signature(&Mac::new(KEY), name, value).as_slice(),
                 "{name}={value}"
             );
         }

@@ -1,4 +1,4 @@
-use Rattle.std.proofs.Common.{◌++◌, ap, rules, ◌∙◌}
+use Rattle.std.proofs.Common.{◌++◌, ap, refl, rules, ◌∙◌}
 use Rattle.cookie_crypt.proofs.GcmLemmas.{length-sealed}
 use Rattle.cookie.proofs.SealingLemmas.{buffer-put, buffer-value, sealed_bytes-from, sealing-turned}
 use Rattle.cookie.proofs.secure.sealing.sealed_bytes.Goals as goal
@@ -12,8 +12,8 @@ returns c =
     let text = c.seal_in_place.new.text in
     let filled = c.in_ok-extend_from_slice.ensures.items ∙ ap (λ xs. xs ++ c.as_bytes.result.now) c.in_ok-bytes.ensures.items ∙ ap (λ xs. nonce ++ xs) c.as_bytes.ensures.value in
     let same = c.deref_mut.ensures.value in
-    let sealing = sealing-turned c.new-cipher.result c.args.key.now nonce c.as_bytes-2.result.now c.args.name.now _ value text c.in-Some.tag
-    c.new-cipher.ensures.value c.as_bytes-2.ensures.value (buffer-value nonce value items whole (search rules) same filled) c.in-Some.ensures.sealed in
+    let sealing = sealing-turned c.args.cipher.now c.args.cipher.now nonce c.as_bytes-2.result.now c.args.name.now _ value text c.in-Some.tag
+    refl c.as_bytes-2.ensures.value (buffer-value nonce value items whole (search rules) same filled) c.in-Some.ensures.sealed in
     c.in_ok-extend_from_slice-2.ensures.items
     ∙ ap (λ xs. xs ++ c.in-Some.tag) (buffer-put nonce value text items whole _ (search rules) same filled (length-sealed _ _ _ _ _ _ sealing) c.deref_mut.ensures.len)
-    ∙ sealed_bytes-from c.args.key.now c.args.name.now nonce value text c.in-Some.tag sealing
+    ∙ sealed_bytes-from c.args.cipher.now c.args.name.now nonce value text c.in-Some.tag sealing
