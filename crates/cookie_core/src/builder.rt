@@ -1,5 +1,5 @@
 //! A cookie in the making.
-ghost use Rattle.std.specs.Prelude.{◌≡◌, Some, None, alloc_error};
+ghost use Rattle.std.specs.Prelude.{◌≡◌, Some, None, alloc_error, string_bytes};
 ghost use Rattle.std.specs.Borrow.{sem};
 ghost use Rattle.jiff.specs.Words.{signed_nanos};
 ghost use Rattle.cookie_core.specs.Expiration.{capped_expiry};
@@ -20,7 +20,7 @@ use std::marker::Model;
 
 /// Something in the making. Contracts see it as what is made.
 // It is generic so that `inner_mut` lends a value whose type names no lifetime.
-#[derive(Drop)]
+#[derive(Debug, Drop)]
 pub struct Builder<C> {
     inner: C,
 }
@@ -114,7 +114,29 @@ impl<'c> Builder<Cookie<'c>> {
         self
     }
 
-    /// Sets whether it is for secure connections alone.
+    /// Sets the domain to a text of its own, of which one leading dot doesn't count (RFC 6265 4.1.2.3, 5.2.3). It takes
+    /// no memory.
+    pub fn domain_owned(mut self, domain: String) -> CookieBuilder<'c>
+        ensures fields { result.fields ≡ record self.entry.fields {
+          domain = Some (without_leading_dot (string_bytes domain));
+        } }
+        ensures raw { result.raw ≡ record self.entry.raw { domain = None } }
+    {
+        self.inner.set_domain_owned(domain);
+        self
+    }
+
+    /// Sets the path to a text of its own (RFC 6265 4.1.2.4). It takes no memory.
+    pub fn path_owned(mut self, path: String) -> CookieBuilder<'c>
+        ensures fields { result.fields
+            ≡ record self.entry.fields { path = Some (string_bytes path) } }
+        ensures raw { result.raw ≡ record self.entry.raw { path = None } }
+    {
+        self.inner.set_path_owned(path);
+        self
+    }
+
+    /// Sets whether it is for secure connections alone (RFC 6265 4.1.2.5).
     pub fn secure(mut self, value: bool) -> CookieBuilder<'c>
         ensures fields { result.fields ≡ record self.entry.fields { secure = Some value } }
         ensures raw { result.raw ≡ self.entry.raw }

@@ -6,7 +6,7 @@ ghost use Rattle.cookie_core.specs.Expiration.{datetime_of, expiration_of, last_
 use jiff::civil::{DateTime, datetime};
 
 /// When a cookie expires (RFC 6265 5.3).
-#[derive(Clone, Copy, PartialEq, Eq)]
+#[derive(Clone, Copy, Debug, PartialEq, Eq)]
 pub enum Expiration {
     /// At this date and time in UTC.
     DateTime(DateTime),

@@ -5,6 +5,7 @@ mod attributes;
 mod builder;
 mod cookie;
 mod cookie_str;
+mod debug;
 mod decode;
 mod display;
 mod encoding;

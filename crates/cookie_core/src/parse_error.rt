@@ -2,6 +2,7 @@
 ghost use Rattle.std.specs.Prelude.{◌≡◌};
 ghost use Rattle.cookie_core.specs.ParseError.{error_text};
 
+use std::alloc::{AllocError, AllocFailed};
 use std::error::Error;
 use std::fmt;
 use std::str::Utf8Error;
@@ -15,7 +16,7 @@ pub enum ParseError {
     EmptyName,
     /// The decoded name, or the decoded value, isn't UTF-8.
     Utf8Error(Utf8Error),
-    /// There was no memory for an own text.
+    /// There was no memory for a text of its own.
     OutOfMemory,
 }
 
@@ -56,5 +57,25 @@ impl From<Utf8Error> for ParseError {
 
     fn from(error: Utf8Error) -> ParseError {
         ParseError::Utf8Error(error)
+    }
+}
+
+impl From<AllocError> for ParseError {
+    ghost use Rattle.cookie_core.specs.declared.parse_error.ParseError.TheVariants.{OutOfMemory};
+
+    ghost from_gives = { λ _ error. error ≡ OutOfMemory };
+
+    fn from(_error: AllocError) -> ParseError {
+        ParseError::OutOfMemory
+    }
+}
+
+impl<T: Drop> From<AllocFailed<T>> for ParseError {
+    ghost use Rattle.cookie_core.specs.declared.parse_error.ParseError.TheVariants.{OutOfMemory};
+
+    ghost from_gives = { λ _ error. error ≡ OutOfMemory };
+
+    fn from(_error: AllocFailed<T>) -> ParseError {
+        ParseError::OutOfMemory
     }
 }

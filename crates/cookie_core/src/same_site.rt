@@ -5,7 +5,7 @@ ghost use Rattle.cookie_core.specs.declared.same_site.SameSite.TheVariants as sa
 use std::fmt;
 
 /// To which requests from other sites a cookie is sent (RFC 6265bis 4.1.2.7).
-#[derive(Clone, Copy, PartialEq, Eq, Hash)]
+#[derive(Clone, Copy, Debug, PartialEq, Eq, Hash)]
 pub enum SameSite {
     /// To requests of the cookie's own site alone.
     Strict,

@@ -98,8 +98,5 @@ pub(crate) fn make_own(
 ) -> Result<Cookie<'static>, ParseError>
     ensures { IsMadeOwn outcome.entry result }
 {
-    match outcome?.into_owned(alloc) {
-        Ok(cookie) => Ok(cookie),
-        Err(_) => Err(ParseError::OutOfMemory),
-    }
+    Ok(outcome?.into_owned(alloc)?)
 }
