@@ -75,7 +75,8 @@ impl<'c> Builder<Cookie<'c>> {
         Cookie::build(Cookie::new(name, value))
     }
 
-    /// Sets the expiry. A date and time past 9999-12-31 23:59:59.999999 counts as that one.
+    /// Sets the expiry, whose date and time is in UTC (RFC 6265 4.1.2.1). One past 9999-12-31 23:59:59.999999 counts as
+    /// that one, and whole seconds are printed.
     pub fn expires(mut self, when: Expiration) -> CookieBuilder<'c>
         ensures fields { result.fields
             ≡ record self.entry.fields { expires = Some (capped_expiry when) } }
@@ -85,7 +86,8 @@ impl<'c> Builder<Cookie<'c>> {
         self
     }
 
-    /// Sets the age from now on after which it expires, of which whole seconds are printed (RFC 6265 5.2.2).
+    /// Sets the age from now on after which it expires (RFC 6265 5.2.2). Whole seconds of it are printed and looked at,
+    /// cut toward zero.
     pub fn max_age(mut self, age: SignedDuration) -> CookieBuilder<'c>
         ensures fields { result.fields
             ≡ record self.entry.fields { max_age = Some (signed_nanos age) } }
@@ -95,7 +97,7 @@ impl<'c> Builder<Cookie<'c>> {
         self
     }
 
-    /// Sets the domain, of which one leading dot doesn't count.
+    /// Sets the domain, of which one leading dot doesn't count (RFC 6265 4.1.2.3, 5.2.3).
     pub fn domain(mut self, domain: &'c str) -> CookieBuilder<'c>
         ensures fields { result.fields
             ≡ record self.entry.fields { domain = Some (without_leading_dot domain.now) } }
@@ -105,7 +107,7 @@ impl<'c> Builder<Cookie<'c>> {
         self
     }
 
-    /// Sets the path.
+    /// Sets the path (RFC 6265 4.1.2.4).
     pub fn path(mut self, path: &'c str) -> CookieBuilder<'c>
         ensures fields { result.fields ≡ record self.entry.fields { path = Some path.now } }
         ensures raw { result.raw ≡ record self.entry.raw { path = None } }
@@ -145,7 +147,7 @@ impl<'c> Builder<Cookie<'c>> {
         self
     }
 
-    /// Sets whether scripts are kept from it.
+    /// Sets whether scripts are kept from it (RFC 6265 4.1.2.6).
     pub fn http_only(mut self, value: bool) -> CookieBuilder<'c>
         ensures fields { result.fields ≡ record self.entry.fields { http_only = Some value } }
         ensures raw { result.raw ≡ self.entry.raw }
@@ -154,7 +156,7 @@ impl<'c> Builder<Cookie<'c>> {
         self
     }
 
-    /// Sets to which requests from other sites it is sent.
+    /// Sets to which requests from other sites it is sent (RFC 6265bis 4.1.2.7).
     pub fn same_site(mut self, value: SameSite) -> CookieBuilder<'c>
         ensures fields { result.fields ≡ record self.entry.fields { same_site = Some value } }
         ensures raw { result.raw ≡ self.entry.raw }
@@ -182,8 +184,8 @@ impl<'c> Builder<Cookie<'c>> {
         self
     }
 
-    /// Makes it a cookie that tells a client at `now`, which is in UTC, to drop the one of its name, as
-    /// [`Cookie::make_removal`].
+    /// Makes it a cookie that tells a client at `now`, which is in UTC, to drop the one of its name, path and domain, as
+    /// [`Cookie::make_removal`] (RFC 6265 3.1).
     pub fn removal(mut self, now: DateTime) -> CookieBuilder<'c>
         ensures fields { result.fields ≡ removal now self.entry.fields }
         ensures raw { result.raw ≡ record self.entry.raw { value = None } }
@@ -192,7 +194,7 @@ impl<'c> Builder<Cookie<'c>> {
         self
     }
 
-    /// A copy, with the same raw forms; an error if there is no memory.
+    /// A copy, with the same raw forms. Fails with `AllocError` alone, for want of memory.
     pub fn clone(&self, alloc: Global) -> Result<CookieBuilder<'c>, AllocError>
         ensures { Gives alloc_error result (λ b. b ≡ self.now) }
     {

@@ -82,7 +82,7 @@ impl<'c> Cookie<'c> {
         Cookie::new(name, "")
     }
 
-    /// A copy, with the same raw forms.
+    /// A copy, with the same raw forms. Fails with `AllocError` alone, for want of memory.
     pub fn clone(&self, alloc: Global) -> Result<Cookie<'c>, AllocError>
         ensures { Gives alloc_error result (λ c. c ≡ self.now) }
     {
@@ -152,14 +152,14 @@ impl<'c> Cookie<'c> {
         (self.name(), self.value_trimmed())
     }
 
-    /// Whether scripts are kept from it, if that is set.
+    /// Whether scripts are kept from it, if that is set (RFC 6265 4.1.2.6).
     pub fn http_only(&self) -> Option<bool>
         ensures { result ≡ self.now.fields.http_only }
     {
         self.http_only
     }
 
-    /// Whether it is for secure connections alone, if that is set.
+    /// Whether it is for secure connections alone, if that is set (RFC 6265 4.1.2.5).
     pub fn secure(&self) -> Option<bool>
         ensures { result ≡ self.now.fields.secure }
     {
@@ -173,14 +173,14 @@ impl<'c> Cookie<'c> {
         self.partitioned
     }
 
-    /// To which requests from other sites it is sent, if that is set.
+    /// To which requests from other sites it is sent, if that is set (RFC 6265bis 4.1.2.7).
     pub fn same_site(&self) -> Option<SameSite>
         ensures { result ≡ self.now.fields.same_site }
     {
         self.same_site
     }
 
-    /// The path, if it is set.
+    /// The path, if it is set (RFC 6265 4.1.2.4).
     pub fn path(&self) -> Option<&str>
         ensures { option_map (λ p. p.now) result ≡ self.now.fields.path }
     {
@@ -190,7 +190,7 @@ impl<'c> Cookie<'c> {
         }
     }
 
-    /// The domain, if it is set, without one leading dot.
+    /// The domain, if it is set, without one leading dot (RFC 6265 4.1.2.3, 5.2.3).
     pub fn domain(&self) -> Option<&str>
         ensures { option_map (λ d. d.now) result ≡ self.now.fields.domain }
     {
@@ -201,7 +201,7 @@ impl<'c> Cookie<'c> {
     }
 
     /// The age from now on after which it expires, if it is set. One that was read is in whole seconds, from zero to
-    /// `i64::MAX` of them (RFC 6265 5.2.2).
+    /// `i64::MAX` of them (RFC 6265 5.2.2). Of one that was set whole seconds count, cut toward zero.
     pub fn max_age(&self) -> Option<SignedDuration>
         ensures { option_map signed_nanos result ≡ self.now.fields.max_age }
     {
@@ -218,14 +218,14 @@ impl<'c> Cookie<'c> {
         }
     }
 
-    /// The expiry, if it is set.
+    /// The expiry, in UTC, if it is set (RFC 6265 4.1.2.1).
     pub fn expires(&self) -> Option<Expiration>
         ensures { result ≡ self.now.fields.expires }
     {
         self.expires
     }
 
-    /// The date and time at which it expires, if that is set.
+    /// The date and time in UTC at which it expires, if that is set and isn't the end of the session.
     pub fn expires_datetime(&self) -> Option<DateTime>
         ensures { result ≡ option_and_then datetime_of self.now.fields.expires }
     {

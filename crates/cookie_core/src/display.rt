@@ -211,7 +211,14 @@ impl<'a, 'c> fmt::Display for AttributesOf<'a, 'c> {
     }
 }
 
-/// A cookie as it is printed: its name and value escaped or as they are, and with its attributes or without.
+/// A cookie as it is printed: its name and value escaped or as they are, and with its attributes or without
+/// (RFC 6265 4.1.1).
+///
+/// The attributes stand in this order, each where it is set: `HttpOnly`, `SameSite`, `Partitioned`, `Secure`, `Path`,
+/// `Domain`, `Max-Age` in whole seconds, `Expires` in whole seconds of UTC. A flag that is false isn't printed. `Secure`
+/// is printed where it is set to true, where the cookie is partitioned, and, unless it is set to false, where
+/// `SameSite` is `None` (RFC 6265bis 4.1.2). Path and domain are printed as they are: docs/DIFFERENCES.md says what they
+/// mustn't hold.
 #[derive(Drop)]
 pub struct Display<'a, 'c> {
     cookie: &'a Cookie<'c>,
@@ -253,7 +260,7 @@ impl<'a, 'c> Display<'a, 'c> {
 }
 
 impl<'c> Cookie<'c> {
-    /// The cookie as a `Set-Cookie` header has it, its name and value escaped.
+    /// The cookie as a `Set-Cookie` header has it, its name and value escaped (RFC 6265 4.1.1, RFC 3986 2.1).
     pub fn encoded(&self) -> Display<'_, 'c>
         ensures { result
             ≡ record { fields = self.now.fields; is_encoded = true; is_stripped = false } }
@@ -265,7 +272,7 @@ impl<'c> Cookie<'c> {
         }
     }
 
-    /// The cookie as a `Cookie` header has it: its name and value as they are, without its attributes.
+    /// The cookie as a `Cookie` header has it: its name and value as they are, without its attributes (RFC 6265 4.2.1).
     pub fn stripped(&self) -> Display<'_, 'c>
         ensures { result
             ≡ record { fields = self.now.fields; is_encoded = false; is_stripped = true } }
@@ -302,7 +309,8 @@ impl<'a, 'c> fmt::Display for Display<'a, 'c> {
     }
 }
 
-/// Prints the cookie as a `Set-Cookie` header has it, its name and value as they are.
+/// Prints the cookie as a `Set-Cookie` header has it, its name and value as they are, with the attributes in the order of
+/// [`Display`].
 impl<'c> fmt::Display for Cookie<'c> {
     ghost output = { λ c. Some (cookie_text false false c.fields) };
 

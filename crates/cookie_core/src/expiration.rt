@@ -46,7 +46,7 @@ impl Expiration {
         matches!(self, Expiration::Session)
     }
 
-    /// The date and time, or `None` for the end of the session.
+    /// The date and time in UTC, or `None` for the end of the session.
     pub fn datetime(self) -> Option<DateTime>
         ensures { result ≡ datetime_of self }
     {
@@ -56,7 +56,9 @@ impl Expiration {
         }
     }
 
-    /// The expiry at what the function makes of its date and time; the end of the session stays.
+    /// The expiry at what the function makes of its date and time, which is in UTC; the end of the session stays.
+    ///
+    /// The caller sees to it that the function can be called on that date and time.
     pub fn map<F: FnOnce(DateTime) -> DateTime + Drop>(self, f: F) -> Expiration
         requires { IfSome (datetime_of self) (F.pre f) }
         ensures { MatchOption (datetime_of self) (datetime_of result ≡ None)

@@ -23,7 +23,8 @@ impl<'c> Cookie<'c> {
         cookie
     }
 
-    /// The same cookie with texts of its own.
+    /// The same cookie with texts of its own, so that it can go into a jar. Fails with `AllocError` alone, for want of
+    /// memory, and then the cookie is gone.
     pub fn into_owned(self, alloc: Global) -> Result<Cookie<'static>, AllocError>
         ensures { Gives alloc_error result
             (λ c. c ≡ record { fields = self.entry.fields; raw = no_raw_forms }) }
@@ -72,7 +73,7 @@ impl<'c> Cookie<'c> {
         self.value = CookieStr::Owned(value);
     }
 
-    /// Sets the path to a text of its own, which is no longer lent.
+    /// Sets the path to a text of its own, which is no longer lent (RFC 6265 4.1.2.4).
     pub fn set_path_owned(&mut self, path: String)
         ensures fields { self.new.fields
             ≡ record self.old.fields { path = Some (string_bytes path) } }
@@ -81,7 +82,8 @@ impl<'c> Cookie<'c> {
         self.path = Some(CookieStr::Owned(path));
     }
 
-    /// Sets the domain to a text of its own, which is no longer lent. One leading dot isn't part of the domain.
+    /// Sets the domain to a text of its own, which is no longer lent. One leading dot isn't part of the domain
+    /// (RFC 6265 4.1.2.3, 5.2.3).
     pub fn set_domain_owned(&mut self, domain: String)
         ensures fields { self.new.fields
             ≡ record self.old.fields { domain = Some (without_leading_dot (string_bytes domain)) } }

@@ -31,7 +31,7 @@ impl<'c> Cookie<'c> {
         self.value = CookieStr::Borrowed(value);
     }
 
-    /// Sets whether scripts are kept from it; `None` unsets that.
+    /// Sets whether scripts are kept from it; `None` unsets that (RFC 6265 4.1.2.6).
     pub fn set_http_only(&mut self, value: Option<bool>)
         ensures fields { self.new.fields ≡ record self.old.fields { http_only = value } }
         ensures raw { self.new.raw ≡ self.old.raw }
@@ -39,7 +39,7 @@ impl<'c> Cookie<'c> {
         self.http_only = value;
     }
 
-    /// Sets whether it is for secure connections alone; `None` unsets that.
+    /// Sets whether it is for secure connections alone; `None` unsets that (RFC 6265 4.1.2.5).
     pub fn set_secure(&mut self, value: Option<bool>)
         ensures fields { self.new.fields ≡ record self.old.fields { secure = value } }
         ensures raw { self.new.raw ≡ self.old.raw }
@@ -56,7 +56,7 @@ impl<'c> Cookie<'c> {
     }
 
     /// Sets to which requests from other sites it is sent; `None` unsets that, in contrast to
-    /// `Some(SameSite::None)`.
+    /// `Some(SameSite::None)` (RFC 6265bis 4.1.2.7).
     pub fn set_same_site(&mut self, value: Option<SameSite>)
         ensures fields { self.new.fields ≡ record self.old.fields { same_site = value } }
         ensures raw { self.new.raw ≡ self.old.raw }
@@ -64,7 +64,7 @@ impl<'c> Cookie<'c> {
         self.same_site = value;
     }
 
-    /// Sets the path.
+    /// Sets the path (RFC 6265 4.1.2.4).
     pub fn set_path(&mut self, path: &'c str)
         ensures fields { self.new.fields ≡ record self.old.fields { path = Some path.now } }
         ensures raw { self.new.raw ≡ record self.old.raw { path = None } }
@@ -80,7 +80,7 @@ impl<'c> Cookie<'c> {
         self.path = None;
     }
 
-    /// Sets the domain, of which one leading dot doesn't count.
+    /// Sets the domain, of which one leading dot doesn't count (RFC 6265 4.1.2.3, 5.2.3).
     pub fn set_domain(&mut self, domain: &'c str)
         ensures fields { self.new.fields
             ≡ record self.old.fields { domain = Some (without_leading_dot domain.now) } }
@@ -97,8 +97,8 @@ impl<'c> Cookie<'c> {
         self.domain = None;
     }
 
-    /// Sets the age from now on after which it expires, of which whole seconds are printed; `None` unsets that
-    /// (RFC 6265 5.2.2).
+    /// Sets the age from now on after which it expires; `None` unsets that (RFC 6265 5.2.2). Whole seconds of it are
+    /// printed and looked at, cut toward zero.
     pub fn set_max_age(&mut self, value: Option<SignedDuration>)
         ensures fields { self.new.fields
             ≡ record self.old.fields { max_age = option_map signed_nanos value } }
@@ -107,7 +107,8 @@ impl<'c> Cookie<'c> {
         self.max_age = value;
     }
 
-    /// Sets the expiry. A date and time past 9999-12-31 23:59:59.999999 counts as that one.
+    /// Sets the expiry, whose date and time is in UTC (RFC 6265 4.1.2.1). One past 9999-12-31 23:59:59.999999 counts as
+    /// that one, and whole seconds are printed.
     pub fn set_expires(&mut self, when: Expiration)
         ensures fields { self.new.fields
             ≡ record self.old.fields { expires = Some (capped_expiry when) } }
@@ -134,8 +135,8 @@ impl<'c> Cookie<'c> {
         self.set_expires(Expiration::DateTime(days_after(now, 7300)));
     }
 
-    /// Makes it a cookie that tells a client to drop the one of its name: the empty value, the age zero, and
-    /// an expiry 365 days before `now`, which is in UTC.
+    /// Makes it a cookie that tells a client to drop the one of its name, path and domain: the empty value, the age
+    /// zero, and an expiry 365 days before `now`, which is in UTC (RFC 6265 3.1).
     pub fn make_removal(&mut self, now: DateTime)
         ensures fields { self.new.fields ≡ removal now self.old.fields }
         ensures raw { self.new.raw ≡ record self.old.raw { value = None } }
