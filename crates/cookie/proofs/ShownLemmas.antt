@@ -1,5 +1,6 @@
 -- The cookies that a jar shows, walked as those that were added and then the originals that nothing covers.
-use Rattle.std.proofs.Common.{◌≡◌, ℕ, Bool, true, false, cond, List, [], ◌∷◌, ◌++◌, map, filter, Option, None, Some, is_some, is_none, refl, sym, ap, ◌∙◌, true≢false}
+use Rattle.std.proofs.Common.{◌≡◌, ◌≤◌, ◌+◌, ℕ, Bool, not, length, length-append, arith, true, false, cond, List, [], ◌∷◌, ◌++◌, map, filter, Option, None, Some, is_some, is_none, refl, sym, ap, ◌∙◌, true≢false}
+use Rattle.std.proofs.lemmas.List.Filters.{length-filter_both}
 use Rattle.std.proofs.lemmas.List.Folds.{find-append}
 use Rattle.std.proofs.lemmas.Slice.Eq.{bytes_eq-Decides}
 use Rattle.std.specs.Cmp.Lexicographic.{nat_list_eq_equiv}
@@ -26,14 +27,36 @@ named n cookies = find (λ c. bytes_eq n c.name) cookies
 abbrev entry_named : List ℕ → List Marked → Option Marked
 entry_named n entries = find (λ m. bytes_eq n m.cookie.name) entries
 
+-- ---- how many there are
+
+additions_at_most : (entries : List Marked) → length (additions entries) ≤ length entries
+additions_at_most [] = omega arith
+additions_at_most (m ∷ entries) = by m.removed (additions_at_most entries)
+  where
+    by : (removed : Bool) → length (additions entries) ≤ length entries → length (cond removed (additions entries) (m.cookie ∷ additions entries)) ≤ length (m ∷ entries)
+    by true fewer = omega (arith, fewer)
+    by false fewer = omega (arith, fewer)
+
+-- no more than the entries and the originals
+pub length-shown : (delta : FinMap name_cmp Marked) (entries : List Marked) (originals : List Record)
+    → length (additions entries ++ uncovered delta originals) ≤ length entries + length originals
+length-shown delta entries originals =
+    let is_free : Record → Bool = λ c. is_none (get delta c.name) in
+    omega (
+      arith,
+      length-append (additions entries) (uncovered delta originals),
+      additions_at_most entries,
+      length-filter_both is_free (λ c. not (is_free c)) (λ c. refl) originals,
+    )
+
+-- ---- what stands at a name
+
 abbrev IsApart : List ℕ → List (List ℕ) → Type 0
 IsApart n others = AllByRecursion (λ m. bytes_eq n m ≡ false) others
 
 pub option_map-itself : {X : Type 0} (o : Option X) → option_map (λ x. x) o ≡ o
 option_map-itself (Some x) = refl
 option_map-itself None = refl
-
--- ---- what stands at a name
 
 no_entry : (n : List ℕ) (entries : List Marked) → IsApart n (entry_names entries) → entry_named n entries ≡ None
 no_entry n [] apart = refl

@@ -1,5 +1,5 @@
 //! The jar: original cookies, and the changes since.
-ghost use Rattle.std.specs.Prelude.{◌≡◌, List, None, OnErr, IsOk, reverse};
+ghost use Rattle.std.specs.Prelude.{◌≡◌, ◌<◌, ◌^◌, List, None, OnErr, IsOk, length, reverse};
 ghost use Rattle.std.specs.FinMap.{get};
 ghost use Rattle.std.specs.Option.{option_map};
 ghost use Rattle.cookie_core.specs.Memory.{Gives};
@@ -185,7 +185,10 @@ impl CookieJar {
     /// The cookies that the jar shows, each name once: those that were added, and the originals under whose
     /// names nothing was added or removed. It takes no memory.
     pub fn iter(&self) -> Iter<'_>
-        ensures { Walks (view self.now) result }
+        ensures walks { Walks (view self.now) result }
+
+        // They can be counted.
+        ensures fits { length result < 2 ^ 64 }
     {
         // `len` is called for its clause that the keys differ, which the proof cites.
         let _changes = self.delta.len();
@@ -196,7 +199,10 @@ impl CookieJar {
     /// The cookies that were changed, each name once: those that were added, and those that tell the client to
     /// drop an original. It takes no memory.
     pub fn delta(&self) -> Delta<'_>
-        ensures { Walks (λ n. option_map (λ m. m.cookie) (get self.now.delta n)) result }
+        ensures walks { Walks (λ n. option_map (λ m. m.cookie) (get self.now.delta n)) result }
+
+        // They can be counted.
+        ensures fits { length result < 2 ^ 64 }
     {
         // `len` is called for its clause that the keys differ, which the proof cites.
         let _len = self.delta.len();

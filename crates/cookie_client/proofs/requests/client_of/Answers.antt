@@ -16,8 +16,8 @@ loop-cookie-init c =
     record {
       values = λ name.
           ap (option_or (value_of (named name c.into_iter-cookie-iterator.result))) (ap (λ v. get v name) c.new-client.ensures ∙ get-empty name_cmp name)
-          ∙ or_none _ ∙ ap value_of (ap (named name) given ∙ c.iter-cookie-items.ensures.found name);
-      once = subst (λ (cookies : List Record). IsDistinct bytes_eq (map (λ r. r.name) cookies)) (sym given) c.iter-cookie-items.ensures.once;
+          ∙ or_none _ ∙ ap value_of (ap (named name) given ∙ c.iter-cookie-items.ensures.walks.found name);
+      once = subst (λ (cookies : List Record). IsDistinct bytes_eq (map (λ r. r.name) cookies)) (sym given) c.iter-cookie-items.ensures.walks.once;
     }
 
 pub loop-cookie-preserved : goal.loop-cookie-preserved

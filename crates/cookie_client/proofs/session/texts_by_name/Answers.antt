@@ -14,9 +14,9 @@ loop-cookie-init c =
     let given = c.into_iter-cookie-iterator.ensures.into_iter_gives in
     record {
       texts = λ name. texts-first (cookie_text true false) (named name c.into_iter-cookie-iterator.result) (get c.args.jar.now.delta name) (get c.new-texts.result name)
-          (ap (named name) given ∙ c.delta-cookie-items.ensures.found name)
+          (ap (named name) given ∙ c.delta-cookie-items.ensures.walks.found name)
           (ap (λ m. get m name) c.new-texts.ensures ∙ get-empty name_cmp name);
-      once = subst (λ (cookies : List Record). IsDistinct bytes_eq (map (λ r. r.name) cookies)) (sym given) c.delta-cookie-items.ensures.once;
+      once = subst (λ (cookies : List Record). IsDistinct bytes_eq (map (λ r. r.name) cookies)) (sym given) c.delta-cookie-items.ensures.walks.once;
     }
 
 pub loop-cookie-preserved : goal.loop-cookie-preserved

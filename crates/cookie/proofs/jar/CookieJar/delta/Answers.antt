@@ -1,4 +1,5 @@
-use Rattle.std.proofs.Common.{subst}
+use Rattle.std.proofs.Common.{ap, subst, length, arith}
+use Rattle.std.proofs.lemmas.List.{length-map}
 use Rattle.std.specs.FinMap.{get}
 use Rattle.std.specs.Map.{values_of}
 use Rattle.std.specs.Option.{option_map}
@@ -9,9 +10,14 @@ use Rattle.cookie.specs.Walk.{Walks}
 use Rattle.cookie.proofs.WalkLemmas.{walks_values}
 use Rattle.cookie.proofs.jar.CookieJar.delta.Goals as goal
 
-pub returns : goal.returns
-returns c =
+pub returns-clause-walks : goal.returns-clause-walks
+returns-clause-walks c =
     let entries = c.self.inside.delta.entries in
     rw (c.new.ensures, c.values-entries.ensures.rest) (
     subst (λ (s : JarState). Walks (λ n. option_map (λ m. m.cookie) (get s.delta n)) (map (λ d. d.cookie.fields) (values_of entries))) c.self.view_is (
-    walks_values delta_mark (λ m. m.cookie) entries c.len-len.ensures.unique c.self.invariant.delta))
+    walks_values marked (λ m. m.cookie) entries c.len-len.ensures.unique c.self.invariant.delta))
+
+pub returns-clause-fits : goal.returns-clause-fits
+returns-clause-fits c =
+    let values = c.values-entries in
+    omega (arith, ap length c.new.ensures, length-map values.result (λ d. d.cookie.fields), values.ensures.len, values.ensures.fits)
