@@ -8,7 +8,7 @@ use cookie_core::Cookie;
 use jiff::civil::DateTime;
 
 // A cookie that was added, or one that tells the client to drop its name.
-#[derive(Drop)]
+#[derive(Debug, Drop)]
 pub(crate) struct DeltaCookie {
     pub(crate) cookie: Cookie<'static>,
     pub(crate) removed: bool,

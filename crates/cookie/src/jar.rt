@@ -18,6 +18,7 @@ use cookie_core::Cookie;
 use indexmap::IndexMap;
 use jiff::civil::DateTime;
 use std::alloc::Global;
+use std::fmt;
 use std::hash::RandomState;
 use std::marker::Model;
 
@@ -208,5 +209,16 @@ impl CookieJar {
         let _len = self.delta.len();
         let entries = self.delta.values();
         Delta::new(entries)
+    }
+}
+
+/// Prints the originals and the changes by name, with their values, for `{:?}` and derives. No contract says more of the
+/// text. A jar holds no key.
+impl fmt::Debug for CookieJar {
+    fn fmt<W: fmt::Write>(&self, f: &mut fmt::Formatter<W>) -> fmt::Result {
+        f.debug_struct("CookieJar")
+            .field("originals", &self.originals)
+            .field("delta", &self.delta)
+            .finish()
     }
 }

@@ -2,7 +2,7 @@
 use cookie_core::Cookie;
 
 // A cookie that the jar began with. Its type names no lifetime, as the calls on tables want it.
-#[derive(Drop)]
+#[derive(Debug, Drop)]
 pub(crate) struct Original {
     pub(crate) cookie: Cookie<'static>,
 }
