@@ -1,6 +1,7 @@
 pub mod AnswersExactly
 pub mod ChildJars
 pub mod Clipped
+pub mod Error
 pub mod History
 pub mod Jar
 pub mod JarError

@@ -4,6 +4,7 @@
 mod child;
 mod delta;
 mod entry;
+mod error;
 mod iter;
 mod jar;
 mod jar_error;
@@ -17,6 +18,7 @@ pub use cookie_core::{
     Builder, Cookie, CookieBuilder, DateText, Display, EncodedText, Expiration, ParseError,
     SameSite, SplitCookies, days_after, encode, read_date,
 };
+pub use error::Error;
 pub use iter::{Delta, Iter};
 pub use jar::CookieJar;
 pub use jar_error::JarError;
