@@ -27,7 +27,7 @@ pub trait Storing: Drop {
     // A look-up through the child jar gives the name and the value of this cookie.
     ghost ShowsPair: { Self → JarState → Record → Type 0 };
 
-    /// The cookie that the jar is to add.
+    /// The cookie that the jar is to add. Fails with `AllocError` alone, for want of memory.
     fn to_add(&self, alloc: Global, cookie: Cookie<'static>) -> Result<Cookie<'static>, AllocError>
         ensures gives { Gives alloc_error result (λ c.
             c.fields ≡ stored self.now cookie.entry.fields) }
@@ -37,7 +37,7 @@ pub trait Storing: Drop {
             → ShowsPair self.now (after (Add (stored self.now cookie.entry.fields)) jar)
             cookie.entry.fields };
 
-    /// The cookie that the jar is to remove.
+    /// The cookie that the jar is to remove. Fails with `AllocError` alone, for want of memory.
     fn to_remove(
         &self,
         alloc: Global,
@@ -58,7 +58,7 @@ pub struct ChildJar<'a, S> {
 impl<'a, S: Storing> ChildJar<'a, S> {
     /// Adds an original cookie, as the child jar stores it.
     ///
-    /// Fails for want of memory alone, and then leaves the jar as it was.
+    /// Fails with `JarError::OutOfMemory` alone, and then leaves the jar as it was.
     pub fn add_original(&mut self, cookie: Cookie<'static>) -> Result<(), JarError>
         ensures gives { Gives refusal.OutOfMemory result (λ _.
             jar_of self.new ≡ after
@@ -72,7 +72,7 @@ impl<'a, S: Storing> ChildJar<'a, S> {
 
     /// Adds a cookie, as the child jar stores it. A `get` of its name then gives its name and value.
     ///
-    /// Fails for want of memory alone, and then leaves the jar as it was.
+    /// Fails with `JarError::OutOfMemory` alone, and then leaves the jar as it was.
     pub fn add(&mut self, cookie: Cookie<'static>) -> Result<(), JarError>
         ensures gives { Gives refusal.OutOfMemory result (λ _.
             jar_of self.new ≡ after
@@ -90,8 +90,8 @@ impl<'a, S: Storing> ChildJar<'a, S> {
     /// this name behind the prefix. Where there is an original of that name, the delta gets a cookie that tells the
     /// client to drop it, with this cookie's path and domain.
     ///
-    /// Fails for want of memory alone, and then leaves the jar as it was. A signed child jar's is never refused where
-    /// there is no such original.
+    /// Fails with `JarError::OutOfMemory` alone, and then leaves the jar as it was. A signed child jar's is never refused
+    /// where there is no such original.
     pub fn remove(&mut self, cookie: Cookie<'static>, now: DateTime) -> Result<(), JarError>
         ensures gives { Gives refusal.OutOfMemory result (λ _.
             jar_of self.new ≡ after

@@ -107,7 +107,7 @@ impl CookieJar {
 
     /// Adds an original cookie, in the place of the one of its name. It is no change: the delta stays.
     ///
-    /// Fails for want of memory alone, and then leaves the jar as it was.
+    /// Fails with `JarError::OutOfMemory` alone, and then leaves the jar as it was.
     pub fn add_original(&mut self, cookie: Cookie<'static>) -> Result<(), JarError>
         ensures gives { Gives refusal.OutOfMemory result (λ _.
             self.new ≡ after (AddOriginal cookie.entry.fields) self.old) }
@@ -119,7 +119,7 @@ impl CookieJar {
 
     /// Adds a cookie, in the place of the one that the jar shows under its name.
     ///
-    /// Fails for want of memory alone, and then leaves the jar as it was.
+    /// Fails with `JarError::OutOfMemory` alone, and then leaves the jar as it was.
     pub fn add(&mut self, cookie: Cookie<'static>) -> Result<(), JarError>
         ensures gives { Gives refusal.OutOfMemory result (λ _.
             self.new ≡ after (Add cookie.entry.fields) self.old) }
@@ -132,7 +132,7 @@ impl CookieJar {
     /// Removes the cookie of that name, at the date and time `now` in UTC. Where there is an original of that
     /// name, the delta gets a cookie that tells the client to drop it, with this cookie's path and domain.
     ///
-    /// Fails for want of memory alone, where there is such an original, and then leaves the jar as it was.
+    /// Fails with `JarError::OutOfMemory` alone, where there is such an original, and then leaves the jar as it was.
     pub fn remove(&mut self, cookie: Cookie<'static>, now: DateTime) -> Result<(), JarError>
         ensures gives { Gives refusal.OutOfMemory result (λ _.
             self.new ≡ after (Remove cookie.entry.fields now) self.old) }
@@ -171,7 +171,7 @@ impl CookieJar {
 
     /// A jar with copies of this one's originals and changes.
     ///
-    /// Fails for want of memory alone.
+    /// Fails with `JarError::OutOfMemory` alone.
     pub fn clone(&self) -> Result<CookieJar, JarError>
         ensures { Gives refusal.OutOfMemory result (λ made. made ≡ self.now) }
     {

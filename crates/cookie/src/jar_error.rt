@@ -9,7 +9,7 @@ use std::fmt;
 /// Why a jar refuses a call. The jar is then as it was.
 #[derive(Clone, Copy, Debug, PartialEq, Eq)]
 pub enum JarError {
-    /// There was no memory for the cookie's place.
+    /// Memory ran out: for the cookie's place, or for a copy of it.
     OutOfMemory,
     /// The value, or the name, is longer than what can be sealed.
     TooLong,

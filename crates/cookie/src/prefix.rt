@@ -43,7 +43,7 @@ pub trait Prefix: Drop {
 
 /// The calls of a prefix on names and cookies. Each type with a [`Prefix`] has them, and none can write its own.
 pub trait Prefixing: Prefix {
-    /// The name with the prefix before it.
+    /// The name with the prefix before it. Fails with `AllocError` alone, for want of memory.
     fn prefixed_name(alloc: Global, name: &str) -> Result<String, AllocError>
         ensures { Gives alloc_error result (λ made. string_bytes made ≡ Self.PREFIX ++ name.now) }
     {
@@ -52,7 +52,8 @@ pub trait Prefixing: Prefix {
         Ok(made)
     }
 
-    /// The cookie with the prefix before its name. The name counts as set, where the prefix isn't empty.
+    /// The cookie with the prefix before its name. The name counts as set, where the prefix isn't empty. Fails with
+    /// `AllocError` alone, for want of memory.
     fn prefix<'c>(alloc: Global, mut cookie: Cookie<'c>) -> Result<Cookie<'c>, AllocError>
         ensures fields { Gives alloc_error result (λ c.
             c.fields ≡ prefixed_cookie Self.PREFIX cookie.entry.fields) }
@@ -69,7 +70,7 @@ pub trait Prefixing: Prefix {
     }
 
     /// The cookie without the prefix before its name, where it stands there. The name counts as set, where it
-    /// changes.
+    /// changes. Fails with `AllocError` alone, for want of memory.
     fn clip<'c>(alloc: Global, mut cookie: Cookie<'c>) -> Result<Cookie<'c>, AllocError>
         ensures fields { Gives alloc_error result (λ c.
             c.fields ≡ clipped_cookie Self.PREFIX cookie.entry.fields) }
@@ -83,7 +84,8 @@ pub trait Prefixing: Prefix {
         Ok(cookie)
     }
 
-    /// The cookie as it is stored: with the prefix before its name, and then conforming.
+    /// The cookie as it is stored: with the prefix before its name, and then conforming. Fails with `AllocError` alone,
+    /// for want of memory.
     fn apply<'c>(alloc: Global, cookie: Cookie<'c>) -> Result<Cookie<'c>, AllocError>
         ensures fields { Gives alloc_error result (λ c.
             c.fields ≡ conforming_cookie Self.PREFIX Self.conformed cookie.entry.fields) }
