@@ -1,5 +1,5 @@
 //! A client that keeps cookies by name (RFC 6265 5.3, 5.4).
-ghost use Rattle.std.specs.Prelude.{◌≡◌, ◌++◌, true, [], map, None, Some, IfOk, OnOk, OnErr, is_some, string_bytes};
+ghost use Rattle.std.specs.Prelude.{◌≡◌, ◌<◌, ◌^◌, ◌++◌, true, [], length, map, None, Some, IfOk, OnOk, OnErr, is_some, string_bytes};
 ghost use Rattle.std.specs.FinMap.{empty, entries, get, insert};
 ghost use Rattle.std.specs.Option.{option_copied};
 ghost use Rattle.cookie.specs.CookieOf.{cookie_of};
@@ -11,7 +11,7 @@ ghost use Rattle.cookie_client.specs.declared.client_error.ClientError.TheVarian
 
 use crate::client_error::ClientError;
 use crate::live::is_live;
-use crate::text_map::TextMap;
+use crate::text_map::{Pairs, TextMap};
 use cookie::{Cookie, ParseError};
 use jiff::civil::DateTime;
 use std::alloc::{AllocError, Global};
@@ -56,7 +56,18 @@ impl Client {
         self.values.get(name)
     }
 
-    /// Holds this value for the name from now on. After an error the client is as before.
+    /// The names that it holds with their values, in byte order of the names. It takes no memory.
+    pub fn iter(&self) -> Pairs<'_>
+        ensures listed { result ≡ entries self.now }
+
+        // They can be counted.
+        ensures fits { length result < 2 ^ 64 }
+    {
+        self.values.pairs()
+    }
+
+    /// Holds this value for the name from now on. Fails with `ClientError::OutOfMemory` alone, and then the client is as
+    /// before.
     pub fn hold(&mut self, name: &str, value: &str) -> Result<(), ClientError>
         ensures gives { Gives OutOfMemory result (λ _.
             self.new ≡ insert self.old name.now value.now) }
@@ -122,7 +133,7 @@ impl Client {
             ≡ map (λ pair. Some (plain pair.0 pair.1)) (entries self.now)) }
     {
         let mut header = String::new(self.alloc);
-        let mut pairs = self.values.pairs();
+        let mut pairs = self.iter();
         let Some((name, value)) = pairs.next() else {
             return Ok(header);
         };

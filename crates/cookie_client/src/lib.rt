@@ -33,4 +33,5 @@ pub use request::Request;
 pub use requests::rounds;
 pub use run_error::RunError;
 pub use session::{run, run_with_hasher};
+pub use text_map::Pairs;
 pub use texts::delta_texts;

@@ -1,5 +1,5 @@
 //! Texts by name, in byte order of the names.
-ghost use Rattle.std.specs.Prelude.{◌≡◌, IfOk, OnOk, OnErr};
+ghost use Rattle.std.specs.Prelude.{◌≡◌, ◌<◌, ◌^◌, IfOk, OnOk, OnErr, length};
 ghost use Rattle.std.specs.FinMap.{empty, entries, get, insert, remove};
 ghost use Rattle.std.specs.Option.{option_copied};
 
@@ -80,7 +80,8 @@ impl TextMap {
 
     /// The names with their texts, in byte order of the names.
     pub(crate) fn pairs(&self) -> Pairs<'_>
-        ensures { result ≡ entries self.now }
+        ensures listed { result ≡ entries self.now }
+        ensures fits { length result < 2 ^ 64 }
     {
         Pairs {
             rest: self.texts.iter(),
@@ -88,9 +89,9 @@ impl TextMap {
     }
 }
 
-/// The pairs of a [`TextMap`], seen as the list of those that are left.
+/// Names with their values, in byte order of the names, seen as the list of the pairs that are left.
 #[derive(Drop)]
-pub(crate) struct Pairs<'a> {
+pub struct Pairs<'a> {
     rest: btree_map::Iter<'a, String, String>,
 }
 

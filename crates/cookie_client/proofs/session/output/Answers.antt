@@ -12,7 +12,7 @@ use Rattle.cookie_client.proofs.session.output.Goals as goal
 pub loop-text-init : goal.loop-text-init
 loop-text-init c =
     let all : map (λ e. e.1) c.into_iter-text-iterator.result ≡ delta_texts c.args.jar.now =
-    ap (map (λ e. e.1)) (c.into_iter-text-iterator.ensures.into_iter_gives ∙ c.pairs-text-items.ensures ∙ c.in_ok-texts.ensures)
+    ap (map (λ e. e.1)) (c.into_iter-text-iterator.ensures.into_iter_gives ∙ c.pairs-text-items.ensures.listed ∙ c.in_ok-texts.ensures)
     ∙ map_map (λ (e : Name × Marked). (e.0, cookie_text true false e.1.cookie)) (λ e. e.1) (entries c.args.jar.now.delta) in
     ap (λ b. b ++ set_cookie_lines (map (λ e. e.1) c.into_iter-text-iterator.result)) c.new-written.ensures.bytes ∙ ap set_cookie_lines all
 

@@ -10,7 +10,7 @@ pub returns-in_default-clause-reads_back : goal.returns-in_default-clause-reads_
 returns-in_default-clause-reads_back c unnamed =
     let named = all_named c.args.self.now unnamed in
     let none : entries c.args.self.now ≡ [] =
-    ap entries (sym c.self.view_is) ∙ sym c.pairs-pairs.ensures ∙ c.in_default.ensures.steps.0 in
+    sym c.iter-pairs.ensures.listed ∙ c.in_default.ensures.steps.0 in
     header-read _ (entries c.args.self.now) (subst (All IsKnown) (sym none) (All-nil IsKnown)) named
     (c.new-header.ensures.bytes ∙ sym (ap (λ es. joined_texts (map pair_text es)) none))
 
@@ -19,7 +19,7 @@ loop-name-init c =
     let rest = c.into_iter-name-iterator.result in
     let pair : Pair = (c.in-Some.name.now, c.in-Some.value.now) in
     let all : entries c.args.self.now ≡ pair ∷ rest =
-    ap entries (sym c.self.view_is) ∙ sym c.pairs-pairs.ensures ∙ c.in-Some.ensures.steps
+    sym c.iter-pairs.ensures.listed ∙ c.in-Some.ensures.steps
     ∙ ap (λ es. pair ∷ es) (sym c.into_iter-name-iterator.ensures.into_iter_gives) in
     record {
       text = header-first _ _ pair rest _ all c.new-header.ensures.bytes c.in_ok-push_pair.ensures.written;
