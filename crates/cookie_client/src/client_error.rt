@@ -43,3 +43,13 @@ impl<T: Drop> From<AllocFailed<T>> for ClientError {
         ClientError::OutOfMemory
     }
 }
+
+impl From<ClientError> for cookie::Error {
+    ghost use Rattle.cookie.specs.declared.error.Error.TheVariants.{OutOfMemory};
+
+    ghost from_gives = { λ _ e. e ≡ OutOfMemory };
+
+    fn from(_error: ClientError) -> cookie::Error {
+        cookie::Error::OutOfMemory
+    }
+}
