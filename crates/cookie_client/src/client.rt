@@ -77,7 +77,7 @@ impl Client {
         Ok(())
     }
 
-    /// A client that holds the same values.
+    /// A client that holds the same values. Fails with `ClientError::OutOfMemory` alone.
     pub fn clone(&self) -> Result<Client, ClientError>
         ensures { Gives OutOfMemory result (λ made. made ≡ self.now) }
     {
@@ -102,8 +102,8 @@ impl Client {
     }
 
     /// Reads the text of a `Set-Cookie` header at a moment in UTC (RFC 6265 5.3), and answers whether it is a
-    /// cookie. One that is live sets its name to its value, one that isn't drops its name, and a text that is no
-    /// cookie changes nothing. After an error the client is as before.
+    /// cookie. One that is live ([`is_live`]) sets its name to its value, one that isn't drops its name, and a text that
+    /// is no cookie changes nothing. Fails with `ClientError::OutOfMemory` alone, and then the client is as before.
     pub fn read(&mut self, text: &str, now: DateTime) -> Result<bool, ClientError>
         ensures gives { Gives OutOfMemory result (λ is_cookie.
             (self.new ≡ after_text now text.now self.old)
@@ -124,7 +124,8 @@ impl Client {
 
     /// The value of its `Cookie` header (RFC 6265 5.4): each name and value, escaped, in byte order of the names.
     ///
-    /// Where it holds nothing under the empty name, the header's cookies, decoded, are those names and values, and none is refused.
+    /// Where it holds nothing under the empty name, the header's cookies, decoded, are those names and values, and none
+    /// is refused. Fails with `ClientError::OutOfMemory` alone.
     pub fn header(&self) -> Result<String, ClientError>
         ensures text { Gives OutOfMemory result (λ header.
             string_bytes header ≡ header_text self.now) }

@@ -24,7 +24,7 @@ use std::alloc::Global;
 pub struct Played {
     /// The jar after the accepted calls.
     pub jar: CookieJar,
-    /// The client after it has read the jar's delta.
+    /// The client after it has read the texts of the jar's delta.
     pub client: Client,
     /// One outcome a call, in their order: true where it was accepted. A refused call counts as not made.
     pub outcomes: Vec<bool>,

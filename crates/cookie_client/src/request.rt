@@ -1,9 +1,9 @@
 //! The calls of one request.
 use crate::call::JarCall;
 
-/// The calls that one request makes on its jar. Their moments are in UTC.
+/// The calls that one request makes on its jar. The moments of its removals are in UTC.
 #[derive(Drop)]
 pub struct Request<'a, 'k> {
-    /// The calls, the first one first.
+    /// The calls, in the order in which they are made.
     pub calls: &'a [JarCall<'k>],
 }

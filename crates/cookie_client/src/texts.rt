@@ -8,7 +8,7 @@ use std::alloc::{AllocError, Global};
 /// The encoded texts of the delta's cookies, which a response sends in its `Set-Cookie` headers (RFC 6265 4.1.1).
 ///
 /// The i-th text is number `pick[i]` of those that are left, in the order of the delta's walk and modulo their count,
-/// or number 0 where `pick` has ended.
+/// or number 0 where `pick` has ended. Fails with `AllocError` alone, for want of memory.
 pub fn delta_texts(
     alloc: Global,
     jar: &CookieJar,
