@@ -18,13 +18,15 @@ use Rattle.jiff.specs.Types.{DateTime}
 use Rattle.cookie_date.specs.Moments.{date_of}
 use Rattle.cookie_date.proofs.DateLemmas.{date_of-is}
 use Rattle.cookie_date.proofs.OptionLemmas.{through}
-use Rattle.cookie_core.specs.Attributes.{IsPair, IsAttribute, Setting, key_of, same_site_key, nanos_of_seconds, max_age_seconds, GivesExpiry, GivesSetting, Sets, Skips, IsLastSet, SetsAttributes, http_only, secure, partitioned, same_site, path, domain, max_age, expires}
-use Rattle.cookie_core.specs.CookieOf.{key_text, value_text, set_by, unless_empty, same_site_named, http_only_in, secure_in, partitioned_in, same_site_in, path_in, domain_in, max_age_in, expires_in, last_set, record_in, decoded_text, cookie_in, cookie_of, header_cookies}
+use Rattle.cookie_core.specs.Attributes.{IsPair, IsAttribute, Setting, field_at, record_of, word_of, same_site_key, GivesExpiry, GivesSetting, Sets, Skips, IsLastSet, SetsAttributes}
+use Rattle.cookie_core.specs.CookieOf.{key_text, value_text, unless_empty, same_site_named, setting_of, setting_in, last_set, record_in, decoded_text, cookie_in, cookie_of, header_cookies}
 use Rattle.cookie_core.specs.Escapes.{unescape}
 use Rattle.cookie_core.specs.Header.{kept_texts, IsHeaderTexts}
 use Rattle.cookie_core.specs.Pieces.{IsPieces}
 use Rattle.cookie_core.specs.Reads.{IsDecoded, IsUndecodable, ReadsPieces, Reads}
-use Rattle.cookie_core.specs.Record.{Record, without_leading_dot}
+use Rattle.cookie_core.specs.Record.{Record}
+use Rattle.cookie_core.specs.declared.attributes.Key.{Key}
+use Rattle.cookie_core.specs.declared.attributes.Key.TheVariants as key
 use Rattle.cookie_core.specs.declared.same_site.SameSite.{SameSite}
 use Rattle.cookie_core.specs.declared.same_site.SameSite.TheVariants as same_site_of
 use Rattle.cookie_core.specs.declared.expiration.Expiration.{Expiration}
@@ -75,28 +77,6 @@ IsAttribute-texts p =
 
 -- ---- what one piece sets
 
--- f gives exactly what a piece sets the field to
-abbrev pub IsSetter : {X : Type 0} → (X → Setting) → (List ℕ → Option X) → Type 0
-IsSetter {X} field f = (p : List ℕ) (x : X) → (f p ≡ Some x) ↔ Sets p (field x)
-
--- g gives exactly what the value of an attribute sets the field to
-abbrev IsGiver : {X : Type 0} → (X → Setting) → (Option (List ℕ) → Option X) → Type 0
-IsGiver {X} field g = (v : Option (List ℕ)) (x : X) → (g v ≡ Some x) ↔ GivesSetting v (field x)
-
-IsSetter-set_by : {X : Type 0} (field : X → Setting) (word : List ℕ) (g : Option (List ℕ) → Option X) → ((x : X) → key_of (field x) ≡ word) → IsGiver field g → IsSetter field (set_by word g)
-IsSetter-set_by {X} field word g keys gives p x = (sound, complete)
-  where
-    sound : set_by word g p ≡ Some x → Sets p (field x)
-    sound e =
-        let (named, given) = cond-some _ (g (value_text p)) x e in
-        (key_text p, value_text p, IsAttribute-texts p, (bytes_eq-Decides _ word).0 named ∙ sym (keys x), (gives (value_text p) x).0 given)
-
-    complete : Sets p (field x) → set_by word g p ≡ Some x
-    complete (k, v, is, named, given) =
-        let (same_key, same_value) = IsAttribute-unique p k v (key_text p) (value_text p) is (IsAttribute-texts p) in
-        let test : bytes_eq (str_to_ascii_lowercase (key_text p)) word ≡ true = (bytes_eq-Decides _ word).1 (ap str_to_ascii_lowercase (sym same_key) ∙ named ∙ keys x) in
-        ap (λ b. cond b (g (value_text p)) None) test ∙ (gives (value_text p) x).1 (subst (λ w. GivesSetting w (field x)) same_value given)
-
 flag : (x : Bool) → (Some true ≡ Some x) ↔ (x ≡ true)
 flag x = (λ e. sym (same_Some _ _ e), λ e. ap Some (sym e))
 
@@ -123,23 +103,6 @@ same_site-complete v same_site_of.Strict e = ap rule_of e
 same_site-complete v same_site_of.Lax e = ap rule_of e
 same_site-complete v same_site_of.None e = ap rule_of e
 
-same_site-gives : IsGiver same_site (option_and_then same_site_named)
-same_site-gives None x = (none-some x, absurd)
-same_site-gives (Some v) x = (same_site-sound v x, same_site-complete v x)
-
-path-gives : IsGiver path (λ v. v)
-path-gives None x = (none-some x, absurd)
-path-gives (Some v) x = (same_Some v x, ap Some)
-
-domain-gives : IsGiver domain (option_and_then (λ v. option_map without_leading_dot (unless_empty v)))
-domain-gives None x = (none-some x, absurd)
-domain-gives (Some []) x = (λ e. absurd (none-some x e), λ h. absurd (h.0 refl))
-domain-gives (Some (c ∷ cs)) x = (λ e. ((λ n. cc), sym (same_Some _ _ e)), λ h. ap Some (sym h.1))
-
-max_age-gives : IsGiver max_age (option_and_then (λ v. option_map nanos_of_seconds (max_age_seconds v)))
-max_age-gives None x = (none-some x, absurd)
-max_age-gives (Some v) x = (λ e. e, λ e. e)
-
 expiry-sound : (v : List ℕ) (o : Option DateTime) (x : Expiration) → date_of v ≡ o → option_map (λ m. expiration.DateTime m) o ≡ Some x → GivesExpiry v x
 expiry-sound v None x is e = absurd (none-some x e)
 expiry-sound v (Some m) x is e = subst (GivesExpiry v) (same_Some _ x e) ((date_of-is v m).0 is)
@@ -148,89 +111,72 @@ expiry-complete : (v : List ℕ) (x : Expiration) → GivesExpiry v x → option
 expiry-complete v (expiration.DateTime m) h = ap (option_map (λ m. expiration.DateTime m)) ((date_of-is v m).1 h)
 expiry-complete v expiration.Session h = absurd h
 
-expires-gives : IsGiver expires (option_and_then (λ v. option_map expiration.DateTime (date_of v)))
-expires-gives None x = (none-some x, absurd)
-expires-gives (Some v) x = (expiry-sound v (date_of v) x refl, expiry-complete v x)
+-- `setting_of` is exactly the setting that an attribute gives
+setting_of-is : (k : Key) (v : Option (List ℕ)) (x : Setting k) → (setting_of k v ≡ Some x) ↔ GivesSetting k v x
+setting_of-is key.HttpOnly v x = flag x
+setting_of-is key.Secure v x = flag x
+setting_of-is key.Partitioned v x = flag x
+setting_of-is key.SameSite (Some v) x = (same_site-sound v x, same_site-complete v x)
+setting_of-is key.Path (Some v) x = (same_Some v x, ap Some)
+setting_of-is key.Domain (Some []) x = (λ e. absurd (none-some x e), λ h. absurd (h.0 refl))
+setting_of-is key.Domain (Some (c ∷ cs)) x = (λ e. ((λ n. cc), sym (same_Some _ _ e)), λ h. ap Some (sym h.1))
+setting_of-is key.MaxAge (Some v) x = (λ e. e, λ e. e)
+setting_of-is key.Expires (Some v) x = (expiry-sound v (date_of v) x refl, expiry-complete v x)
+setting_of-is _ None x = (none-some x, absurd)
 
-pub http_only_in-is : IsSetter http_only http_only_in
-http_only_in-is = IsSetter-set_by http_only (codes "httponly") (λ _. Some true) (λ x. refl) (λ v. flag)
+-- `setting_in` is exactly what a piece sets the field to
+setting_in-Sets : (k : Key) (p : List ℕ) (x : Setting k) → (setting_in k p ≡ Some x) ↔ Sets p k x
+setting_in-Sets k p x = (sound, complete)
+  where
+    sound : setting_in k p ≡ Some x → Sets p k x
+    sound e =
+        let (named, gives) = cond-some _ (setting_of k (value_text p)) x e in
+        (key_text p, value_text p, IsAttribute-texts p, (bytes_eq-Decides _ (word_of k)).0 named, (setting_of-is k (value_text p) x).0 gives)
 
-pub secure_in-is : IsSetter secure secure_in
-secure_in-is = IsSetter-set_by secure (codes "secure") (λ _. Some true) (λ x. refl) (λ v. flag)
-
-pub partitioned_in-is : IsSetter partitioned partitioned_in
-partitioned_in-is = IsSetter-set_by partitioned (codes "partitioned") (λ _. Some true) (λ x. refl) (λ v. flag)
-
-pub same_site_in-is : IsSetter same_site same_site_in
-same_site_in-is = IsSetter-set_by same_site (codes "samesite") _ (λ x. refl) same_site-gives
-
-pub path_in-is : IsSetter path path_in
-path_in-is = IsSetter-set_by path (codes "path") _ (λ x. refl) path-gives
-
-pub domain_in-is : IsSetter domain domain_in
-domain_in-is = IsSetter-set_by domain (codes "domain") _ (λ x. refl) domain-gives
-
-pub max_age_in-is : IsSetter max_age max_age_in
-max_age_in-is = IsSetter-set_by max_age (codes "max-age") _ (λ x. refl) max_age-gives
-
-pub expires_in-is : IsSetter expires expires_in
-expires_in-is = IsSetter-set_by expires (codes "expires") _ (λ x. refl) expires-gives
+    complete : Sets p k x → setting_in k p ≡ Some x
+    complete (t, v, is, named, gives) =
+        let (same_key, same_value) = IsAttribute-unique p t v (key_text p) (value_text p) is (IsAttribute-texts p) in
+        let test : bytes_eq (str_to_ascii_lowercase (key_text p)) (word_of k) ≡ true = (bytes_eq-Decides _ (word_of k)).1 (ap str_to_ascii_lowercase (sym same_key) ∙ named) in
+        ap (λ b. cond b (setting_of k (value_text p)) None) test ∙ (setting_of-is k (value_text p) x).1 (subst (λ w. GivesSetting k w x) same_value gives)
 
 -- ---- what the last piece sets
 
-last_set-none : {X : Type 0} (field : X → Setting) (f : List ℕ → Option X) → IsSetter field f → (ps : List (List ℕ)) → All (Skips field) ps → last_set f ps ≡ None
-last_set-none field f is [] h = refl
-last_set-none field f is (p ∷ ps) h =
-    let later = last_set-none field f is ps (All-tail (Skips field) p ps h) in
-    let here = unless-some (f p) (λ x e. All-head (Skips field) p ps h x ((is p x).0 e)) in
+last_set-none : (k : Key) (ps : List (List ℕ)) → All (Skips k) ps → last_set k ps ≡ None
+last_set-none k [] h = refl
+last_set-none k (p ∷ ps) h =
+    let later = last_set-none k ps (All-tail (Skips k) p ps h) in
+    let here = unless-some (setting_in k p) (λ x e. All-head (Skips k) p ps h x ((setting_in-Sets k p x).0 e)) in
     rw (later, here) refl
 
-last_set-some : {X : Type 0} (field : X → Setting) (f : List ℕ → Option X) → IsSetter field f → (before : List (List ℕ)) (p : List ℕ) (after : List (List ℕ)) (x : X) → Sets p (field x) → All (Skips field) after → last_set f (before ++ p ∷ after) ≡ Some x
-last_set-some field f is [] p after x s none = rw (last_set-none field f is after none) ((is p x).1 s)
-last_set-some field f is (q ∷ before) p after x s none = rw (last_set-some field f is before p after x s none) refl
+last_set-some : (k : Key) (before : List (List ℕ)) (p : List ℕ) (after : List (List ℕ)) (x : Setting k) → Sets p k x → All (Skips k) after → last_set k (before ++ p ∷ after) ≡ Some x
+last_set-some k [] p after x s none = rw (last_set-none k after none) ((setting_in-Sets k p x).1 s)
+last_set-some k (q ∷ before) p after x s none = rw (last_set-some k before p after x s none) refl
 
-IsLastSet-more : {X : Type 0} (field : X → Setting) (f : List ℕ → Option X) → IsSetter field f → (p : List ℕ) (ps : List (List ℕ)) (o o' : Option X) → f p ≡ o' → IsLastSet field ps o → IsLastSet field (p ∷ ps) (option_or o o')
-IsLastSet-more field f is p ps (Some x) o' e (before, q, after, whole, s, none) = (p ∷ before, q, after, ap (λ qs. p ∷ qs) whole, s, none)
-IsLastSet-more field f is p ps None (Some x) e h = ([], p, ps, refl, (is p x).0 e, h)
-IsLastSet-more field f is p ps None None e h = All-cons (Skips field) p ps (λ x s. none-some x (sym e ∙ (is p x).1 s)) h
+IsLastSet-more : (k : Key) (p : List ℕ) (ps : List (List ℕ)) (o o' : Option (Setting k)) → setting_in k p ≡ o' → IsLastSet k ps o → IsLastSet k (p ∷ ps) (option_or o o')
+IsLastSet-more k p ps (Some x) o' e (before, q, after, whole, s, none) = (p ∷ before, q, after, ap (λ qs. p ∷ qs) whole, s, none)
+IsLastSet-more k p ps None (Some x) e h = ([], p, ps, refl, (setting_in-Sets k p x).0 e, h)
+IsLastSet-more k p ps None None e h = All-cons (Skips k) p ps (λ x s. none-some x (sym e ∙ (setting_in-Sets k p x).1 s)) h
 
 -- the last setting is `last_set`, and no other
-pub IsLastSet-last_set : {X : Type 0} (field : X → Setting) (f : List ℕ → Option X) → IsSetter field f → (ps : List (List ℕ)) → IsLastSet field ps (last_set f ps)
-IsLastSet-last_set field f is [] = All-nil (Skips field)
-IsLastSet-last_set field f is (p ∷ ps) = IsLastSet-more field f is p ps (last_set f ps) (f p) refl (IsLastSet-last_set field f is ps)
+IsLastSet-last_set : (k : Key) (ps : List (List ℕ)) → IsLastSet k ps (last_set k ps)
+IsLastSet-last_set k [] = All-nil (Skips k)
+IsLastSet-last_set k (p ∷ ps) = IsLastSet-more k p ps (last_set k ps) (setting_in k p) refl (IsLastSet-last_set k ps)
 
-pub last_set-IsLastSet : {X : Type 0} (field : X → Setting) (f : List ℕ → Option X) → IsSetter field f → (ps : List (List ℕ)) (o : Option X) → IsLastSet field ps o → last_set f ps ≡ o
-last_set-IsLastSet field f is ps None h = last_set-none field f is ps h
-last_set-IsLastSet field f is ps (Some x) (before, p, after, whole, s, none) = ap (last_set f) whole ∙ last_set-some field f is before p after x s none
+pub last_set-IsLastSet : (k : Key) (ps : List (List ℕ)) (o : Option (Setting k)) → IsLastSet k ps o → last_set k ps ≡ o
+last_set-IsLastSet k ps None h = last_set-none k ps h
+last_set-IsLastSet k ps (Some x) (before, p, after, whole, s, none) = ap (last_set k) whole ∙ last_set-some k before p after x s none
 
 pub SetsAttributes-record_in : (n v : List ℕ) (ps : List (List ℕ)) → SetsAttributes ps (record_in n v ps)
-SetsAttributes-record_in n v ps =
-    record {
-      http_only = IsLastSet-last_set http_only http_only_in http_only_in-is ps;
-      secure = IsLastSet-last_set secure secure_in secure_in-is ps;
-      partitioned = IsLastSet-last_set partitioned partitioned_in partitioned_in-is ps;
-      same_site = IsLastSet-last_set same_site same_site_in same_site_in-is ps;
-      path = IsLastSet-last_set path path_in path_in-is ps;
-      domain = IsLastSet-last_set domain domain_in domain_in-is ps;
-      max_age = IsLastSet-last_set max_age max_age_in max_age_in-is ps;
-      expires = IsLastSet-last_set expires expires_in expires_in-is ps;
-    }
+SetsAttributes-record_in n v ps = record { each = each }
+  where
+    each : (k : Key) → IsLastSet k ps (field_at k (record_in n v ps))
+    each key.HttpOnly = IsLastSet-last_set key.HttpOnly ps
+    each k = IsLastSet-last_set k ps
 
 -- so the pieces determine the attributes
-pub record_in-SetsAttributes : (ps : List (List ℕ)) (r : Record) → SetsAttributes ps r → record_in r.name r.value ps ≡ r
+record_in-SetsAttributes : (ps : List (List ℕ)) (r : Record) → SetsAttributes ps r → record_in r.name r.value ps ≡ r
 record_in-SetsAttributes ps r h =
-    λ i. record {
-      name = r.name;
-      value = r.value;
-      http_only = last_set-IsLastSet http_only http_only_in http_only_in-is ps r.http_only h.http_only i;
-      secure = last_set-IsLastSet secure secure_in secure_in-is ps r.secure h.secure i;
-      partitioned = last_set-IsLastSet partitioned partitioned_in partitioned_in-is ps r.partitioned h.partitioned i;
-      same_site = last_set-IsLastSet same_site same_site_in same_site_in-is ps r.same_site h.same_site i;
-      path = last_set-IsLastSet path path_in path_in-is ps r.path h.path i;
-      domain = last_set-IsLastSet domain domain_in domain_in-is ps r.domain h.domain i;
-      max_age = last_set-IsLastSet max_age max_age_in max_age_in-is ps r.max_age h.max_age i;
-      expires = last_set-IsLastSet expires expires_in expires_in-is ps r.expires h.expires i;
-    }
+    λ i. record_of r.name r.value (λ k. last_set-IsLastSet k ps (field_at k r) (h.each k) i)
 
 -- ---- the pair, and decoding
 

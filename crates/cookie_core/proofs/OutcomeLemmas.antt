@@ -1,37 +1,53 @@
 -- What a printed cookie is read as, whatever its path, its domain and its expiry hold (RFC 6265 5.2).
 use Rattle.std.proofs.Common.{◌≡◌, true, false, codes, ℕ, ℤ, pos, List, [], ◌∷◌, ◌++◌, Some, None, option_map, refl, sym, ap, subst, ◌∙◌}
 use Rattle.std.proofs.lemmas.Option.{none-some, same_Some}
-use Rattle.cookie_core.specs.Attributes.{max_age, IsPair, IsLastSet, SetsAttributes}
-use Rattle.cookie_core.specs.CookieOf.{max_age_in, record_in, cookie_of}
+use Rattle.cookie_core.specs.Attributes.{IsPair, IsLastSet, SetsAttributes}
+use Rattle.cookie_core.specs.CookieOf.{record_in, cookie_of}
 use Rattle.cookie_core.specs.Normal.{whole_age, IsNamed, IsUncut, IsExpiryReadBack}
 use Rattle.cookie_core.specs.Escapes.{escape}
 use Rattle.cookie_core.specs.Record.{Record, IsCookie}
 use Rattle.cookie_core.specs.SameSite.{same_site_text}
-use Rattle.cookie_core.specs.Text.{is_true, prints_secure, flag_text, attribute_text, seconds_text, expiry_text, attributes_text, cookie_text}
+use Rattle.cookie_core.specs.Text.{is_true, prints_secure, seconds_text, expiry_text, scope_text, place_text, lifetime_text, attributes_text, cookie_text}
 use Rattle.cookie_core.specs.Walk.{before_rest}
+use Rattle.cookie_core.specs.declared.attributes.Key.TheVariants as key
 use Rattle.cookie_core.specs.declared.parse_error.ParseError.TheVariants.{EmptyName}
-use Rattle.cookie_core.proofs.CookieOfLemmas.{cookie_of-Reads, cookie_of-refused, last_set-IsLastSet, max_age_in-is, SetsAttributes-record_in}
+use Rattle.cookie_core.proofs.CookieOfLemmas.{cookie_of-Reads, cookie_of-refused, last_set-IsLastSet, SetsAttributes-record_in}
 use Rattle.cookie_core.proofs.ExpiryTextLemmas.{read_expiry-is}
 use Rattle.cookie_core.proofs.NormalFormLemmas.{escaped_pair, escaped_pair-apart, escaped_pair-pair, cookie_text-pair, Reads-printed, uncut_form}
 use Rattle.cookie_core.proofs.PartLemmas.{max_age_part, expires_part, read_record}
 use Rattle.cookie_core.proofs.ReadingLemmas.{IsLastSet-behind, IsLastSet-or, Reads-empty_name}
 use Rattle.cookie_core.proofs.PieceWalkLemmas.{HasPieces, HasPieces-append, HasPieces-flag, HasPieces-attribute, Any}
 
--- the attributes before the age, and then any text of pieces
-HasPieces-behind : (P : List (List ℕ) → Type 0) → ((ps qs : List (List ℕ)) → P qs → P (ps ++ qs)) → (r : Record) (t : List ℕ) → HasPieces P t
-    → HasPieces P (flag_text (codes "; HttpOnly") (is_true r.http_only) ++ (attribute_text (codes "; SameSite=") (option_map same_site_text r.same_site)
-    ++ (flag_text (codes "; Partitioned") (is_true r.partitioned) ++ (flag_text (codes "; Secure") (prints_secure r)
-    ++ (attribute_text (codes "; Path=") r.path ++ (attribute_text (codes "; Domain=") r.domain ++ t))))))
-HasPieces-behind P f r t h =
+any_append : (a b : List ℕ) → HasPieces Any a → HasPieces Any b → HasPieces Any (a ++ b)
+any_append a b h k = HasPieces-append Any Any Any (λ ps qs p q. tt) a b h k
+
+any_scope : (r : Record) → HasPieces Any (scope_text r)
+any_scope r =
+    any_append _ _ (HasPieces-flag (codes " HttpOnly") (is_true r.http_only)) (any_append _ _ (HasPieces-attribute (codes " SameSite=") (option_map same_site_text r.same_site)) (any_append _ _ (HasPieces-flag (codes " Partitioned") (is_true r.partitioned)) (HasPieces-flag (codes " Secure") (prints_secure r))))
+
+any_place : (r : Record) → HasPieces Any (place_text r)
+any_place r =
+    any_append _ _ (HasPieces-attribute (codes " Path=") r.path) (HasPieces-attribute (codes " Domain=") r.domain)
+
+any_lifetime : (r : Record) → HasPieces Any (lifetime_text r)
+any_lifetime r =
+    any_append _ _ (HasPieces-attribute (codes " Max-Age=") (option_map seconds_text r.max_age)) (HasPieces-attribute (codes " Expires=") (expiry_text r.expires))
+
+-- the attributes of any cookie are pieces
+any_pieces : (r : Record) → HasPieces Any (attributes_text r)
+any_pieces r = any_append _ _ (any_scope r) (any_append _ _ (any_place r) (any_lifetime r))
+
+-- what holds of the last pieces holds of all
+HasPieces-behind : (P : List (List ℕ) → Type 0) → ((ps qs : List (List ℕ)) → P qs → P (ps ++ qs)) → (r : Record) → HasPieces P (lifetime_text r) → HasPieces P (attributes_text r)
+HasPieces-behind P f r h =
     let more = λ (a b : List ℕ) (k : HasPieces Any a) (l : HasPieces P b). HasPieces-append Any P P (λ ps qs p q. f ps qs q) a b k l in
-    more _ _ (HasPieces-flag (codes " HttpOnly") (is_true r.http_only)) (more _ _ (HasPieces-attribute (codes " SameSite=") (option_map same_site_text r.same_site)) (more _ _ (HasPieces-flag (codes " Partitioned") (is_true r.partitioned))
-    (more _ _ (HasPieces-flag (codes " Secure") (prints_secure r)) (more _ _ (HasPieces-attribute (codes " Path=") r.path) (more _ _ (HasPieces-attribute (codes " Domain=") r.domain) h)))))
+    more _ _ (any_scope r) (more _ _ (any_place r) h)
 
 -- the pieces of the age and the expiry set the age, where it is set
-age_pieces : (r : Record) (age : ℤ) → IsNamed r → r.max_age ≡ Some age → HasPieces (λ ps. IsLastSet max_age ps (Some (whole_age age))) (attribute_text (codes "; Max-Age=") (option_map seconds_text r.max_age) ++ attribute_text (codes "; Expires=") (expiry_text r.expires))
+age_pieces : (r : Record) (age : ℤ) → IsNamed r → r.max_age ≡ Some age → HasPieces (λ ps. IsLastSet key.MaxAge ps (Some (whole_age age))) (lifetime_text r)
 age_pieces r age h e =
-    HasPieces-append (λ ps. SetsAttributes ps _) (λ ps. SetsAttributes ps _) (λ ps. IsLastSet max_age ps (Some (whole_age age)))
-    (λ ps qs p q. IsLastSet-or max_age ps qs (Some (whole_age age)) None (subst (λ a. IsLastSet max_age ps (option_map whole_age a)) e p.max_age) q.max_age)
+    HasPieces-append (λ ps. SetsAttributes ps _) (λ ps. SetsAttributes ps _) (λ ps. IsLastSet key.MaxAge ps (Some (whole_age age)))
+    (λ ps qs p q. IsLastSet-or key.MaxAge ps qs (Some (whole_age age)) None (subst (λ a. IsLastSet key.MaxAge ps (option_map whole_age a)) e (p.each key.MaxAge)) (q.each key.MaxAge))
     _ _ (max_age_part r.max_age h.cookie.max_age) (expires_part r.expires)
 
 -- what the printed text is read as, by its pieces
@@ -39,13 +55,6 @@ by_pieces : (P : List (List ℕ) → Type 0) (r : Record) → IsNamed r → (h :
 by_pieces P r named h =
     let n : Record = record_in r.name r.value h.pieces in
     (cookie_of-Reads true (cookie_text true false r) n).1 (Reads-printed r n named refl refl (record { pieces = h.pieces; text = h.text; apart = h.apart; holds = SetsAttributes-record_in r.name r.value h.pieces }))
-
--- the attributes of any cookie are pieces
-any_pieces : (r : Record) → HasPieces Any (attributes_text r)
-any_pieces r =
-    let age = HasPieces-attribute (codes " Max-Age=") (option_map seconds_text r.max_age) in
-    let expiry = HasPieces-attribute (codes " Expires=") (expiry_text r.expires) in
-    HasPieces-behind Any (λ ps qs q. tt) r _ (HasPieces-append Any Any Any (λ ps qs p q. tt) _ _ age expiry)
 
 -- the name and the value are kept, whatever the path, the domain and the expiry hold
 pub text_outcome : (r : Record) → IsNamed r → (n : Record) × (cookie_of true (cookie_text true false r) ≡ Some n) × (n.name ≡ r.name) × (n.value ≡ r.value)
@@ -76,9 +85,9 @@ same_name c r is e = by c.name refl
 -- and so is the age, in whole seconds, where it is set: the printed age comes behind the path and the domain, and the last one counts
 pub age_outcome : (r : Record) (age : ℤ) → IsNamed r → r.max_age ≡ Some age → (n : Record) × (cookie_of true (cookie_text true false r) ≡ Some n) × (n.name ≡ r.name) × (n.value ≡ r.value) × (n.max_age ≡ Some (whole_age age))
 age_outcome r age named e =
-    let P : List (List ℕ) → Type 0 = λ ps. IsLastSet max_age ps (Some (whole_age age)) in
-    let h : HasPieces P (attributes_text r) = HasPieces-behind P (λ ps qs q. IsLastSet-behind max_age ps qs (whole_age age) q) r _ (age_pieces r age named e) in
-    (record_in r.name r.value h.pieces, by_pieces P r named h, refl, refl, last_set-IsLastSet max_age max_age_in max_age_in-is h.pieces (Some (whole_age age)) h.holds)
+    let P : List (List ℕ) → Type 0 = λ ps. IsLastSet key.MaxAge ps (Some (whole_age age)) in
+    let h : HasPieces P (attributes_text r) = HasPieces-behind P (λ ps qs q. IsLastSet-behind key.MaxAge ps qs (whole_age age) q) r (age_pieces r age named e) in
+    (record_in r.name r.value h.pieces, by_pieces P r named h, refl, refl, last_set-IsLastSet key.MaxAge h.pieces (Some (whole_age age)) h.holds)
 
 -- a removal, whose age is zero
 pub removal_outcome : (r : Record) → IsNamed r → r.max_age ≡ Some (pos 0) → (n : Record) × (cookie_of true (cookie_text true false r) ≡ Some n) × (n.name ≡ r.name) × (n.value ≡ r.value) × (n.max_age ≡ Some (pos 0))

@@ -1,17 +1,17 @@
 -- Each part of a cookie's printed text sets the field that it is for (RFC 6265 4.1.1, 5.2.1 to 5.2.6).
-use Rattle.std.proofs.Common.{◌≡◌, Bool, true, false, codes, ℕ, ℤ, List, [], ◌∷◌, ◌++◌, Option, Some, None, MatchOption, option_map, IfSome, refl, sym, ap, subst, arith}
+use Rattle.std.proofs.Common.{◌≡◌, Bool, true, false, codes, ℕ, ℤ, List, [], ◌∷◌, ◌++◌, Option, Some, None, option_map, IfSome, refl, sym, ap, subst, arith}
 use Rattle.std.specs.List.{list_all}
 use Rattle.std.specs.Option.{option_or}
 use Rattle.std.specs.Str.{trim}
 use Rattle.jiff.specs.Words.{IsDurationNanos}
 use Rattle.cookie_date.proofs.PrintLemmas.{printed_text, read_back}
-use Rattle.cookie_core.specs.Attributes.{IsWord, GivesSetting, SetsAttributes}
+use Rattle.cookie_core.specs.Attributes.{IsWord, Setting, field_at, word_of, GivesSetting, SetsAttributes}
 use Rattle.cookie_core.specs.CookieOf.{unless_empty}
 use Rattle.cookie_core.specs.Normal.{shown, whole_age, normal_form, IsUncut}
 use Rattle.cookie_core.specs.Pieces.{Lacks}
 use Rattle.cookie_core.specs.Record.{Record, IsCookie, without_leading_dot}
 use Rattle.cookie_core.specs.SameSite.{same_site_text}
-use Rattle.cookie_core.specs.Settings.{Value, setting_at, field_at, only, either, word_of, GivesNothing, IsGiven}
+use Rattle.cookie_core.specs.Settings.{only, either, IsSetting, IsGiven}
 use Rattle.cookie_core.specs.Text.{is_true, prints_secure, flag_text, attribute_text, seconds_text, expiry_text, attributes_text}
 use Rattle.cookie_core.specs.declared.attributes.Key.{Key}
 use Rattle.cookie_core.specs.declared.attributes.Key.TheVariants as key
@@ -34,36 +34,32 @@ use mathlib.Core.Logic.{◌≢◌}
 no_part : IsWalk [] (only key.HttpOnly None)
 no_part = HasPieces-nil (λ ps. SetsAttributes ps (only key.HttpOnly None)) SetsAttributes-none
 
-field_at-only : (k : Key) (o : Option (Value k)) → field_at k (only k o) ≡ o
+field_at-only : (k : Key) (o : Option (Setting k)) → field_at k (only k o) ≡ o
 field_at-only key.HttpOnly o = refl
 field_at-only _ o = refl
 
--- what an attribute of this key gives
-abbrev IsValue : (k : Key) → Option (List ℕ) → Option (Value k) → Type 0
-IsValue k v o = MatchOption o (GivesNothing k v) (λ x. GivesSetting v (setting_at k x))
-
-IsGiven-only : (k : Key) (v : Option (List ℕ)) (o : Option (Value k)) → IsValue k v o → IsGiven k v (only k o)
+IsGiven-only : (k : Key) (v : Option (List ℕ)) (o : Option (Setting k)) → IsSetting k v o → IsGiven k v (only k o)
 IsGiven-only k v o h =
-    record { field = subst (IsValue k v) (sym (field_at-only k o)) h; alone = ap (only k) (sym (field_at-only k o)) }
+    record { field = subst (IsSetting k v) (sym (field_at-only k o)) h; alone = ap (only k) (sym (field_at-only k o)) }
 
 key_lacks : (c : ℕ) (t : List ℕ) → ((b : ℕ) → is_token b ≡ true → is_other c b ≡ true) → 32 ≢ c → list_all is_token t ≡ true → Lacks c (32 ∷ t)
 key_lacks c t f d h = Lacks-more c 32 t d (Lacks-from_test c t (all-weaker is_token (is_other c) f t h))
 
 -- a flag, and an attribute with a value
-part_of_flag : (t : List ℕ) (k : Key) (o : Option (Value k)) → list_all is_token t ≡ true → IsWord t (word_of k) → IsValue k None o → IsWalk (59 ∷ 32 ∷ t) (only k o)
+part_of_flag : (t : List ℕ) (k : Key) (o : Option (Setting k)) → list_all is_token t ≡ true → IsWord t (word_of k) → IsSetting k None o → IsWalk (59 ∷ 32 ∷ t) (only k o)
 part_of_flag t k o h w g =
     HasPieces-one (λ ps. SetsAttributes ps (only k o)) (32 ∷ t) (key_lacks 59 t token_is_other_59 (λ e. omega arith) h) (SetsAttributes-given (32 ∷ t) t None k (only k o) (key_lacks 61 t token_is_other_61 (λ e. omega arith) h, sym (trim-space_tokens t h)) w (IsGiven-only k None o g))
 
-part_of_value : (t v : List ℕ) (k : Key) (o : Option (Value k)) → list_all is_token t ≡ true → Lacks 59 v → IsWord t (word_of k) → IsValue k (Some (trim v)) o → IsWalk (59 ∷ 32 ∷ (t ++ 61 ∷ v)) (only k o)
+part_of_value : (t v : List ℕ) (k : Key) (o : Option (Setting k)) → list_all is_token t ≡ true → Lacks 59 v → IsWord t (word_of k) → IsSetting k (Some (trim v)) o → IsWalk (59 ∷ 32 ∷ (t ++ 61 ∷ v)) (only k o)
 part_of_value t v k o h l w g =
     let q : List ℕ = 32 ∷ (t ++ 61 ∷ v) in
     let apart : Lacks 59 q = Lacks-append 59 (32 ∷ t) (61 ∷ v) (key_lacks 59 t token_is_other_59 (λ e. omega arith) h) (Lacks-more 59 61 v (λ e. omega arith) l) in
     HasPieces-one (λ ps. SetsAttributes ps (only k o)) q apart (SetsAttributes-given q t (Some (trim v)) k (only k o) (32 ∷ t, v, refl, key_lacks 61 t token_is_other_61 (λ e. omega arith) h, sym (trim-space_tokens t h), refl) w (IsGiven-only k (Some (trim v)) o g))
 
 -- the value of such a part, where it is all tokens
-part_of_tokens : (t v : List ℕ) (k : Key) (x : Value k) → list_all is_token t ≡ true → list_all is_token v ≡ true → IsWord t (word_of k) → GivesSetting (Some v) (setting_at k x) → IsWalk (59 ∷ 32 ∷ (t ++ 61 ∷ v)) (only k (Some x))
+part_of_tokens : (t v : List ℕ) (k : Key) (x : Setting k) → list_all is_token t ≡ true → list_all is_token v ≡ true → IsWord t (word_of k) → GivesSetting k (Some v) x → IsWalk (59 ∷ 32 ∷ (t ++ 61 ∷ v)) (only k (Some x))
 part_of_tokens t v k x h l w g =
-    part_of_value t v k (Some x) h (Lacks-from_test 59 v (all-weaker is_token (is_other 59) token_is_other_59 v l)) w (subst (λ u. GivesSetting (Some u) (setting_at k x)) (sym (trim-tokens v l)) g)
+    part_of_value t v k (Some x) h (Lacks-from_test 59 v (all-weaker is_token (is_other 59) token_is_other_59 v l)) w (subst (λ u. GivesSetting k (Some u) x) (sym (trim-tokens v l)) g)
 
 -- ---- each part
 
@@ -93,7 +89,7 @@ path_part (Some p) h = part_of_value (codes "Path") p key.Path (Some (trim p)) r
 abbrev pub domain_of : List ℕ → Option (List ℕ)
 domain_of v = option_map without_leading_dot (unless_empty v)
 
-domain_of-is : (v : List ℕ) → IsValue key.Domain (Some v) (domain_of v)
+domain_of-is : (v : List ℕ) → IsSetting key.Domain (Some v) (domain_of v)
 domain_of-is [] = λ x h. h.0 refl
 domain_of-is (c ∷ cs) = ((λ n. cc), refl)
 
@@ -130,14 +126,11 @@ or_none (Some x) = refl
 
 pub attributes_walk : (r : Record) → IsCookie r → IsUncut r → IsWalk (attributes_text r) (read_record r)
 attributes_walk r c u =
-    let w8 = expires_part r.expires in
-    let w7 = IsWalk-append _ _ _ _ (max_age_part r.max_age c.max_age) w8 in
-    let w6 = IsWalk-append _ _ _ _ (domain_part r.domain u.domain) w7 in
-    let w5 = IsWalk-append _ _ _ _ (path_part r.path u.path) w6 in
-    let w4 = IsWalk-append _ _ _ _ (secure_part (prints_secure r)) w5 in
-    let w3 = IsWalk-append _ _ _ _ (partitioned_part (is_true r.partitioned)) w4 in
-    let w2 = IsWalk-append _ _ _ _ (same_site_part r.same_site) w3 in
-    let w1 = IsWalk-append _ _ _ _ (http_only_part (is_true r.http_only)) w2 in
-    let same : either (either (either (either (either (either (either (only key.Expires (read_expiry r.expires)) (only key.MaxAge (option_map whole_age r.max_age))) (only key.Domain (read_domain r.domain))) (only key.Path (option_map trim r.path))) (only key.Secure (shown (prints_secure r)))) (only key.Partitioned (shown (is_true r.partitioned)))) (only key.SameSite r.same_site)) (only key.HttpOnly (shown (is_true r.http_only))) ≡ record (read_record r) { name = []; value = [] } = simp or_none refl in
-    let sets = subst (SetsAttributes w1.pieces) same w1.holds in
-    record { pieces = w1.pieces; text = w1.text; apart = w1.apart; holds = SetsAttributes-named w1.pieces _ r.name r.value sets }
+    let flags = IsWalk-append _ _ _ _ (partitioned_part (is_true r.partitioned)) (secure_part (prints_secure r)) in
+    let scope = IsWalk-append _ _ _ _ (http_only_part (is_true r.http_only)) (IsWalk-append _ _ _ _ (same_site_part r.same_site) flags) in
+    let place = IsWalk-append _ _ _ _ (path_part r.path u.path) (domain_part r.domain u.domain) in
+    let lifetime = IsWalk-append _ _ _ _ (max_age_part r.max_age c.max_age) (expires_part r.expires) in
+    let all = IsWalk-append _ _ _ _ scope (IsWalk-append _ _ _ _ place lifetime) in
+    let same : either (either (either (only key.Expires (read_expiry r.expires)) (only key.MaxAge (option_map whole_age r.max_age))) (either (only key.Domain (read_domain r.domain)) (only key.Path (option_map trim r.path)))) (either (either (either (only key.Secure (shown (prints_secure r))) (only key.Partitioned (shown (is_true r.partitioned)))) (only key.SameSite r.same_site)) (only key.HttpOnly (shown (is_true r.http_only)))) ≡ record (read_record r) { name = []; value = [] } = simp or_none refl in
+    let sets = subst (SetsAttributes all.pieces) same all.holds in
+    record { pieces = all.pieces; text = all.text; apart = all.apart; holds = SetsAttributes-named all.pieces _ r.name r.value sets }

@@ -19,11 +19,11 @@ use Rattle.cookie_core.specs.declared.parse_error.ParseError.TheVariants.{Missin
 use mathlib.Core.Logic.{◌≢◌}
 use Rattle.cookie_core.specs.Pieces.{Lacks, joined_pieces, IsPieces}
 use Rattle.cookie_core.specs.Reads.{Reads}
-use Rattle.cookie_core.specs.Attributes.{IsPair, IsAttribute, IsWord, Skips, IsLastSet, SetsAttributes, Setting, http_only, secure, partitioned, same_site, path, domain, max_age, expires, key_of, GivesSetting, Sets, SetsNothing, nanos_of_seconds, max_age_seconds}
+use Rattle.cookie_core.specs.Attributes.{IsPair, IsAttribute, IsWord, Setting, field_at, word_of, GivesSetting, Sets, Skips, IsLastSet, SetsAttributes, nanos_of_seconds, max_age_seconds}
 use Rattle.cookie_core.specs.Parts.{part_text}
 use Rattle.cookie_core.specs.Spans.{span_text}
 use Rattle.cookie_core.specs.declared.span.Span.{Span}
-use Rattle.cookie_core.specs.Settings.{Value, setting_at, field_at, only, either, word_of, GivesNothing, IsGiven}
+use Rattle.cookie_core.specs.Settings.{only, either, GivesNothing, IsSetting, IsGiven}
 use Rattle.cookie_core.specs.declared.attributes.Key.{Key}
 use Rattle.cookie_core.specs.declared.attributes.Key.TheVariants as key
 
@@ -61,42 +61,21 @@ IsAttribute-unique p k (Some v) k' (Some v') (a, b, e, l, n, m) (a', b', e', l',
 differ : {w w' : List ℕ} → w ≡ w' → bytes_eq w w' ≡ false → ⊥
 differ {w} {w'} e f = false≢true (sym f ∙ (bytes_eq-Decides w w').1 e)
 
--- each setting has a key
-by_key : (P : Setting → Type 0) → ((k : Key) (x : Value k) → P (setting_at k x)) → (s : Setting) → P s
-by_key P h (http_only x) = h key.HttpOnly x
-by_key P h (secure x) = h key.Secure x
-by_key P h (partitioned x) = h key.Partitioned x
-by_key P h (same_site x) = h key.SameSite x
-by_key P h (path x) = h key.Path x
-by_key P h (domain x) = h key.Domain x
-by_key P h (max_age x) = h key.MaxAge x
-by_key P h (expires x) = h key.Expires x
+-- a piece with one key does not set the field of another key
+Skips-other : (p t : List ℕ) (v : Option (List ℕ)) (k : Key) → IsAttribute p t v → ¬ (IsWord t (word_of k)) → Skips k p
+Skips-other p t v k att other x (t', v', att', is, _) =
+    other (ap str_to_ascii_lowercase (IsAttribute-unique p t v t' v' att att').0 ∙ is)
 
-key_of-setting_at : (k : Key) (x : Value k) → key_of (setting_at k x) ≡ word_of k
-key_of-setting_at key.HttpOnly x = refl
-key_of-setting_at _ x = refl
+-- nor that of its own, where its value gives nothing
+Skips-own : (p t : List ℕ) (v : Option (List ℕ)) (k : Key) → IsAttribute p t v → GivesNothing k v → Skips k p
+Skips-own p t v k att none x (t', v', att', is, gives) =
+    none x (subst (λ (q : Option (List ℕ)). GivesSetting k q x) (sym (IsAttribute-unique p t v t' v' att att').1) gives)
 
--- a piece sets nothing where its key is none
-SetsNothing-no_key : (p t : List ℕ) (v : Option (List ℕ)) → IsAttribute p t v → ((k : Key) → ¬ (IsWord t (word_of k))) → SetsNothing p
-SetsNothing-no_key p t v att none =
-    by_key (λ s. ¬ (Sets p s)) (λ k x (t', v', att', is, _).
-    none k (ap str_to_ascii_lowercase (IsAttribute-unique p t v t' v' att att').0 ∙ is ∙ key_of-setting_at k x))
-
--- a piece with the key k does not set the field of another key
-Skips-other : (p t : List ℕ) (v : Option (List ℕ)) (k k' : Key) → IsAttribute p t v → IsWord t (word_of k) → bytes_eq (word_of k) (word_of k') ≡ false → (x : Value k') → ¬ (Sets p (setting_at k' x))
-Skips-other p t v k k' att is ne x (t', v', att', is', _) =
-    differ (sym is ∙ ap str_to_ascii_lowercase (IsAttribute-unique p t v t' v' att att').0 ∙ is' ∙ key_of-setting_at k' x) ne
-
--- nor its own, where its value gives nothing
-Skips-own : (p t : List ℕ) (v : Option (List ℕ)) (k : Key) → IsAttribute p t v → GivesNothing k v → (x : Value k) → ¬ (Sets p (setting_at k x))
-Skips-own p t v k att none x (t', v', att', is', gives) =
-    none x (subst (λ (q : Option (List ℕ)). GivesSetting q (setting_at k x)) (sym (IsAttribute-unique p t v t' v' att att').1) gives)
-
-pub undotted-field : (v : Part) (o : Option Span) → MatchOption o (part_text v ≡ []) (λ p. (p ≡ v.span) × (part_text v ≢ [])) → MatchOption (option_map without_leading_dot (option_map (span_text v.whole.now) o)) (GivesNothing key.Domain (Some (part_text v))) (λ x. GivesSetting (Some (part_text v)) (domain x))
+pub undotted-field : (v : Part) (o : Option Span) → MatchOption o (part_text v ≡ []) (λ p. (p ≡ v.span) × (part_text v ≢ [])) → IsSetting key.Domain (Some (part_text v)) (option_map without_leading_dot (option_map (span_text v.whole.now) o))
 undotted-field v None e = λ x h. h.0 e
 undotted-field v (Some p) h = (h.1, ap (λ (q : Span). without_leading_dot (span_text v.whole.now q)) h.0)
 
-pub age-field : (t : List ℕ) (o : Option SignedDuration) → option_map signed_nanos o ≡ option_map nanos_of_seconds (max_age_seconds t) → MatchOption (option_map signed_nanos o) (GivesNothing key.MaxAge (Some t)) (λ x. GivesSetting (Some t) (max_age x))
+pub age-field : (t : List ℕ) (o : Option SignedDuration) → option_map signed_nanos o ≡ option_map nanos_of_seconds (max_age_seconds t) → IsSetting key.MaxAge (Some t) (option_map signed_nanos o)
 age-field t None e = λ x h. cc
 age-field t (Some d) e = sym e
 
@@ -111,28 +90,28 @@ pub All-push : {X : Type 0} (P : X → Type 0) (xs : List X) (x : X) → All P x
 All-push P xs x h q = All-append P xs (x ∷ []) h (All-one P x q)
 
 -- a setting counts whatever stands before it
-pub IsLastSet-behind : {X : Type 0} (field : X → Setting) (ps qs : List (List ℕ)) (x : X) → IsLastSet field qs (Some x) → IsLastSet field (ps ++ qs) (Some x)
-IsLastSet-behind field ps qs x (before, q, after, e, s, none) =
+pub IsLastSet-behind : (k : Key) (ps qs : List (List ℕ)) (x : Setting k) → IsLastSet k qs (Some x) → IsLastSet k (ps ++ qs) (Some x)
+IsLastSet-behind k ps qs x (before, q, after, e, s, none) =
     (ps ++ before, q, after, rw e (sym (append_assoc ps before (q ∷ after))), s, none)
 
 -- what the later pieces set, or else what the pieces before them set
-pub IsLastSet-or : {X : Type 0} (field : X → Setting) (ps qs : List (List ℕ)) (o o' : Option X) → IsLastSet field ps o → IsLastSet field qs o' → IsLastSet field (ps ++ qs) (option_or o' o)
-IsLastSet-or field ps qs None None h h' = All-append (Skips field) ps qs h h'
-IsLastSet-or field ps qs (Some x) None (before, q, after, e, s, none) h' =
-    (before, q, after ++ qs, rw e (append_assoc before (q ∷ after) qs), s, All-append (Skips field) after qs none h')
-IsLastSet-or field ps qs o (Some x) h h' = IsLastSet-behind field ps qs x h'
+pub IsLastSet-or : (k : Key) (ps qs : List (List ℕ)) (o o' : Option (Setting k)) → IsLastSet k ps o → IsLastSet k qs o' → IsLastSet k (ps ++ qs) (option_or o' o)
+IsLastSet-or k ps qs None None h h' = All-append (Skips k) ps qs h h'
+IsLastSet-or k ps qs (Some x) None (before, q, after, e, s, none) h' =
+    (before, q, after ++ qs, rw e (append_assoc before (q ∷ after) qs), s, All-append (Skips k) after qs none h')
+IsLastSet-or k ps qs o (Some x) h h' = IsLastSet-behind k ps qs x h'
 
 -- what one piece sets
-IsLastSet-one : (p t : List ℕ) (v : Option (List ℕ)) (k : Key) (o : Option (Value k)) → IsAttribute p t v → IsWord t (word_of k) → MatchOption o (GivesNothing k v) (λ x. GivesSetting v (setting_at k x)) → IsLastSet (setting_at k) (p ∷ []) o
-IsLastSet-one p t v k None att is h = All-one (Skips (setting_at k)) p (Skips-own p t v k att h)
-IsLastSet-one p t v k (Some x) att is h =
-    ([], p, [], refl, (t, v, att, is ∙ sym (key_of-setting_at k x), h), All-none (Skips (setting_at k)))
+IsLastSet-one : (p t : List ℕ) (v : Option (List ℕ)) (k : Key) (o : Option (Setting k)) → IsAttribute p t v → IsWord t (word_of k) → IsSetting k v o → IsLastSet k (p ∷ []) o
+IsLastSet-one p t v k None att is h = All-one (Skips k) p (Skips-own p t v k att h)
+IsLastSet-one p t v k (Some x) att is h = ([], p, [], refl, (t, v, att, is, h), All-none (Skips k))
 
-IsLastSet-other : (p t : List ℕ) (v : Option (List ℕ)) (k k' : Key) → IsAttribute p t v → IsWord t (word_of k) → bytes_eq (word_of k) (word_of k') ≡ false → IsLastSet (setting_at k') (p ∷ []) None
-IsLastSet-other p t v k k' att is ne = All-one (Skips (setting_at k')) p (Skips-other p t v k k' att is ne)
+IsLastSet-other : (p t : List ℕ) (v : Option (List ℕ)) (k k' : Key) → IsAttribute p t v → IsWord t (word_of k) → bytes_eq (word_of k) (word_of k') ≡ false → IsLastSet k' (p ∷ []) None
+IsLastSet-other p t v k k' att is ne =
+    All-one (Skips k') p (Skips-other p t v k' att (λ is'. differ (sym is ∙ is') ne))
 
 -- the field of the key k' after a piece with the key k
-field-one : (p t : List ℕ) (v : Option (List ℕ)) (k k' : Key) (o : Option (Value k)) → IsAttribute p t v → IsWord t (word_of k) → MatchOption o (GivesNothing k v) (λ x. GivesSetting v (setting_at k x)) → IsLastSet (setting_at k') (p ∷ []) (field_at k' (only k o))
+field-one : (p t : List ℕ) (v : Option (List ℕ)) (k k' : Key) (o : Option (Setting k)) → IsAttribute p t v → IsWord t (word_of k) → IsSetting k v o → IsLastSet k' (p ∷ []) (field_at k' (only k o))
 field-one p t v key.HttpOnly key.HttpOnly o att is h = IsLastSet-one p t v key.HttpOnly o att is h
 field-one p t v key.Secure key.Secure o att is h = IsLastSet-one p t v key.Secure o att is h
 field-one p t v key.Partitioned key.Partitioned o att is h = IsLastSet-one p t v key.Partitioned o att is h
@@ -143,46 +122,31 @@ field-one p t v key.MaxAge key.MaxAge o att is h = IsLastSet-one p t v key.MaxAg
 field-one p t v key.Expires key.Expires o att is h = IsLastSet-one p t v key.Expires o att is h
 field-one p t v k k' o att is h = IsLastSet-other p t v k k' att is refl
 
-unset : (ps : List (List ℕ)) (k : Key) → All (Skips (setting_at k)) ps → IsLastSet (setting_at k) ps (field_at k (plain [] []))
-unset ps key.HttpOnly h = h
-unset ps k h = h
-
-by_fields : (ps : List (List ℕ)) (r : Record) → ((k : Key) → IsLastSet (setting_at k) ps (field_at k r)) → SetsAttributes ps r
-by_fields ps r h =
-    record {
-      http_only = h key.HttpOnly;
-      secure = h key.Secure;
-      partitioned = h key.Partitioned;
-      same_site = h key.SameSite;
-      path = h key.Path;
-      domain = h key.Domain;
-      max_age = h key.MaxAge;
-      expires = h key.Expires;
-    }
+-- pieces that set no field leave each unset
+SetsAttributes-unset : (ps : List (List ℕ)) → ((k : Key) → All (Skips k) ps) → SetsAttributes ps (plain [] [])
+SetsAttributes-unset ps h = record { each = each }
+  where
+    each : (k : Key) → IsLastSet k ps (field_at k (plain [] []))
+    each key.HttpOnly = h key.HttpOnly
+    each k = h k
 
 pub SetsAttributes-none : SetsAttributes [] (plain [] [])
-SetsAttributes-none = by_fields [] (plain [] []) (λ k. unset [] k (All-none (Skips (setting_at k))))
+SetsAttributes-none = SetsAttributes-unset [] (λ k. All-none (Skips k))
 
 pub SetsAttributes-no_key : (p t : List ℕ) (v : Option (List ℕ)) → IsAttribute p t v → ((k : Key) → ¬ (IsWord t (word_of k))) → SetsAttributes (p ∷ []) (plain [] [])
 SetsAttributes-no_key p t v att none =
-    by_fields (p ∷ []) (plain [] []) (λ k. unset (p ∷ []) k (All-one (Skips (setting_at k)) p (λ x. SetsNothing-no_key p t v att none (setting_at k x))))
+    SetsAttributes-unset (p ∷ []) (λ k. All-one (Skips k) p (Skips-other p t v k att (none k)))
 
 pub SetsAttributes-given : (p t : List ℕ) (v : Option (List ℕ)) (k : Key) (r : Record) → IsAttribute p t v → IsWord t (word_of k) → IsGiven k v r → SetsAttributes (p ∷ []) r
 SetsAttributes-given p t v k r att is h =
-    rw h.alone (by_fields (p ∷ []) (only k (field_at k r)) (λ k'. field-one p t v k k' (field_at k r) att is h.field))
+    rw h.alone (record { each = λ k'. field-one p t v k k' (field_at k r) att is h.field })
 
 pub SetsAttributes-or : (ps qs : List (List ℕ)) (r r' : Record) → SetsAttributes ps r → SetsAttributes qs r' → SetsAttributes (ps ++ qs) (either r' r)
-SetsAttributes-or ps qs r r' a a' =
-    record {
-      http_only = IsLastSet-or http_only ps qs r.http_only r'.http_only a.http_only a'.http_only;
-      secure = IsLastSet-or secure ps qs r.secure r'.secure a.secure a'.secure;
-      partitioned = IsLastSet-or partitioned ps qs r.partitioned r'.partitioned a.partitioned a'.partitioned;
-      same_site = IsLastSet-or same_site ps qs r.same_site r'.same_site a.same_site a'.same_site;
-      path = IsLastSet-or path ps qs r.path r'.path a.path a'.path;
-      domain = IsLastSet-or domain ps qs r.domain r'.domain a.domain a'.domain;
-      max_age = IsLastSet-or max_age ps qs r.max_age r'.max_age a.max_age a'.max_age;
-      expires = IsLastSet-or expires ps qs r.expires r'.expires a.expires a'.expires;
-    }
+SetsAttributes-or ps qs r r' a a' = record { each = each }
+  where
+    each : (k : Key) → IsLastSet k (ps ++ qs) (field_at k (either r' r))
+    each key.HttpOnly = IsLastSet-or key.HttpOnly ps qs r.http_only r'.http_only (a.each key.HttpOnly) (a'.each key.HttpOnly)
+    each k = IsLastSet-or k ps qs (field_at k r) (field_at k r') (a.each k) (a'.each k)
 
 -- ---- the pieces of a text
 
@@ -257,8 +221,11 @@ Reads-empty_name t p v o e l h decode =
     let q = rest_pieces o in (p, q.0, first_piece t p o e l q.0 q.1 q.2, (v, h))
 
 pub SetsAttributes-named : (ps : List (List ℕ)) (r : Record) (n v : List ℕ) → SetsAttributes ps r → SetsAttributes ps (record r { name = n; value = v })
-SetsAttributes-named ps r n v a =
-    record { http_only = a.http_only; secure = a.secure; partitioned = a.partitioned; same_site = a.same_site; path = a.path; domain = a.domain; max_age = a.max_age; expires = a.expires }
+SetsAttributes-named ps r n v a = record { each = each }
+  where
+    each : (k : Key) → IsLastSet k ps (field_at k (record r { name = n; value = v }))
+    each key.HttpOnly = a.each key.HttpOnly
+    each k = a.each k
 
 pub Reads-record : (t p n v : List ℕ) (o : Option (List ℕ)) (r : Record) → t ≡ p ++ behind o → Lacks 59 p → IsPair p n v → n ≢ [] → HasRead o r None → Reads false t (Ok (record r { name = n; value = v }))
 Reads-record t p n v o r e l h m a =

@@ -1,15 +1,17 @@
 -- The record that a text is read as, as a function of the text (RFC 6265 5.2). `Reads` says the same as a relation.
-use Rattle.std.specs.Prelude.{ℕ, ◌==◌, Bool, true, false, if◌then◌else◌, List, [], ◌∷◌, Option, Some, None, option_map, option_and_then, filter_map, find, bytes_eq, ℤ, codes}
+use Rattle.std.specs.Prelude.{ℕ, ◌==◌, Bool, true, false, if◌then◌else◌, List, [], ◌∷◌, Option, Some, None, option_map, filter_map, find, bytes_eq}
 use Rattle.std.specs.List.{before_first, after_first, list_any}
 use Rattle.std.specs.Option.{option_or}
 use Rattle.std.specs.Str.{trim, str_to_ascii_lowercase, is_utf8}
 use Rattle.cookie_date.specs.Chains.{◌>>=◌}
 use Rattle.cookie_date.specs.Moments.{date_of}
-use Rattle.cookie_core.specs.Attributes.{nanos_of_seconds, max_age_seconds, same_site_key}
+use Rattle.cookie_core.specs.Attributes.{Setting, record_of, word_of, nanos_of_seconds, max_age_seconds, same_site_key}
 use Rattle.cookie_core.specs.Escapes.{unescape}
 use Rattle.cookie_core.specs.Header.{kept_texts}
 use Rattle.cookie_core.specs.Pieces.{pieces}
 use Rattle.cookie_core.specs.Record.{Record, without_leading_dot}
+use Rattle.cookie_core.specs.declared.attributes.Key.{Key}
+use Rattle.cookie_core.specs.declared.attributes.Key.TheVariants as key
 use Rattle.cookie_core.specs.declared.same_site.SameSite.{SameSite}
 use Rattle.cookie_core.specs.declared.same_site.SameSite.TheVariants as same_site
 use Rattle.cookie_core.specs.declared.expiration.Expiration.{Expiration}
@@ -21,11 +23,8 @@ key_text p = trim (before_first (λ b. b == 61) p)
 
 -- the value of a piece: what stands behind its first `=`, trimmed, where there is one
 abbrev pub value_text : List ℕ → Option (List ℕ)
-value_text p = if list_any (λ b. b == 61) p then Some (trim (after_first (λ b. b == 61) p)) else None
-
--- what a piece sets a field to: what f makes of its value, if its key is the word in any ASCII case
-abbrev pub set_by : {X : Type 0} → List ℕ → (Option (List ℕ) → Option X) → List ℕ → Option X
-set_by word f p = if bytes_eq (str_to_ascii_lowercase (key_text p)) word then f (value_text p) else None
+value_text p =
+    if list_any (λ b. b == 61) p then Some (trim (after_first (λ b. b == 61) p)) else None
 
 -- the text, if it is not empty
 abbrev pub unless_empty : List ℕ → Option (List ℕ)
@@ -35,60 +34,35 @@ unless_empty (c ∷ cs) = Some (c ∷ cs)
 -- the rule that the text names, in any ASCII case
 abbrev pub same_site_named : List ℕ → Option SameSite
 same_site_named v =
-    find (λ s. bytes_eq (str_to_ascii_lowercase v) (same_site_key s)) (same_site.Strict ∷ same_site.Lax ∷ same_site.None ∷ [])
+    find (λ s. bytes_eq (str_to_ascii_lowercase v) (same_site_key s))
+    (same_site.Strict ∷ same_site.Lax ∷ same_site.None ∷ [])
 
--- what a piece sets `http_only` to
-abbrev pub http_only_in : List ℕ → Option Bool
-http_only_in = set_by (codes "httponly") (λ _. Some true)
+-- the setting that an attribute of this key and this value, if it has one, gives
+abbrev pub setting_of : (k : Key) → Option (List ℕ) → Option (Setting k)
+setting_of key.HttpOnly _ = Some true
+setting_of key.Secure _ = Some true
+setting_of key.Partitioned _ = Some true
+setting_of key.SameSite (Some v) = same_site_named v
+setting_of key.Path (Some v) = Some v
+setting_of key.Domain (Some v) = option_map without_leading_dot (unless_empty v)
+setting_of key.MaxAge (Some v) = option_map nanos_of_seconds (max_age_seconds v)
+setting_of key.Expires (Some v) = option_map expiration.DateTime (date_of v)
+setting_of _ None = None
 
--- what a piece sets `secure` to
-abbrev pub secure_in : List ℕ → Option Bool
-secure_in = set_by (codes "secure") (λ _. Some true)
+-- what a piece sets the field of the key to, if its key is the word in any ASCII case
+abbrev pub setting_in : (k : Key) → List ℕ → Option (Setting k)
+setting_in k p =
+    if bytes_eq (str_to_ascii_lowercase (key_text p)) (word_of k)
+    then setting_of k (value_text p) else None
 
--- what a piece sets `partitioned` to
-abbrev pub partitioned_in : List ℕ → Option Bool
-partitioned_in = set_by (codes "partitioned") (λ _. Some true)
-
--- what a piece sets `same_site` to
-abbrev pub same_site_in : List ℕ → Option SameSite
-same_site_in = set_by (codes "samesite") (option_and_then same_site_named)
-
--- what a piece sets `path` to
-abbrev pub path_in : List ℕ → Option (List ℕ)
-path_in = set_by (codes "path") (λ v. v)
-
--- what a piece sets `domain` to
-abbrev pub domain_in : List ℕ → Option (List ℕ)
-domain_in = set_by (codes "domain") (option_and_then (λ v. option_map without_leading_dot (unless_empty v)))
-
--- what a piece sets `max_age` to, in nanoseconds
-abbrev pub max_age_in : List ℕ → Option ℤ
-max_age_in = set_by (codes "max-age") (option_and_then (λ v. option_map nanos_of_seconds (max_age_seconds v)))
-
--- what a piece sets `expires` to
-abbrev pub expires_in : List ℕ → Option Expiration
-expires_in = set_by (codes "expires") (option_and_then (λ v. option_map expiration.DateTime (date_of v)))
-
--- what the last piece that sets a field sets it to
-abbrev pub last_set : {X : Type 0} → (List ℕ → Option X) → List (List ℕ) → Option X
-last_set f [] = None
-last_set f (p ∷ ps) = option_or (last_set f ps) (f p)
+-- what the last piece that sets the field sets it to
+abbrev pub last_set : (k : Key) → List (List ℕ) → Option (Setting k)
+last_set k [] = None
+last_set k (p ∷ ps) = option_or (last_set k ps) (setting_in k p)
 
 -- the record of a name, a value and what the pieces behind them set
 abbrev pub record_in : List ℕ → List ℕ → List (List ℕ) → Record
-record_in n v ps =
-    record {
-      name = n;
-      value = v;
-      http_only = last_set http_only_in ps;
-      secure = last_set secure_in ps;
-      partitioned = last_set partitioned_in ps;
-      same_site = last_set same_site_in ps;
-      path = last_set path_in ps;
-      domain = last_set domain_in ps;
-      max_age = last_set max_age_in ps;
-      expires = last_set expires_in ps;
-    }
+record_in n v ps = record_of n v (λ k. last_set k ps)
 
 -- the text as it stands; with decoding, the bytes without escapes, if they are UTF-8
 abbrev pub decoded_text : Bool → List ℕ → Option (List ℕ)

@@ -27,7 +27,9 @@ is_same_site_none _ = false
 
 -- whether `Secure` is printed
 abbrev pub prints_secure : Record → Bool
-prints_secure r = is_true r.secure || is_true r.partitioned || (is_unset r.secure && is_same_site_none r.same_site)
+prints_secure r =
+    is_true r.secure || is_true r.partitioned
+    || (is_unset r.secure && is_same_site_none r.same_site)
 
 -- the text of a flag, where it is shown
 abbrev pub flag_text : List ℕ → Bool → List ℕ
@@ -48,15 +50,31 @@ abbrev pub expiry_text : Option Expiration → Option (List ℕ)
 expiry_text (Some (expiration.DateTime m)) = Some (moment_text m)
 expiry_text _ = None
 
+-- which requests the cookie goes with
+abbrev pub scope_text : Record → List ℕ
+scope_text r =
+    flag_text (codes "; HttpOnly") (is_true r.http_only)
+    ++ (attribute_text (codes "; SameSite=") (option_map same_site_text r.same_site)
+    ++ (flag_text (codes "; Partitioned") (is_true r.partitioned)
+    ++ flag_text (codes "; Secure") (prints_secure r)))
+
+-- where it is sent
+abbrev pub place_text : Record → List ℕ
+place_text r =
+    attribute_text (codes "; Path=") r.path ++ attribute_text (codes "; Domain=") r.domain
+
+-- how long it is kept
+abbrev pub lifetime_text : Record → List ℕ
+lifetime_text r =
+    attribute_text (codes "; Max-Age=") (option_map seconds_text r.max_age)
+    ++ attribute_text (codes "; Expires=") (expiry_text r.expires)
+
 -- the attributes of a cookie, in order
 abbrev pub attributes_text : Record → List ℕ
-attributes_text r =
-    flag_text (codes "; HttpOnly") (is_true r.http_only) ++ (attribute_text (codes "; SameSite=") (option_map same_site_text r.same_site)
-    ++ (flag_text (codes "; Partitioned") (is_true r.partitioned) ++ (flag_text (codes "; Secure") (prints_secure r)
-    ++ (attribute_text (codes "; Path=") r.path ++ (attribute_text (codes "; Domain=") r.domain
-    ++ (attribute_text (codes "; Max-Age=") (option_map seconds_text r.max_age) ++ attribute_text (codes "; Expires=") (expiry_text r.expires)))))))
+attributes_text r = scope_text r ++ (place_text r ++ lifetime_text r)
 
 -- the text of a cookie, with escapes or without, and with its attributes or stripped of them
 abbrev pub cookie_text : Bool → Bool → Record → List ℕ
 cookie_text encoded stripped r =
-    printed_form encoded r.name ++ (codes "=" ++ (printed_form encoded r.value ++ (if stripped then [] else attributes_text r)))
+    printed_form encoded r.name
+    ++ (codes "=" ++ (printed_form encoded r.value ++ (if stripped then [] else attributes_text r)))

@@ -8,8 +8,8 @@ ghost use Rattle.cookie_core.specs.Parts.{part_text, IsOptionalPartOf};
 ghost use Rattle.cookie_core.specs.Record.{plain};
 ghost use Rattle.cookie_core.specs.Spans.{StandsIn, span_text};
 ghost use Rattle.cookie_core.specs.Walk.{HasRead};
-ghost use Rattle.cookie_core.specs.Settings.{no_attributes, attributes_of, either, AreIn, word_of, IsGiven};
-ghost use Rattle.cookie_core.specs.Attributes.{IsAttribute, IsWord, SetsAttributes, GivesExpiry, seconds_of_digits, max_age_seconds, nanos_of_seconds, same_site_key};
+ghost use Rattle.cookie_core.specs.Settings.{no_attributes, attributes_of, either, AreIn, IsGiven};
+ghost use Rattle.cookie_core.specs.Attributes.{IsAttribute, IsWord, word_of, SetsAttributes, GivesExpiry, seconds_of_digits, max_age_seconds, nanos_of_seconds, same_site_key};
 
 use crate::expiration::Expiration;
 use crate::part::Part;

@@ -2,8 +2,8 @@
 ghost use Rattle.std.specs.Prelude.{◌≡◌, Some, None, option_map, true, false, List, ℕ};
 ghost use Rattle.cookie_core.specs.Display.{DisplayView};
 ghost use Rattle.cookie_core.specs.Escapes.{printed_form};
-ghost use Rattle.cookie_core.specs.Text.{is_true, prints_secure, is_same_site_none, cookie_text, flag_text, attributes_text, seconds_text, expiry_text};
-ghost use Rattle.cookie_core.specs.Printers.{labelled_output, printed_attributes, moment_text_of, scope_text, place_text, lifetime_text};
+ghost use Rattle.cookie_core.specs.Text.{is_true, prints_secure, is_same_site_none, cookie_text, flag_text, scope_text, place_text, lifetime_text, seconds_text, expiry_text};
+ghost use Rattle.cookie_core.specs.Printers.{labelled_output, printed_attributes, moment_text_of};
 
 use crate::cookie::Cookie;
 use crate::encoding::encode;
