@@ -1,9 +1,8 @@
 -- What an expiry says (RFC 6265 4.1.2.1).
-use Rattle.std.specs.Prelude.{pos, int_lt, Option, Some, None, unwrap_or, if◌then◌else◌}
-use Rattle.std.proofs.Common.{lit<}
+use Rattle.std.specs.Prelude.{pos, int_lt, Option, Some, None, if◌then◌else◌}
+use Rattle.std.proofs.Common.{lit<, lit≤}
 use Rattle.jiff.specs.Types.{DateTime}
 use Rattle.jiff.specs.Words.{civil_nanos}
-use Rattle.cookie_date.specs.Calendar.{date_at, time_at}
 use Rattle.cookie_core.specs.declared.expiration.Expiration.{Expiration}
 use Rattle.cookie_core.specs.declared.expiration.Expiration.TheVariants as expiration
 
@@ -17,17 +16,33 @@ abbrev pub expiration_of : Option DateTime → Expiration
 expiration_of (Some moment) = expiration.DateTime moment
 expiration_of None = expiration.Session
 
--- The last expiry that a cookie keeps, 9999-12-31 23:59:59.999999. That date and that time exist, so those of the
--- other date-time are never taken.
-unfoldable pub last_expiry : DateTime → DateTime
-last_expiry other = record {
-  date = unwrap_or (date_at (pos 9999) 12 31) other.date;
-  time = unwrap_or (time_at 23 59 59 999_999_000) other.time;
+-- the last expiry that a cookie keeps, 9999-12-31 23:59:59.999999
+unfoldable pub last_expiry : DateTime
+last_expiry = record {
+  date = record {
+    year = pos 9999;
+    month = 12;
+    day = 31;
+    year_in = (record { le = tt }, record { le = tt });
+    month_in = (lit≤ tt, lit≤ tt);
+    day_in = (lit≤ tt, lit≤ tt);
+  };
+  time = record {
+    hour = 23;
+    minute = 59;
+    second = 59;
+    subsec_nanosecond = 999_999_000;
+    hour_in = lit< tt;
+    minute_in = lit< tt;
+    second_in = lit< tt;
+    subsec_in = lit< tt;
+  };
 }
 
 -- the date-time, or the last expiry if it is later
 abbrev pub capped_moment : DateTime → DateTime
-capped_moment moment = if int_lt (civil_nanos (last_expiry moment)) (civil_nanos moment) then last_expiry moment else moment
+capped_moment moment =
+    if int_lt (civil_nanos last_expiry) (civil_nanos moment) then last_expiry else moment
 
 -- the expiry that a cookie keeps: the session's end, or the lesser of a date-time and the last expiry
 abbrev pub capped_expiry : Expiration → Expiration

@@ -1,6 +1,5 @@
 //! The expiry of a cookie (RFC 6265 5.3).
 ghost use Rattle.std.specs.Prelude.{◌≡◌, ◌↔◌, IsTrue, IsSomeAnd, IfSome, None, MatchOption, is_some};
-ghost use Rattle.jiff.specs.Types.{DateTime as Moment};
 ghost use Rattle.cookie_core.specs.Expiration.{datetime_of, expiration_of, last_expiry, capped_expiry};
 
 use jiff::civil::{DateTime, datetime};
@@ -16,7 +15,7 @@ pub enum Expiration {
 
 // The last expiry that a cookie keeps.
 fn last_expiry() -> DateTime
-    ensures { (other : Moment) → result ≡ last_expiry other }
+    ensures { result ≡ last_expiry }
 {
     datetime(9999, 12, 31, 23, 59, 59, 999_999_000)
 }
