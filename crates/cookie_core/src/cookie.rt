@@ -184,20 +184,15 @@ impl<'c> Cookie<'c> {
     pub fn path(&self) -> Option<&str>
         ensures { option_map (λ p. p.now) result ≡ self.now.fields.path }
     {
-        match &self.path {
-            Some(path) => Some(path.as_str(&self.source)),
-            None => None,
-        }
+        Some(self.path.as_ref()?.as_str(&self.source))
     }
 
     /// The domain, if it is set, without one leading dot (RFC 6265 4.1.2.3, 5.2.3).
     pub fn domain(&self) -> Option<&str>
         ensures { option_map (λ d. d.now) result ≡ self.now.fields.domain }
     {
-        match &self.domain {
-            Some(domain) => Some(after_dot(domain.as_str(&self.source))),
-            None => None,
-        }
+        let domain = self.domain.as_ref()?;
+        Some(after_dot(domain.as_str(&self.source)))
     }
 
     /// The age from now on after which it expires, if it is set. One that was read is in whole seconds, from zero to
@@ -212,10 +207,7 @@ impl<'c> Cookie<'c> {
     pub(crate) fn whole_seconds(&self) -> Option<i64>
         ensures { result ≡ option_map (λ n. int_div n (pos 1000000000)) self.now.fields.max_age }
     {
-        match self.max_age() {
-            Some(age) => Some(age.as_secs()),
-            None => None,
-        }
+        Some(self.max_age()?.as_secs())
     }
 
     /// The expiry, in UTC, if it is set (RFC 6265 4.1.2.1).
@@ -229,10 +221,7 @@ impl<'c> Cookie<'c> {
     pub fn expires_datetime(&self) -> Option<DateTime>
         ensures { result ≡ option_and_then datetime_of self.now.fields.expires }
     {
-        match self.expires {
-            Some(expiration) => expiration.datetime(),
-            None => None,
-        }
+        self.expires?.datetime()
     }
 }
 

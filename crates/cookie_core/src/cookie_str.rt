@@ -87,8 +87,5 @@ pub(crate) fn clone<'c>(
 pub(crate) fn span<'c>(span: Option<Span>) -> Option<CookieStr<'c>>
     ensures { result ≡ option_map (λ p. CookieStr.Span p) span }
 {
-    match span {
-        Some(span) => Some(CookieStr::Span(span)),
-        None => None,
-    }
+    Some(CookieStr::Span(span?))
 }

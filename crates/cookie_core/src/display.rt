@@ -105,10 +105,7 @@ impl<'c> Cookie<'c> {
     fn expiry_text(&self) -> Option<DateText>
         ensures { option_map moment_text_of result ≡ expiry_text self.now.fields.expires }
     {
-        match self.expires_datetime() {
-            Some(moment) => Some(DateText(moment)),
-            None => None,
-        }
+        Some(DateText(self.expires_datetime()?))
     }
 }
 

@@ -22,10 +22,7 @@ impl<'c> Cookie<'c> {
     pub fn path_raw(&self) -> Option<&'c str>
         ensures { option_map (λ p. p.now) result ≡ self.now.raw.path }
     {
-        match &self.path {
-            Some(path) => path.raw(&self.source),
-            None => None,
-        }
+        self.path.as_ref()?.raw(&self.source)
     }
 
     /// The domain as it stands in the borrowed text that the cookie was read from, without one leading dot.
@@ -33,12 +30,8 @@ impl<'c> Cookie<'c> {
     pub fn domain_raw(&self) -> Option<&'c str>
         ensures { option_map (λ d. d.now) result ≡ self.now.raw.domain }
     {
-        match &self.domain {
-            Some(domain) => match domain.raw(&self.source) {
-                Some(raw) => Some(after_dot(raw)),
-                None => None,
-            },
-            None => None,
-        }
+        let domain = self.domain.as_ref()?;
+        let raw = domain.raw(&self.source)?;
+        Some(after_dot(raw))
     }
 }
