@@ -17,7 +17,8 @@ cookie_view a =
         partitioned = a.partitioned;
         same_site = a.same_site;
         path = option_map (text_bytes (source_bytes a.source)) a.path;
-        domain = option_map without_leading_dot (option_map (text_bytes (source_bytes a.source)) a.domain);
+        domain = option_map without_leading_dot
+            (option_map (text_bytes (source_bytes a.source)) a.domain);
         max_age = option_map signed_nanos a.max_age;
         expires = a.expires;
       };

@@ -15,7 +15,9 @@ use Rattle.cookie_core.specs.declared.parse_error.ParseError.TheVariants.{Utf8Er
 
 -- the first piece of the text has a value, and a name that is not empty
 abbrev pub HasPair : List ℕ → Type 0
-HasPair t = (p : List ℕ) × (ps : List (List ℕ)) × (n : List ℕ) × (v : List ℕ) × IsPieces t p ps × IsPair p n v × (n ≢ [])
+HasPair t =
+    (p : List ℕ) × (ps : List (List ℕ)) × (n : List ℕ) × (v : List ℕ) × IsPieces t p ps
+    × IsPair p n v × (n ≢ [])
 
 -- what the text is read as, as it stands or decoded; memory can be wanting in the place of a record or of a refusal to decode
 abbrev pub ReadsInMemory : Bool → List ℕ → Result Record ParseError → Type 0
@@ -39,7 +41,9 @@ blamed_text n v = if is_utf8 (unescape n) then unescape v else unescape n
 
 -- a refusal to decode names the first fault of the name or of the value, as they stand in the text
 abbrev pub NamesFault : List ℕ → ParseError → Type 0
-NamesFault t (Utf8Error e) = (r : Record) × (cookie_of false t ≡ Some r) × IsFaultOf (blamed_text r.name r.value) (valid_up_to e) (error_len e)
+NamesFault t (Utf8Error e) =
+    (r : Record) × (cookie_of false t ≡ Some r)
+    × IsFaultOf (blamed_text r.name r.value) (valid_up_to e) (error_len e)
 NamesFault t _ = Unit {0}
 
 -- the name and the value are both own texts: one of them holds an escape

@@ -22,10 +22,12 @@ IsUndecodable true n v = (¬ (IsUtf8 (unescape n))) ⊎ (¬ (IsUtf8 (unescape v)
 abbrev pub ReadsPieces : Bool → List ℕ → List (List ℕ) → Result Record ParseError → Type 0
 ReadsPieces decode p ps (Err MissingPair) = Lacks 61 p
 ReadsPieces decode p ps (Err EmptyName) = (v : List ℕ) × IsPair p [] v
-ReadsPieces decode p ps (Err (Utf8Error e)) = (n : List ℕ) × (v : List ℕ) × IsPair p n v × (n ≢ []) × IsUndecodable decode n v
+ReadsPieces decode p ps (Err (Utf8Error e)) =
+    (n : List ℕ) × (v : List ℕ) × IsPair p n v × (n ≢ []) × IsUndecodable decode n v
 ReadsPieces decode p ps (Err OutOfMemory) = ⊥
 ReadsPieces decode p ps (Ok r) =
-    (n : List ℕ) × (v : List ℕ) × IsPair p n v × (n ≢ []) × IsDecoded decode n r.name × IsDecoded decode v r.value × SetsAttributes ps r
+    (n : List ℕ) × (v : List ℕ) × IsPair p n v × (n ≢ []) × IsDecoded decode n r.name
+    × IsDecoded decode v r.value × SetsAttributes ps r
 
 -- what the text t is read as
 abbrev pub Reads : Bool → List ℕ → Result Record ParseError → Type 0

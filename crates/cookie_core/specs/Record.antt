@@ -19,7 +19,19 @@ pub record Record : Type 0 where
 
 -- the record of a name and a value, with all else unset
 abbrev pub plain : List ℕ → List ℕ → Record
-plain n v = record { name = n; value = v; http_only = None; secure = None; partitioned = None; same_site = None; path = None; domain = None; max_age = None; expires = None }
+plain n v =
+    record {
+      name = n;
+      value = v;
+      http_only = None;
+      secure = None;
+      partitioned = None;
+      same_site = None;
+      path = None;
+      domain = None;
+      max_age = None;
+      expires = None;
+    }
 
 -- its texts are UTF-8, and its age is one that a duration can have
 pub record IsCookie (r : Record) : Type 0 where

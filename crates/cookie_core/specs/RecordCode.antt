@@ -7,32 +7,43 @@ use Rattle.cookie_core.specs.declared.same_site.SameSite.{SameSite}
 use Rattle.cookie_core.specs.contracts.expiration.Expiration as expiration
 use Rattle.cookie_core.specs.contracts.same_site.SameSite as same_site
 
--- the fields of a record, as nested pairs
+-- the fields of a record, as nested pairs: its name and value, its flags, the rule of other sites, its place, its lifetime
 abbrev pub FieldPairs : Type 0
-FieldPairs = List ℕ × (List ℕ × (Option Bool × (Option Bool × (Option Bool × (Option SameSite × (Option (List ℕ) × (Option (List ℕ) × (Option ℤ × Option Expiration))))))))
+FieldPairs =
+    (List ℕ × List ℕ) × ((Option Bool × (Option Bool × Option Bool))
+    × (Option SameSite × ((Option (List ℕ) × Option (List ℕ)) × (Option ℤ × Option Expiration))))
 
 -- how these pairs are stored
 abbrev pub field_pairs_code : Coded FieldPairs
 field_pairs_code =
-    coded× (coded_list coded_ℕ) (coded× (coded_list coded_ℕ) (coded× (coded_option coded_bool) (coded× (coded_option coded_bool)
-    (coded× (coded_option coded_bool) (coded× (coded_option (same_site.the_row).coded) (coded× (coded_option (coded_list coded_ℕ))
-    (coded× (coded_option (coded_list coded_ℕ)) (coded× (coded_option coded_ℤ) (coded_option (expiration.the_row).coded)))))))))
+    coded× (coded× (coded_list coded_ℕ) (coded_list coded_ℕ))
+    (coded× (coded× (coded_option coded_bool)
+    (coded× (coded_option coded_bool) (coded_option coded_bool)))
+    (coded× (coded_option (same_site.the_row).coded)
+    (coded× (coded× (coded_option (coded_list coded_ℕ)) (coded_option (coded_list coded_ℕ)))
+    (coded× (coded_option coded_ℤ) (coded_option (expiration.the_row).coded)))))
 
 -- how a record is stored, as the pairs of its fields
 abbrev pub record_code : Coded Record
 record_code =
     code_by FieldPairs field_pairs_code
-    (λ r. (r.name, (r.value, (r.http_only, (r.secure, (r.partitioned, (r.same_site, (r.path, (r.domain, (r.max_age, r.expires))))))))))
+    (λ r. (
+      (r.name, r.value),
+      (
+        (r.http_only, (r.secure, r.partitioned)),
+        (r.same_site, ((r.path, r.domain), (r.max_age, r.expires))),
+      ),
+    ))
     (λ p. record {
-      name = p.0;
-      value = p.1.0;
-      http_only = p.1.1.0;
-      secure = p.1.1.1.0;
-      partitioned = p.1.1.1.1.0;
-      same_site = p.1.1.1.1.1.0;
-      path = p.1.1.1.1.1.1.0;
-      domain = p.1.1.1.1.1.1.1.0;
-      max_age = p.1.1.1.1.1.1.1.1.0;
-      expires = p.1.1.1.1.1.1.1.1.1;
+      name = p.0.0;
+      value = p.0.1;
+      http_only = p.1.0.0;
+      secure = p.1.0.1.0;
+      partitioned = p.1.0.1.1;
+      same_site = p.1.1.0;
+      path = p.1.1.1.0.0;
+      domain = p.1.1.1.0.1;
+      max_age = p.1.1.1.1.0;
+      expires = p.1.1.1.1.1;
     })
     (λ _. refl)

@@ -36,4 +36,5 @@ texts_in s o = texts_left (option_map (span_text s) o)
 abbrev pub IsFirst : List ℕ → Span → Option (Span × Option Span) → Type 0
 IsFirst s rest None = header_texts (span_text s rest) ≡ []
 IsFirst s rest (Some f) =
-    StandsIn s f.0 × IfSome f.1 (StandsIn s) × (header_texts (span_text s rest) ≡ span_text s f.0 ∷ texts_in s f.1)
+    StandsIn s f.0 × IfSome f.1 (StandsIn s)
+    × (header_texts (span_text s rest) ≡ span_text s f.0 ∷ texts_in s f.1)

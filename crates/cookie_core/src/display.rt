@@ -229,7 +229,11 @@ impl<'a, 'c> Model for Display<'a, 'c> {
 
     ghost Value = { DisplayView };
 
-    ghost view = { λ d. record { fields = d.cookie.now.fields; is_encoded = d.is_encoded; is_stripped = d.is_stripped } };
+    ghost view = { λ d. record {
+      fields = d.cookie.now.fields;
+      is_encoded = d.is_encoded;
+      is_stripped = d.is_stripped;
+    } };
 }
 
 impl<'a, 'c> Display<'a, 'c> {
