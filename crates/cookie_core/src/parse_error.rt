@@ -51,9 +51,9 @@ impl Error for ParseError {}
 
 impl From<Utf8Error> for ParseError {
     ghost use Rattle.std.specs.Prelude.{◌≡◌};
-    ghost use Rattle.cookie_core.specs.declared.parse_error.ParseError.TheVariants as refusals;
+    ghost use Rattle.cookie_core.specs.declared.parse_error.ParseError.TheVariants as refusal;
 
-    ghost from_gives = { λ error refusal. refusal ≡ refusals.Utf8Error error };
+    ghost from_gives = { λ error e. e ≡ refusal.Utf8Error error };
 
     fn from(error: Utf8Error) -> ParseError {
         ParseError::Utf8Error(error)
