@@ -1,7 +1,7 @@
 //! Whether a user agent can follow a call.
 ghost use Rattle.std.specs.Prelude.{◌≡◌, ◌↔◌, true, IsTrue};
 ghost use Rattle.cookie.specs.Text.{prints_secure};
-ghost use Rattle.cookie_client.specs.Calls.{asked_of_child, change_of, stored_by, stored_with, storing};
+ghost use Rattle.cookie_client.specs.Calls.{asked_of_child, change_of, prefixed_by, stored_by, stored_with};
 ghost use Rattle.cookie_client.specs.Live.{is_live};
 ghost use Rattle.cookie_agent.specs.Agreement.{lacks_controls};
 ghost use Rattle.cookie_agent.specs.Calls.{IsScopedCall};
@@ -58,7 +58,7 @@ fn is_prefixed_child(
     scope: &Scope,
     now: DateTime,
 ) -> bool
-    ensures { result ≡ is_scoped_change site.now now scope.now (stored_by (storing (stored_with kind) (stored_with kind)) (asked_of_child call.now)) }
+    ensures { result ≡ is_scoped_change site.now now scope.now (stored_by (prefixed_by kind) (asked_of_child call.now)) }
 {
     match call {
         ChildCall::AddOriginal(_) => false,

@@ -5,7 +5,7 @@ use Rattle.jiff.specs.Types.{DateTime}
 use Rattle.cookie.specs.History.{after_all, accepted_items}
 use Rattle.cookie.specs.Jar.{JarState, Change, AddOriginal, Add, Remove, ForceRemove, ResetDelta}
 use Rattle.cookie.specs.Keys.{encryption_half, signing_half}
-use Rattle.cookie_client.specs.Calls.{Storing, asked_of, change_of, changes_of, storing_of, stored_by, IsFit, IsFitCall, IsKnownChange}
+use Rattle.cookie_client.specs.Calls.{Handling, asked_of, change_of, changes_of, handling_of, stored_by, IsFit, IsFitCall, IsKnownChange}
 use Rattle.cookie_client.specs.declared.call.JarCall.{JarCall}
 use Rattle.cookie_client.specs.declared.call.JarCall.TheVariants as calls
 use Rattle.cookie_client.proofs.EntryLemmas.{AreEntries, Puts, AreEntries-after_all}
@@ -16,36 +16,36 @@ use Rattle.cookie_client.proofs.ReadTextLemmas.{IsKept}
 -- ---- calls and their changes
 
 -- a jar stores a cookie as a cookie, and a fit one as a fit one
-record IsFaithful (storing : Storing) : Type 0 where
-  added : IsStoring storing.stored
-  removed : IsStoring storing.dropped
+record IsFaithful (handling : Handling) : Type 0 where
+  added : IsStoring handling.stored
+  removed : IsStoring handling.dropped
 
-faithful : (call : JarCall) → IsFaithful (storing_of call)
+faithful : (call : JarCall) → IsFaithful (handling_of call)
 faithful (calls.Prefixed kind call) = record { added = IsStoring-prefixed kind; removed = IsStoring-prefixed kind }
 faithful (calls.Signed key call) = record { added = IsStoring-signed (signing_half key.now); removed = IsStoring-same }
 faithful (calls.Private key nonce call) = record { added = IsStoring-sealed (encryption_half key.now) nonce; removed = IsStoring-same }
 faithful call = record { added = IsStoring-same; removed = IsStoring-same }
 
-known_stored : (storing : Storing) → IsFaithful storing → (change : Change) → IsKnownChange change → IsKnownChange (stored_by storing change)
-known_stored storing is (AddOriginal cookie) known = is.added.cookie cookie known
-known_stored storing is (Add cookie) known = is.added.cookie cookie known
-known_stored storing is (Remove cookie moment) known = is.removed.cookie cookie known
-known_stored storing is (ForceRemove name) known = tt
-known_stored storing is ResetDelta known = tt
+known_stored : (handling : Handling) → IsFaithful handling → (change : Change) → IsKnownChange change → IsKnownChange (stored_by handling change)
+known_stored handling is (AddOriginal cookie) known = is.added.cookie cookie known
+known_stored handling is (Add cookie) known = is.added.cookie cookie known
+known_stored handling is (Remove cookie moment) known = is.removed.cookie cookie known
+known_stored handling is (ForceRemove name) known = tt
+known_stored handling is ResetDelta known = tt
 
-fit_stored : (storing : Storing) → IsFaithful storing → (now : DateTime) (change : Change) → IsFit now change → IsFit now (stored_by storing change)
-fit_stored storing is now (AddOriginal cookie) fit = is.added.named cookie fit
-fit_stored storing is now (Add cookie) fit = is.added.fit now cookie fit
-fit_stored storing is now (Remove cookie moment) fit = is.removed.named cookie fit
-fit_stored storing is now (ForceRemove name) fit = tt
-fit_stored storing is now ResetDelta fit = tt
+fit_stored : (handling : Handling) → IsFaithful handling → (now : DateTime) (change : Change) → IsFit now change → IsFit now (stored_by handling change)
+fit_stored handling is now (AddOriginal cookie) fit = is.added.named cookie fit
+fit_stored handling is now (Add cookie) fit = is.added.fit now cookie fit
+fit_stored handling is now (Remove cookie moment) fit = is.removed.named cookie fit
+fit_stored handling is now (ForceRemove name) fit = tt
+fit_stored handling is now ResetDelta fit = tt
 
 -- what holds of a call as it is handed in holds of the change that it makes
 pub known_change : (call : JarCall) → IsKnownChange (asked_of call) → IsKnownChange (change_of call)
-known_change call known = known_stored (storing_of call) (faithful call) (asked_of call) known
+known_change call known = known_stored (handling_of call) (faithful call) (asked_of call) known
 
 fit_change : (now : DateTime) (call : JarCall) → IsFitCall now call → IsFit now (change_of call)
-fit_change now call fit = fit_stored (storing_of call) (faithful call) now (asked_of call) fit
+fit_change now call fit = fit_stored (handling_of call) (faithful call) now (asked_of call) fit
 
 pub All-accepted_items : {X : Type 0} (P : X → Type 0) (outcomes : List Bool) (xs : List X) → All P xs → All P (accepted_items outcomes xs)
 All-accepted_items P [] xs all = All-nil P

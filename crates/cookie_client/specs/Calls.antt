@@ -20,12 +20,12 @@ use Rattle.cookie_client.specs.declared.prefix_kind.PrefixKind.TheVariants as ki
 -- ---- what a jar stores
 
 -- what a jar makes of a cookie that is added, and of one that is removed
-pub record Storing : Type 0 where
+pub record Handling : Type 0 where
   pub stored : Record → Record
   pub dropped : Record → Record
 
-abbrev pub storing : (Record → Record) → (Record → Record) → Storing
-storing stored dropped = record { stored = stored; dropped = dropped }
+abbrev pub handling : (Record → Record) → (Record → Record) → Handling
+handling stored dropped = record { stored = stored; dropped = dropped }
 
 -- what stands before the names of a kind of prefix
 abbrev pub prefix_of : PrefixKind → Name
@@ -42,28 +42,28 @@ abbrev pub stored_with : PrefixKind → Record → Record
 stored_with kind cookie = conforming_cookie (prefix_of kind) (conformed_to kind) cookie
 
 -- how the child jars of a prefix and of a key store cookies; for a key, what is removed stays as it is
-abbrev pub prefixed_by : PrefixKind → Storing
-prefixed_by kind = storing (stored_with kind) (stored_with kind)
+abbrev pub prefixed_by : PrefixKind → Handling
+prefixed_by kind = handling (stored_with kind) (stored_with kind)
 
-abbrev pub signed_by : List ℕ → Storing
-signed_by key = storing (signed_cookie (signing_half key)) (λ cookie. cookie)
+abbrev pub signed_by : List ℕ → Handling
+signed_by key = handling (signed_cookie (signing_half key)) (λ cookie. cookie)
 
-abbrev pub sealed_by : List ℕ → List ℕ → Storing
-sealed_by key nonce = storing (sealed_cookie (encryption_half key) nonce) (λ cookie. cookie)
+abbrev pub sealed_by : List ℕ → List ℕ → Handling
+sealed_by key nonce = handling (sealed_cookie (encryption_half key) nonce) (λ cookie. cookie)
 
 -- how the jar of a call stores cookies: a child jar in its way, and the jar itself as they are
-abbrev pub storing_of : JarCall → Storing
-storing_of (calls.Prefixed kind call) = prefixed_by kind
-storing_of (calls.Signed key call) = signed_by key.now
-storing_of (calls.Private key nonce call) = sealed_by key.now nonce
-storing_of call = storing (λ cookie. cookie) (λ cookie. cookie)
+abbrev pub handling_of : JarCall → Handling
+handling_of (calls.Prefixed kind call) = prefixed_by kind
+handling_of (calls.Signed key call) = signed_by key.now
+handling_of (calls.Private key nonce call) = sealed_by key.now nonce
+handling_of call = handling (λ cookie. cookie) (λ cookie. cookie)
 
 -- the change with its cookie as it is stored
-abbrev pub stored_by : Storing → Change → Change
-stored_by storing (AddOriginal cookie) = AddOriginal (storing.stored cookie)
-stored_by storing (Add cookie) = Add (storing.stored cookie)
-stored_by storing (Remove cookie now) = Remove (storing.dropped cookie) now
-stored_by storing change = change
+abbrev pub stored_by : Handling → Change → Change
+stored_by handling (AddOriginal cookie) = AddOriginal (handling.stored cookie)
+stored_by handling (Add cookie) = Add (handling.stored cookie)
+stored_by handling (Remove cookie now) = Remove (handling.dropped cookie) now
+stored_by handling change = change
 
 -- ---- what a call asks for
 
@@ -86,7 +86,7 @@ asked_of (calls.Private key nonce call) = asked_of_child call
 
 -- the change that a call makes, with its cookie as it is stored
 abbrev pub change_of : JarCall → Change
-change_of call = stored_by (storing_of call) (asked_of call)
+change_of call = stored_by (handling_of call) (asked_of call)
 
 -- the changes of the calls whose outcome is true
 abbrev pub changes_of : List Bool → List JarCall → List Change

@@ -4,7 +4,7 @@ ghost use Rattle.std.specs.List.{AllZip};
 ghost use Rattle.cookie.specs.History.{after_all};
 ghost use Rattle.cookie.specs.Jar.{after};
 ghost use Rattle.cookie.specs.Prefixes.{conforming_cookie};
-ghost use Rattle.cookie_client.specs.Calls.{IsOutcome, IsTooLong, IsUnsealable, asked_of_child, change_of, changes_of, is_certain, sealed_by, signed_by, stored_by, storing};
+ghost use Rattle.cookie_client.specs.Calls.{IsOutcome, IsTooLong, IsUnsealable, asked_of_child, change_of, changes_of, is_certain, sealed_by, signed_by, stored_by, handling};
 
 use crate::call::JarCall;
 use crate::child_call::ChildCall;
@@ -48,7 +48,7 @@ fn play_prefixed<P: Prefix>(
     call: &ChildCall,
 ) -> Result<(), JarError>
     ensures ok { OnOk result (let stored = conforming_cookie P.PREFIX P.conformed in jar.new ≡ after
-        (stored_by (storing stored stored) (asked_of_child call.now)) jar.old) }
+        (stored_by (handling stored stored) (asked_of_child call.now)) jar.old) }
     ensures err { OnErr result (jar.new ≡ jar.old) }
 {
     let mut child = jar.prefixed_mut(prefix);

@@ -5,7 +5,7 @@ ghost use Rattle.std.specs.List.{AllZip};
 ghost use Rattle.std.specs.Option.{option_to_list};
 ghost use Rattle.cookie.specs.History.{after_all, originals_of};
 ghost use Rattle.cookie.specs.Record.{Record};
-ghost use Rattle.cookie_client.specs.Calls.{IsOutcome, Storing, asked_of_child, change_of, changes_of, prefixed_by, stored_by};
+ghost use Rattle.cookie_client.specs.Calls.{IsOutcome, Handling, asked_of_child, change_of, changes_of, prefixed_by, stored_by};
 ghost use Rattle.cookie_client.specs.Originals.{holding};
 ghost use Rattle.cookie_client.specs.Steps.{HoldsAdded, after_originals};
 
@@ -126,8 +126,9 @@ fn hold_prefixed(
 
 // The same of a call on a child jar that keeps names.
 fn hold_named(client: &mut Client, jar: &CookieJar, call: &ChildCall) -> Result<(), ClientError>
-    ensures { (storing : Storing) → ((cookie : Record) → (storing.stored cookie).name ≡ cookie.name)
-        → HoldsAdded (stored_by storing (asked_of_child call.now))
+    ensures { (handling : Handling)
+        → ((cookie : Record) → (handling.stored cookie).name ≡ cookie.name)
+        → HoldsAdded (stored_by handling (asked_of_child call.now))
         jar.now client.old client.new result }
 {
     match call {
