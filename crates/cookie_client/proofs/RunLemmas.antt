@@ -22,7 +22,7 @@ use Rattle.cookie_client.specs.Session.{Fault, BadMoment, BadInput, cookie_line,
 use Rattle.cookie_client.specs.declared.call.JarCall.{JarCall}
 use Rattle.cookie_client.specs.declared.exchange.Played.{Played}
 use Rattle.cookie_client.specs.declared.run_error.RunError.{RunError}
-use Rattle.cookie_client.specs.declared.run_error.RunError.TheVariants as errors
+use Rattle.cookie_client.specs.declared.run_error.RunError.TheVariants as refusal
 use Rattle.cookie_client.proofs.EntriesLemmas.{are_texts}
 use Rattle.cookie_client.proofs.RoundLemmas.{holds_kept}
 use Rattle.cookie_client.proofs.SessionLemmas.{accepted_items-all, jar_after-changes}
@@ -52,12 +52,12 @@ asked now lines r =
 
 pub session_of_lines-refused : (now : DateTime) (lines : List (List ℕ)) (e : RunError) → Refuses (changes_in now 2 (drop 1 lines)) e → Refuses (session_of_lines now lines) e
 unfolding asked
-session_of_lines-refused now lines errors.BadMoment h = h
-session_of_lines-refused now lines errors.BadInput h = by_changes now lines ∙ ap (asked now lines) h
-session_of_lines-refused now lines (errors.BadLine line) h = by_changes now lines ∙ ap (asked now lines) h
-session_of_lines-refused now lines errors.OutOfMemory h = h
-session_of_lines-refused now lines errors.Input h = h
-session_of_lines-refused now lines errors.Output h = h
+session_of_lines-refused now lines refusal.BadMoment h = h
+session_of_lines-refused now lines refusal.BadInput h = by_changes now lines ∙ ap (asked now lines) h
+session_of_lines-refused now lines (refusal.BadLine line) h = by_changes now lines ∙ ap (asked now lines) h
+session_of_lines-refused now lines refusal.OutOfMemory h = h
+session_of_lines-refused now lines refusal.Input h = h
+session_of_lines-refused now lines refusal.Output h = h
 
 -- what is written of a visit is the session's text, and of a client that agrees with the jar
 pub written_by : (now : DateTime) (lines : List (List ℕ)) (calls : List JarCall) (p : Played) (text : List ℕ) → changes_in now 2 (drop 1 lines) ≡ Ok (map change_of calls)
@@ -86,8 +86,8 @@ written_by now lines calls p text asks visit all is =
     )
 
 -- an answer, or the want of memory
-pub matched : {T : Type 0} (r : Result T RunError) (P P' : T → Type 0) (Q : RunError → Type 0) → ((answer : T) → P answer → P' answer) → Q errors.OutOfMemory
-    → Gives errors.OutOfMemory r P → MatchResult r P' Q
+pub matched : {T : Type 0} (r : Result T RunError) (P P' : T → Type 0) (Q : RunError → Type 0) → ((answer : T) → P answer → P' answer) → Q refusal.OutOfMemory
+    → Gives refusal.OutOfMemory r P → MatchResult r P' Q
 matched (Ok answer) P P' Q weaker wanting h = weaker answer h
 matched (Err e) P P' Q weaker wanting h = subst Q (sym h) wanting
 
@@ -104,9 +104,9 @@ session-at_moment moment bytes now e = ap (at_moment bytes) e
 pub refused : (moment bytes : List ℕ) (now : DateTime) → moment_of moment ≡ Some now → (is_read : List ℕ → Type 0) → is_read bytes
     → (old new : Option (List ℕ)) → Keeps old new → (e : RunError) → Refuses (session_of_bytes now bytes) e
     → IsPlayed {T = Unit {0}} moment is_read old new (Err e)
-refused moment bytes now good is_read read old new keeps errors.BadMoment h = absurd h
-refused moment bytes now good is_read read old new keeps errors.BadInput h = (bytes, read, session-at_moment moment bytes now good ∙ h, keeps)
-refused moment bytes now good is_read read old new keeps (errors.BadLine line) h = (bytes, read, session-at_moment moment bytes now good ∙ h, keeps)
-refused moment bytes now good is_read read old new keeps errors.OutOfMemory h = keeps
-refused moment bytes now good is_read read old new keeps errors.Input h = absurd h
-refused moment bytes now good is_read read old new keeps errors.Output h = absurd h
+refused moment bytes now good is_read read old new keeps refusal.BadMoment h = absurd h
+refused moment bytes now good is_read read old new keeps refusal.BadInput h = (bytes, read, session-at_moment moment bytes now good ∙ h, keeps)
+refused moment bytes now good is_read read old new keeps (refusal.BadLine line) h = (bytes, read, session-at_moment moment bytes now good ∙ h, keeps)
+refused moment bytes now good is_read read old new keeps refusal.OutOfMemory h = keeps
+refused moment bytes now good is_read read old new keeps refusal.Input h = absurd h
+refused moment bytes now good is_read read old new keeps refusal.Output h = absurd h

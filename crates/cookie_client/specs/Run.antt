@@ -12,7 +12,7 @@ use Rattle.cookie_client.specs.Lines.{lines_of}
 use Rattle.cookie_client.specs.Originals.{client_for, jar_for}
 use Rattle.cookie_client.specs.Session.{Fault, BadMoment, BadInput, BadLine, call_of, cookie_line, delta_texts, moment_of, session, set_cookie_lines}
 use Rattle.cookie_client.specs.declared.run_error.RunError.{RunError}
-use Rattle.cookie_client.specs.declared.run_error.RunError.TheVariants as errors
+use Rattle.cookie_client.specs.declared.run_error.RunError.TheVariants as refusal
 
 -- the bytes are what was read of a reader, up to its end
 abbrev pub IsRead : Option (List ℕ) → Option (List ℕ) → List ℕ → Type 0
@@ -20,12 +20,12 @@ IsRead old new bytes = Consumes old new bytes × IsAtEnd new
 
 -- the refusal is that of a session at a good moment, or the want of memory
 abbrev pub Refuses : {A : Type 0} → Result A Fault → RunError → Type 0
-Refuses session errors.BadMoment = ⊥
-Refuses session errors.BadInput = session ≡ Err BadInput
-Refuses session (errors.BadLine line) = session ≡ Err (BadLine line)
-Refuses session errors.OutOfMemory = Unit {0}
-Refuses session errors.Input = ⊥
-Refuses session errors.Output = ⊥
+Refuses session refusal.BadMoment = ⊥
+Refuses session refusal.BadInput = session ≡ Err BadInput
+Refuses session (refusal.BadLine line) = session ≡ Err (BadLine line)
+Refuses session refusal.OutOfMemory = Unit {0}
+Refuses session refusal.Input = ⊥
+Refuses session refusal.Output = ⊥
 
 -- the bytes that were written are a beginning of the text, and not the whole
 abbrev pub StopsShort : Option (List ℕ) → Option (List ℕ) → List ℕ → Type 0
@@ -38,17 +38,17 @@ abbrev pub IsPlayed : {T : Type 0} → List ℕ → (List ℕ → Type 0) → Op
 IsPlayed moment is_read old new (Ok _) =
     (bytes : List ℕ) × is_read bytes
     × (text : List ℕ) × (session moment bytes ≡ Ok text) × Appends old new text
-IsPlayed moment is_read old new (Err errors.Output) =
+IsPlayed moment is_read old new (Err refusal.Output) =
     (bytes : List ℕ) × is_read bytes
     × (text : List ℕ) × (session moment bytes ≡ Ok text) × StopsShort old new text
-IsPlayed moment is_read old new (Err errors.BadMoment) =
+IsPlayed moment is_read old new (Err refusal.BadMoment) =
     ((bytes : List ℕ) → session moment bytes ≡ Err BadMoment) × Keeps old new
-IsPlayed moment is_read old new (Err errors.BadInput) =
+IsPlayed moment is_read old new (Err refusal.BadInput) =
     (bytes : List ℕ) × is_read bytes × (session moment bytes ≡ Err BadInput) × Keeps old new
-IsPlayed moment is_read old new (Err (errors.BadLine line)) =
+IsPlayed moment is_read old new (Err (refusal.BadLine line)) =
     (bytes : List ℕ) × is_read bytes × (session moment bytes ≡ Err (BadLine line)) × Keeps old new
-IsPlayed moment is_read old new (Err errors.OutOfMemory) = Keeps old new
-IsPlayed moment is_read old new (Err errors.Input) = Keeps old new
+IsPlayed moment is_read old new (Err refusal.OutOfMemory) = Keeps old new
+IsPlayed moment is_read old new (Err refusal.Input) = Keeps old new
 
 -- the changes that the lines ask for, of which the first line is number n, or the first bad line
 abbrev pub changes_in : DateTime → ℕ → List (List ℕ) → Result (List Change) Fault

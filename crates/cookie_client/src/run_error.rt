@@ -1,6 +1,6 @@
 //! Why a run has no text.
 ghost use Rattle.std.specs.Prelude.{◌≡◌};
-ghost use Rattle.cookie_client.specs.declared.run_error.RunError.TheVariants as errors;
+ghost use Rattle.cookie_client.specs.declared.run_error.RunError.TheVariants as refusal;
 ghost use Rattle.cookie_client.specs.RunError.{status_of};
 
 use crate::client_error::ClientError;
@@ -43,7 +43,7 @@ impl RunError {
 }
 
 impl From<AllocError> for RunError {
-    ghost from_gives = { λ _ e. e ≡ errors.OutOfMemory };
+    ghost from_gives = { λ _ e. e ≡ refusal.OutOfMemory };
 
     fn from(_error: AllocError) -> RunError {
         RunError::OutOfMemory
@@ -51,7 +51,7 @@ impl From<AllocError> for RunError {
 }
 
 impl<T: Drop> From<AllocFailed<T>> for RunError {
-    ghost from_gives = { λ _ e. e ≡ errors.OutOfMemory };
+    ghost from_gives = { λ _ e. e ≡ refusal.OutOfMemory };
 
     fn from(_error: AllocFailed<T>) -> RunError {
         RunError::OutOfMemory
@@ -59,7 +59,7 @@ impl<T: Drop> From<AllocFailed<T>> for RunError {
 }
 
 impl From<ClientError> for RunError {
-    ghost from_gives = { λ _ e. e ≡ errors.OutOfMemory };
+    ghost from_gives = { λ _ e. e ≡ refusal.OutOfMemory };
 
     fn from(error: ClientError) -> RunError {
         match error {

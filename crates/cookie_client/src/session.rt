@@ -10,7 +10,7 @@ ghost use Rattle.cookie_client.specs.Calls.{change_of};
 ghost use Rattle.cookie_client.specs.Lines.{lines_of};
 ghost use Rattle.cookie_client.specs.Run.{IsAgreed, IsOfAgreement, IsPlayed, IsRead, Refuses, changes_in, header_line};
 ghost use Rattle.cookie_client.specs.Session.{moment_of, call_of, removal_of, forced_removal_of, discarding_of, set_cookie_lines, delta_texts, cookie_line, session_of_lines, session_of_bytes};
-ghost use Rattle.cookie_client.specs.declared.run_error.RunError.TheVariants as errors;
+ghost use Rattle.cookie_client.specs.declared.run_error.RunError.TheVariants as refusal;
 
 use crate::call::JarCall;
 use crate::client::Client;
@@ -38,7 +38,7 @@ fn moment_of(text: &str) -> Option<DateTime>
 
 // The addition of the cookie that the text is, if it is one.
 fn addition(alloc: Global, text: &str) -> Result<Option<JarCall<'static>>, RunError>
-    ensures { Gives errors.OutOfMemory result (λ call.
+    ensures { Gives refusal.OutOfMemory result (λ call.
         option_map change_of call ≡ option_map Add (cookie_of true text.now)) }
 {
     match Cookie::parse_encoded(alloc, text) {
@@ -50,7 +50,7 @@ fn addition(alloc: Global, text: &str) -> Result<Option<JarCall<'static>>, RunEr
 
 // The removal of the name, unless it is empty.
 fn removal(alloc: Global, name: &str, now: DateTime) -> Result<Option<JarCall<'static>>, RunError>
-    ensures { Gives errors.OutOfMemory result (λ call.
+    ensures { Gives refusal.OutOfMemory result (λ call.
         option_map change_of call ≡ removal_of now name.now) }
 {
     if name.is_empty() {
@@ -61,7 +61,7 @@ fn removal(alloc: Global, name: &str, now: DateTime) -> Result<Option<JarCall<'s
 
 // The forced removal of the name, unless it is empty.
 fn forced_removal(alloc: Global, name: &str) -> Result<Option<JarCall<'static>>, RunError>
-    ensures { Gives errors.OutOfMemory result (λ call.
+    ensures { Gives refusal.OutOfMemory result (λ call.
         option_map change_of call ≡ forced_removal_of name.now) }
 {
     if name.is_empty() {
@@ -72,7 +72,7 @@ fn forced_removal(alloc: Global, name: &str) -> Result<Option<JarCall<'static>>,
 
 // The call that a line asks for which discards cookies, if it asks for such a call.
 fn discarding(alloc: Global, line: &str) -> Result<Option<JarCall<'static>>, RunError>
-    ensures { Gives errors.OutOfMemory result (λ call.
+    ensures { Gives refusal.OutOfMemory result (λ call.
         option_map change_of call ≡ discarding_of line.now) }
 {
     if let Some(name) = line.strip_prefix("force ") {
@@ -86,7 +86,7 @@ fn discarding(alloc: Global, line: &str) -> Result<Option<JarCall<'static>>, Run
 
 // The call that a line asks for, if it asks for one.
 fn call_of(alloc: Global, line: &str, now: DateTime) -> Result<Option<JarCall<'static>>, RunError>
-    ensures { Gives errors.OutOfMemory result (λ call.
+    ensures { Gives refusal.OutOfMemory result (λ call.
         option_map change_of call ≡ call_of now line.now) }
 {
     if let Some(text) = line.strip_prefix("add ") {
@@ -127,7 +127,7 @@ fn calls_of(
 
 // The texts of the delta's cookies, by name.
 fn texts_by_name(alloc: Global, jar: &CookieJar) -> Result<TextMap, RunError>
-    ensures { Gives errors.OutOfMemory result (λ texts. entries texts
+    ensures { Gives refusal.OutOfMemory result (λ texts. entries texts
         ≡ map (λ e. (e.0, cookie_text true false e.1.cookie)) (entries jar.now.delta)) }
 {
     let mut texts = TextMap::new(alloc);
@@ -151,7 +151,7 @@ fn push_line(written: &mut String, label: &str, text: &str) -> Result<(), AllocE
 
 // What is written of a jar, and of a client that read its delta.
 fn output(alloc: Global, client: &Client, jar: &CookieJar) -> Result<String, RunError>
-    ensures { Gives errors.OutOfMemory result (λ text.
+    ensures { Gives refusal.OutOfMemory result (λ text.
         string_bytes text ≡ set_cookie_lines (delta_texts jar.now) ++ cookie_line client.now) }
 {
     let texts = texts_by_name(alloc, jar)?;
@@ -239,7 +239,7 @@ pub fn run<R: Read, W: Write>(
     ensures agreement { IsAgreed moment.now (IsRead (R.remaining input.old) (R.remaining input.new))
         (W.contents output.old) (W.contents output.new) result }
     ensures bad_moment { moment_of moment.now ≡ None
-        → (result ≡ Err errors.BadMoment) × (input.new ≡ input.old) × (output.new ≡ output.old) }
+        → (result ≡ Err refusal.BadMoment) × (input.new ≡ input.old) × (output.new ≡ output.old) }
 {
     play(alloc, CookieJar::new(alloc), moment, input, output)
 }
@@ -259,7 +259,7 @@ pub fn run_with_hasher<R: Read, W: Write>(
     ensures agreement { IsAgreed moment.now (IsRead (R.remaining input.old) (R.remaining input.new))
         (W.contents output.old) (W.contents output.new) result }
     ensures bad_moment { moment_of moment.now ≡ None
-        → (result ≡ Err errors.BadMoment) × (input.new ≡ input.old) × (output.new ≡ output.old) }
+        → (result ≡ Err refusal.BadMoment) × (input.new ≡ input.old) × (output.new ≡ output.old) }
 {
     let jar = CookieJar::with_hasher(alloc, state);
     play(alloc, jar, moment, input, output)
@@ -280,7 +280,7 @@ fn play<R: Read, W: Write>(
     ensures agreement { IsAgreed moment.now (IsRead (R.remaining input.old) (R.remaining input.new))
         (W.contents output.old) (W.contents output.new) result }
     ensures bad_moment { moment_of moment.now ≡ None
-        → (result ≡ Err errors.BadMoment) × (input.new ≡ input.old) × (output.new ≡ output.old) }
+        → (result ≡ Err refusal.BadMoment) × (input.new ≡ input.old) × (output.new ≡ output.old) }
 {
     let Some(now) = moment_of(moment) else {
         return Err(RunError::BadMoment);

@@ -2,7 +2,7 @@
 ghost use Rattle.std.specs.Prelude.{◌≡◌, ◌⊎◌, IfOk, IfErr, OnOk};
 ghost use Rattle.std.specs.Io.KnownBytes.{Appends, Consumes, IsAtEnd};
 ghost use Rattle.cookie_client.specs.Run.{StopsShort};
-ghost use Rattle.cookie_client.specs.declared.run_error.RunError.TheVariants as errors;
+ghost use Rattle.cookie_client.specs.declared.run_error.RunError.TheVariants as refusal;
 
 use crate::run_error::RunError;
 use std::alloc::Global;
@@ -13,7 +13,7 @@ pub(crate) fn read_all<R: Read>(alloc: Global, input: &mut R) -> Result<Vec<u8>,
     ensures bytes { IfOk result (λ v.
         Consumes (R.remaining input.old) (R.remaining input.new) v.items) }
     ensures end { OnOk result (IsAtEnd (R.remaining input.new)) }
-    ensures err { IfErr result (λ e. (e ≡ errors.Input) ⊎ (e ≡ errors.OutOfMemory)) }
+    ensures err { IfErr result (λ e. (e ≡ refusal.Input) ⊎ (e ≡ refusal.OutOfMemory)) }
 {
     let mut bytes = Vec::new(alloc);
     match input.read_to_end(&mut bytes) {
@@ -32,7 +32,7 @@ pub(crate) fn read_all<R: Read>(alloc: Global, input: &mut R) -> Result<Vec<u8>,
 // of the text was written that isn't the whole.
 pub(crate) fn write_text<W: Write>(output: &mut W, text: &[u8]) -> Result<(), RunError>
     ensures ok { OnOk result (Appends (W.contents output.old) (W.contents output.new) text.now) }
-    ensures err { IfErr result (λ e. (e ≡ errors.Output)
+    ensures err { IfErr result (λ e. (e ≡ refusal.Output)
         × StopsShort (W.contents output.old) (W.contents output.new) text.now) }
 {
     let mut written = 0;
