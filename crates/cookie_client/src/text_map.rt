@@ -44,10 +44,7 @@ impl TextMap {
     pub(crate) fn get(&self, name: &str) -> Option<&str>
         ensures { option_copied result ≡ get self.now name.now }
     {
-        match self.texts.get(name) {
-            Some(text) => Some(text.as_str()),
-            None => None,
-        }
+        Some(self.texts.get(name)?.as_str())
     }
 
     /// Puts a copy of `text` at `name`. On an error the map stays as it was.
@@ -116,9 +113,7 @@ impl<'a> Iterator for Pairs<'a> {
     ghost remaining = { λ s. at_most (length s) };
 
     fn next(&mut self) -> Option<(&'a str, &'a str)> {
-        match self.rest.next() {
-            Some((name, text)) => Some((name.as_str(), text.as_str())),
-            None => None,
-        }
+        let (name, text) = self.rest.next()?;
+        Some((name.as_str(), text.as_str()))
     }
 }

@@ -22,10 +22,7 @@ pub fn test_key() -> Key {
 
 /// The value that the jar shows under a name.
 pub fn shown<'a>(jar: &'a CookieJar, name: &str) -> Option<&'a str> {
-    match jar.get(name) {
-        Some(cookie) => Some(cookie.value()),
-        None => None,
-    }
+    Some(jar.get(name)?.value())
 }
 
 /// How many cookies the delta has, and how many the jar shows.
