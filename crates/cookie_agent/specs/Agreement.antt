@@ -59,17 +59,21 @@ pub record IsOurStore (scopes : Name → ScopeView) (store : Store) : Type 0 whe
 
 -- what the site sees of the store is of that kind
 abbrev pub IsScopedStore : SiteView → DateTime → (Name → ScopeView) → Store → Type 0
-IsScopedStore site now scopes store = All (λ c. is_visible site now c ≡ true → IsOurs scopes c) store
+IsScopedStore site now scopes store =
+    All (λ c. is_visible site now c ≡ true → IsOurs scopes c) store
 
 -- ---- what is seen
 
 -- the values, as they are stored, of the cookies of a stored name that the site sees
 abbrev pub seen : SiteView → DateTime → Store → List ℕ → List (List ℕ)
-seen site now store name = map (λ c. c.value) (filter (λ c. bytes_eq c.name name) (filter (is_visible site now) store))
+seen site now store name =
+    map (λ c. c.value) (filter (λ c. bytes_eq c.name name) (filter (is_visible site now) store))
 
 -- the site sees these values, each under its name, once
 abbrev pub Mirrors : SiteView → DateTime → Store → (Name → Option (List ℕ)) → Type 0
-Mirrors site now store values = (name : Name) → IsUtf8 name → seen site now store (escape name) ≡ option_to_list (option_map escape (values name))
+Mirrors site now store values =
+    (name : Name) → IsUtf8 name
+    → seen site now store (escape name) ≡ option_to_list (option_map escape (values name))
 
 -- the values that cookies have under a name
 abbrev pub values_of : Name → List Record → List (List ℕ)
@@ -77,48 +81,63 @@ values_of name cookies = map (λ c. c.value) (filter (λ c. bytes_eq c.name name
 
 -- The header is read as what the jar shows: none of its texts is refused, and those of a name are the one that the jar shows under it, if it shows one.
 pub record SiteAgrees (jar : JarState) (header : List ℕ) : Type 0 where
-  pub read : map (cookie_of true) (header_texts header) ≡ map (λ c. Some c) (header_cookies true header)
-  pub agrees : (name : Name) → IsUtf8 name → values_of name (header_cookies true header) ≡ option_to_list (value_of (view jar name))
+  pub read : map (cookie_of true) (header_texts header)
+      ≡ map (λ c. Some c) (header_cookies true header)
+  pub agrees : (name : Name) → IsUtf8 name
+      → values_of name (header_cookies true header) ≡ option_to_list (value_of (view jar name))
 
 -- ---- the delta
 
 -- an entry of the delta: a cookie with a name, in its name's scope, that is live, or whose age is zero where it tells the agent to drop it
-pub record IsScopedEntry (site : SiteView) (now : DateTime) (scopes : Name → ScopeView) (name : Name) (entry : Marked) : Type 0 where
+pub record IsScopedEntry (site : SiteView) (now : DateTime) (scopes : Name → ScopeView)
+    (name : Name) (entry : Marked) : Type 0 where
   pub cookie : IsNamed entry.cookie
   pub key : entry.cookie.name ≡ name
   pub scoped : IsScoped site scopes entry.cookie
-  pub fate : ((entry.removed ≡ true) × (entry.cookie.max_age ≡ Some (pos 0))) ⊎ ((entry.removed ≡ false) × (is_live entry.cookie now ≡ true))
+  pub fate : ((entry.removed ≡ true) × (entry.cookie.max_age ≡ Some (pos 0)))
+      ⊎ ((entry.removed ≡ false) × (is_live entry.cookie now ≡ true))
 
 -- each entry of the delta is of that kind
-abbrev pub IsScopedDelta : SiteView → DateTime → (Name → ScopeView) → FinMap name_cmp Marked → Type 0
-IsScopedDelta site now scopes delta = (name : Name) (entry : Marked) → get delta name ≡ Some entry → IsScopedEntry site now scopes name entry
+abbrev pub IsScopedDelta : SiteView → DateTime → (Name → ScopeView) → FinMap name_cmp Marked
+    → Type 0
+IsScopedDelta site now scopes delta =
+    (name : Name) (entry : Marked) → get delta name ≡ Some entry
+    → IsScopedEntry site now scopes name entry
 
 -- the original cookies, where the delta says nothing, are what the site saw before
-pub record IsKnown (site : SiteView) (now : DateTime) (store : Store) (jar : JarState) : Type 0 where
+pub record IsKnown (site : SiteView) (now : DateTime) (store : Store)
+    (jar : JarState) : Type 0 where
   pub known : Mirrors site now store (λ name. value_of (get jar.originals name))
 
 -- However the delta's texts are ordered and repeated, the site then sees what the jar shows.
 abbrev pub IsFollowed : SameKey → Type 0
 IsFollowed same =
-    (site : SiteView) (now : DateTime) (scopes : Name → ScopeView) (store : Store) (jar : JarState) (texts : List (List ℕ))
-    → IsScopedStore site now scopes store → IsScopedDelta site now scopes jar.delta → IsKnown site now store jar → AreDeltaTexts jar.delta texts
+    (site : SiteView) (now : DateTime) (scopes : Name → ScopeView) (store : Store) (jar : JarState)
+    (texts : List (List ℕ))
+    → IsScopedStore site now scopes store → IsScopedDelta site now scopes jar.delta
+    → IsKnown site now store jar → AreDeltaTexts jar.delta texts
     → IsScopedStore site now scopes (after_texts same site now texts store)
     × Mirrors site now (after_texts same site now texts store) (λ name. value_of (view jar name))
 
 -- the values that a jar shows are texts
 abbrev pub IsKnownView : JarState → Type 0
-IsKnownView jar = (name : Name) (cookie : Record) → view jar name ≡ Some cookie → IsUtf8 cookie.value
+IsKnownView jar =
+    (name : Name) (cookie : Record) → view jar name ≡ Some cookie → IsUtf8 cookie.value
 
 -- And its header, in whatever order, is read as that.
 abbrev pub IsSent : Type 0
 IsSent =
-    (site : SiteView) (now : DateTime) (scopes : Name → ScopeView) (store : Store) (jar : JarState) (header : List ℕ)
-    → IsKnownView jar → IsScopedStore site now scopes store → Mirrors site now store (λ name. value_of (view jar name)) → IsHeader site now store header → SiteAgrees jar header
+    (site : SiteView) (now : DateTime) (scopes : Name → ScopeView) (store : Store) (jar : JarState)
+    (header : List ℕ)
+    → IsKnownView jar → IsScopedStore site now scopes store
+    → Mirrors site now store (λ name. value_of (view jar name)) → IsHeader site now store header
+    → SiteAgrees jar header
 
 -- ---- two sites
 
 -- Two sites at two moments are alike for a store: each name's scope takes in both or neither, their connections are alike, and what is unexpired at the one moment is so at the other.
-pub record AreAlike (scopes : Name → ScopeView) (store : Store) (site other : SiteView) (now later : DateTime) : Type 0 where
+pub record AreAlike (scopes : Name → ScopeView) (store : Store) (site other : SiteView)
+    (now later : DateTime) : Type 0 where
   pub reach : (name : Name) → reaches site (scopes name) ≡ reaches other (scopes name)
   pub secure : site.is_secure ≡ other.is_secure
   pub ages : All (λ c. is_later c.expiry now ≡ is_later c.expiry later) store

@@ -11,12 +11,14 @@ use Rattle.cookie_agent.specs.Scopes.{ScopeView}
 use Rattle.cookie_agent.specs.Site.{SiteView}
 
 -- a removal: of a cookie with a name, in its name's scope
-pub record IsScopedRemoval (site : SiteView) (scopes : Name → ScopeView) (cookie : Record) : Type 0 where
+pub record IsScopedRemoval (site : SiteView) (scopes : Name → ScopeView)
+    (cookie : Record) : Type 0 where
   pub name : cookie.name ≢ []
   pub scoped : IsScoped site scopes cookie
 
 -- an addition: of such a cookie, which is live at the moment
-pub record IsScopedAddition (site : SiteView) (now : DateTime) (scopes : Name → ScopeView) (cookie : Record) : Type 0 where
+pub record IsScopedAddition (site : SiteView) (now : DateTime) (scopes : Name → ScopeView)
+    (cookie : Record) : Type 0 where
   pub removal : IsScopedRemoval site scopes cookie
   pub live : is_live cookie now ≡ true
 

@@ -39,16 +39,19 @@ after_visit same visit before = after_texts same visit.site visit.now visit.text
 -- each of them is one, for the agent that the earlier ones left
 abbrev pub AreVisits : SameKey → (Name → ScopeView) → Store → List Visit → Type 0
 AreVisits same scopes before [] = Unit {0}
-AreVisits same scopes before (visit ∷ visits) = IsVisit scopes before visit × AreVisits same scopes (after_visit same visit before) visits
+AreVisits same scopes before (visit ∷ visits) =
+    IsVisit scopes before visit × AreVisits same scopes (after_visit same visit before) visits
 
 -- after each of them, whatever header the agent sends to its site is read as what its jar shows
 abbrev pub AllFollow : SameKey → Store → List Visit → Type 0
 AllFollow same before [] = Unit {0}
 AllFollow same before (visit ∷ visits) =
-    ((header : List ℕ) → IsHeader visit.site visit.now (after_visit same visit before) header → SiteAgrees (jar_of visit) header)
+    ((header : List ℕ) → IsHeader visit.site visit.now (after_visit same visit before) header
+    → SiteAgrees (jar_of visit) header)
     × AllFollow same (after_visit same visit before) visits
 
 -- So it is for any visits of an agent that held nothing, whichever key it goes by.
 abbrev pub IsFollowedByAnyKey : Type 0
 IsFollowedByAnyKey =
-    (same : SameKey) → IsKey same → (scopes : Name → ScopeView) (visits : List Visit) → AreVisits same scopes [] visits → AllFollow same [] visits
+    (same : SameKey) → IsKey same → (scopes : Name → ScopeView) (visits : List Visit)
+    → AreVisits same scopes [] visits → AllFollow same [] visits

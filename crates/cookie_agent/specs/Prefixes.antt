@@ -30,7 +30,8 @@ meets_secure cookie = not (begins secure_prefix cookie.name) || is_true cookie.s
 -- what a browser asks of a name that begins with `__Host-`
 abbrev pub meets_host : Record → Bool
 meets_host cookie =
-    not (begins host_prefix cookie.name) || (is_true cookie.secure && (is_unset cookie.domain && is_root cookie.path))
+    not (begins host_prefix cookie.name)
+    || (is_true cookie.secure && (is_unset cookie.domain && is_root cookie.path))
 
 -- the whole host of a site, and no other
 abbrev pub host_scope : SiteView → ScopeView
@@ -49,7 +50,8 @@ abbrev pub AreHostBound : SiteView → Type 0
 AreHostBound site =
     (cookie : Record) → IsNamed (conforming_cookie host_prefix host_bound cookie)
     → IsHostBound site (conforming_cookie host_prefix host_bound cookie)
-    × ((now : DateTime) → IsHostBound site (removal now (conforming_cookie host_prefix host_bound cookie)))
+    × ((now : DateTime)
+    → IsHostBound site (removal now (conforming_cookie host_prefix host_bound cookie)))
 
 -- The text of a cookie is read as one that meets what its name asks for.
 pub record IsSecured (cookie : Record) : Type 0 where
@@ -60,12 +62,15 @@ pub record IsSecured (cookie : Record) : Type 0 where
 -- So it is of what the jar with the prefix `__Secure-` stores, and of what tells the agent to drop it, where path and domain set no other field.
 abbrev pub AreSecured : Type 0
 AreSecured =
-    (cookie : Record) → IsNamed (conforming_cookie secure_prefix secure_cookie cookie) → IsUncut cookie
+    (cookie : Record) → IsNamed (conforming_cookie secure_prefix secure_cookie cookie)
+    → IsUncut cookie
     → IsSecured (conforming_cookie secure_prefix secure_cookie cookie)
-    × ((now : DateTime) → IsSecured (removal now (conforming_cookie secure_prefix secure_cookie cookie)))
+    × ((now : DateTime)
+    → IsSecured (removal now (conforming_cookie secure_prefix secure_cookie cookie)))
 
 -- Each cookie with the path `/` and without a domain has the whole host as its scope, and the site sees it: one scope serves all names.
 abbrev pub IsScopedWhole : SiteView → Type 0
 IsScopedWhole site =
-    (cookie : Record) → cookie.path ≡ Some (codes "/") → cookie.domain ≡ None → site.is_secure || not (prints_secure cookie) ≡ true
+    (cookie : Record) → cookie.path ≡ Some (codes "/") → cookie.domain ≡ None
+    → site.is_secure || not (prints_secure cookie) ≡ true
     → IsScoped site (λ _. host_scope site) cookie

@@ -9,7 +9,8 @@ use Rattle.cookie_agent.specs.Site.{SiteView}
 use Rattle.cookie_agent.specs.Store.{SameKey, Store, stored_in}
 
 -- the text asks the agent to drop a cookie of this name and scope
-pub record AsksToDrop (site : SiteView) (text : List ℕ) (scope : ScopeView) (cookie : Record) : Type 0 where
+pub record AsksToDrop (site : SiteView) (text : List ℕ) (scope : ScopeView)
+    (cookie : Record) : Type 0 where
   pub read : cookie_of false text ≡ Some cookie
   pub within : scope_of site cookie ≡ Some scope
   pub age : cookie.max_age ≡ Some (pos 0)

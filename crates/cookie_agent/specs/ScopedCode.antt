@@ -40,13 +40,16 @@ is_plain_domain (Some domain) = begins_plainly domain && is_plain domain
 
 -- the scope is the site's host alone, at the path
 abbrev pub gives_own : SiteView → ScopeView → Option (List ℕ) → Bool
-gives_own site scope path = scope.is_host_only && (bytes_eq scope.domain site.host && bytes_eq scope.path (path_of site path))
+gives_own site scope path =
+    scope.is_host_only
+    && (bytes_eq scope.domain site.host && bytes_eq scope.path (path_of site path))
 
 -- the scope is that of the domain, which the site may set, at the path
 abbrev pub gives_wide : SiteView → ScopeView → List ℕ → Option (List ℕ) → Bool
 gives_wide site scope domain path =
     not scope.is_host_only
-    && (bytes_eq (str_to_ascii_lowercase domain) scope.domain && (domain_matches site scope.domain && bytes_eq scope.path (path_of site path)))
+    && (bytes_eq (str_to_ascii_lowercase domain) scope.domain
+    && (domain_matches site scope.domain && bytes_eq scope.path (path_of site path)))
 
 -- the site gives the scope to a cookie with this domain and this path
 abbrev pub gives_scope : SiteView → ScopeView → Option (List ℕ) → Option (List ℕ) → Bool
@@ -58,7 +61,9 @@ gives_scope site scope (Some (c ∷ cs)) path = gives_wide site scope (c ∷ cs)
 abbrev pub is_asked : SiteView → ScopeView → Option (List ℕ) → Option (List ℕ) → Bool → Bool
 is_asked site scope domain path secure =
     is_plain_path path
-    && (is_plain_domain domain && (gives_scope site scope domain path && (reaches site scope && (site.is_secure || not secure))))
+    && (is_plain_domain domain
+    && (gives_scope site scope domain path
+    && (reaches site scope && (site.is_secure || not secure))))
 
 -- it isn't empty
 abbrev pub is_name : List ℕ → Bool
@@ -67,7 +72,8 @@ is_name (c ∷ cs) = true
 
 -- a removal in the scope
 abbrev pub is_scoped_removal : SiteView → ScopeView → Record → Bool
-is_scoped_removal site scope cookie = is_name cookie.name && is_asked site scope cookie.domain cookie.path (prints_secure cookie)
+is_scoped_removal site scope cookie =
+    is_name cookie.name && is_asked site scope cookie.domain cookie.path (prints_secure cookie)
 
 -- an addition in the scope
 abbrev pub is_scoped_addition : SiteView → DateTime → ScopeView → Record → Bool

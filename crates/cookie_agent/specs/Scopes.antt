@@ -29,7 +29,11 @@ own_scope site path = record { domain = site.host; is_host_only = true; path = p
 abbrev pub wide_scope : SiteView → List ℕ → Option (List ℕ) → Option ScopeView
 wide_scope site domain path =
     if domain_matches site (str_to_ascii_lowercase domain)
-    then Some (record { domain = str_to_ascii_lowercase domain; is_host_only = false; path = path_of site path })
+    then Some (record {
+      domain = str_to_ascii_lowercase domain;
+      is_host_only = false;
+      path = path_of site path;
+    })
     else None
 
 -- the scope of a cookie with this domain and path that the site sets, if it may; an empty domain counts as none (5.2.3; 5.3, steps 4 to 7)
@@ -45,4 +49,6 @@ scope_of site cookie = scope_by site cookie.domain cookie.path
 -- the scope takes in the site (5.4, step 1)
 abbrev pub reaches : SiteView → ScopeView → Bool
 reaches site scope =
-    (if scope.is_host_only then bytes_eq site.host scope.domain else domain_matches site scope.domain) && path_matches site.path scope.path
+    (if scope.is_host_only
+    then bytes_eq site.host scope.domain else domain_matches site scope.domain)
+    && path_matches site.path scope.path

@@ -12,7 +12,8 @@ use Rattle.cookie_agent.specs.Store.{Stored, Store, is_later}
 -- the cookie is sent to the site at the moment (step 1)
 abbrev pub is_visible : SiteView → DateTime → Stored → Bool
 is_visible site now cookie =
-    is_later cookie.expiry now && (reaches site cookie.scope && (site.is_secure || not cookie.is_secure_only))
+    is_later cookie.expiry now
+    && (reaches site cookie.scope && (site.is_secure || not cookie.is_secure_only))
 
 -- the cookies that are sent, in the order of their creation
 abbrev pub visible : SiteView → DateTime → Store → Store
@@ -23,7 +24,8 @@ abbrev pub pair_of : Stored → List ℕ
 pair_of cookie = cookie.name ++ 61 ∷ cookie.value
 
 -- the header of the cookies that are sent, in some order
-pub record IsHeader (site : SiteView) (now : DateTime) (store : Store) (header : List ℕ) : Type 0 where
+pub record IsHeader (site : SiteView) (now : DateTime) (store : Store)
+    (header : List ℕ) : Type 0 where
   pub cookies : Store
   pub sent : IsPermutation (visible site now store) cookies
   pub text : header ≡ joined_texts (map pair_of cookies)
@@ -37,7 +39,8 @@ abbrev pub greater_first : ℕ → ℕ → Ordering
 greater_first a b = nat_cmp b a
 
 -- the header with longer paths first, and the earlier creation first among equals (step 2)
-pub record IsOrderedHeader (site : SiteView) (now : DateTime) (store : Store) (header : List ℕ) : Type 0 where
+pub record IsOrderedHeader (site : SiteView) (now : DateTime) (store : Store)
+    (header : List ℕ) : Type 0 where
   pub is : IsHeader site now store header
   pub longer_first : IsSortedByKey path_length greater_first is.cookies
   pub earlier_first : IsStableByKey path_length greater_first (visible site now store) is.cookies

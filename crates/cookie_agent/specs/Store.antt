@@ -56,7 +56,9 @@ SameKey = Stored → Stored → Bool
 
 -- the same name, domain and path (RFC 6265 5.3, step 11)
 abbrev pub standard_key : SameKey
-standard_key a b = bytes_eq a.name b.name && (bytes_eq a.scope.domain b.scope.domain && bytes_eq a.scope.path b.scope.path)
+standard_key a b =
+    bytes_eq a.name b.name
+    && (bytes_eq a.scope.domain b.scope.domain && bytes_eq a.scope.path b.scope.path)
 
 -- both, or neither
 abbrev pub same_flag : Bool → Bool → Bool
@@ -86,17 +88,20 @@ unexpired now store = filter (λ c. is_later c.expiry now) store
 abbrev pub put : SameKey → Stored → Store → Store
 put same cookie [] = cookie ∷ []
 put same cookie (old ∷ store) =
-    if same old cookie then cookie ∷ filter (λ c. not (same c cookie)) store else old ∷ put same cookie store
+    if same old cookie
+    then cookie ∷ filter (λ c. not (same c cookie)) store else old ∷ put same cookie store
 
 -- the store once a cookie is stored in a scope; one without a scope changes nothing. One that is expired drops the one with its key
 abbrev pub after_stored : SameKey → DateTime → Option ScopeView → Record → Store → Store
 after_stored same now None cookie store = unexpired now store
-after_stored same now (Some scope) cookie store = unexpired now (put same (stored_in scope now cookie) (unexpired now store))
+after_stored same now (Some scope) cookie store =
+    unexpired now (put same (stored_in scope now cookie) (unexpired now store))
 
 -- the store after a cookie that the site sets
 abbrev pub after_cookie : SameKey → SiteView → DateTime → Option Record → Store → Store
 after_cookie same site now None store = unexpired now store
-after_cookie same site now (Some cookie) store = after_stored same now (scope_of site cookie) cookie store
+after_cookie same site now (Some cookie) store =
+    after_stored same now (scope_of site cookie) cookie store
 
 -- the store after the text of one `Set-Cookie` header, whose name and value are stored as they stand there
 abbrev pub after_text : SameKey → SiteView → DateTime → List ℕ → Store → Store
@@ -105,4 +110,5 @@ after_text same site now text store = after_cookie same site now (cookie_of fals
 -- the store after texts, the first one first
 abbrev pub after_texts : SameKey → SiteView → DateTime → List (List ℕ) → Store → Store
 after_texts same site now [] store = store
-after_texts same site now (text ∷ texts) store = after_texts same site now texts (after_text same site now text store)
+after_texts same site now (text ∷ texts) store =
+    after_texts same site now texts (after_text same site now text store)

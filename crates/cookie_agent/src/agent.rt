@@ -77,7 +77,8 @@ impl Agent {
 
     /// Takes a cookie that was read.
     fn take(&mut self, site: &Site, cookie: &Cookie<'_>, now: DateTime) -> Result<(), AgentError>
-        ensures gives { Gives OutOfMemory result (λ _. self.new ≡ after_cookie standard_key site.now now (Some cookie.now.fields) self.old) }
+        ensures gives { Gives OutOfMemory result (λ _.
+            self.new ≡ after_cookie standard_key site.now now (Some cookie.now.fields) self.old) }
         ensures err { OnErr result (self.new ≡ self.old) }
     {
         match site.scope(self.alloc, cookie.path(), cookie.domain())? {
@@ -134,7 +135,8 @@ fn put(
     now: DateTime,
 ) -> Result<(), AllocError>
     requires { IsApart cookies.now.items }
-    ensures ok { OnOk result (cookies.new.items ≡ unexpired now (put standard_key cookie (unexpired now cookies.old.items))) }
+    ensures ok { OnOk result (cookies.new.items
+        ≡ unexpired now (put standard_key cookie (unexpired now cookies.old.items))) }
     ensures err { OnErr result (cookies.new.items ≡ cookies.old.items) }
 {
     put_in_place(cookies, cookie, now)?;
@@ -150,7 +152,8 @@ fn put_in_place(
     now: DateTime,
 ) -> Result<(), AllocError>
     requires { IsApart cookies.now.items }
-    ensures ok { OnOk result (unexpired now cookies.new.items ≡ unexpired now (put standard_key cookie (unexpired now cookies.old.items))) }
+    ensures ok { OnOk result (unexpired now cookies.new.items
+        ≡ unexpired now (put standard_key cookie (unexpired now cookies.old.items))) }
     ensures err { OnErr result (cookies.new.items ≡ cookies.old.items) }
 {
     for index in 0..cookies.len() {

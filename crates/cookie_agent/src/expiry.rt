@@ -21,7 +21,8 @@ pub(crate) enum Expiry {
 impl Expiry {
     /// That of a cookie which is read at the moment `now`.
     pub(crate) fn of(cookie: &Cookie<'_>, now: DateTime) -> Expiry
-        ensures { expiry_moment result ≡ expiry_by now cookie.now.fields.max_age cookie.now.fields.expires }
+        ensures { expiry_moment result
+            ≡ expiry_by now cookie.now.fields.max_age cookie.now.fields.expires }
     {
         if let Some(age) = cookie.max_age() {
             return Expiry::After(now, age);

@@ -76,7 +76,8 @@ fn read_texts(
     texts: &[String],
     now: DateTime,
 ) -> Result<(), AgentError>
-    ensures { OnOk result (agent.new ≡ after_texts standard_key site.now now (map string_bytes texts.now) agent.old) }
+    ensures { OnOk result (agent.new
+        ≡ after_texts standard_key site.now now (map string_bytes texts.now) agent.old) }
 {
     for text in texts {
         agent.read(site, text.as_str(), now)?;

@@ -20,9 +20,14 @@ impl Model for Scope {
 
     ghost Value = { ScopeView };
 
-    ghost view = { λ s. record { domain = string_bytes s.domain; is_host_only = s.is_host_only; path = string_bytes s.path } };
+    ghost view = { λ s. record {
+      domain = string_bytes s.domain;
+      is_host_only = s.is_host_only;
+      path = string_bytes s.path;
+    } };
 
-    ghost invariant = { λ s. str_to_ascii_lowercase (string_bytes s.domain) ≡ string_bytes s.domain };
+    ghost invariant = { λ s.
+        str_to_ascii_lowercase (string_bytes s.domain) ≡ string_bytes s.domain };
 }
 
 impl Scope {

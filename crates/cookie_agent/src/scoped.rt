@@ -58,7 +58,8 @@ fn is_prefixed_child(
     scope: &Scope,
     now: DateTime,
 ) -> bool
-    ensures { result ≡ is_scoped_change site.now now scope.now (stored_by (prefixed_by kind) (asked_of_child call.now)) }
+    ensures { result ≡ is_scoped_change site.now now scope.now
+        (stored_by (prefixed_by kind) (asked_of_child call.now)) }
 {
     match call {
         ChildCall::AddOriginal(_) => false,
@@ -105,7 +106,8 @@ fn is_asked(
     path: Option<&str>,
     is_secure: bool,
 ) -> bool
-    ensures { result ≡ is_asked site.now scope.now (text_of domain.entry) (text_of path.entry) is_secure }
+    ensures { result
+        ≡ is_asked site.now scope.now (text_of domain.entry) (text_of path.entry) is_secure }
 {
     is_plain_path(path)
         && is_plain_domain(domain)

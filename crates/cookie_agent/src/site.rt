@@ -30,9 +30,16 @@ impl Model for Site {
 
     ghost Value = { SiteView };
 
-    ghost view = { λ s. record { host = string_bytes s.host; is_address = s.is_address; path = string_bytes s.path; is_secure = s.is_secure } };
+    ghost view = { λ s. record {
+      host = string_bytes s.host;
+      is_address = s.is_address;
+      path = string_bytes s.path;
+      is_secure = s.is_secure;
+    } };
 
-    ghost invariant = { λ s. (str_to_ascii_lowercase (string_bytes s.host) ≡ string_bytes s.host) × (starts_with eqb (string_bytes s.path) (codes "/") ≡ true) };
+    ghost invariant = { λ s.
+        (str_to_ascii_lowercase (string_bytes s.host) ≡ string_bytes s.host)
+        × (starts_with eqb (string_bytes s.path) (codes "/") ≡ true) };
 }
 
 impl Site {
@@ -65,7 +72,8 @@ impl Site {
         path: &str,
         is_secure: bool,
     ) -> Result<Site, AgentError>
-        ensures { Gives OutOfMemory result (λ site. site ≡ site_of host.now is_address path.now is_secure) }
+        ensures { Gives OutOfMemory result (λ site.
+            site ≡ site_of host.now is_address path.now is_secure) }
     {
         Ok(Site {
             host: host.to_ascii_lowercase(alloc)?,
@@ -152,7 +160,8 @@ impl Site {
         domain: &str,
         path: Option<&str>,
     ) -> Result<Option<Scope>, AllocError>
-        ensures { IfOk result (λ scope. scope ≡ wide_scope self.now domain.now (text_of path.entry)) }
+        ensures { IfOk result (λ scope.
+            scope ≡ wide_scope self.now domain.now (text_of path.entry)) }
     {
         let domain = domain.to_ascii_lowercase(alloc)?;
         if !self.matches_domain(domain.as_str()) {
@@ -182,7 +191,8 @@ impl Site {
         domain: Option<&str>,
         path: Option<&str>,
     ) -> bool
-        ensures { result ≡ gives_scope self.now scope.now (text_of domain.entry) (text_of path.entry) }
+        ensures { result
+            ≡ gives_scope self.now scope.now (text_of domain.entry) (text_of path.entry) }
     {
         let Some(domain) = domain else {
             return self.gives_own(scope, path);

@@ -32,7 +32,14 @@ impl Model for StoredCookie {
 
     ghost use Rattle.cookie_agent.specs.ExpiryCode.{expiry_moment};
 
-    ghost view = { λ c. record { name = string_bytes c.name; value = string_bytes c.value; scope = c.scope; is_secure_only = c.is_secure_only; is_http_only = c.is_http_only; expiry = expiry_moment c.expiry } };
+    ghost view = { λ c. record {
+      name = string_bytes c.name;
+      value = string_bytes c.value;
+      scope = c.scope;
+      is_secure_only = c.is_secure_only;
+      is_http_only = c.is_http_only;
+      expiry = expiry_moment c.expiry;
+    } };
 }
 
 impl StoredCookie {
@@ -110,7 +117,8 @@ impl StoredCookie {
 
     /// Writes its name and its value behind the text.
     pub(crate) fn push_pair(&self, header: &mut String) -> Result<(), AllocError>
-        ensures { OnOk result (string_bytes header.new ≡ string_bytes header.old ++ pair_of self.now) }
+        ensures { OnOk result (string_bytes header.new
+            ≡ string_bytes header.old ++ pair_of self.now) }
     {
         header.push_str(self.name.as_str())?;
         header.push_str("=")?;

@@ -41,7 +41,8 @@ alters_original name (ForceRemove forced) = bytes_eq name forced
 alters_original name change = false
 
 -- The client of a jar to which these changes were made, for the client before it read the jar's delta.
-pub record Agrees (now : DateTime) (before : Values) (changes : List Change) (jar : JarState) (client : Values)
+pub record Agrees (now : DateTime) (before : Values) (changes : List Change) (jar : JarState)
+    (client : Values)
     : Type 0 where
   -- whether the changes are fit or not, it is the one before, which read the delta's texts: in any order, and with any
   -- repetition

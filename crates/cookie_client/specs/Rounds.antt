@@ -19,12 +19,14 @@ abbrev pub IsFitChange : DateTime → JarCall → Type 0
 IsFitChange now call = IsFitCall now call × (is_change (change_of call) ≡ true)
 
 -- What a request's calls came to, for the client before it.
-pub record IsRound (now : DateTime) (before : Values) (calls : List JarCall) (played : Played) : Type 0 where
+pub record IsRound (now : DateTime) (before : Values) (calls : List JarCall)
+    (played : Played) : Type 0 where
   -- its jar is one for the client's header, and its client is the one before, which read the delta
   pub exchange : IsExchange now (jar_for (header_text before)) before calls played
   -- the jar had these originals at first: each name's value as the client held it, with nothing else set
   pub originals : (name : Name)
-      → get (jar_for (header_text before)).originals name ≡ option_map (plain name) (get before name)
+      → get (jar_for (header_text before)).originals name
+      ≡ option_map (plain name) (get before name)
   -- the client before held the jar's original of each name that no accepted call adds as an original
   -- or removes by force
   pub held : (name : Name) → list_any (alters_original name) (changes_by calls played) ≡ false

@@ -57,7 +57,8 @@ changes_in now n ([] ∷ lines) = changes_in now (n + 1) lines
 changes_in now n ((c ∷ cs) ∷ lines) =
     elim (call_of now (c ∷ cs)) as (λ _. Result (List Change) Fault) [
       | None ↦ Err (BadLine n)
-      | Some change ↦ result_map_both (λ changes. change ∷ changes) (λ fault. fault) (changes_in now (n + 1) lines)
+      | Some change ↦ result_map_both (λ changes. change ∷ changes) (λ fault. fault)
+          (changes_in now (n + 1) lines)
     ]
 
 -- the first line, if there is one

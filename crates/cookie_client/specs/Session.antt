@@ -68,7 +68,8 @@ delta_texts jar = map (λ e. cookie_text true false e.1.cookie) (entries jar.del
 -- a line for each text
 abbrev pub set_cookie_lines : List (List ℕ) → List ℕ
 set_cookie_lines [] = []
-set_cookie_lines (text ∷ texts) = codes "Set-Cookie: " ++ (text ++ (codes "\n" ++ set_cookie_lines texts))
+set_cookie_lines (text ∷ texts) =
+    codes "Set-Cookie: " ++ (text ++ (codes "\n" ++ set_cookie_lines texts))
 
 -- the line of the client's header
 abbrev pub cookie_line : Values → List ℕ
@@ -96,12 +97,14 @@ session_of_lines now (header ∷ lines) = session_of_header now header lines
 
 -- the session of bytes at a moment, if they are UTF-8
 abbrev pub session_of_bytes : DateTime → List ℕ → Result (List ℕ) Fault
-session_of_bytes now bytes = if is_utf8 bytes then session_of_lines now (lines_of bytes) else Err BadInput
+session_of_bytes now bytes =
+    if is_utf8 bytes then session_of_lines now (lines_of bytes) else Err BadInput
 
 -- the moment that a text stands for, of the year 100 or later
 abbrev pub moment_of : List ℕ → Option DateTime
 moment_of text =
-    option_and_then (λ moment. if int_lt moment.date.year (pos 100) then None else Some moment) (date_of text)
+    option_and_then (λ moment. if int_lt moment.date.year (pos 100) then None else Some moment)
+    (date_of text)
 
 -- the session of a moment's text and the bytes of the input
 abbrev pub session : List ℕ → List ℕ → Result (List ℕ) Fault

@@ -26,4 +26,5 @@ HoldsAdded change jar old new result =
 pub record IsHeaderOf (client : Values) (header : List ℕ) : Type 0 where
   pub text : header ≡ header_text client
   pub named : get client [] ≡ None
-  pub read : map (cookie_of true) (header_texts header) ≡ map (λ pair. Some (plain pair.0 pair.1)) (entries client)
+  pub read : map (cookie_of true) (header_texts header)
+      ≡ map (λ pair. Some (plain pair.0 pair.1)) (entries client)
