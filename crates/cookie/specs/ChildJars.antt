@@ -19,7 +19,8 @@ module _ {S : Type 0} where
 
   -- both change the same jar, and store cookies alike
   abbrev pub ChangesSame : ChildJar S → ChildJar S → Type 0
-  ChangesSame child other = (child.jar.ghost_name ≡ other.jar.ghost_name) × (child.storing ≡ other.storing)
+  ChangesSame child other =
+      (child.jar.ghost_name ≡ other.jar.ghost_name) × (child.storing ≡ other.storing)
 
 -- the half of the key under which a child jar signs or seals
 abbrev pub key_of : ChildJar (List ℕ) → List ℕ

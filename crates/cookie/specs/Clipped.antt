@@ -7,4 +7,5 @@ use Rattle.cookie.specs.Prefixes.{clipped_name}
 -- what taking the prefix off makes of a name, if it is another name
 abbrev pub LeavesName : Name → Name → Option Name → Type 0
 LeavesName prefix name None = clipped_name prefix name ≡ name
-LeavesName prefix name (Some rest) = (clipped_name prefix name ≡ rest) × (bytes_eq rest name ≡ false)
+LeavesName prefix name (Some rest) =
+    (clipped_name prefix name ≡ rest) × (bytes_eq rest name ≡ false)

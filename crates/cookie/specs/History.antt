@@ -24,8 +24,10 @@ accepted_items (outcome ∷ outcomes) (call ∷ calls) =
 -- the last original of the name, if no forced removal of the name comes after it
 abbrev pub original_by : Name → List Change → Option Record
 original_by name [] = None
-original_by name (AddOriginal cookie ∷ earlier) = if bytes_eq name cookie.name then Some cookie else original_by name earlier
-original_by name (ForceRemove forced ∷ earlier) = if bytes_eq name forced then None else original_by name earlier
+original_by name (AddOriginal cookie ∷ earlier) =
+    if bytes_eq name cookie.name then Some cookie else original_by name earlier
+original_by name (ForceRemove forced ∷ earlier) =
+    if bytes_eq name forced then None else original_by name earlier
 original_by name (change ∷ earlier) = original_by name earlier
 
 -- what a removal leaves in the delta: a cookie that tells the client to drop the name, where there was an original
@@ -36,10 +38,13 @@ removal_by cookie original = if is_some original then Some (dropped_mark cookie)
 abbrev pub entry_by : Name → List Change → Option Marked
 entry_by name [] = None
 entry_by name (AddOriginal cookie ∷ earlier) = entry_by name earlier
-entry_by name (Add cookie ∷ earlier) = if bytes_eq name cookie.name then Some (added_mark cookie) else entry_by name earlier
+entry_by name (Add cookie ∷ earlier) =
+    if bytes_eq name cookie.name then Some (added_mark cookie) else entry_by name earlier
 entry_by name (Remove cookie now ∷ earlier) =
-    if bytes_eq name cookie.name then removal_by (removal now cookie) (original_by name earlier) else entry_by name earlier
-entry_by name (ForceRemove forced ∷ earlier) = if bytes_eq name forced then None else entry_by name earlier
+    if bytes_eq name cookie.name
+    then removal_by (removal now cookie) (original_by name earlier) else entry_by name earlier
+entry_by name (ForceRemove forced ∷ earlier) =
+    if bytes_eq name forced then None else entry_by name earlier
 entry_by name (ResetDelta ∷ earlier) = None
 
 -- each map has at each name what looking back finds

@@ -59,7 +59,11 @@ after (Remove cookie now) jar =
           then insert jar.delta cookie.name (dropped_mark (removal now cookie))
           else remove jar.delta cookie.name;
     }
-after (ForceRemove name) jar = record { originals = remove jar.originals name; delta = remove jar.delta name }
+after (ForceRemove name) jar =
+    record {
+      originals = remove jar.originals name;
+      delta = remove jar.delta name;
+    }
 after ResetDelta jar = record jar { delta = empty }
 
 -- what an entry of the delta shows, over what the originals show

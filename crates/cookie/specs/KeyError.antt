@@ -6,5 +6,7 @@ use Rattle.cookie.specs.declared.secure.key_error.KeyError.TheVariants as refusa
 
 -- the text of a refusal
 abbrev pub key_refusal_text : KeyError → List ℕ
-key_refusal_text (refusal.TooShort n) = codes "key material is too short: expected >= 64 bytes, got " ++ (decimal n ++ codes " bytes")
-key_refusal_text (refusal.MasterTooShort n) = codes "master key is too short: expected >= 32 bytes, got " ++ (decimal n ++ codes " bytes")
+key_refusal_text (refusal.TooShort n) =
+    codes "key material is too short: expected >= 64 bytes, got " ++ (decimal n ++ codes " bytes")
+key_refusal_text (refusal.MasterTooShort n) =
+    codes "master key is too short: expected >= 32 bytes, got " ++ (decimal n ++ codes " bytes")

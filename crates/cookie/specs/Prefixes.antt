@@ -10,7 +10,8 @@ prefixed_cookie prefix cookie = record cookie { name = prefix ++ cookie.name }
 
 -- the name without the prefix, where it begins with it, else the name
 abbrev pub clipped_name : Name → Name → Name
-clipped_name prefix name = if bytes_eq prefix (take (length prefix) name) then drop (length prefix) name else name
+clipped_name prefix name =
+    if bytes_eq prefix (take (length prefix) name) then drop (length prefix) name else name
 
 -- the cookie with that name
 abbrev pub clipped_cookie : Name → Record → Record
@@ -18,7 +19,9 @@ clipped_cookie prefix cookie = record cookie { name = clipped_name prefix cookie
 
 -- what a cookie lends once it has this name, which counts as set where it is another one
 abbrev pub renamed_raw : Name → CookieView → RawForms
-renamed_raw name cookie = if bytes_eq name cookie.fields.name then cookie.raw else record cookie.raw { name = None }
+renamed_raw name cookie =
+    if bytes_eq name cookie.fields.name then cookie.raw
+    else record cookie.raw { name = None }
 
 -- the cookie as a prefix stores it: with the prefix before its name, and then conforming
 abbrev pub conforming_cookie : Name → (Record → Record) → Record → Record

@@ -19,7 +19,8 @@ IsSealable name value = IsWithin (length name) (length value)
 
 -- the nonce, the encrypted value, and the tag of it and of the name
 unfoldable pub sealed_bytes : List ℕ → Name → List ℕ → List ℕ → List ℕ
-sealed_bytes key name nonce value = nonce ++ gctr key nonce value ++ tag_of key nonce name (gctr key nonce value)
+sealed_bytes key name nonce value =
+    nonce ++ gctr key nonce value ++ tag_of key nonce name (gctr key nonce value)
 
 -- their base64
 unfoldable pub sealing : List ℕ → Name → List ℕ → List ℕ → List ℕ
@@ -33,7 +34,10 @@ pub record IsSealed (key name text value : List ℕ) : Type 0 where
 
 -- the cookie as a private jar stores it
 abbrev pub sealed_cookie : List ℕ → List ℕ → Record → Record
-sealed_cookie key nonce cookie = record cookie { value = sealing key cookie.name nonce cookie.value }
+sealed_cookie key nonce cookie =
+    record cookie {
+      value = sealing key cookie.name nonce cookie.value;
+    }
 
 -- the cookie's value is a sealing of v, under its name
 abbrev pub IsSealingOf : List ℕ → Record → List ℕ → Type 0

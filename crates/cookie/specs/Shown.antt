@@ -7,7 +7,8 @@ use Rattle.cookie.specs.Jar.{name_cmp, Marked}
 -- the cookies of these entries that were added
 abbrev pub additions : List Marked → List Record
 additions [] = []
-additions (entry ∷ entries) = if entry.removed then additions entries else entry.cookie ∷ additions entries
+additions (entry ∷ entries) =
+    if entry.removed then additions entries else entry.cookie ∷ additions entries
 
 -- those of the cookies under whose names the delta has nothing
 abbrev pub uncovered : FinMap name_cmp Marked → List Record → List Record

@@ -32,7 +32,11 @@ mixing row column = slice_index (2 ∷ 3 ∷ 1 ∷ 1 ∷ []) ((column + 4 - row)
 -- a row of the matrix times a column of the state
 abbrev pub mixed_cell : List ℕ → ℕ → ℕ → ℕ
 mixed_cell s r c =
-    bit_xor (bit_xor (bit_xor (byte_product (mixing r 0) (cell s 0 c)) (byte_product (mixing r 1) (cell s 1 c))) (byte_product (mixing r 2) (cell s 2 c))) (byte_product (mixing r 3) (cell s 3 c))
+    bit_xor
+    (bit_xor
+    (bit_xor (byte_product (mixing r 0) (cell s 0 c)) (byte_product (mixing r 1) (cell s 1 c)))
+    (byte_product (mixing r 2) (cell s 2 c)))
+    (byte_product (mixing r 3) (cell s 3 c))
 
 -- each column multiplied by the matrix (5.1.3)
 unfoldable pub mix_columns : List ℕ → List ℕ
@@ -58,7 +62,8 @@ sub_word x = map (λ j. s_box (slice_index x j)) (range_with_len 0 4)
 
 -- the constant of round k, counted from 1, in the first byte of a word
 abbrev pub round_constant : ℕ → List ℕ
-round_constant k = slice_index (0x01 ∷ 0x02 ∷ 0x04 ∷ 0x08 ∷ 0x10 ∷ 0x20 ∷ 0x40 ∷ []) (k - 1) ∷ 0 ∷ 0 ∷ 0 ∷ []
+round_constant k =
+    slice_index (0x01 ∷ 0x02 ∷ 0x04 ∷ 0x08 ∷ 0x10 ∷ 0x20 ∷ 0x40 ∷ []) (k - 1) ∷ 0 ∷ 0 ∷ 0 ∷ []
 
 -- what is added to word i - 8 to give word i, where x is word i - 1
 unfoldable pub added_word : List ℕ → ℕ → List ℕ
@@ -89,7 +94,8 @@ add_round_key w k s = state_of (λ r c. bit_xor (cell s r c) (slice_index (word 
 -- the state after rounds 0 to n
 unfoldable pub rounds : List ℕ → ℕ → List ℕ → List ℕ
 rounds w zero block = add_round_key w 0 block
-rounds w (suc n) block = add_round_key w (suc n) (mix_columns (shift_rows (sub_bytes (rounds w n block))))
+rounds w (suc n) block =
+    add_round_key w (suc n) (mix_columns (shift_rows (sub_bytes (rounds w n block))))
 
 -- thirteen rounds, and the last, which leaves the columns unmixed
 unfoldable pub cipher : List ℕ → List ℕ → List ℕ

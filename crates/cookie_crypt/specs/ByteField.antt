@@ -15,7 +15,8 @@ byte_times_power (suc i) b = byte_times_x (byte_times_power i b)
 -- the sum over the coefficients of a below n of x ^ i times b
 unfoldable pub byte_product_below : ℕ → ℕ → ℕ → ℕ
 byte_product_below zero a b = 0
-byte_product_below (suc n) a b = bit_xor (byte_product_below n a b) (bit_at a n * byte_times_power n b)
+byte_product_below (suc n) a b =
+    bit_xor (byte_product_below n a b) (bit_at a n * byte_times_power n b)
 
 -- the product of two bytes (4.2)
 unfoldable pub byte_product : ℕ → ℕ → ℕ

@@ -29,7 +29,9 @@ key_stream key nonce k = slice_index (encrypt_block key (counter_block nonce (k 
 
 -- the text with its part of the stream added: what encrypts, and also decrypts (7.1, step 3; 7.2, step 4)
 unfoldable pub gctr : List ℕ → List ℕ → List ℕ → List ℕ
-gctr key nonce text = map (λ k. bit_xor (slice_index text k) (key_stream key nonce k)) (range_with_len 0 (length text))
+gctr key nonce text =
+    map (λ k. bit_xor (slice_index text k) (key_stream key nonce k))
+    (range_with_len 0 (length text))
 
 -- ---- the tag (7.1, steps 4 to 6)
 
@@ -55,7 +57,8 @@ hash_subkey key = number_of (encrypt_block key (replicate 16 0))
 
 -- a hash with E of J0 added to it, as bytes
 unfoldable pub masked_hash : List ℕ → List ℕ → ℕ → List ℕ
-masked_hash key nonce hash = bytes_of (bit_xor hash (number_of (encrypt_block key (counter_block nonce 1))))
+masked_hash key nonce hash =
+    bytes_of (bit_xor hash (number_of (encrypt_block key (counter_block nonce 1))))
 
 -- the tag of an encrypted text
 unfoldable pub tag_of : List ℕ → List ℕ → List ℕ → List ℕ → List ℕ
@@ -63,7 +66,8 @@ tag_of key nonce aad text = masked_hash key nonce (ghash (hash_subkey key) (hash
 
 -- the same with the hash by the standard's steps
 unfoldable pub tag_by_steps : List ℕ → List ℕ → List ℕ → List ℕ → List ℕ
-tag_by_steps key nonce aad text = masked_hash key nonce (ghash_by_steps (hash_subkey key) (hashed_blocks aad text))
+tag_by_steps key nonce aad text =
+    masked_hash key nonce (ghash_by_steps (hash_subkey key) (hashed_blocks aad text))
 
 -- ---- sealing
 
@@ -79,4 +83,6 @@ pub record IsSealing (key nonce aad plain text tag : List ℕ) : Type 0 where
 
 -- every sealing of bytes under this key is bytes
 abbrev pub SealsToBytes : List ℕ → Type 0
-SealsToBytes key = (nonce aad plain text tag : List ℕ) → IsBytes plain → IsSealing key nonce aad plain text tag → IsBytes text × IsBytes tag
+SealsToBytes key =
+    (nonce aad plain text tag : List ℕ) → IsBytes plain → IsSealing key nonce aad plain text tag
+    → IsBytes text × IsBytes tag

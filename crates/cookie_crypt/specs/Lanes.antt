@@ -20,4 +20,5 @@ IsLanes v = (length v ≡ 16) × IsBytes v
 
 -- the sum of what the halves of each byte look up
 unfoldable pub looked_up : List ℕ → List ℕ → List ℕ → List ℕ
-looked_up upper lower bytes = map (λ x. bit_xor (entry upper (x / 16)) (entry lower (bit_and x 15))) bytes
+looked_up upper lower bytes =
+    map (λ x. bit_xor (entry upper (x / 16)) (entry lower (bit_and x 15))) bytes

@@ -4,7 +4,8 @@ use Rattle.std.specs.Prelude.{ℕ, ◌-◌, List, [], ◌∷◌, codes, slice_in
 -- the short name of a weekday, from 0 for Monday (RFC 9110 5.6.7, `day-name`)
 abbrev pub weekday_text : ℕ → List ℕ
 weekday_text n = slice_index_or
-    (codes "Mon" ∷ codes "Tue" ∷ codes "Wed" ∷ codes "Thu" ∷ codes "Fri" ∷ codes "Sat" ∷ codes "Sun" ∷ []) n []
+    (codes "Mon" ∷ codes "Tue" ∷ codes "Wed" ∷ codes "Thu" ∷ codes "Fri" ∷ codes "Sat" ∷ codes "Sun"
+    ∷ []) n []
 
 -- the long name of a weekday, from 0 for Monday (RFC 9110 5.6.7, `day-name-l`)
 abbrev pub long_weekday_text : ℕ → List ℕ

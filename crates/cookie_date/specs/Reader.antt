@@ -16,7 +16,8 @@ front found = option_map (λ p. (p.0, p.1.now)) found
 
 -- the text behind this tag
 abbrev pub read_tag : List ℕ → List ℕ → Option (List ℕ)
-read_tag tag text = if bytes_eq (take (length tag) text) tag then Some (drop (length tag) text) else None
+read_tag tag text =
+    if bytes_eq (take (length tag) text) tag then Some (drop (length tag) text) else None
 
 -- one digit
 unfoldable pub read_digit : List ℕ → Front ℕ
@@ -33,7 +34,8 @@ read_two_digits text = do
 -- two digits, or a blank and one digit
 unfoldable pub read_padded_day : List ℕ → Front ℕ
 read_padded_day text =
-    if slice_index text 0 == 32 then (read_tag (codes " ") text >>= read_digit) else read_two_digits text
+    if slice_index text 0 == 32 then (read_tag (codes " ") text >>= read_digit)
+    else read_two_digits text
 
 -- hour, minute and second, with colons between them
 unfoldable pub read_clock : List ℕ → Front (ℕ × ℕ × ℕ)
@@ -52,17 +54,23 @@ read_digits (suc k) number (c ∷ text) =
 
 -- the numbers below this leave room for so many more digits, up to four digits
 abbrev pub room : ℕ → ℕ
-room most = if most == 0 then 10000 else if most == 1 then 1000 else if most == 2 then 100 else if most == 3 then 10
+room most =
+    if most == 0 then 10000
+    else if most == 1 then 1000
+    else if most == 2 then 100
+    else if most == 3 then 10
     else if most == 4 then 1 else 0
 
 -- one to four digits, as many as there are
 unfoldable pub read_number : List ℕ → Front ℕ
-read_number text = let r = read_digits 4 0 text in if length r.1 == length text then None else Some r
+read_number text =
+    let r = read_digits 4 0 text in if length r.1 == length text then None else Some r
 
 -- whether `-` stands at the front, and the text behind the sign
 abbrev pub read_sign : List ℕ → Bool × List ℕ
 read_sign [] = (false, [])
-read_sign (c ∷ text) = if c == 45 then (true, text) else if c == 43 then (false, text) else (false, c ∷ text)
+read_sign (c ∷ text) =
+    if c == 45 then (true, text) else if c == 43 then (false, text) else (false, c ∷ text)
 
 -- a sign, if there is one, and one to four digits
 unfoldable pub read_year : List ℕ → Front ℤ
@@ -78,12 +86,14 @@ or_later None n later = later
 -- the first of so many numbers from n on whose name stands at the front
 unfoldable pub read_name : (ℕ → List ℕ) → ℕ → ℕ → List ℕ → Front ℕ
 read_name name zero n text = None
-read_name name (suc more) n text = or_later (read_tag (name n) text) n (read_name name more (n + 1) text)
+read_name name (suc more) n text =
+    or_later (read_tag (name n) text) n (read_name name more (n + 1) text)
 
 -- what the long name of a weekday has after the short one
 abbrev pub weekday_rest : ℕ → List ℕ
 weekday_rest n = slice_index_or
-    (codes "day" ∷ codes "sday" ∷ codes "nesday" ∷ codes "rsday" ∷ codes "day" ∷ codes "urday" ∷ codes "day" ∷ []) n []
+    (codes "day" ∷ codes "sday" ∷ codes "nesday" ∷ codes "rsday" ∷ codes "day" ∷ codes "urday"
+    ∷ codes "day" ∷ []) n []
 
 -- a day and a month, with this mark behind each
 unfoldable pub read_day_month : List ℕ → List ℕ → Front (ℕ × ℕ)
@@ -137,11 +147,14 @@ read_month_first text = do
 
 -- with blanks or hyphens round the month, as the byte after the day tells
 unfoldable pub read_either_mark : List ℕ → Option Fields
-read_either_mark text = if slice_index text 2 == 45 then read_day_first (codes "-") text else read_day_first (codes " ") text
+read_either_mark text =
+    if slice_index text 2 == 45 then read_day_first (codes "-") text
+    else read_day_first (codes " ") text
 
 -- a date without a weekday
 unfoldable pub read_unnamed : List ℕ → Option Fields
-read_unnamed text = if is_ascii_digit (slice_index text 0) then read_either_mark text else read_month_first text
+read_unnamed text =
+    if is_ascii_digit (slice_index text 0) then read_either_mark text else read_month_first text
 
 -- what follows the short name of a weekday
 unfoldable pub read_named : ℕ → List ℕ → Option Fields
@@ -149,7 +162,8 @@ read_named n text = if slice_index text 0 == 44
     then (read_tag (codes ", ") text >>= read_either_mark)
     else (if slice_index text 0 == 32
     then (read_tag (codes " ") text >>= read_month_first)
-    else (read_tag (weekday_rest n) text >>= λ rest. read_tag (codes ", ") rest >>= read_short_year))
+    else (read_tag (weekday_rest n) text
+    >>= λ rest. read_tag (codes ", ") rest >>= read_short_year))
 
 -- a date behind a weekday, if one was read, and else the other date
 abbrev pub named_or : Front ℕ → Option Fields → Option Fields

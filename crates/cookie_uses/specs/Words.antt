@@ -12,12 +12,14 @@ use Rattle.cookie.specs.Walk.{Walks}
 -- the texts are those of the jar's changes, one for each name (RFC 6265 4.1)
 abbrev pub AreResponse : JarState → List (List ℕ) → Type 0
 AreResponse jar texts =
-    (cookies : List Record) × Walks (λ name. option_map (λ entry. entry.cookie) (get jar.delta name)) cookies
+    (cookies : List Record)
+    × Walks (λ name. option_map (λ entry. entry.cookie) (get jar.delta name)) cookies
     × (texts ≡ map (cookie_text true false) cookies)
 
 -- the jar shows a cookie `session` whose value is a sealing of the user under the key
 abbrev pub IsSignedIn : List ℕ → JarState → List ℕ → Type 0
-IsSignedIn key jar user = IsStoredFor (IsSealingOf (encryption_half key)) (view jar (codes "session")) user
+IsSignedIn key jar user =
+    IsStoredFor (IsSealingOf (encryption_half key)) (view jar (codes "session")) user
 
 -- what the jar shows as the flash message
 abbrev pub flash_of : JarState → Option (List ℕ)
