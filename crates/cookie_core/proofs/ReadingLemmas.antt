@@ -19,7 +19,7 @@ use Rattle.cookie_core.specs.declared.parse_error.ParseError.TheVariants.{Missin
 use mathlib.Core.Logic.{◌≢◌}
 use Rattle.cookie_core.specs.Pieces.{Lacks, joined_pieces, IsPieces}
 use Rattle.cookie_core.specs.Reads.{Reads}
-use Rattle.cookie_core.specs.Attributes.{IsPair, IsAttribute, IsWord, Setting, field_at, word_of, GivesSetting, Sets, Skips, IsLastSet, SetsAttributes, nanos_of_seconds, max_age_seconds}
+use Rattle.cookie_core.specs.Attributes.{IsPair, IsAttribute, IsWord, Setting, field_at, word_of, GivesSetting, Skips, IsLastSet, SetsAttributes, nanos_of_seconds, max_age_seconds}
 use Rattle.cookie_core.specs.Parts.{part_text}
 use Rattle.cookie_core.specs.Spans.{span_text}
 use Rattle.cookie_core.specs.declared.span.Span.{Span}

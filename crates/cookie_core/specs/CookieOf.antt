@@ -14,7 +14,6 @@ use Rattle.cookie_core.specs.declared.attributes.Key.{Key}
 use Rattle.cookie_core.specs.declared.attributes.Key.TheVariants as key
 use Rattle.cookie_core.specs.declared.same_site.SameSite.{SameSite}
 use Rattle.cookie_core.specs.declared.same_site.SameSite.TheVariants as same_site
-use Rattle.cookie_core.specs.declared.expiration.Expiration.{Expiration}
 use Rattle.cookie_core.specs.declared.expiration.Expiration.TheVariants as expiration
 
 -- the key of a piece: what stands before its first `=`, or all of it, trimmed

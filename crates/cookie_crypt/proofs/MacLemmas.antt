@@ -1,9 +1,8 @@
 -- The lengths of HMAC and of the expansion, and the padded key byte by byte.
-use Rattle.std.proofs.Common.{◌≡◌, ℕ, ◌-◌, ◌<◌, ◌≤◌, List, [], ◌∷◌, ◌++◌, length, slice_index, replicate, ap, sym, refl, ◌∙◌, arith, bit_xor}
+use Rattle.std.proofs.Common.{◌≡◌, ℕ, ◌-◌, ◌<◌, ◌≤◌, List, [], ◌++◌, length, slice_index, replicate, ap, sym, refl, ◌∙◌, arith, bit_xor}
 use Rattle.std.proofs.lemmas.List.{length-append, length-map, length-replicate, get_or-map, get_or_append_left, get_or-append_right, get_or-replicate}
 use Rattle.std.specs.Int.Bits.{xor_comm, xor_zero_r}
 use Rattle.cookie_crypt.specs.Hmac.{masked, hmac_short, hmac}
-use Rattle.cookie_crypt.specs.Expand.{first_block, second_block, expand64}
 use Rattle.sha2.proofs.Facts256.{length-sha256}
 
 length-padded : (key : List ℕ) → length key ≤ 64 → length (key ++ replicate (64 - length key) 0) ≡ 64
@@ -30,8 +29,3 @@ masked_zero key mask k outside end h =
 pub length-hmac : (key message : List ℕ) → length (hmac key message) ≡ 32
 unfolding hmac hmac_short
 length-hmac key message = length-sha256 _
-
-pub length-expand64 : (prk info : List ℕ) → length (expand64 prk info) ≡ 64
-unfolding expand64
-length-expand64 prk info =
-    omega (arith, length-append (first_block prk info) (second_block prk info), length-hmac prk (info ++ 1 ∷ []), length-hmac prk (first_block prk info ++ info ++ 2 ∷ []))

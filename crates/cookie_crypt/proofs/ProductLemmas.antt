@@ -31,12 +31,6 @@ scale_bits (suc zero) (suc (suc d)) v p q = absurd (omega arith)
 one_times : (v : ℕ) → 1 * v ≡ v
 one_times v = omega arith
 
--- a fact about a bit's multiple, at 0 and at 1
-by_bit : (f g : ℕ → ℕ) (c v : ℕ) → c < 2 → f 0 ≡ g 0 → f v ≡ g v → f (c * v) ≡ g (c * v)
-by_bit f g zero v p none one = ap f (zero_times v) ∙ none ∙ ap g (sym (zero_times v))
-by_bit f g (suc zero) v p none one = ap f (one_times v) ∙ one ∙ ap g (sym (one_times v))
-by_bit f g (suc (suc c)) v p none one = absurd (omega arith)
-
 -- a bit times a sum of blocks
 pub scale_sum : (c u v : ℕ) → c < 2 → c * bit_xor u v ≡ bit_xor (c * u) (c * v)
 scale_sum zero u v p = zero_times (bit_xor u v) ∙ sym (ap (λ x. bit_xor x (0 * v)) (zero_times u) ∙ zero_times v)
@@ -271,10 +265,6 @@ sum_with_bit n a b s t p q e =
 pub sum_without_bit : (n a b s : ℕ) → s ≡ product_below n a b → coefficient a n ≡ 0 → s ≡ product_below (n + 1) a b
 sum_without_bit n a b s p e =
     p ∙ sym (product_below-next n a b 0 e ∙ ap (bit_xor (product_below n a b)) (zero_times (times_power n b)) ∙ xor_zero_r (product_below n a b))
-
-pub product_is_below : (n a b s : ℕ) → n ≡ 128 → s ≡ product_below n a b → s ≡ field_product a b
-unfolding field_product
-product_is_below n a b s e p = p ∙ ap (λ x. product_below x a b) e
 
 pub bit_clear : (n i : ℕ) → bit_and (n / 2 ^ i) 1 ≢ 1 → bit_at n i ≡ 0
 bit_clear n i h = omega (arith, shr_and_one n i, bit_at-lt n i)

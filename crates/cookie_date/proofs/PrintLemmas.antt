@@ -59,10 +59,6 @@ long_year (pos n) h =
     let old : nat_lt n 100 ≡ false = grind (arith, nat_tests) in
     full_year-pos n ∙ rw (recent, old) refl
 
--- so such a date-time of whole seconds comes back
-pub kept : (d : DateTime) → (d.date.year <ℤ pos 0) ⊎ (pos 100 ≤ℤ d.date.year) → d.time.subsec_nanosecond ≡ 0 → IsDateText (moment_text d) d
-kept d year whole = printed_text d d (sym (long_year d.date.year year), refl, refl, refl, refl, refl, whole)
-
 -- an answer that is exact gives back what was printed
 pub printed_is_read : (text : List ℕ) (o : Option DateTime) → ((d : DateTime) → (o ≡ Some d) ↔ IsDateText text d) → (d : DateTime) → text ≡ moment_text d → (back : DateTime) × (o ≡ Some back) × IsReadBack d back
 printed_is_read text o exact d e =
