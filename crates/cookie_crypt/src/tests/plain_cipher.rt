@@ -39,7 +39,13 @@ fn round_keys(key: &[u8; 32]) -> [u8; 240] {
     }
     let mut constant = 1;
     'bytes: for i in 8..60usize {
-        let [a, b, c, d] = [4 * i - 4, 4 * i - 3, 4 * i - 2, 4 * i - 1].map(|place| words[place]);
+        let last = 4 * i - 4;
+        let [a, b, c, d] = [
+            words[last],
+            words[last + 1],
+            words[last + 2],
+            words[last + 3],
+        ];
         let mut word = [a, b, c, d];
         if i % 8 == 0 {
             word = [b, c, d, a].map(substitute);
@@ -68,7 +74,9 @@ fn substituted_rows(state: &[u8; 16]) -> [u8; 16] {
 fn mixed_columns(state: &[u8; 16]) -> [u8; 16] {
     let mut bytes = [0; 16];
     for i in 0..16usize {
-        let [a, b, c, d] = [0, 1, 2, 3].map(|row| state[4 * (i / 4) + (i + row) % 4]);
+        let column = 4 * (i / 4);
+        let (a, b) = (state[i], state[column + (i + 1) % 4]);
+        let (c, d) = (state[column + (i + 2) % 4], state[column + (i + 3) % 4]);
         bytes[i] = times_x(a) ^ times_x(b) ^ b ^ c ^ d;
     }
     bytes
@@ -127,9 +135,9 @@ fn counter_block(nonce: &[u8; 12], counter: u32) -> [u8; 16] {
 
 /// Encrypts the text in place and gives the tag (SP 800-38D, 7.1).
 pub fn seal(key: &[u8; 32], nonce: &[u8; 12], aad: &[u8], text: &mut [u8]) -> [u8; 16] {
-    let mut counter = 1;
+    let mut counter = 1u32;
     'chunks: for chunk in text.chunks_mut(16) {
-        counter += 1;
+        counter = counter.wrapping_add(1);
         let stream = encrypted(key, &counter_block(nonce, counter));
         'bytes: for (i, byte) in chunk.iter_mut().enumerate().take(16) {
             *byte ^= stream[i];
