@@ -10,7 +10,7 @@ use Rattle.std.proofs.lemmas.Simd.{get_or-zip2}
 use Rattle.std.proofs.Math.Nat.{mul_assoc, add-mul}
 use Rattle.std.proofs.lemmas.Nat.{pow-add, shl_below, shr-shr, and_mask, xor_block}
 use Rattle.cookie_crypt.specs.Bytes.{IsBytes}
-use Rattle.cookie_crypt.specs.Code.{row, column, columns, summed}
+use Rattle.cookie_crypt.specs.Code.{row, column, columns}
 use Rattle.cookie_crypt.specs.Gcm.{number_of, bytes_of}
 use Rattle.cookie_crypt.specs.Lanes.{entry, looked_up}
 use Rattle.cookie_crypt.proofs.BytesLemmas.{bytes_made, bytes_number}
@@ -318,6 +318,11 @@ number_of-moved_zero bytes p long =
     number_of-moved (replicate 16 0) bytes long (no_lane-lt 16 15) (p 15) ∙ omega (arith, no_number)
 
 -- ---- the columns, from the last to the first
+
+-- what is summed after n columns
+unfoldable pub summed : (ℕ → ℕ) → ℕ → ℕ
+summed f zero = 0
+summed f (suc n) = bit_xor (times_power 8 (summed f n)) (f (15 - n))
 
 pub summed-next : (f : ℕ → ℕ) (n : ℕ) → bit_xor (times_power 8 (summed f n)) (f (15 - n)) ≡ summed f (n + 1)
 unfolding summed

@@ -1,7 +1,7 @@
 //! Products in the field of GCM (SP 800-38D, 6.3), by look-ups of sixteen bytes at a time.
-ghost use Rattle.std.specs.Prelude.{◌≡◌, ◌<◌, ◌≤◌, ◌+◌, ◌^◌, ℕ};
+ghost use Rattle.std.specs.Prelude.{◌≡◌, ◌<◌, ◌^◌, ℕ};
 ghost use Rattle.cookie_crypt.specs.BlockField.{times_power, field_product};
-ghost use Rattle.cookie_crypt.specs.Code.{rows, columns, found, AreHalves};
+ghost use Rattle.cookie_crypt.specs.Code.{rows, columns};
 
 use crate::block::{bytes_of, number_of};
 use crate::block_field::{product_below, times_x_to_the_fourth};
@@ -49,57 +49,20 @@ fn columns(h: u128) -> [[u8; 16]; 16]
     columns
 }
 
-// What the next column adds: what is summed moves one byte on, from the first half into the second.
-#[inline(always)]
-fn step(
-    upper: &[[u8; 16]; 16],
-    lower: &[[u8; 16]; 16],
-    bytes: u8x16,
-    done: usize,
-    halves: (u8x16, u8x16),
-) -> (u8x16, u8x16)
-    requires begun { 1 ≤ done }
-    requires more { done < 16 }
-    ensures { AreHalves (found upper.now lower.now bytes) done halves.0 halves.1
-        → AreHalves (found upper.now lower.now bytes) (done + 1) result.0 result.1 }
-{
-    let (first, rest) = halves;
-    let column = two_looked_up(upper[15 - done], lower[15 - done], bytes);
-    let sum = added(moved(u8x16::splat(0), first), column);
-    (sum, moved(first, rest))
-}
-
-#[inline(always)]
-fn five_steps(
-    upper: &[[u8; 16]; 16],
-    lower: &[[u8; 16]; 16],
-    bytes: u8x16,
-    done: usize,
-    halves: (u8x16, u8x16),
-) -> (u8x16, u8x16)
-    requires begun { 1 ≤ done }
-    requires more { done < 12 }
-    ensures { AreHalves (found upper.now lower.now bytes) done halves.0 halves.1
-        → AreHalves (found upper.now lower.now bytes) (done + 5) result.0 result.1 }
-{
-    let halves = step(upper, lower, bytes, done, halves);
-    let halves = step(upper, lower, bytes, done + 1, halves);
-    let halves = step(upper, lower, bytes, done + 2, halves);
-    let halves = step(upper, lower, bytes, done + 3, halves);
-    step(upper, lower, bytes, done + 4, halves)
-}
-
 // The product of a block and the one whose columns are handed in. Byte `b` of what a byte of the block adds is looked up
-// for all sixteen at once, from the last `b` to the first.
+// for all sixteen at once. From the last `b` to the first, what has been summed moves one byte on, from `first` into `rest`.
 fn product(upper: &[[u8; 16]; 16], lower: &[[u8; 16]; 16], block: u128) -> u128
     ensures { (h : ℕ) → h < 2 ^ 128 → upper.now ≡ columns h → lower.now ≡ columns (times_power 4 h)
         → result ≡ field_product block h }
 {
     let bytes = u8x16::from_array(bytes_of(block));
-    let last = two_looked_up(upper[15], lower[15], bytes);
-    let halves = five_steps(upper, lower, bytes, 1, (last, u8x16::splat(0)));
-    let halves = five_steps(upper, lower, bytes, 6, halves);
-    let (first, rest) = five_steps(upper, lower, bytes, 11, halves);
+    let mut first = two_looked_up(upper[15], lower[15], bytes);
+    let mut rest = u8x16::splat(0);
+    for done in 1..16usize {
+        rest = moved(first, rest);
+        let column = two_looked_up(upper[15 - done], lower[15 - done], bytes);
+        first = added(moved(u8x16::splat(0), first), column);
+    }
     let fallen = number_of(rest.to_array());
     number_of(first.to_array()) ^ fallen ^ (fallen >> 1) ^ (fallen >> 2) ^ (fallen >> 7)
 }

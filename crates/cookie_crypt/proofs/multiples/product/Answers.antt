@@ -1,31 +1,57 @@
-use Rattle.std.proofs.Common.{ℕ, ◌/◌, List, refl, ap, sym, ◌∙◌, arith, bit_xor}
+use Rattle.std.proofs.Common.{◌≡◌, ℕ, ◌/◌, List, [], slice_index, get_or, refl, ap, sym, ◌∙◌, arith, bit_xor}
 use Rattle.std.specs.Int.Bits.{xor_zero_r}
 use Rattle.cookie_crypt.specs.BlockField.{times_power}
-use Rattle.cookie_crypt.specs.Code.{found, summed, AreHalves}
 use Rattle.cookie_crypt.specs.Gcm.{number_of}
+use Rattle.cookie_crypt.specs.Lanes.{looked_up}
 use Rattle.cookie_crypt.proofs.ProductLemmas.{times_power-zero}
-use Rattle.cookie_crypt.proofs.ColumnLemmas.{no_lane, no_lane-lt, no_number, summed-one, folded_sum, product_by_columns}
+use Rattle.cookie_crypt.proofs.ColumnLemmas.{no_lane, no_lane-lt, no_number, summed, summed-one, number_of-moved, number_of-moved_zero, ends_moved, step_sum, folded_sum, product_by_columns}
 use Rattle.cookie_crypt.proofs.multiples.product.Goals as goal
+
+-- the number that the look-ups give for byte b
+abbrev found : List (List ℕ) → List (List ℕ) → List ℕ → ℕ → ℕ
+found upper lower bytes b = number_of (looked_up (get_or upper b []) (get_or lower b []) bytes)
+
+pub loop-done-init : goal.loop-done-init
+loop-done-init c =
+    let begun = c.two_looked_up-first.ensures in
+    let first : List ℕ = c.two_looked_up-first.result in
+    record {
+      first_lanes = begun.lanes;
+      rest_lanes = (refl, no_lane-lt 16);
+      rest_ends = λ k h. no_lane 16 k;
+      sum_is =
+          ap (λ x. bit_xor (number_of first) (times_power 128 x)) no_number ∙ ap (bit_xor (number_of first)) (times_power-zero 128) ∙ xor_zero_r (number_of first)
+          ∙ ap number_of begun.value ∙ sym (summed-one (found c.args.upper.now c.args.lower.now c.bytes_of-bytes.result));
+    }
+
+pub loop-done-preserved : goal.loop-done-preserved
+loop-done-preserved c =
+    let before = c.loop-done.invariant in
+    let first : List ℕ = c.loop-done.first in
+    let rest : List ℕ = c.loop-done.rest in
+    let done : ℕ = c.loop-done.done in
+    record {
+      first_lanes = c.added-first.ensures.lanes;
+      rest_lanes = c.moved-rest.ensures.lanes;
+      rest_ends = λ k h. ap (λ l. slice_index l k) c.moved-rest.ensures.value ∙ ends_moved (slice_index first 15) rest done (omega arith) before.rest_ends k h;
+      sum_is =
+          step_sum (found c.args.upper.now c.args.lower.now c.bytes_of-bytes.result) first rest c.two_looked_up-column.result _ _ done before.rest_lanes.1 (before.rest_ends 15 (omega arith))
+          (c.added-first.ensures.value
+          ∙ ap (λ x. bit_xor x (number_of c.two_looked_up-column.result)) (ap number_of c.moved.ensures.value ∙ number_of-moved_zero first before.first_lanes.1 before.first_lanes.0))
+          (ap number_of c.moved-rest.ensures.value ∙ number_of-moved first rest before.rest_lanes.0 (before.first_lanes.1 15) (before.rest_lanes.1 15))
+          (ap number_of c.two_looked_up-column.ensures.value)
+          before.sum_is;
+    }
 
 pub returns : goal.returns
 returns c = λ h p q r.
     let upper : List (List ℕ) = c.args.upper.now in
     let lower : List (List ℕ) = c.args.lower.now in
-    let one : List ℕ = c.two_looked_up-last.result in
-    let begun : AreHalves (found upper lower c.bytes_of-bytes.result) 1 one _ = record {
-      first_lanes = c.two_looked_up-last.ensures.lanes;
-      rest_lanes = (refl, no_lane-lt 16);
-      rest_ends = λ k h. no_lane 16 k;
-      sum_is =
-          ap (λ x. bit_xor (number_of one) (times_power 128 x)) no_number ∙ ap (bit_xor (number_of one)) (times_power-zero 128) ∙ xor_zero_r (number_of one)
-          ∙ ap number_of c.two_looked_up-last.ensures.value ∙ sym (summed-one (found upper lower c.bytes_of-bytes.result));
-    } in
-    let last = c.five_steps.ensures (c.five_steps-halves-2.ensures (c.five_steps-halves.ensures begun)) in
-    let first : List ℕ = c.five_steps.result.0 in
-    let rest : List ℕ = c.five_steps.result.1 in
+    let last = c.loop-done.invariant in
+    let all : c.loop-done.done ≡ 16 = omega arith in
     ap (λ x. bit_xor (bit_xor (bit_xor (bit_xor c.number_of.result x) (x / 2)) (x / 4)) (x / 128)) c.number_of-fallen.ensures
-    ∙ ap (λ x. bit_xor (bit_xor (bit_xor (bit_xor x (number_of rest)) (number_of rest / 2)) (number_of rest / 4)) (number_of rest / 128)) c.number_of.ensures
-    ∙ folded_sum (number_of first) rest last.rest_lanes.1 (last.rest_ends 15 (omega arith))
-    ∙ last.sum_is
+    ∙ ap (λ x. bit_xor (bit_xor (bit_xor (bit_xor x (number_of c.loop-done.rest)) (number_of c.loop-done.rest / 2)) (number_of c.loop-done.rest / 4)) (number_of c.loop-done.rest / 128)) c.number_of.ensures
+    ∙ folded_sum (number_of c.loop-done.first) c.loop-done.rest last.rest_lanes.1 (last.rest_ends 15 (omega arith))
+    ∙ last.sum_is ∙ ap (summed (found upper lower c.bytes_of-bytes.result)) all
     ∙ ap (λ bs. summed (found upper lower bs) 16) c.bytes_of-bytes.ensures
     ∙ product_by_columns upper lower c.args.block h c.ranges.block.fits p q r
