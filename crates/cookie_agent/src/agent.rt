@@ -54,7 +54,7 @@ impl Agent {
     ///
     /// A cookie whose domain the site may set takes the place of the one with its name, domain and path, or comes last,
     /// as it stands there, with nothing decoded; what is expired is dropped, so a cookie that is expired drops the one in
-    /// whose place it comes. After an error, which is want of memory alone, the agent is as before.
+    /// whose place it comes. Fails with `AgentError::OutOfMemory` alone, and then the agent is as before.
     pub fn read(&mut self, site: &Site, text: &str, now: DateTime) -> Result<bool, AgentError>
         ensures gives { Gives OutOfMemory result (λ is_cookie.
             (self.new ≡ after_text standard_key site.now now text.now self.old)
@@ -99,7 +99,7 @@ impl Agent {
     }
 
     /// The value of the `Cookie` header of a request to the site at a moment in UTC (RFC 6265 5.4): longer paths first,
-    /// and the earlier creation first among equals.
+    /// and the earlier creation first among equals. Fails with `AgentError::OutOfMemory` alone.
     pub fn header(&self, site: &Site, now: DateTime) -> Result<String, AgentError>
         ensures { Gives OutOfMemory result (λ header.
             IsOrderedHeader site.now now self.now (string_bytes header)) }
@@ -109,7 +109,7 @@ impl Agent {
         Ok(joined_pairs(self.alloc, &sent)?)
     }
 
-    /// A user agent that stores the same.
+    /// A user agent that stores the same. Fails with `AgentError::OutOfMemory` alone.
     pub fn clone(&self) -> Result<Agent, AgentError>
         ensures { Gives OutOfMemory result (λ made. made ≡ self.now) }
     {

@@ -54,3 +54,13 @@ impl From<ClientError> for AgentError {
         AgentError::OutOfMemory
     }
 }
+
+impl From<AgentError> for cookie::Error {
+    ghost use Rattle.cookie.specs.declared.error.Error.TheVariants.{OutOfMemory};
+
+    ghost from_gives = { λ _ e. e ≡ OutOfMemory };
+
+    fn from(_error: AgentError) -> cookie::Error {
+        cookie::Error::OutOfMemory
+    }
+}

@@ -8,7 +8,7 @@ use jiff::civil::DateTime;
 pub struct AgentRequest<'a, 'k> {
     /// Where it goes.
     pub site: &'a Site,
-    /// The calls on its jar.
+    /// The calls on its jar, in the order in which they are made.
     pub calls: &'a [JarCall<'k>],
     /// When it is made and answered, in UTC.
     pub moment: DateTime,

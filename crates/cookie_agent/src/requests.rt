@@ -21,7 +21,8 @@ use std::alloc::Global;
 /// Each request sends the agent's header. Its jar is new, with the header's cookies, split and decoded, as its
 /// originals; the calls are made on it as by `replay`; and the encoded texts of its delta come back as the response,
 /// which the agent reads. The text that is read as the i-th is number `pick[i]` of those that are left, modulo their
-/// count, or number 0 where `pick` has ended. It fails for want of memory alone, where that is wanted outside the calls.
+/// count, or number 0 where `pick` has ended. It fails with `AgentError::OutOfMemory` alone, where memory is wanted
+/// outside the calls.
 pub fn visits(
     alloc: Global,
     requests: &[AgentRequest<'_, '_>],

@@ -44,7 +44,8 @@ impl Model for Site {
 
 impl Site {
     /// The site of a host name, without its port, and of a request's path, without its query. The host is taken in
-    /// lower case; a path that doesn't begin with `/` gets one, so an empty one is `/`. It fails for want of memory alone.
+    /// lower case; a path that doesn't begin with `/` gets one, so an empty one is `/`. Fails with
+    /// `AgentError::OutOfMemory` alone.
     pub fn new(alloc: Global, host: &str, path: &str, is_secure: bool) -> Result<Site, AgentError>
         ensures { Gives OutOfMemory result (λ site.
             site ≡ site_of host.now false path.now is_secure) }
@@ -52,7 +53,8 @@ impl Site {
         Site::made(alloc, host, false, path, is_secure)
     }
 
-    /// The same of a host that is an IP address, which no domain but itself matches (RFC 6265 5.1.3).
+    /// The same of a host that is an IP address, which no domain but itself matches (RFC 6265 5.1.3). Fails with
+    /// `AgentError::OutOfMemory` alone.
     pub fn of_address(
         alloc: Global,
         host: &str,
@@ -105,7 +107,8 @@ impl Site {
     }
 
     /// The scope of a cookie with this path and this domain that is set or removed at the site, if it may have that
-    /// domain (RFC 6265 5.3). An empty domain counts as none.
+    /// domain, and else `None` (RFC 6265 5.3). An empty domain counts as none. Fails with `AgentError::OutOfMemory`
+    /// alone.
     pub fn scope(
         &self,
         alloc: Global,
@@ -125,7 +128,8 @@ impl Site {
     }
 
     /// The whole host of the site and no other, which is the scope of each cookie with the path `/` and without a domain,
-    /// and so of all that a jar with the prefix `__Host-` stores and removes (RFC 6265bis 4.1.3).
+    /// and so of all that a jar with the prefix `__Host-` stores and removes (RFC 6265bis 4.1.3). Fails with
+    /// `AgentError::OutOfMemory` alone.
     pub fn host_scope(&self, alloc: Global) -> Result<Scope, AgentError>
         ensures { Gives OutOfMemory result (λ scope. scope ≡ host_scope self.now) }
     {
