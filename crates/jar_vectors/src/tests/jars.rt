@@ -292,3 +292,16 @@ fn refusals_are_named(rt: HostRuntime) -> Result<(), Fail> {
     }
     Ok(())
 }
+
+// The text is that of a derived `Debug` of Rust, at structs with these fields.
+#[test]
+fn a_jar_is_shown_with_its_values(rt: HostRuntime) -> Result<(), Fail> {
+    let jar = after(
+        rt.alloc(),
+        &[Step::AddOriginal("o", "1"), Step::Add("d", "2")],
+    )?;
+    let shown =
+        "CookieJar { originals: {\"o\": Original { cookie: Cookie { name: \"o\", value: \"1\", http_only: None, secure: None, partitioned: None, same_site: None, path: None, domain: None, max_age: None, expires: None } }}, delta: {\"d\": DeltaCookie { cookie: Cookie { name: \"d\", value: \"2\", http_only: None, secure: None, partitioned: None, same_site: None, path: None, domain: None, max_age: None, expires: None }, removed: false }} }";
+    assert_eq!(rt; format!(in rt.alloc(); "{jar:?}")?.as_str(), shown);
+    Ok(())
+}

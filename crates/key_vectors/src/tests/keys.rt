@@ -1,6 +1,6 @@
 //! Keys: their halves, their refusals, their derivation, and their draws.
 use super::generators::{Counting, Failing};
-use cookie::{Key, KeyError};
+use cookie::{Error, JarError, Key, KeyError, ParseError};
 use std::test::Fail;
 
 // The bytes from 0 up, so many.
@@ -178,5 +178,30 @@ fn a_clone_is_the_same_key(rt: HostRuntime) -> Result<(), Fail> {
 fn debug_does_not_leak_key(rt: HostRuntime) -> Result<(), Fail> {
     let key = Key::generate(&mut Counting(0));
     assert_eq!(rt; format!(in rt.alloc(); "{key:?}")?.as_str(), "Key");
+    Ok(())
+}
+
+// The texts are those of the crate's errors, and `out of memory`.
+#[test]
+fn one_error_tells_of_each(rt: HostRuntime) -> Result<(), Fail> {
+    for (error, wanted) in [
+        (
+            Error::from(ParseError::EmptyName),
+            "the cookie's name is empty",
+        ),
+        (
+            Error::from(KeyError::TooShort(6)),
+            "key material is too short: expected >= 64 bytes, got 6 bytes",
+        ),
+        (
+            Error::from(JarError::TooLong),
+            "the value or name is too long to seal",
+        ),
+        (Error::from(ParseError::OutOfMemory), "out of memory"),
+        (Error::from(JarError::OutOfMemory), "out of memory"),
+    ] {
+        assert_eq!(rt; error.to_string(rt.alloc())?.as_str(), wanted);
+        assert_eq!(rt; error == Error::OutOfMemory, wanted == "out of memory");
+    }
     Ok(())
 }
