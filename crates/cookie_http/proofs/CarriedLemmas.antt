@@ -1,0 +1,82 @@
+-- The agreement of a client and a jar, carried over header maps.
+use Rattle.std.proofs.Common.{◌≡◌, ℕ, true, false, cond, codes, List, [], ◌∷◌, map, All, Contains, None, Some, refl, sym, ap, subst, ◌∙◌}
+use Rattle.std.proofs.lemmas.List.{append-nil}
+use Rattle.std.proofs.lemmas.List.Elements.{All-contains, All-weaker}
+use Rattle.std.proofs.lemmas.Str.{is_utf8-from_IsUtf8}
+use Rattle.std.specs.FinMap.{FinMap, entries, get, get-empty}
+use Rattle.std.specs.Str.{IsUtf8}
+use Rattle.jiff.specs.Types.{DateTime}
+use Rattle.http_header.specs.FieldValue.{plain_value}
+use Rattle.cookie.specs.CookieOf.{cookie_of}
+use Rattle.cookie.specs.Header.{header_texts, joined_texts}
+use Rattle.cookie.specs.History.{is_forced}
+use Rattle.cookie.specs.Jar.{Marked, Name, empty_jar, name_cmp, overlay, view}
+use Rattle.cookie.specs.Record.{plain}
+use Rattle.cookie.specs.Text.{cookie_text}
+use Rattle.cookie_client.specs.Agreement.{AreDeltaTexts, HoldsOriginals, IsDeltaText, value_of}
+use Rattle.cookie_client.specs.Calls.{IsFitCall}
+use Rattle.cookie_client.specs.Client.{Values, header_text}
+use Rattle.cookie_client.specs.Exchange.{IsExchange, accepted_calls, changes_by}
+use Rattle.cookie_client.specs.Originals.{holds_originals, jar_for}
+use Rattle.cookie_client.specs.Steps.{IsHeaderOf}
+use Rattle.cookie_client.specs.declared.call.JarCall.{JarCall}
+use Rattle.cookie_client.proofs.DeltaTextLemmas.{AreDeltaTexts-walk}
+use Rattle.cookie_client.proofs.RoundLemmas.{fresh, held_again, holds_header, told}
+use Rattle.cookie_http.specs.Carried.{AreSameTexts, IsCarried}
+use Rattle.cookie_http.specs.Fields.{cookie_header, set_cookie_texts}
+use Rattle.cookie_http.specs.Response.{AddsDelta}
+use Rattle.cookie_http.specs.declared.carried.Exchanged.{Exchanged}
+use Rattle.cookie_http.proofs.FieldTextLemmas.{IsUtf8-header_text}
+
+-- texts that are the same are those of one delta
+AreDeltaTexts-same : (delta : FinMap name_cmp Marked) (texts others : List (List ℕ)) → AreSameTexts texts others → AreDeltaTexts delta texts → AreDeltaTexts delta others
+AreDeltaTexts-same delta texts others same are =
+    record {
+      each = λ name entry e. All-contains (Contains others) texts (cookie_text true false entry.cookie) same.0 (are.each name entry e);
+      only = All-weaker (Contains texts) (IsDeltaText delta) (λ text inside. All-contains (IsDeltaText delta) texts text are.only inside) others same.1;
+    }
+
+-- the header of a request with one field
+one_field : (header : List ℕ) → IsUtf8 header → cookie_header ((codes "cookie", plain_value header ∷ []) ∷ []) ≡ header
+one_field header utf8 = ap (λ b. joined_texts (cond b (header ∷ []) [])) (is_utf8-from_IsUtf8 header utf8) ∙ append-nil header
+
+-- the jar for a client's header shows what the client holds
+shown : (client : Values) (header : List ℕ) → IsHeaderOf client header → (name : Name) → value_of (view (jar_for header) name) ≡ get client name
+shown client header is name =
+    let original = get (jar_for header).originals name in
+    ap (λ d. value_of (overlay (get d name) original)) (fresh header)
+    ∙ ap (λ e. value_of (overlay e original)) (get-empty name_cmp name)
+    ∙ sym (holds_header header name)
+    ∙ ap (λ c. get c name) (held_again client header is)
+
+-- what the client's header reads back as
+abbrev pub ReadsBack : Values → Type 0
+ReadsBack client = get client [] ≡ None
+    → map (cookie_of true) (header_texts (header_text client)) ≡ map (λ pair. Some (plain pair.0 pair.1)) (entries client)
+
+module _ (now : DateTime) (calls : List JarCall) (e : Exchanged) where
+  pub carried : IsExchange now empty_jar (holds_originals (changes_by calls e.played)) calls e.played
+      → HoldsOriginals now (changes_by calls e.played) e.played.jar
+      → (All (IsFitCall now) (accepted_calls calls e.played) → (name : Name) → is_forced name (changes_by calls e.played) ≡ false → get e.played.client name ≡ value_of (view e.played.jar name))
+      → AddsDelta e.played.jar.delta [] e.response
+      → e.request ≡ (codes "cookie", plain_value (header_text e.played.client) ∷ []) ∷ []
+      → e.next ≡ jar_for (cookie_header e.request)
+      → ReadsBack e.played.client
+      → IsCarried now calls e
+  carried exchange held agrees response request next read =
+      let delta = e.played.jar.delta in
+      let client = e.played.client in
+      let header = header_text client in
+      let are : AreDeltaTexts delta (set_cookie_texts e.response) =
+      subst (AreDeltaTexts delta) (sym response.read) (AreDeltaTexts-walk delta response.cookies response.are) in
+      record {
+        exchange = exchange;
+        response = response;
+        reads = λ texts same. exchange.agreement.in_any_order texts (AreDeltaTexts-same delta (set_cookie_texts e.response) texts same are);
+        agrees = agrees;
+        request = request;
+        next = λ fits name.
+            let is : IsHeaderOf client header = told client header (exchange.agreement.named (held.named (exchange.fit fits))) refl read in
+            ap (λ jar. value_of (view jar name)) (next ∙ ap jar_for (ap cookie_header request ∙ one_field header (IsUtf8-header_text client)))
+            ∙ shown client header is name;
+      }

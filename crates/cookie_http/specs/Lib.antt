@@ -1,0 +1,4 @@
+pub mod Carried
+pub mod Fields
+pub mod HttpError
+pub mod Response

@@ -1,0 +1,44 @@
+-- The `Set-Cookie` fields that a response gets of a jar's delta (RFC 6265 3, RFC 9110 5.5).
+use Rattle.std.specs.Prelude.{◌≡◌, ◌≤◌, ◌+◌, ◌^◌, ◌⊎◌, ◌++◌, ℕ, true, false, List, map, length, codes, Some, option_map, IfSome}
+use Rattle.std.specs.FinMap.{FinMap, get}
+use Rattle.http_header.specs.FieldValue.{FieldValue, IsFieldValue, plain_value}
+use Rattle.http_header.specs.HeaderMap.{Entries, ContainsKey, append_all, value_count}
+use Rattle.cookie.specs.Jar.{Name, name_cmp, Marked}
+use Rattle.cookie.specs.Record.{Record}
+use Rattle.cookie.specs.Text.{cookie_text}
+use Rattle.cookie.specs.Walk.{Walks}
+use Rattle.cookie_http.specs.Fields.{set_cookie_texts}
+
+-- the map with a `Set-Cookie` field for each text, in order, behind those that it has
+abbrev pub with_set_cookies : List (List ℕ) → Entries FieldValue → Entries FieldValue
+with_set_cookies texts m = append_all m (map (λ text. (codes "set-cookie", plain_value text)) texts)
+
+-- the cookies of a delta, each once, in any order
+abbrev pub WalksDelta : FinMap name_cmp Marked → List Record → Type 0
+WalksDelta delta cookies = Walks (λ name. option_map (λ entry. entry.cookie) (get delta name)) cookies
+
+-- the second map is the first with one more `Set-Cookie` field for each cookie of the delta
+pub record AddsDelta (delta : FinMap name_cmp Marked) (old new : Entries FieldValue) : Type 0 where
+  pub cookies : List Record
+  pub are : WalksDelta delta cookies
+  -- its encoded text
+  pub fields : new ≡ with_set_cookies (map (cookie_text true false) cookies) old
+  -- which a client reads
+  pub read : set_cookie_texts new ≡ set_cookie_texts old ++ map (cookie_text true false) cookies
+
+-- the cookie's path and domain hold only bytes that a field value may hold: no CR, LF or NUL (RFC 9110 5.5)
+pub record FitsField (cookie : Record) : Type 0 where
+  pub path : IfSome cookie.path IsFieldValue
+  pub domain : IfSome cookie.domain IsFieldValue
+
+-- each cookie of the delta does
+abbrev pub AllFitFields : FinMap name_cmp Marked → Type 0
+AllFitFields delta = (name : Name) (entry : Marked) → get delta name ≡ Some entry → FitsField entry.cookie
+
+-- the map has as many names as it can count, and no `Set-Cookie` field, or it can't count so many more values
+abbrev pub LacksRoom : ℕ → Entries FieldValue → Type 0
+LacksRoom n m = (¬ (ContainsKey m (codes "set-cookie")) × (24576 ≤ length m)) ⊎ (2 ^ 64 ≤ value_count m + n)
+
+-- it has no room for the cookies of the delta
+abbrev pub LacksRoomFor : FinMap name_cmp Marked → Entries FieldValue → Type 0
+LacksRoomFor delta m = (cookies : List Record) × WalksDelta delta cookies × LacksRoom (length cookies) m

@@ -1,0 +1,46 @@
+//! A jar's response, and the request of the client that read it.
+ghost use Rattle.std.specs.Prelude.{IfOk};
+ghost use Rattle.cookie_http.specs.Carried.{IsCarried};
+
+use crate::client::cookie_of_client;
+use crate::http_error::HttpError;
+use crate::request::jar_from_headers;
+use crate::response::append_delta;
+use cookie::CookieJar;
+use cookie_client::{JarCall, Played, mirror};
+use http_header::HeaderMap;
+use jiff::civil::DateTime;
+use std::alloc::Global;
+
+/// What came of calls on a jar over header maps.
+#[derive(Drop)]
+pub struct Exchanged {
+    /// The jar after the calls, and the client that read the response.
+    pub played: Played,
+    /// The response: a `Set-Cookie` field for each cookie of the jar's delta.
+    pub response: HeaderMap,
+    /// The client's next request: one `Cookie` field.
+    pub request: HeaderMap,
+    /// The jar of that request.
+    pub next: CookieJar,
+}
+
+/// Makes the calls on a new jar, as `mirror` does, and carries them over header maps: the delta to the `Set-Cookie`
+/// fields of a response, which a client reads that held each name's last original, and what it then sends to the jar
+/// of its next request. `now` is in UTC.
+pub fn exchange(alloc: Global, calls: &[JarCall<'_>], now: DateTime) -> Result<Exchanged, HttpError>
+    ensures { IfOk result (IsCarried now calls.now) }
+{
+    let played = mirror(alloc, calls, &[], now)?;
+    let mut response = HeaderMap::new(alloc);
+    append_delta(alloc, &played.jar, &mut response)?;
+    let mut request = HeaderMap::new(alloc);
+    request.append("cookie", cookie_of_client(&played.client)?)?;
+    let next = jar_from_headers(alloc, &request)?;
+    Ok(Exchanged {
+        played,
+        response,
+        request,
+        next,
+    })
+}

@@ -1,0 +1,31 @@
+//! A removal that a browser obeys (RFC 6265 5.3, step 11).
+ghost use Rattle.std.specs.Prelude.{◌≡◌, OnErr};
+ghost use Rattle.cookie.specs.Jar.{Remove, after};
+ghost use Rattle.cookie.specs.Memory.{Gives};
+ghost use Rattle.cookie.specs.Removal.{removal};
+ghost use Rattle.cookie.specs.declared.jar_error.JarError.TheVariants as refusal;
+
+use cookie::{Cookie, CookieJar, JarError};
+use jiff::civil::DateTime;
+use std::alloc::Global;
+
+/// Removes a cookie as it was set: where the request had a cookie of that name, the client is told to drop it with the
+/// path and the domain of `set`, without which a browser drops another cookie or none. `now` is in UTC.
+///
+/// A request tells neither path nor domain, so hand in the cookie as the server sets it. It fails for want of memory
+/// alone, and then leaves the jar as it was.
+pub fn remove_as_set(
+    alloc: Global,
+    jar: &mut CookieJar,
+    set: &Cookie<'static>,
+    now: DateTime,
+) -> Result<(), JarError>
+    ensures gives { Gives refusal.OutOfMemory result (λ _.
+        jar.new ≡ after (Remove set.now.fields now) jar.old) }
+    ensures path { (removal now set.now.fields).path ≡ set.now.fields.path }
+    ensures domain { (removal now set.now.fields).domain ≡ set.now.fields.domain }
+    ensures err { OnErr result (jar.new ≡ jar.old) }
+{
+    jar.remove(set.clone(alloc)?, now)?;
+    Ok(())
+}
