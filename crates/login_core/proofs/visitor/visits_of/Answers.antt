@@ -1,0 +1,14 @@
+use Rattle.std.proofs.Common.{◌≡◌, Some, ap, sym, ◌∙◌, option_map, string_bytes}
+use Rattle.std.proofs.lemmas.Option.{none-some, same_Some}
+use Rattle.std.specs.Fmt.{decimal}
+use Rattle.login_core.proofs.visitor.visits_of.Goals as goal
+
+pub returns-in-Some : goal.returns-in-Some
+returns-in-Some c before fits has =
+    let shown : Some (string_bytes c.in-Some.text) ≡ Some (decimal before) =
+    sym (ap (option_map string_bytes) c.in-Some.is) ∙ (c.in_ok-text.ensures (decimal before)).1 has in
+    c.one_more.ensures before fits (c.as_str.ensures.value ∙ same_Some _ _ shown)
+
+pub returns-in-None : goal.returns-in-None
+returns-in-None c before fits has =
+    absurd (none-some (decimal before) (sym (ap (option_map string_bytes) c.in-None.is) ∙ (c.in_ok-text.ensures (decimal before)).1 has))

@@ -1,0 +1,57 @@
+-- What the site answers a request.
+use Rattle.std.specs.Prelude.{◌≡◌, ℕ, List, Option, Some, None, Result, Ok, Err}
+use Rattle.std.specs.Bool.{MatchBool}
+use Rattle.jiff.specs.Types.{DateTime}
+use Rattle.cookie.specs.Jar.{JarState}
+use Rattle.cookie.specs.Sealing.{IsNonce}
+use Rattle.cookie_client.specs.Originals.{jar_for}
+use Rattle.login_core.specs.Changes.{logged_in, logged_out, shown}
+use Rattle.login_core.specs.Forms.{credentials_of}
+use Rattle.login_core.specs.Routes.{route_of}
+use Rattle.login_core.specs.Users.{is_known}
+use Rattle.login_core.specs.Visitors.{IsLoggedIn, IsVisitor}
+use Rattle.login_core.specs.declared.page.Page.{Page}
+use Rattle.login_core.specs.declared.page.Page.TheVariants.{Home as ShowHome, Moved, Refused}
+use Rattle.login_core.specs.declared.refusal.Refusal.{Refusal}
+use Rattle.login_core.specs.declared.refusal.Refusal.TheVariants.{BadRequest, Forbidden}
+use Rattle.login_core.specs.declared.request.Request.{Request}
+use Rattle.login_core.specs.declared.routes.Route.{Route}
+use Rattle.login_core.specs.declared.routes.Route.TheVariants.{Home, LogIn, LogOut}
+use Rattle.login_core.specs.declared.site.Site.{Site}
+use Rattle.login_core.specs.declared.visitor.Visitor.{Visitor}
+
+-- the request asks for the home page, and carries a cookie that is sealed for the user under the key
+abbrev pub IsGreeted : Site → Request → List ℕ → Type 0
+IsGreeted site request user =
+    (route_of request.method.now request.path.now ≡ Ok Home) × IsLoggedIn site (jar_for request.cookies.now) user
+
+-- the home page shows what the cookies say, and the jar is changed by that
+abbrev pub Shows : Site → DateTime → JarState → Page → JarState → Type 0
+Shows site now before page after =
+    (visitor : Visitor) × IsVisitor site before visitor × (page ≡ ShowHome visitor) × (after ≡ shown site now visitor before)
+
+-- the request is refused, and the jar stays
+abbrev pub Refuses : Refusal → JarState → Page → JarState → Type 0
+Refuses refusal before page after = (page ≡ Refused refusal) × (after ≡ before)
+
+-- the user is logged in under some nonce, and sent to the home page
+abbrev pub Admits : Site → List ℕ → JarState → Page → JarState → Type 0
+Admits site user before page after =
+    (nonce : List ℕ) × IsNonce nonce × (page ≡ Moved) × (after ≡ logged_in site nonce user before)
+
+-- a form to log in is answered: a user whose password is right is logged in
+abbrev pub LogsIn : Site → Option (List ℕ × List ℕ) → JarState → Page → JarState → Type 0
+LogsIn site None before page after = Refuses BadRequest before page after
+LogsIn site (Some (user, password)) before page after =
+    MatchBool (is_known user password site.users.now) (Admits site user before page after) (Refuses Forbidden before page after)
+
+-- the user is logged out, and sent to the home page
+abbrev pub LogsOut : Site → DateTime → JarState → Page → JarState → Type 0
+LogsOut site now before page after = (page ≡ Moved) × (after ≡ logged_out site now before)
+
+-- what the route of a request makes of the jar and shows
+abbrev pub Answers : Site → Request → DateTime → JarState → Result Route Refusal → Page → JarState → Type 0
+Answers site request now before (Ok Home) page after = Shows site now before page after
+Answers site request now before (Ok LogIn) page after = LogsIn site (credentials_of request.form.now) before page after
+Answers site request now before (Ok LogOut) page after = LogsOut site now before page after
+Answers site request now before (Err refusal) page after = Refuses refusal before page after

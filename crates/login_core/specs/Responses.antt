@@ -1,0 +1,39 @@
+-- The text of a response (RFC 3875 6.2.1).
+use Rattle.std.specs.Prelude.{ℕ, List, [], ◌++◌, codes, string_bytes}
+use Rattle.std.specs.List.{flat_map}
+use Rattle.login_core.specs.Html.{html_of}
+use Rattle.login_core.specs.declared.response.TheConstants.{FIELDS}
+use Rattle.login_core.specs.declared.page.Page.{Page}
+use Rattle.login_core.specs.declared.page.Page.TheVariants.{Home, Moved, Refused}
+use Rattle.login_core.specs.declared.refusal.Refusal.TheVariants.{BadRequest, Forbidden, NotFound, OnlyGet, OnlyPost}
+use Rattle.login_core.specs.declared.response.Response.{Response}
+
+-- the status (RFC 3875 6.3.3), and of a method that isn't answered those that are (RFC 9110 10.2.1)
+abbrev pub status_line : Page → List ℕ
+status_line (Home visitor) = codes "Status: 200 OK\r\n"
+status_line Moved = codes "Status: 303 See Other\r\n"
+status_line (Refused BadRequest) = codes "Status: 400 Bad Request\r\n"
+status_line (Refused Forbidden) = codes "Status: 403 Forbidden\r\n"
+status_line (Refused NotFound) = codes "Status: 404 Not Found\r\n"
+status_line (Refused OnlyGet) = codes "Status: 405 Method Not Allowed\r\nAllow: GET, HEAD\r\n"
+status_line (Refused OnlyPost) = codes "Status: 405 Method Not Allowed\r\nAllow: POST\r\n"
+
+-- where a browser is sent to (RFC 9110 10.2.2)
+abbrev pub place_line : List ℕ → Page → List ℕ
+place_line base (Home visitor) = []
+place_line base Moved = codes "Location: " ++ base ++ codes "/\r\n"
+place_line base (Refused refusal) = []
+
+-- the field of one cookie (RFC 6265 4.1.1)
+abbrev pub cookie_line : List ℕ → List ℕ
+cookie_line cookie = codes "Set-Cookie: " ++ cookie ++ codes "\r\n"
+
+-- the fields, of which each cookie has one, and the empty line
+abbrev pub head_of : List ℕ → Response → List ℕ
+head_of base response =
+    status_line response.page ++ place_line base response.page ++ FIELDS.now
+    ++ flat_map (λ c. cookie_line (string_bytes c)) response.cookies.items ++ codes "\r\n"
+
+-- the response
+abbrev pub text_of : List ℕ → Response → List ℕ
+text_of base response = head_of base response ++ html_of base response.page

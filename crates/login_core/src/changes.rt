@@ -1,0 +1,120 @@
+//! What a page changes in the jar.
+ghost use Rattle.std.specs.Prelude.{◌≡◌, ℕ, List, OnOk};
+ghost use Rattle.cookie.specs.Sealing.{IsNonce};
+ghost use Rattle.login_core.specs.Changes.{forgets, logged_in, logged_out, removes, seals, shown, signs};
+
+use crate::site::Site;
+use crate::site_cookie::SiteCookie;
+use crate::visitor::Visitor;
+use cookie::{CookieJar, JarError};
+use jiff::civil::DateTime;
+use rand_core::TryRng;
+use std::alloc::Global;
+
+/// Shows the home page: its message is dropped, so that it is shown once, and the number of greetings is stored.
+pub(crate) fn show(
+    alloc: Global,
+    site: &Site<'_>,
+    jar: &mut CookieJar,
+    visitor: &Visitor,
+    now: DateTime,
+) -> Result<(), JarError>
+    ensures { OnOk result (jar.new ≡ shown site.now now visitor.now jar.old) }
+{
+    if visitor.notice.is_some() {
+        remove(alloc, site, jar, SiteCookie::Notice, now)?;
+    }
+    if visitor.user.is_some() {
+        let visits = visitor.visits.to_string(alloc)?;
+        sign(alloc, site, jar, SiteCookie::Visits, visits.as_str())?;
+    }
+    Ok(())
+}
+
+/// Logs the user in.
+pub(crate) fn log_in<R: TryRng>(
+    alloc: Global,
+    site: &Site<'_>,
+    jar: &mut CookieJar,
+    user: &str,
+    rng: &mut R,
+) -> Result<(), JarError>
+    ensures { OnOk result ((nonce : List ℕ) × IsNonce nonce × R.may_fill rng.old nonce rng.new
+        × (jar.new ≡ logged_in site.now nonce user.now jar.old)) }
+{
+    seal(alloc, site, jar, user, rng)?;
+    sign(alloc, site, jar, SiteCookie::Notice, "You are logged in.")
+}
+
+/// Logs the user out: the client is told to drop the user and the number of greetings.
+pub(crate) fn log_out(
+    alloc: Global,
+    site: &Site<'_>,
+    jar: &mut CookieJar,
+    now: DateTime,
+) -> Result<(), JarError>
+    ensures { OnOk result (jar.new ≡ logged_out site.now now jar.old) }
+{
+    forget(alloc, site, jar, now)?;
+    sign(alloc, site, jar, SiteCookie::Notice, "You are logged out.")
+}
+
+// Removes the user and the number of greetings.
+fn forget(
+    alloc: Global,
+    site: &Site<'_>,
+    jar: &mut CookieJar,
+    now: DateTime,
+) -> Result<(), JarError>
+    ensures { OnOk result (jar.new ≡ forgets site.now now jar.old) }
+{
+    remove(alloc, site, jar, SiteCookie::User, now)?;
+    remove(alloc, site, jar, SiteCookie::Visits, now)
+}
+
+// Stores the user, sealed under the key.
+fn seal<R: TryRng>(
+    alloc: Global,
+    site: &Site<'_>,
+    jar: &mut CookieJar,
+    user: &str,
+    rng: &mut R,
+) -> Result<(), JarError>
+    ensures { OnOk result ((nonce : List ℕ) × IsNonce nonce × R.may_fill rng.old nonce rng.new
+        × (jar.new ≡ seals site.now nonce user.now jar.old)) }
+{
+    let cookie = SiteCookie::User.with_value(alloc, site.is_secure, user)?;
+    jar.private_mut(site.key).add(cookie, rng)?;
+    Ok(())
+}
+
+// Stores a text, signed under the key.
+fn sign(
+    alloc: Global,
+    site: &Site<'_>,
+    jar: &mut CookieJar,
+    which: SiteCookie,
+    text: &str,
+) -> Result<(), JarError>
+    ensures { OnOk result (jar.new ≡ signs site.now which text.now jar.old) }
+{
+    let cookie = which.with_value(alloc, site.is_secure, text)?;
+    jar.signed_mut(site.key).add(cookie)?;
+    Ok(())
+}
+
+// Removes a cookie as it was set, so that a browser obeys: one whose name begins with `__Host-` has to be secure there
+// too (RFC 6265bis 5.7).
+fn remove(
+    alloc: Global,
+    site: &Site<'_>,
+    jar: &mut CookieJar,
+    which: SiteCookie,
+    now: DateTime,
+) -> Result<(), JarError>
+    ensures { OnOk result (jar.new ≡ removes site.now now which jar.old) }
+{
+    let cookie = which.with_value(alloc, site.is_secure, "")?;
+    jar.remove(cookie, now)?;
+    Ok(())
+}

@@ -1,0 +1,146 @@
+//! What the site answers a request.
+ghost use Rattle.std.specs.Prelude.{◌≡◌, ◌↔◌, ℕ, List, IfOk, Some, map, string_bytes};
+ghost use Rattle.cookie.specs.Jar.{JarState};
+ghost use Rattle.cookie_client.specs.Agreement.{AreDeltaTexts};
+ghost use Rattle.cookie_client.specs.Originals.{jar_for};
+ghost use Rattle.login_core.specs.Answers.{Answers, IsGreeted, LogsIn, LogsOut, Shows};
+ghost use Rattle.login_core.specs.Forms.{credentials_of, pair_of};
+ghost use Rattle.login_core.specs.Pages.{greeted};
+ghost use Rattle.login_core.specs.Routes.{route_of};
+
+use crate::changes::{log_in, log_out, show};
+use crate::form::{Credentials, read_credentials};
+use crate::page::Page;
+use crate::refusal::Refusal;
+use crate::request::Request;
+use crate::response::Response;
+use crate::routes::{Route, find_route};
+use crate::site::Site;
+use crate::user::is_known;
+use crate::visitor::read_visitor;
+use cookie::{CookieJar, JarError};
+use cookie_client::{ClientError, delta_texts, with_originals};
+use jiff::civil::DateTime;
+use rand_core::TryRng;
+use std::alloc::Global;
+use std::hash::RandomState;
+
+/// Answers a request at the moment `now` in UTC. The keys of `state` were drawn, so that nobody can choose names that
+/// make the jar slow. `rng` must be a cryptographic generator.
+///
+/// Fails where memory or the generator failed, or the user's name is too long to be sealed.
+pub fn answer<R: TryRng>(
+    alloc: Global,
+    state: RandomState,
+    site: &Site<'_>,
+    request: &Request<'_>,
+    now: DateTime,
+    rng: &mut R,
+) -> Result<Response, JarError>
+    // A user is greeted exactly where the request carries a cookie that is sealed for that user under the key.
+    ensures greeted { IfOk result (λ response. (user : List ℕ)
+        → (greeted response.page ≡ Some user) ↔ IsGreeted site.now request.now user) }
+
+    // The page is the route's, and its `Set-Cookie` fields are the changes that the page makes.
+    ensures answers { IfOk result (λ response. (jar : JarState)
+        × Answers site.now request.now now (jar_for request.now.cookies.now)
+        (route_of request.now.method.now request.now.path.now) response.page jar
+        × AreDeltaTexts jar.delta (map string_bytes response.cookies.items)) }
+{
+    let mut jar = request_jar(alloc, state, request.cookies)?;
+    let page = decide(alloc, site, request, &mut jar, now, rng)?;
+    let cookies = delta_texts(alloc, &jar, &[])?;
+    Ok(Response { page, cookies })
+}
+
+// The jar of the request's cookies.
+fn request_jar(alloc: Global, state: RandomState, header: &str) -> Result<CookieJar, JarError>
+    ensures { IfOk result (λ jar. jar ≡ jar_for header.now) }
+{
+    match with_originals(alloc, CookieJar::with_hasher(alloc, state), header) {
+        Ok(jar) => Ok(jar),
+        Err(ClientError::OutOfMemory) => Err(JarError::OutOfMemory),
+    }
+}
+
+// The page, and what it changes.
+fn decide<R: TryRng>(
+    alloc: Global,
+    site: &Site<'_>,
+    request: &Request<'_>,
+    jar: &mut CookieJar,
+    now: DateTime,
+    rng: &mut R,
+) -> Result<Page, JarError>
+    ensures { IfOk result (λ page. Answers site.now request.now now jar.old
+        (route_of request.now.method.now request.now.path.now) page jar.new) }
+{
+    match find_route(request.method, request.path) {
+        Ok(Route::Home) => home(alloc, site, jar, now),
+        Ok(Route::LogIn) => enter(alloc, site, request.form, jar, rng),
+        Ok(Route::LogOut) => leave(alloc, site, jar, now),
+        Err(refusal) => Ok(Page::Refused(refusal)),
+    }
+}
+
+// The home page.
+fn home(
+    alloc: Global,
+    site: &Site<'_>,
+    jar: &mut CookieJar,
+    now: DateTime,
+) -> Result<Page, JarError>
+    ensures { IfOk result (λ page. Shows site.now now jar.old page jar.new) }
+{
+    let visitor = read_visitor(alloc, site, jar)?;
+    show(alloc, site, jar, &visitor, now)?;
+    Ok(Page::Home(visitor))
+}
+
+// What follows the form to log in.
+fn enter<R: TryRng>(
+    alloc: Global,
+    site: &Site<'_>,
+    form: &[u8],
+    jar: &mut CookieJar,
+    rng: &mut R,
+) -> Result<Page, JarError>
+    ensures { IfOk result (λ page. LogsIn site.now (credentials_of form.now) jar.old page jar.new) }
+{
+    match read_credentials(alloc, form)? {
+        Some(found) => admit(alloc, site, &found, jar, rng),
+        None => Ok(Page::Refused(Refusal::BadRequest)),
+    }
+}
+
+// Logs a user in whose password is right.
+fn admit<R: TryRng>(
+    alloc: Global,
+    site: &Site<'_>,
+    found: &Credentials,
+    jar: &mut CookieJar,
+    rng: &mut R,
+) -> Result<Page, JarError>
+    ensures { IfOk result (λ page.
+        LogsIn site.now (Some (pair_of found.now)) jar.old page jar.new) }
+{
+    let user = found.user.as_str();
+    if !is_known(site.users, user, found.password.as_str()) {
+        return Ok(Page::Refused(Refusal::Forbidden));
+    }
+    log_in(alloc, site, jar, user, rng)?;
+    Ok(Page::Moved)
+}
+
+// Logs the user out, if there is one.
+fn leave(
+    alloc: Global,
+    site: &Site<'_>,
+    jar: &mut CookieJar,
+    now: DateTime,
+) -> Result<Page, JarError>
+    ensures { IfOk result (λ page. LogsOut site.now now jar.old page jar.new) }
+{
+    log_out(alloc, site, jar, now)?;
+    Ok(Page::Moved)
+}

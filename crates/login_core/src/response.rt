@@ -1,0 +1,116 @@
+//! A response, and its text.
+ghost use Rattle.std.specs.Prelude.{◌≡◌, ◌++◌, IfOk, OnOk, string_bytes};
+ghost use Rattle.std.specs.List.{flat_map};
+ghost use Rattle.login_core.specs.Responses.{cookie_line, head_of, place_line, status_line, text_of};
+
+use crate::markup::html;
+use crate::page::Page;
+use crate::refusal::Refusal;
+use std::alloc::{AllocError, Global};
+
+const FIELDS: &[u8] =
+    b"Content-Type: text/html; charset=utf-8\r\nCache-Control: no-store\r\nContent-Security-Policy: default-src 'none'; style-src 'unsafe-inline'; form-action 'self'\r\n";
+
+/// A response, before its text.
+#[derive(Drop)]
+pub struct Response {
+    /// What it shows.
+    pub page: Page,
+    /// The texts of its `Set-Cookie` fields (RFC 6265 4.1.1).
+    pub cookies: Vec<String>,
+}
+
+impl Response {
+    /// The response's fields and the empty line, as a CGI program writes them (RFC 3875 6.2.1). `base` is the path of
+    /// the program, without a line break.
+    ///
+    /// Fails for want of memory alone.
+    pub fn head(&self, alloc: Global, base: &str) -> Result<Vec<u8>, AllocError>
+        ensures { IfOk result (λ text. text.items ≡ head_of base.now self.now) }
+    {
+        let mut text = Vec::new(alloc);
+        push_head(&mut text, base, self)?;
+        Ok(text)
+    }
+
+    /// The response as a CGI program writes it: its fields, an empty line, and the page. `base` is the path of the
+    /// program, without a line break.
+    ///
+    /// Fails for want of memory alone.
+    pub fn text(&self, alloc: Global, base: &str) -> Result<Vec<u8>, AllocError>
+        ensures { IfOk result (λ text. text.items ≡ text_of base.now self.now) }
+    {
+        let mut text = self.head(alloc, base)?;
+        let page = html(alloc, base, &self.page)?;
+        text.extend_from_slice(&page)?;
+        Ok(text)
+    }
+}
+
+// The fields, and the empty line.
+fn push_head(text: &mut Vec<u8>, base: &str, response: &Response) -> Result<(), AllocError>
+    ensures { OnOk result (text.new.items ≡ text.old.items ++ head_of base.now response.now) }
+{
+    text.extend_from_slice(status_line(&response.page))?;
+    push_place(text, base, &response.page)?;
+    text.extend_from_slice(FIELDS)?;
+    push_cookies(text, &response.cookies)?;
+    text.extend_from_slice(b"\r\n")
+}
+
+// The status in the form of RFC 3875 6.3.3.
+fn status_line(page: &Page) -> &'static [u8]
+    ensures { result.now ≡ status_line page.now }
+{
+    match page {
+        Page::Home(_) => b"Status: 200 OK\r\n",
+        Page::Moved => b"Status: 303 See Other\r\n",
+        Page::Refused(Refusal::BadRequest) => b"Status: 400 Bad Request\r\n",
+        Page::Refused(Refusal::Forbidden) => b"Status: 403 Forbidden\r\n",
+        Page::Refused(Refusal::NotFound) => b"Status: 404 Not Found\r\n",
+        Page::Refused(Refusal::OnlyGet) =>
+            b"Status: 405 Method Not Allowed\r\nAllow: GET, HEAD\r\n",
+        Page::Refused(Refusal::OnlyPost) => b"Status: 405 Method Not Allowed\r\nAllow: POST\r\n",
+    }
+}
+
+// Where a browser is sent to.
+fn push_place(text: &mut Vec<u8>, base: &str, page: &Page) -> Result<(), AllocError>
+    ensures { OnOk result (text.new.items ≡ text.old.items ++ place_line base.now page.now) }
+{
+    if let Page::Moved = page {
+        text.extend_from_slice(b"Location: ")?;
+        text.extend_from_slice(base.as_bytes())?;
+        text.extend_from_slice(b"/\r\n")?;
+    }
+    Ok(())
+}
+
+// A field for each cookie that was changed.
+fn push_cookies(text: &mut Vec<u8>, cookies: &[String]) -> Result<(), AllocError>
+    ensures { OnOk result
+        (text.new.items
+        ≡ text.old.items ++ flat_map (λ c. cookie_line (string_bytes c)) cookies.now) }
+{
+    for cookie in cookies {
+        push_cookie(text, cookie.as_str())?;
+    }
+    Ok(())
+}
+
+// The field of one cookie.
+fn push_cookie(text: &mut Vec<u8>, cookie: &str) -> Result<(), AllocError>
+    ensures { OnOk result (text.new.items ≡ text.old.items ++ cookie_line cookie.now) }
+{
+    push_line(text, b"Set-Cookie: ", cookie.as_bytes(), b"\r\n")
+}
+
+// A field of three parts.
+fn push_line(text: &mut Vec<u8>, front: &[u8], middle: &[u8], back: &[u8]) -> Result<(), AllocError>
+    ensures { OnOk result
+        (text.new.items ≡ text.old.items ++ (front.now ++ middle.now ++ back.now)) }
+{
+    text.extend_from_slice(front)?;
+    text.extend_from_slice(middle)?;
+    text.extend_from_slice(back)
+}

@@ -1,0 +1,28 @@
+//! Who may log in.
+ghost use Rattle.std.specs.Prelude.{◌≡◌};
+ghost use Rattle.login_core.specs.Users.{is_known, is_known_as};
+
+/// A user and the password, as they are.
+#[derive(Drop)]
+pub struct User {
+    /// The name, which is case sensitive.
+    pub name: String,
+    /// The password.
+    pub password: String,
+}
+
+impl User {
+    // Whether these are the name and the password.
+    fn is(&self, name: &str, password: &str) -> bool
+        ensures { result ≡ is_known_as name.now password.now self.now }
+    {
+        self.name.as_str() == name && self.password.as_str() == password
+    }
+}
+
+/// Whether the password is one of the user's of that name. A comparison may end at the first byte that differs.
+pub fn is_known(users: &[User], name: &str, password: &str) -> bool
+    ensures { result ≡ is_known name.now password.now users.now }
+{
+    users.iter().any(|user| user.is(name, password))
+}
