@@ -1,6 +1,7 @@
 //! What a client holds, reads and sends back.
 use cookie_client::{Client, ClientError};
 use jar_steps::moment;
+use std::alloc::Global;
 use std::test::Fail;
 
 // Each call stands in a function of its own, so that a test's proof needn't know what it says of the client.
@@ -57,6 +58,31 @@ fn a_client_undoes_and_writes_escapes(rt: HostRuntime) -> Result<(), Fail> {
     assert!(rt; reads(&mut client, text)?);
     assert_eq!(rt; client.get("foo !%?="), Some("bar;;, a"));
     assert!(rt; has_header(&client, "foo%20!%25%3F%3D=bar%3B%3B%2C%20a")?);
+    Ok(())
+}
+
+// The client's names and values, in the order of its walk.
+fn listed(alloc: Global, client: &Client) -> Result<String, Fail> {
+    let mut text = String::new(alloc);
+    for (name, value) in client.iter() {
+        text.push_str(name)?;
+        text.push_str(":")?;
+        text.push_str(value)?;
+        text.push_str(",")?;
+    }
+    Ok(text)
+}
+
+// `B` is 66 and `a` 97; `ab` goes before `b`, and what begins another before that one.
+#[test]
+fn a_client_lists_what_it_holds(rt: HostRuntime) -> Result<(), Fail> {
+    let mut client = Client::new(rt.alloc());
+    assert_eq!(rt; client.iter().count(), 0);
+    for (name, value) in [("b", "1"), ("ab", ";"), ("B", "3"), ("a", ""), ("b", "4")] {
+        holds(&mut client, name, value)?;
+    }
+    assert_eq!(rt; listed(rt.alloc(), &client)?.as_str(), "B:3,a:,ab:;,b:4,");
+    assert_eq!(rt; client.iter().count(), 4);
     Ok(())
 }
 

@@ -5,6 +5,7 @@ use cookie::{
 };
 use jiff::SignedDuration;
 use jiff::civil::DateTime;
+use std::alloc::Global;
 use std::hash::{FoldHasher, Hash, Hasher};
 use std::test::Fail;
 
@@ -213,5 +214,40 @@ fn own_texts_are_set(rt: HostRuntime) -> Result<(), Fail> {
     assert_eq!(rt; cookie.domain_raw(), None);
     let text = cookie.to_string(alloc)?;
     assert_eq!(rt; text.as_str(), "b=2; Path=/x; Domain=c.d");
+    let built = CookieBuilder::new("b", "2")
+        .path_owned(String::from_str(alloc, "/x")?)
+        .domain_owned(String::from_str(alloc, ".c.d")?)
+        .build();
+    assert_eq!(rt; built, cookie);
+    Ok(())
+}
+
+// The text is that of a derived `Debug` of Rust, at structs with these fields.
+#[test]
+fn a_cookie_is_shown_field_by_field(rt: HostRuntime) -> Result<(), Fail> {
+    let cookie = CookieBuilder::new("a", "x \"y\"")
+        .secure(true)
+        .same_site(SameSite::Lax)
+        .path("/")
+        .expires(Expiration::Session)
+        .build();
+    let shown =
+        "Cookie { name: \"a\", value: \"x \\\"y\\\"\", http_only: None, secure: Some(true), partitioned: None, same_site: Some(Lax), path: Some(\"/\"), domain: None, max_age: None, expires: Some(Session) }";
+    assert_eq!(rt; format!(in rt.alloc(); "{cookie:?}")?.as_str(), shown);
+    let builder = Cookie::build(cookie);
+    let text = format!(in rt.alloc(); "{builder:?}")?;
+    assert!(rt; text.as_str().strip_prefix("Builder { inner: ").is_some());
+    Ok(())
+}
+
+// What `?` makes of the two errors of a text that is read and copied.
+fn read_own(alloc: Global, text: &str) -> Result<Cookie<'static>, ParseError> {
+    Ok(Cookie::parse_encoded(alloc, text)?.into_owned(alloc)?)
+}
+
+#[test]
+fn a_text_is_read_and_copied_with_one_error(rt: HostRuntime) -> Result<(), Fail> {
+    assert_eq!(rt; read_own(rt.alloc(), "a=%31")?, Cookie::new("a", "1"));
+    assert!(rt; read_own(rt.alloc(), "a").err() == Some(ParseError::MissingPair));
     Ok(())
 }
