@@ -1,20 +1,26 @@
 -- What the uses promise, in the words of a web application.
-use Rattle.std.specs.Prelude.{◌≡◌, true, false, ℕ, List, map, Option, Some, codes, ◌++◌, option_map}
+use Rattle.std.specs.Prelude.{◌≡◌, true, false, ℕ, List, map, Option, Some, codes, ◌++◌, length, option_map}
 use Rattle.std.specs.FinMap.{get}
 use Rattle.cookie.specs.AnswersExactly.{IsStoredFor}
-use Rattle.cookie.specs.Jar.{JarState, view}
+use Rattle.cookie.specs.Jar.{JarState, Name, view}
 use Rattle.cookie.specs.Keys.{encryption_half}
 use Rattle.cookie.specs.Record.{Record}
 use Rattle.cookie.specs.Sealing.{IsSealingOf}
 use Rattle.cookie.specs.Text.{cookie_text}
 use Rattle.cookie.specs.Walk.{Walks}
 
+-- the cookie that the response sets or drops at a name
+abbrev pub change_at : JarState → Name → Option Record
+change_at jar name = option_map (λ entry. entry.cookie) (get jar.delta name)
+
 -- the texts are those of the jar's changes, one for each name (RFC 6265 4.1)
 abbrev pub AreResponse : JarState → List (List ℕ) → Type 0
 AreResponse jar texts =
-    (cookies : List Record)
-    × Walks (λ name. option_map (λ entry. entry.cookie) (get jar.delta name)) cookies
-    × (texts ≡ map (cookie_text true false) cookies)
+    (cookies : List Record) × Walks (change_at jar) cookies × (texts ≡ map (cookie_text true false) cookies)
+
+-- so many cookies stand at the names, each counted once
+abbrev pub AreCounted : (Name → Option Record) → ℕ → Type 0
+AreCounted at count = (cookies : List Record) × Walks at cookies × (count ≡ length cookies)
 
 -- the jar shows a cookie `session` whose value is a sealing of the user under the key
 abbrev pub IsSignedIn : List ℕ → JarState → List ℕ → Type 0

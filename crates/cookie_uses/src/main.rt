@@ -3,9 +3,12 @@
 
 mod agents;
 mod answer;
+mod configured;
+mod counting;
 mod dates;
 mod flash;
 mod following;
+mod printing;
 mod reading;
 mod removal;
 mod requests;
@@ -26,6 +29,7 @@ fn main(rt: HostRuntime) -> Result<()> {
     show::texts(&rt, now)?;
     show::session(&rt)?;
     show::flash(&rt, now)?;
+    show::configured(&rt)?;
     show::calls(&rt, now)?;
     show::browser(&rt, now)?;
     show::runtime(&rt)

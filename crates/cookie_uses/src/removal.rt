@@ -5,7 +5,8 @@ ghost use Rattle.cookie.specs.Jar.{dropped_mark};
 ghost use Rattle.cookie.specs.Record.{Record};
 ghost use Rattle.cookie.specs.Removal.{removal};
 
-use cookie::{Cookie, CookieJar, JarError};
+use cookie::prefix::Host;
+use cookie::{Cookie, CookieBuilder, CookieJar, JarError};
 use jiff::civil::DateTime;
 use std::alloc::Global;
 
@@ -26,5 +27,20 @@ pub fn remove_as_set(
     ensures err { OnErr result (jar.new ≡ jar.old) }
 {
     jar.remove(set.clone(alloc)?, now)?;
+    Ok(())
+}
+
+/// A removal that a browser passes over, one that it obeys, and one that it obeys at every path of the host, each of a
+/// cookie that is added first. `now` is in UTC.
+pub fn remove_in_scope(jar: &mut CookieJar, now: DateTime) -> Result<(), JarError> {
+    jar.add(CookieBuilder::new("name", "1").path("/").build())?;
+
+    // Later, at a request for `/account/mail`:
+    jar.remove(Cookie::named("name"), now)?;
+    jar.remove(CookieBuilder::new("name", "").path("/").build(), now)?;
+
+    // Or give all cookies one scope, and forget about it:
+    jar.prefixed_mut(Host).add(Cookie::new("name", "1"))?;
+    jar.prefixed_mut(Host).remove(Cookie::named("name"), now)?;
     Ok(())
 }

@@ -1,12 +1,12 @@
 //! What `main` prints of each use.
 use crate::{
-    agents, answer, dates, flash, following, reading, removal, requests, runtime, sealing, session,
-    team,
+    agents, answer, configured, counting, dates, flash, following, printing, reading, removal,
+    requests, runtime, sealing, session, team,
 };
 use anyhow::Result;
-use cookie::{Cookie, CookieBuilder, CookieJar, JarError, Key};
+use cookie::{Cookie, CookieBuilder, CookieJar, DateText, JarError, Key};
 use cookie_agent::Site;
-use cookie_client::{ChildCall, ClientError, JarCall};
+use cookie_client::{ChildCall, Client, ClientError, JarCall, Played};
 use jiff::civil::DateTime;
 use rand::SeedableRng;
 use rand::rngs::StdRng;
@@ -27,8 +27,11 @@ pub fn request(rt: &HostRuntime, now: DateTime) -> Result<()> {
 pub fn texts(rt: &HostRuntime, now: DateTime) -> Result<()> {
     let (name, value) = reading::name_and_value("theme=dark; Path=/")?;
     println!(rt; "name {name}, value {value}")?;
-    let is_date = dates::week_after("Wed, 21 Oct 2015 07:28:00 GMT").is_some();
-    println!(rt; "a date: {is_date}")?;
+    let (removal, pair) = printing::texts(rt.alloc(), now)?;
+    println!(rt; "{removal}")?;
+    println!(rt; "{pair}")?;
+    let later = dates::week_after("Wed, 21 Oct 2015 07:28:00 GMT").unwrap_or(DateTime::MIN);
+    println!(rt; "a week later: {}", DateText(later))?;
     let mut text = [1, 2, 3];
     let is_back = sealing::comes_back(&[7; 32], &[9; 12], b"name", &mut text);
     println!(rt; "comes back: {is_back}")?;
@@ -61,7 +64,10 @@ pub fn flash(rt: &HostRuntime, now: DateTime) -> Result<()> {
         .path("/shop")
         .domain("example.com")
         .build();
-    print_removal(rt, set, now)
+    print_removal(rt, set, now)?;
+    let mut jar = CookieJar::new(rt.alloc());
+    removal::remove_in_scope(&mut jar, now)?;
+    print_counts(rt, &jar)
 }
 
 fn print_flash(rt: &HostRuntime, jar: &mut CookieJar, now: DateTime) -> Result<()> {
@@ -75,8 +81,15 @@ fn print_flash(rt: &HostRuntime, jar: &mut CookieJar, now: DateTime) -> Result<(
 fn print_removal(rt: &HostRuntime, set: Cookie<'static>, now: DateTime) -> Result<()> {
     let mut jar = requests::request_jar(rt.alloc(), RandomState::new(rt)?, "cart=3")?;
     change_jar(rt.alloc(), &mut jar, &set, now)?;
-    let texts = requests::response(rt.alloc(), &jar)?;
-    print_texts(rt, &texts)
+    print_counts(rt, &jar)?;
+    print_delta(rt, &jar)
+}
+
+fn print_counts(rt: &HostRuntime, jar: &CookieJar) -> Result<()> {
+    let shown = counting::shown_count(jar);
+    let changed = counting::change_count(jar);
+    println!(rt; "shown: {shown}, changed: {changed}")?;
+    Ok(())
 }
 
 fn change_jar(
@@ -106,22 +119,59 @@ pub fn calls(rt: &HostRuntime, now: DateTime) -> Result<()> {
 }
 
 fn print_client(rt: &HostRuntime, calls: &[JarCall<'_>], now: DateTime) -> Result<()> {
-    match client_header(rt.alloc(), calls, now)? {
-        Some(header) => println!(rt; "client: {header}")?,
+    match client_of(rt.alloc(), calls, now)? {
+        Some(client) => print_held(rt, &client)?,
         None => println!(rt; "unfit")?,
     }
     Ok(())
 }
 
-fn client_header(
+fn client_of(
     alloc: Global,
     calls: &[JarCall<'_>],
     now: DateTime,
-) -> Result<Option<String>, ClientError> {
+) -> Result<Option<Client>, ClientError> {
     match following::follow(alloc, calls, now)? {
-        Some(played) => Ok(Some(played.client.header()?)),
+        Some(played) => {
+            let Played {
+                jar: _,
+                client,
+                outcomes: _,
+            } = played;
+            Ok(Some(client))
+        }
         None => Ok(None),
     }
+}
+
+fn print_held(rt: &HostRuntime, client: &Client) -> Result<()> {
+    println!(rt; "client: {}", client.header()?)?;
+    println!(rt; "it holds {}:", counting::held_count(client))?;
+    for (name, value) in client.iter() {
+        println!(rt; "{name}: {value}")?;
+    }
+    Ok(())
+}
+
+pub fn configured(rt: &HostRuntime) -> Result<()> {
+    let key = [7; 64];
+    print_configured(rt, &key, "cart=3")?;
+    print_configured(rt, &key, "cart")?;
+    print_configured(rt, &[7; 5], "cart=3")
+}
+
+fn print_configured(rt: &HostRuntime, key: &[u8], text: &str) -> Result<()> {
+    let mut jar = CookieJar::new(rt.alloc());
+    match configured::add_configured(rt.alloc(), &mut jar, key, text) {
+        Ok(()) => print_delta(rt, &jar)?,
+        Err(error) => println!(rt; "refused: {error}, {error:?}")?,
+    }
+    Ok(())
+}
+
+fn print_delta(rt: &HostRuntime, jar: &CookieJar) -> Result<()> {
+    let texts = requests::response(rt.alloc(), jar)?;
+    print_texts(rt, &texts)
 }
 
 pub fn browser(rt: &HostRuntime, now: DateTime) -> Result<()> {

@@ -1,0 +1,14 @@
+//! The texts of cookies.
+use cookie_core::{Cookie, ParseError};
+use jiff::civil::DateTime;
+use std::alloc::Global;
+
+/// The text that removes a cookie, and that of a name and a value with escapes. `now` is in UTC.
+pub fn texts(alloc: Global, now: DateTime) -> Result<(String, String), ParseError> {
+    let mut cookie = Cookie::parse("id=7; Path=/; Max-Age=90")?;
+    cookie.make_removal(now);
+    let removal = cookie.to_string(alloc)?;
+    let other = Cookie::parse_encoded(alloc, "a%3Db=1%202")?;
+    let pair = other.encoded().stripped().to_string(alloc)?;
+    Ok((removal, pair))
+}
