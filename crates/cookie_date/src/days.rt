@@ -5,7 +5,7 @@ ghost use Rattle.cookie_date.specs.Moments.{days_later};
 
 use jiff::civil::{Date, DateTime};
 
-/// The same time of day that many days later, or earlier for a negative number of days.
+/// The same time of day that many days later, or earlier for a negative number of days, both in UTC.
 ///
 /// Past the ends of the calendar it is the first date-time, -9999-01-01 00:00:00, or the last one,
 /// 9999-12-31 23:59:59.999999999.

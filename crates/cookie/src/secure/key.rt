@@ -83,7 +83,8 @@ impl Key {
         Key::of(&bytes)
     }
 
-    /// The key of the first 64 bytes, which must be random. Fails exactly where there are fewer.
+    /// The key of the first 64 bytes, which must be random. Fails exactly where there are fewer, with
+    /// `KeyError::TooShort`.
     pub fn try_from(key: &[u8]) -> Result<Key, KeyError>
         ensures ok { key_length ≤ length key.now → result ≡ Ok (key_bytes key.now) }
         ensures too_short { length key.now < key_length
@@ -108,7 +109,7 @@ impl Key {
     }
 
     /// The key derived from a master key, by the whole of it (RFC 5869 2.3). The master key must be random. Fails
-    /// exactly where it has fewer than 32 bytes.
+    /// exactly where it has fewer than 32 bytes, with `KeyError::MasterTooShort`.
     pub fn try_derive_from(master_key: &[u8]) -> Result<Key, KeyError>
         ensures ok { master_length ≤ length master_key.now
             → result ≡ Ok (derived_key master_key.now) }

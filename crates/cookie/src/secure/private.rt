@@ -96,7 +96,7 @@ impl<'a> PrivateJar<'a> {
     /// A copy of the cookie that the jar shows under `name`, with the value that was sealed. There is no answer
     /// where the jar's value isn't sealed under the key and the name.
     ///
-    /// Fails for want of memory alone.
+    /// Fails with `JarError::OutOfMemory` alone.
     pub fn get(&self, name: &str) -> Result<Option<Cookie<'static>>, JarError>
         ensures { Gives refusal.OutOfMemory result (λ answer.
             AnswersExactly (IsSealingOf self.now.key) (view self.now.jar name.now)
@@ -108,7 +108,7 @@ impl<'a> PrivateJar<'a> {
     /// The cookie with the value that was sealed. There is no answer where its value isn't sealed under the key and
     /// its name.
     ///
-    /// Fails for want of memory alone.
+    /// Fails with `JarError::OutOfMemory` alone.
     pub fn decrypt(&self, cookie: Cookie<'static>) -> Result<Option<Cookie<'static>>, JarError>
         ensures { Gives refusal.OutOfMemory result (λ answer.
             AnswersExactly (IsSealingOf self.now.key) (Some cookie.entry.fields)
@@ -122,7 +122,7 @@ impl<'a> PrivateJarMut<'a> {
     /// A copy of the cookie that the jar shows under `name`, with the value that was sealed. There is no answer
     /// where the jar's value isn't sealed under the key and the name.
     ///
-    /// Fails for want of memory alone.
+    /// Fails with `JarError::OutOfMemory` alone.
     pub fn get(&self, name: &str) -> Result<Option<Cookie<'static>>, JarError>
         ensures { Gives refusal.OutOfMemory result (λ answer.
             AnswersExactly (IsSealingOf (key_of self.now)) (view (jar_of self.now) name.now)
@@ -134,7 +134,7 @@ impl<'a> PrivateJarMut<'a> {
     /// The cookie with the value that was sealed. There is no answer where its value isn't sealed under the key and
     /// its name.
     ///
-    /// Fails for want of memory alone.
+    /// Fails with `JarError::OutOfMemory` alone.
     pub fn decrypt(&self, cookie: Cookie<'static>) -> Result<Option<Cookie<'static>>, JarError>
         ensures { Gives refusal.OutOfMemory result (λ answer.
             AnswersExactly (IsSealingOf (key_of self.now)) (Some cookie.entry.fields)
@@ -148,7 +148,7 @@ impl<'a> PrivateJarMut<'a> {
     /// (SP 800-38D 8.3).
     ///
     /// Fails with `TooLong` where the name has more than 2^61 - 1 bytes or the value more than 2^36 - 32, and then
-    /// draws nothing; else with `Generator` where the draw failed; else for want of memory. It then leaves the jar
+    /// draws nothing; else with `Generator` where the draw failed; else with `OutOfMemory`. It then leaves the jar
     /// as it was.
     pub fn add_original<R: TryRng>(
         &mut self,
@@ -184,7 +184,7 @@ impl<'a> PrivateJarMut<'a> {
     /// one key at most 2^32 nonces may be drawn (SP 800-38D 8.3).
     ///
     /// Fails with `TooLong` where the name has more than 2^61 - 1 bytes or the value more than 2^36 - 32, and then
-    /// draws nothing; else with `Generator` where the draw failed; else for want of memory. It then leaves the jar
+    /// draws nothing; else with `Generator` where the draw failed; else with `OutOfMemory`. It then leaves the jar
     /// as it was.
     pub fn add<R: TryRng>(&mut self, cookie: Cookie<'static>, rng: &mut R) -> Result<(), JarError>
         ensures ok { OnOk result ((nonce : List ℕ) × IsNonce nonce
@@ -218,8 +218,8 @@ impl<'a> PrivateJarMut<'a> {
     /// Adds an original cookie, with its value sealed under its name and the nonce. No two values may be sealed
     /// under one key and one nonce, and under one key at most 2^32 random nonces may be drawn (SP 800-38D 8.3).
     ///
-    /// Fails with `TooLong` where the name has more than 2^61 - 1 bytes or the value more than 2^36 - 32, else for
-    /// want of memory alone. It then leaves the jar as it was.
+    /// Fails with `TooLong` where the name has more than 2^61 - 1 bytes or the value more than 2^36 - 32, else with
+    /// `OutOfMemory` alone. It then leaves the jar as it was.
     pub fn add_original_with_nonce(
         &mut self,
         cookie: Cookie<'static>,
@@ -249,8 +249,8 @@ impl<'a> PrivateJarMut<'a> {
     /// and value. No two values may be sealed under one key and one nonce, and under one key at most 2^32 random
     /// nonces may be drawn (SP 800-38D 8.3).
     ///
-    /// Fails with `TooLong` where the name has more than 2^61 - 1 bytes or the value more than 2^36 - 32, else for
-    /// want of memory alone. It then leaves the jar as it was.
+    /// Fails with `TooLong` where the name has more than 2^61 - 1 bytes or the value more than 2^36 - 32, else with
+    /// `OutOfMemory` alone. It then leaves the jar as it was.
     pub fn add_with_nonce(
         &mut self,
         cookie: Cookie<'static>,
@@ -283,7 +283,7 @@ impl<'a> PrivateJarMut<'a> {
     /// Removes the cookie of that name, at the date and time `now` in UTC. Where there is an original of that
     /// name, the delta gets a cookie that tells the client to drop it, with this cookie's path and domain.
     ///
-    /// Fails for want of memory alone, where there is such an original, and then leaves the jar as it was.
+    /// Fails with `JarError::OutOfMemory` alone, where there is such an original, and then leaves the jar as it was.
     pub fn remove(&mut self, cookie: Cookie<'static>, now: DateTime) -> Result<(), JarError>
         ensures gives { Gives refusal.OutOfMemory result (λ _.
             jar_of self.new ≡ after (Remove cookie.entry.fields now) (jar_of self.old)) }
