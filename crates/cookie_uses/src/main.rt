@@ -3,7 +3,6 @@
 
 mod agents;
 mod answer;
-mod configured;
 mod counting;
 mod dates;
 mod flash;
@@ -29,7 +28,6 @@ fn main(rt: HostRuntime) -> Result<()> {
     show::texts(&rt, now)?;
     show::session(&rt)?;
     show::flash(&rt, now)?;
-    show::configured(&rt)?;
     show::calls(&rt, now)?;
     show::browser(&rt, now)?;
     show::runtime(&rt)

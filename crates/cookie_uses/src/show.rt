@@ -1,7 +1,7 @@
 //! What `main` prints of each use.
 use crate::{
-    agents, answer, configured, counting, dates, flash, following, printing, reading, removal,
-    requests, runtime, sealing, session, team,
+    agents, answer, counting, dates, flash, following, printing, reading, removal, requests,
+    runtime, sealing, session, team,
 };
 use anyhow::Result;
 use cookie::{Cookie, CookieBuilder, CookieJar, DateText, JarError, Key};
@@ -149,22 +149,6 @@ fn print_held(rt: &HostRuntime, client: &Client) -> Result<()> {
     println!(rt; "it holds {}:", counting::held_count(client))?;
     for (name, value) in client.iter() {
         println!(rt; "{name}: {value}")?;
-    }
-    Ok(())
-}
-
-pub fn configured(rt: &HostRuntime) -> Result<()> {
-    let key = [7; 64];
-    print_configured(rt, &key, "cart=3")?;
-    print_configured(rt, &key, "cart")?;
-    print_configured(rt, &[7; 5], "cart=3")
-}
-
-fn print_configured(rt: &HostRuntime, key: &[u8], text: &str) -> Result<()> {
-    let mut jar = CookieJar::new(rt.alloc());
-    match configured::add_configured(rt.alloc(), &mut jar, key, text) {
-        Ok(()) => print_delta(rt, &jar)?,
-        Err(error) => println!(rt; "refused: {error}, {error:?}")?,
     }
     Ok(())
 }
