@@ -1,0 +1,114 @@
+//! The request, as a web server hands it over (RFC 3875 4).
+use anyhow::Result;
+use login_core::Request;
+use std::env;
+use std::env::VarError;
+use std::io::Read;
+
+// How many bytes a form may have.
+const MOST: usize = 4096;
+
+/// The request's parts.
+#[derive(Drop)]
+pub struct Gateway {
+    /// The path of this program.
+    pub base: String,
+    /// Whether the page itself is to be left out of the response.
+    pub is_head: bool,
+    /// Whether the connection is secure.
+    pub is_secure: bool,
+    method: String,
+    path: String,
+    cookies: String,
+    form: Vec<u8>,
+}
+
+impl Gateway {
+    /// The request. HEAD is answered as GET.
+    pub fn request(&self) -> Request<'_> {
+        Request {
+            method: if self.is_head {
+                "GET"
+            } else {
+                self.method.as_str()
+            },
+            path: self.path.as_str(),
+            cookies: self.cookies.as_str(),
+            form: &self.form,
+        }
+    }
+}
+
+/// Reads the request from the environment and the standard input, or `None` where it can't be read.
+pub fn read(rt: &HostRuntime) -> Result<Option<Gateway>> {
+    let Some(form) = form(rt)? else {
+        return Ok(None);
+    };
+    let (Some(base), Some(cookies)) = (text(rt, "SCRIPT_NAME")?, text(rt, "HTTP_COOKIE")?) else {
+        return Ok(None);
+    };
+    let (Some(method), Some(path)) = (text(rt, "REQUEST_METHOD")?, text(rt, "PATH_INFO")?) else {
+        return Ok(None);
+    };
+    if !is_path(base.as_str()) {
+        return Ok(None);
+    }
+    Ok(Some(Gateway {
+        base,
+        is_head: method.as_str() == "HEAD",
+        is_secure: is_secure(rt)?,
+        method,
+        path,
+        cookies,
+        form,
+    }))
+}
+
+// The connection counts as secure, unless the variable LOGIN_CONNECTION says `plain`.
+fn is_secure(rt: &HostRuntime) -> Result<bool> {
+    match text(rt, "LOGIN_CONNECTION")? {
+        Some(text) => Ok(text.as_str() != "plain"),
+        None => Ok(true),
+    }
+}
+
+// Whether each byte is a visible ASCII character, so that the text can stand in a header.
+fn is_path(text: &str) -> bool {
+    text.as_bytes().iter().all(|byte| byte.is_ascii_graphic())
+}
+
+// The variable, empty where it isn't set, or `None` where it is no text.
+fn text(rt: &HostRuntime, name: &str) -> Result<Option<String>> {
+    match env::var(rt, name) {
+        Ok(text) => Ok(Some(text)),
+        Err(VarError::NotPresent) => Ok(Some(String::new(rt.alloc()))),
+        Err(VarError::NotUnicode) => Ok(None),
+        Err(error) => Err(error.into()),
+    }
+}
+
+// The content, or `None` where it is too long or ends too early.
+fn form(rt: &HostRuntime) -> Result<Option<Vec<u8>>> {
+    let Some(length) = length(rt)? else {
+        return Ok(None);
+    };
+    let mut form = vec![in rt.alloc(); 0; length]?;
+    if rt.stdin().read_exact(&mut form).is_err() {
+        return Ok(None);
+    }
+    Ok(Some(form))
+}
+
+// The length of the content, or `None` where that is no number or too long.
+fn length(rt: &HostRuntime) -> Result<Option<usize>> {
+    let Some(text) = text(rt, "CONTENT_LENGTH")? else {
+        return Ok(None);
+    };
+    if text.is_empty() {
+        return Ok(Some(0));
+    }
+    match text.as_str().parse::<usize>() {
+        Ok(length) if length <= MOST => Ok(Some(length)),
+        _ => Ok(None),
+    }
+}

@@ -1,0 +1,80 @@
+//! `login`: a small web application as a CGI program (RFC 3875), which keeps all that it knows of a visitor in cookies.
+#![tactic(auto)]
+
+mod gateway;
+mod users;
+
+use anyhow::Result;
+use cookie::Key;
+use gateway::Gateway;
+use jiff::Timestamp;
+use jiff::tz::Offset;
+use login_core::{Page, Refusal, Response, Site, User, answer};
+use rand::rngs::SysRng;
+use std::hash::RandomState;
+use std::io::Write;
+use std::process::ExitCode;
+
+// The response to a request that could be read.
+fn respond(rt: &HostRuntime, key: &Key, users: &[User], gateway: &Gateway) -> Result<Response> {
+    let site = Site {
+        key,
+        users,
+        is_secure: gateway.is_secure,
+    };
+    let state = RandomState::new(rt)?;
+    let now = Offset::UTC.to_datetime(Timestamp::now(rt)?);
+    let request = gateway.request();
+    let response = answer(
+        rt.alloc(),
+        state,
+        &site,
+        &request,
+        now,
+        &mut SysRng::new(rt),
+    )?;
+    Ok(response)
+}
+
+// The response, and the request's parts.
+fn serve(rt: &HostRuntime) -> Result<()> {
+    let key = users::key(rt)?;
+    let users = users::users(rt)?;
+    match gateway::read(rt)? {
+        Some(gateway) => {
+            let response = respond(rt, &key, &users, &gateway)?;
+            write(rt, &response, gateway.base.as_str(), gateway.is_head)
+        }
+        None => {
+            let response = Response {
+                page: Page::Refused(Refusal::BadRequest),
+                cookies: Vec::new(rt.alloc()),
+            };
+            write(rt, &response, "", false)
+        }
+    }
+}
+
+// Writes a response, without its page where it answers HEAD (RFC 3875 4.3.3).
+fn write(rt: &HostRuntime, response: &Response, base: &str, is_head: bool) -> Result<()> {
+    let text = if is_head {
+        response.head(rt.alloc(), base)?
+    } else {
+        response.text(rt.alloc(), base)?
+    };
+    rt.stdout().write_all(&text)?;
+    Ok(())
+}
+
+fn main(rt: HostRuntime) -> ExitCode {
+    match serve(&rt) {
+        Ok(()) => ExitCode::SUCCESS,
+        Err(error) => {
+            let _ = eprintln!(rt; "{error}");
+            let _ = print!(rt;
+                "Status: 500 Internal Server Error\r\nContent-Type: text/plain\r\n\r\nNo answer.\n"
+            );
+            ExitCode::FAILURE
+        }
+    }
+}
