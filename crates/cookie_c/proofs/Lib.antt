@@ -1,0 +1,4 @@
+mod DateLemmas
+mod KeyedLemmas
+mod ReadBackLemmas
+mod StoredLemmas

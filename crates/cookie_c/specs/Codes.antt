@@ -1,0 +1,20 @@
+-- The numbers of the statuses, which callers in C know.
+use Rattle.std.specs.Prelude.{ℕ}
+use Rattle.cookie_c.specs.declared.status.Status.{Status}
+use Rattle.cookie_c.specs.declared.status.Status.TheVariants as status
+
+-- the number of a status
+abbrev pub code_of : Status → ℕ
+code_of status.Done = 0
+code_of status.BufferTooShort = 1
+code_of status.OutOfMemory = 2
+code_of status.NotUtf8 = 3
+code_of status.KeyTooShort = 4
+code_of status.MasterTooShort = 5
+code_of status.BadNonce = 6
+code_of status.NotSigned = 7
+code_of status.NotSealed = 8
+code_of status.TooLong = 9
+code_of status.NoDate = 10
+code_of status.BadMoment = 11
+code_of status.BadLine = 12

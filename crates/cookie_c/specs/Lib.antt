@@ -1,0 +1,5 @@
+pub mod Answers
+pub mod Codes
+pub mod Dates
+pub mod Keyed
+pub mod Played

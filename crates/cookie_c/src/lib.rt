@@ -1,0 +1,11 @@
+//! Cookies for C, Python and Rust: each export is a call of the crates below over the caller's own buffers.
+#![tactic(auto)]
+
+mod answer;
+mod date;
+mod key;
+mod keyed;
+mod sealing;
+mod session;
+mod signing;
+mod status;

@@ -1,0 +1,87 @@
+//! The jar's main job in one call for C: a session as the program `cookiejar` plays it.
+ghost use Rattle.std.specs.Prelude.{IsUtf8, MatchResult, Ok, ◌≡◌};
+ghost use Rattle.cookie_client.specs.Run.{Refuses};
+ghost use Rattle.cookie_client.specs.Session.{session};
+ghost use Rattle.cookie_c.specs.Answers.{IsRefused};
+ghost use Rattle.cookie_c.specs.Played.{IsPlayedFor, IsSession};
+ghost use Rattle.cookie_c.specs.declared.status.Status.TheVariants as status;
+
+use crate::answer::Answer;
+use crate::status::Status;
+use cookie_client::{RunError, run_with_hasher};
+use std::alloc::Global;
+use std::hash::RandomState;
+use std::io;
+use std::random::RandomSource;
+
+/// Sixteen bytes that the hash of names is keyed with.
+#[derive(Drop)]
+struct Seed {
+    bytes: [u8; 16],
+}
+
+impl RandomSource for Seed {
+    fn fill_bytes(&self, buf: &mut [u8]) -> io::Result<()> {
+        let count = buf.len().min(16);
+        buf[..count].copy_from_slice(&self.bytes[..count]);
+        Ok(())
+    }
+}
+
+/// The text that the program `cookiejar` writes for the moment and the input: for each cookie of the jar's delta a line
+/// `Set-Cookie: ..`, and then the line `Cookie: ..` of a client that read them. The first line of the input is a
+/// `Cookie` header; each later one that isn't empty begins with `add `, `remove ` or `force `, or is `reset`. The moment
+/// is a date in UTC of the year 100 or later. The two numbers of the seed are random; the jar hashes names with them.
+///
+/// Refuses a moment that is no such date, then an input that isn't UTF-8, then the first bad line, counted from 1, with
+/// its number for length; else it fails for want of memory alone, which may also be told in the place of these two.
+#[unsafe(no_mangle)]
+pub extern "C" fn cookie_run(
+    alloc: Global,
+    seed: u64,
+    other_seed: u64,
+    moment: &[u8],
+    input: &[u8],
+    out: &mut [u8],
+) -> Answer
+    ensures not_utf8 { ¬ IsUtf8 moment.now → IsRefused status.BadMoment result out.old out.new }
+    ensures played { IsUtf8 moment.now
+        → IsSession (session moment.now input.now) result out.old out.new }
+{
+    let Ok(moment) = str::from_utf8(moment) else {
+        return Answer::refusal(Status::BadMoment);
+    };
+    match played(alloc, &Seed::of(seed, other_seed), moment, input) {
+        Ok(text) => Answer::give(text.as_slice(), out),
+        Err(RunError::BadMoment) => Answer::refusal(Status::BadMoment),
+        Err(RunError::BadInput) => Answer::refusal(Status::NotUtf8),
+        Err(RunError::BadLine(line)) => Answer::told(Status::BadLine, line),
+        Err(RunError::OutOfMemory | RunError::Input | RunError::Output) => {
+            Answer::refusal(Status::OutOfMemory)
+        }
+    }
+}
+
+// The session's text.
+fn played(alloc: Global, seed: &Seed, moment: &str, input: &[u8]) -> Result<Vec<u8>, RunError>
+    ensures { MatchResult result
+        (λ text. session moment.now input.now ≡ Ok text.items)
+        (IsPlayedFor (session moment.now input.now)) }
+{
+    let mut text = Vec::new(alloc);
+    let mut input = input;
+    match RandomState::new(seed) {
+        Ok(state) => run_with_hasher(alloc, state, moment, &mut input, &mut text)?,
+        Err(_) => return Err(RunError::OutOfMemory),
+    }
+    Ok(text)
+}
+
+impl Seed {
+    fn of(seed: u64, other_seed: u64) -> Seed {
+        let mut bytes = [0; 16];
+        bytes[..8].copy_from_slice(&seed.to_le_bytes());
+        bytes[8..].copy_from_slice(&other_seed.to_le_bytes());
+        Seed { bytes }
+    }
+}

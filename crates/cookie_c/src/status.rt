@@ -1,0 +1,44 @@
+//! What a call came to.
+
+/// What a call came to, by a number that no later version gives another meaning.
+#[derive(Clone, Copy)]
+pub enum Status {
+    /// The call did what was asked.
+    Done = 0,
+    /// The text is longer than the buffer.
+    BufferTooShort = 1,
+    /// Memory ran out.
+    OutOfMemory = 2,
+    /// A text isn't UTF-8.
+    NotUtf8 = 3,
+    /// The key has fewer than 64 bytes.
+    KeyTooShort = 4,
+    /// The master key has fewer than 32 bytes.
+    MasterTooShort = 5,
+    /// The nonce hasn't twelve bytes.
+    BadNonce = 6,
+    /// The value isn't signed under the key and the name.
+    NotSigned = 7,
+    /// The value isn't sealed under the key and the name.
+    NotSealed = 8,
+    /// The name or the value is too long to be sealed.
+    TooLong = 9,
+    /// The text is no date, or there is no such date.
+    NoDate = 10,
+    /// The moment is no date of the year 100 or later.
+    BadMoment = 11,
+    /// A line asks for no call.
+    BadLine = 12,
+}
+
+impl Status {
+    ghost use Rattle.std.specs.Prelude.{◌≡◌};
+    ghost use Rattle.cookie_c.specs.Codes.{code_of};
+
+    // Its number.
+    pub(crate) fn code(self) -> u32
+        ensures { result ≡ code_of self }
+    {
+        self as u32
+    }
+}
