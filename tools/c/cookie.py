@@ -1,0 +1,132 @@
+"""Cookies for Python over the shared object of cookie_c: sign, seal, dates, and a jar's session.
+
+Texts are `str` and keys are `bytes`. A call that is refused raises `CookieError`, whose `status` is one of the numbers
+below; what isn't signed or isn't sealed is `None`.
+"""
+import ctypes
+import datetime
+import os
+import pathlib
+
+STATUSES = (
+    "DONE BUFFER_TOO_SHORT OUT_OF_MEMORY NOT_UTF8 KEY_TOO_SHORT MASTER_TOO_SHORT BAD_NONCE NOT_SIGNED NOT_SEALED TOO_LONG "
+    "NO_DATE BAD_MOMENT BAD_LINE"
+).split()
+globals().update({name: number for number, name in enumerate(STATUSES)})
+
+
+class Answer(ctypes.Structure):
+    _fields_ = [("status", ctypes.c_uint32), ("length", ctypes.c_size_t)]
+
+
+class Moment(ctypes.Structure):
+    _fields_ = [("status", ctypes.c_uint32), ("year", ctypes.c_int16)] + [
+        (name, ctypes.c_int8) for name in ("month", "day", "hour", "minute", "second")
+    ]
+
+
+class CookieError(ValueError):
+    """A refusal: its status, and the number that came with it (that of a bad line)."""
+
+    def __init__(self, status, number=0):
+        super().__init__(STATUSES[status] + (f" {number}" if number else ""))
+        self.status = status
+        self.number = number
+
+
+LIBRARY = ctypes.CDLL(os.environ.get("COOKIE_C", str(pathlib.Path(__file__).parent / "libcookie_c.so")))
+TEXT = [ctypes.c_char_p, ctypes.c_size_t]
+
+
+def declare(name, parameters, result):
+    function = getattr(LIBRARY, "cookie_" + name)
+    function.argtypes = parameters
+    function.restype = result
+    return function
+
+
+DERIVE_KEY = declare("derive_key", TEXT * 2, Answer)
+SIGN = declare("sign", TEXT * 4, Answer)
+VERIFY = declare("verify", TEXT * 4, Answer)
+SEAL = declare("seal", TEXT * 5, Answer)
+OPEN = declare("open", TEXT * 4, Answer)
+READ_DATE = declare("read_date", TEXT, Moment)
+PRINT_DATE = declare("print_date", [ctypes.c_int16] + [ctypes.c_int8] * 5 + TEXT, Answer)
+RUN = declare("run", [ctypes.c_uint64] * 2 + TEXT * 3, Answer)
+
+
+def given(function, *inputs, room=256):
+    """The bytes that the call gives, in a buffer that has as many."""
+    arguments = []
+    for value in inputs:
+        if isinstance(value, int):
+            arguments.append(value)
+        else:
+            value = value.encode() if isinstance(value, str) else bytes(value)
+            arguments += [value, len(value)]
+    while True:
+        buffer = ctypes.create_string_buffer(room)
+        answer = function(*arguments, buffer, room)
+        if answer.status == DONE:
+            return buffer.raw[: answer.length]
+        if answer.status != BUFFER_TOO_SHORT:
+            raise CookieError(answer.status, answer.length)
+        room = answer.length
+
+
+def read(function, none, *inputs):
+    """The text that the call gives, or None at the one refusal that says there is none."""
+    try:
+        return given(function, *inputs).decode()
+    except CookieError as error:
+        if error.status == none:
+            return None
+        raise
+
+
+def derive_key(master):
+    return given(DERIVE_KEY, master)
+
+
+def sign(key, name, value):
+    return given(SIGN, key, name, value).decode()
+
+
+def verify(key, name, text):
+    return read(VERIFY, NOT_SIGNED, key, name, text)
+
+
+def seal(key, name, value, nonce=None):
+    return given(SEAL, key, os.urandom(12) if nonce is None else nonce, name, value).decode()
+
+
+def open_sealed(key, name, text):
+    return read(OPEN, NOT_SEALED, key, name, text)
+
+
+def read_date(text):
+    """The date and time, with `datetime`'s UTC; years below 1 have none there."""
+    text = text.encode() if isinstance(text, str) else text
+    moment = READ_DATE(text, len(text))
+    if moment.status == NO_DATE:
+        return None
+    if moment.status != DONE:
+        raise CookieError(moment.status)
+    numbers = [getattr(moment, name) for name in ("year", "month", "day", "hour", "minute", "second")]
+    return datetime.datetime(*numbers, tzinfo=datetime.timezone.utc)
+
+
+def print_date(moment):
+    """The text of a date and time, which is taken to UTC if it has a zone."""
+    if moment.tzinfo is not None:
+        moment = moment.astimezone(datetime.timezone.utc)
+    numbers = moment.year, moment.month, moment.day, moment.hour, moment.minute, moment.second
+    return given(PRINT_DATE, *numbers).decode()
+
+
+def run(moment, text):
+    """What the program `cookiejar` writes for the moment and the input."""
+    if isinstance(moment, datetime.datetime):
+        moment = print_date(moment)
+    seeds = (int.from_bytes(os.urandom(8), "little") for _ in range(2))
+    return given(RUN, *seeds, moment, text).decode()

@@ -1,0 +1,211 @@
+/* Plays rows.tsv through the library: each row with a buffer that fits, with one that is a byte too short, with none, and
+ * with one that has room to spare. Every argument ends where its memory ends, so that a byte read or written past it is a
+ * fault; an empty one is a null pointer. */
+#define _GNU_SOURCE
+#include "cookie.h"
+#include <stdio.h>
+#include <stdlib.h>
+#include <string.h>
+#include <sys/mman.h>
+#include <unistd.h>
+
+enum { MOST_FIELDS = 10, PAGES = 4 };
+
+typedef struct text {
+    uint8_t *bytes;
+    size_t length;
+} text;
+
+static int faults = 0;
+static int row_number = 0;
+
+static void fault(const char *what) {
+    fprintf(stderr, "row %d: %s\n", row_number, what);
+    faults++;
+}
+
+/* Memory of that length, with a page behind it that mustn't be touched. */
+static uint8_t *at_edge(size_t length) {
+    if (length == 0)
+        return NULL;
+    size_t page = (size_t)sysconf(_SC_PAGESIZE);
+    size_t room = (length + page - 1) / page * page;
+    uint8_t *start = mmap(NULL, room + page, PROT_READ | PROT_WRITE, MAP_PRIVATE | MAP_ANONYMOUS, -1, 0);
+    if (start == MAP_FAILED || mprotect(start + room, page, PROT_NONE) != 0)
+        exit(2);
+    return start + room - length;
+}
+
+static void free_at_edge(uint8_t *bytes, size_t length) {
+    if (length == 0)
+        return;
+    size_t page = (size_t)sysconf(_SC_PAGESIZE);
+    size_t room = (length + page - 1) / page * page;
+    munmap(bytes + length - room, room + page);
+}
+
+static unsigned digit(char c) { return (unsigned)(c <= '9' ? c - '0' : c - 'a' + 10); }
+
+static text unhex(const char *hex) {
+    text made = {NULL, 0};
+    if (strcmp(hex, "-") == 0)
+        return made;
+    made.length = strlen(hex) / 2;
+    made.bytes = at_edge(made.length);
+    for (size_t i = 0; i < made.length; i++)
+        made.bytes[i] = (uint8_t)(digit(hex[2 * i]) << 4 | digit(hex[2 * i + 1]));
+    return made;
+}
+
+static const char *const NAMES[] = {
+    "DONE",      "BUFFER_TOO_SHORT", "OUT_OF_MEMORY", "NOT_UTF8", "KEY_TOO_SHORT", "MASTER_TOO_SHORT", "BAD_NONCE",
+    "NOT_SIGNED", "NOT_SEALED",      "TOO_LONG",      "NO_DATE",  "BAD_MOMENT",    "BAD_LINE",
+};
+
+static uint32_t status_named(const char *name) {
+    for (uint32_t i = 0; i < sizeof NAMES / sizeof *NAMES; i++)
+        if (strcmp(NAMES[i], name) == 0)
+            return i;
+    fprintf(stderr, "no status %s\n", name);
+    exit(2);
+}
+
+/* The six numbers of a date, as a row has them. */
+static void numbers_of(text date, int numbers[6]) {
+    char copy[64] = {0};
+    memcpy(copy, date.bytes, date.length < 63 ? date.length : 63);
+    if (sscanf(copy, "%d %d %d %d %d %d", numbers, numbers + 1, numbers + 2, numbers + 3, numbers + 4, numbers + 5) != 6)
+        exit(2);
+}
+
+static cookie_answer call(const char *name, const text *in, uint8_t *out, size_t length) {
+#define IN(i) in[i].bytes, in[i].length
+    if (strcmp(name, "derive_key") == 0)
+        return cookie_derive_key(IN(0), out, length);
+    if (strcmp(name, "sign") == 0)
+        return cookie_sign(IN(0), IN(1), IN(2), out, length);
+    if (strcmp(name, "verify") == 0)
+        return cookie_verify(IN(0), IN(1), IN(2), out, length);
+    if (strcmp(name, "seal") == 0)
+        return cookie_seal(IN(0), IN(1), IN(2), IN(3), out, length);
+    if (strcmp(name, "open") == 0)
+        return cookie_open(IN(0), IN(1), IN(2), out, length);
+    if (strcmp(name, "run") == 0)
+        return cookie_run(1, 2, IN(0), IN(1), out, length);
+    if (strcmp(name, "print_date") == 0) {
+        int n[6];
+        numbers_of(in[0], n);
+        return cookie_print_date((int16_t)n[0], (int8_t)n[1], (int8_t)n[2], (int8_t)n[3], (int8_t)n[4], (int8_t)n[5], out,
+                                 length);
+    }
+    fprintf(stderr, "no call %s\n", name);
+    exit(2);
+}
+
+/* The call with a buffer of that length: its answer, the bytes given, and no other byte changed. */
+static void play(const char *name, const text *in, size_t length, uint32_t status, size_t number, text wanted) {
+    uint8_t *out = at_edge(length);
+    if (length > 0)
+        memset(out, 0xa5, length);
+    cookie_answer answer = call(name, in, out, length);
+    if (answer.status != status || answer.length != number) {
+        fault(name);
+        fprintf(stderr, "  status %u, number %zu, with a buffer of %zu\n", answer.status, answer.length, length);
+    }
+    size_t given = status == COOKIE_DONE ? wanted.length : 0;
+    if (given > 0 && memcmp(out, wanted.bytes, given) != 0)
+        fault("another text");
+    for (size_t i = given; i < length; i++)
+        if (out[i] != 0xa5) {
+            fault("a byte behind the text has changed");
+            break;
+        }
+    free_at_edge(out, length);
+}
+
+static void play_text(const char *name, const text *in, uint32_t status, size_t number, text wanted) {
+    if (status != COOKIE_DONE) {
+        play(name, in, 0, status, number, wanted);
+        play(name, in, 100, status, number, wanted);
+        return;
+    }
+    play(name, in, wanted.length, status, number, wanted);
+    play(name, in, wanted.length + 7, status, number, wanted);
+    if (wanted.length > 0) {
+        play(name, in, wanted.length - 1, COOKIE_BUFFER_TOO_SHORT, number, wanted);
+        play(name, in, 0, COOKIE_BUFFER_TOO_SHORT, number, wanted);
+    }
+}
+
+static void play_date(text in, uint32_t status, text wanted) {
+    cookie_moment moment = cookie_read_date(in.bytes, in.length);
+    int n[6] = {0};
+    if (status == COOKIE_DONE)
+        numbers_of(wanted, n);
+    if (moment.status != status || moment.year != n[0] || moment.month != n[1] || moment.day != n[2]
+        || moment.hour != n[3] || moment.minute != n[4] || moment.second != n[5])
+        fault("another date");
+}
+
+/* A text signed, verified, sealed and opened in a buffer that the inputs lie in too. The header forbids it; the answer is
+ * counted, and nothing beyond the buffer may change. */
+static void overlap(void) {
+    static const uint8_t name[] = "session", value[] = "anna";
+    int right = 0, tried = 0;
+    for (size_t at = 0; at < 60; at++) {
+        uint8_t key[64], memory[260], wanted[48];
+        memset(key, 7, sizeof key);
+        memset(memory, 0xa5, sizeof memory);
+        cookie_sign(key, 64, name, 7, value, 4, wanted, 48);
+        memcpy(memory + 100 + at, value, 4);
+        cookie_answer answer = cookie_sign(key, 64, name, 7, memory + 100 + at, 4, memory + 100, 60);
+        tried++;
+        right += answer.status == COOKIE_DONE && answer.length == 48 && memcmp(memory + 100, wanted, 48) == 0;
+        memcpy(memory + 100 + at, wanted, 48);
+        answer = cookie_verify(key, 64, name, 7, memory + 100 + at, 48, memory + 100, 60);
+        tried++;
+        right += answer.status == COOKIE_DONE && answer.length == 4 && memcmp(memory + 100, value, 4) == 0;
+        for (size_t i = 0; i < sizeof memory; i++)
+            if ((i < 100 || i >= 100 + 60 + 48) && memory[i] != 0xa5)
+                fault("a byte beyond the buffer has changed");
+    }
+    printf("overlapping buffers: %d of %d answers right, no fault\n", right, tried);
+    if (right != tried)
+        fault("an overlapping buffer has another answer");
+}
+
+int main(int count, char **arguments) {
+    FILE *rows = count == 2 ? fopen(arguments[1], "r") : NULL;
+    if (rows == NULL)
+        return 2;
+    char *line = NULL;
+    size_t size = 0;
+    int played = 0;
+    while (getline(&line, &size, rows) > 0) {
+        row_number++;
+        if (line[0] == '#')
+            continue;
+        char *fields[MOST_FIELDS], *rest = line;
+        int n = 0;
+        line[strcspn(line, "\n")] = '\0';
+        while (n < MOST_FIELDS && (fields[n] = strsep(&rest, "\t")) != NULL)
+            n++;
+        text wanted = unhex(fields[4]), in[MOST_FIELDS - 5] = {{NULL, 0}};
+        for (int i = 5; i < n; i++)
+            in[i - 5] = unhex(fields[i]);
+        uint32_t status = status_named(fields[2]);
+        if (strcmp(fields[0], "read_date") == 0)
+            play_date(in[0], status, wanted);
+        else
+            play_text(fields[0], in, status, strtoul(fields[3], NULL, 10), wanted);
+        for (int i = 5; i < n; i++)
+            free_at_edge(in[i - 5].bytes, in[i - 5].length);
+        free_at_edge(wanted.bytes, wanted.length);
+        played++;
+    }
+    free(line);
+    fclose(rows);
+    overlap();
+    printf("C: %d rows, %d faults\n", played, faults);
+    return faults != 0;
+}

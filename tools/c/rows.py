@@ -1,0 +1,85 @@
+"""Plays rows.tsv through the library by ctypes, and some uses of cookie.py."""
+import ctypes
+import datetime
+import pathlib
+import sys
+
+import cookie
+from cookie import STATUSES
+
+CALLS = {"derive_key": cookie.DERIVE_KEY, "sign": cookie.SIGN, "verify": cookie.VERIFY, "seal": cookie.SEAL,
+         "open": cookie.OPEN, "print_date": cookie.PRINT_DATE, "run": cookie.RUN}
+FIELDS = ("year", "month", "day", "hour", "minute", "second")
+faults = []
+
+
+def played(call, inputs, length):
+    """Status, number and buffer, where the buffer has that length and is null where that is 0."""
+    arguments = [1, 2] if call == "run" else []
+    if call == "print_date":
+        arguments = [int(number) for number in inputs[0].split()]
+    else:
+        for value in inputs:
+            arguments += [value or None, len(value)]
+    buffer = ctypes.create_string_buffer(b"\xa5" * (length + 1), length + 1)
+    answer = CALLS[call](*arguments, ctypes.cast(buffer, ctypes.c_char_p) if length else None, length)
+    return answer.status, answer.length, buffer.raw
+
+
+def check(number, call, inputs, length, status, count, text):
+    wanted = (STATUSES.index(status), count, text + b"\xa5" * (length + 1 - len(text)))
+    if played(call, inputs, length) != wanted:
+        faults.append(f"row {number}: {call} with a buffer of {length}")
+
+
+def play(number, line):
+    call, _source, status, count, *fields = line.split("\t")
+    text, *inputs = (b"" if field == "-" else bytes.fromhex(field) for field in fields)
+    count = int(count)
+    if call == "read_date":
+        moment = cookie.READ_DATE(inputs[0] or None, len(inputs[0]))
+        numbers = " ".join(str(getattr(moment, name)) for name in FIELDS).encode() if moment.status == 0 else b""
+        if (moment.status, numbers) != (STATUSES.index(status), text):
+            faults.append(f"row {number}: another date")
+    elif status != "DONE":
+        for length in (0, 100):
+            check(number, call, inputs, length, status, count, b"")
+    else:
+        for length in (len(text), len(text) + 7):
+            check(number, call, inputs, length, status, count, text)
+        for length in {0, len(text) - 1} if text else ():
+            check(number, call, inputs, length, "BUFFER_TOO_SHORT", count, b"")
+
+
+def use():
+    """Uses of the module, whose answers are the round trip or Python's own."""
+    key = cookie.derive_key(bytes(range(32)))
+    text = cookie.sign(key, "session", "café")
+    assert cookie.verify(key, "session", text) == "café"
+    assert cookie.verify(key, "other", text) is None
+    sealed = cookie.seal(key, "session", "x" * 5000)
+    assert cookie.open_sealed(key, "session", sealed) == "x" * 5000
+    assert cookie.open_sealed(key, "other", sealed) is None
+    moment = datetime.datetime(2015, 10, 21, 7, 28, tzinfo=datetime.timezone.utc)
+    assert cookie.print_date(moment) == "Wed, 21 Oct 2015 07:28:00 GMT"
+    assert cookie.read_date("Wed, 21 Oct 2015 07:28:00 GMT") == moment
+    assert cookie.read_date("yesterday") is None
+    assert cookie.run(moment, "name=val\nadd a=1\n") == "Set-Cookie: a=1\nCookie: a=1; name=val\n"
+    for wrong, status in ((lambda: cookie.sign(b"short", "a", "b"), cookie.KEY_TOO_SHORT),
+                          (lambda: cookie.sign(key, "a", b"\xff"), cookie.NOT_UTF8),
+                          (lambda: cookie.run(moment, "\nnonsense"), cookie.BAD_LINE)):
+        try:
+            wrong()
+            faults.append("a use isn't refused")
+        except cookie.CookieError as error:
+            if error.status != status:
+                faults.append(f"a use is refused by {error}")
+
+
+lines = pathlib.Path(sys.argv[1]).read_text().splitlines()
+rows = [(number, line) for number, line in enumerate(lines, 1) if not line.startswith("#")]
+for number, line in rows:
+    play(number, line)
+use()
+print("\n".join(faults + [f"Python: {len(rows)} rows, {len(faults)} faults"]))
+sys.exit(bool(faults))

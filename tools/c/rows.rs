@@ -1,0 +1,122 @@
+//! Plays rows.tsv through the library from Rust: each row with a buffer that fits, one that is a byte too short, none, and
+//! one that has room to spare.
+use std::{env, fs, process, ptr};
+
+#[repr(C)]
+#[derive(Clone, Copy, Debug, PartialEq)]
+struct Answer {
+    status: u32,
+    length: usize,
+}
+
+#[repr(C)]
+#[derive(Clone, Copy)]
+struct Moment {
+    status: u32,
+    year: i16,
+    month: i8,
+    day: i8,
+    hour: i8,
+    minute: i8,
+    second: i8,
+}
+
+type Text = *const u8;
+
+#[rustfmt::skip]
+unsafe extern "C" {
+    fn cookie_derive_key(master: Text, master_length: usize, out: *mut u8, out_length: usize) -> Answer;
+    fn cookie_sign(key: Text, key_length: usize, name: Text, name_length: usize, value: Text, value_length: usize, out: *mut u8, out_length: usize) -> Answer;
+    fn cookie_verify(key: Text, key_length: usize, name: Text, name_length: usize, text: Text, text_length: usize, out: *mut u8, out_length: usize) -> Answer;
+    fn cookie_seal(key: Text, key_length: usize, nonce: Text, nonce_length: usize, name: Text, name_length: usize, value: Text, value_length: usize, out: *mut u8, out_length: usize) -> Answer;
+    fn cookie_open(key: Text, key_length: usize, name: Text, name_length: usize, text: Text, text_length: usize, out: *mut u8, out_length: usize) -> Answer;
+    fn cookie_read_date(text: Text, text_length: usize) -> Moment;
+    fn cookie_print_date(year: i16, month: i8, day: i8, hour: i8, minute: i8, second: i8, out: *mut u8, out_length: usize) -> Answer;
+    fn cookie_run(seed: u64, other_seed: u64, moment: Text, moment_length: usize, input: Text, input_length: usize, out: *mut u8, out_length: usize) -> Answer;
+}
+
+const STATUSES: [&str; 13] = [
+    "DONE", "BUFFER_TOO_SHORT", "OUT_OF_MEMORY", "NOT_UTF8", "KEY_TOO_SHORT", "MASTER_TOO_SHORT", "BAD_NONCE",
+    "NOT_SIGNED", "NOT_SEALED", "TOO_LONG", "NO_DATE", "BAD_MOMENT", "BAD_LINE",
+];
+
+fn numbers(date: &[u8]) -> Vec<i32> {
+    let text = std::str::from_utf8(date).expect("a date");
+    text.split(' ').map(|number| number.parse().expect("a number")).collect()
+}
+
+fn call(name: &str, inputs: &[Vec<u8>], out: *mut u8, length: usize) -> Answer {
+    let at = |i: usize| if inputs[i].is_empty() { ptr::null() } else { inputs[i].as_ptr() };
+    let size = |i: usize| inputs[i].len();
+    unsafe {
+        match name {
+            "derive_key" => cookie_derive_key(at(0), size(0), out, length),
+            "sign" => cookie_sign(at(0), size(0), at(1), size(1), at(2), size(2), out, length),
+            "verify" => cookie_verify(at(0), size(0), at(1), size(1), at(2), size(2), out, length),
+            "seal" => cookie_seal(at(0), size(0), at(1), size(1), at(2), size(2), at(3), size(3), out, length),
+            "open" => cookie_open(at(0), size(0), at(1), size(1), at(2), size(2), out, length),
+            "run" => cookie_run(1, 2, at(0), size(0), at(1), size(1), out, length),
+            "print_date" => {
+                let n = numbers(&inputs[0]);
+                cookie_print_date(n[0] as i16, n[1] as i8, n[2] as i8, n[3] as i8, n[4] as i8, n[5] as i8, out, length)
+            }
+            _ => panic!("no call {name}"),
+        }
+    }
+}
+
+/// Whether the call with a buffer of that length answers so, gives the text and changes nothing behind it.
+fn is_right(name: &str, inputs: &[Vec<u8>], length: usize, wanted: Answer, text: &[u8]) -> bool {
+    let mut buffer = vec![0xa5; length];
+    let out = if length == 0 { ptr::null_mut() } else { buffer.as_mut_ptr() };
+    let answer = call(name, inputs, out, length);
+    let given = if wanted.status == 0 { text.len() } else { 0 };
+    answer == wanted && buffer[..given] == text[..given] && buffer[given..].iter().all(|byte| *byte == 0xa5)
+}
+
+fn is_date(text: &[u8], status: u32, wanted: &[u8]) -> bool {
+    let at = if text.is_empty() { ptr::null() } else { text.as_ptr() };
+    let m = unsafe { cookie_read_date(at, text.len()) };
+    let read: [i32; 6] = [m.year.into(), m.month.into(), m.day.into(), m.hour.into(), m.minute.into(), m.second.into()];
+    let wanted = if status == 0 { numbers(wanted) } else { vec![0; 6] };
+    m.status == status && read[..] == wanted[..]
+}
+
+fn unhex(field: &str) -> Vec<u8> {
+    if field == "-" {
+        return Vec::new();
+    }
+    (0..field.len() / 2).map(|i| u8::from_str_radix(&field[2 * i..2 * i + 2], 16).expect("a byte")).collect()
+}
+
+fn main() {
+    let path = env::args().nth(1).expect("the rows");
+    let text = fs::read_to_string(path).expect("the rows");
+    let (mut rows, mut faults) = (0, 0);
+    for (number, line) in text.lines().enumerate().filter(|(_, line)| !line.starts_with('#')) {
+        let fields: Vec<&str> = line.split('\t').collect();
+        let status = STATUSES.iter().position(|name| *name == fields[2]).expect("a status") as u32;
+        let length = fields[3].parse().expect("a number");
+        let wanted = unhex(fields[4]);
+        let inputs: Vec<Vec<u8>> = fields[5..].iter().map(|field| unhex(field)).collect();
+        let answer = Answer { status, length };
+        let right = match (fields[0], status) {
+            ("read_date", _) => is_date(&inputs[0], status, &wanted),
+            (name, 0) => {
+                let short = Answer { status: 1, length };
+                is_right(name, &inputs, length, answer, &wanted)
+                    && is_right(name, &inputs, length + 7, answer, &wanted)
+                    && (length == 0 || is_right(name, &inputs, length - 1, short, &wanted))
+                    && (length == 0 || is_right(name, &inputs, 0, short, &wanted))
+            }
+            (name, _) => is_right(name, &inputs, 0, answer, &wanted) && is_right(name, &inputs, 100, answer, &wanted),
+        };
+        if !right {
+            eprintln!("row {}: {} has another answer", number + 1, fields[0]);
+            faults += 1;
+        }
+        rows += 1;
+    }
+    println!("Rust: {rows} rows, {faults} faults");
+    process::exit(i32::from(faults != 0));
+}
