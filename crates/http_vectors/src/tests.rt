@@ -1,0 +1,6 @@
+mod answers;
+mod clients;
+mod exchanges;
+mod requests;
+mod responses;
+mod rows;

@@ -1,0 +1,48 @@
+//! A response, and the client's next request.
+use super::rows::{has_values, shows};
+use cookie::{Cookie, CookieBuilder};
+use cookie_client::JarCall;
+use cookie_http::{Exchanged, exchange};
+use jiff::civil::DateTime;
+use std::alloc::Global;
+use std::test::Fail;
+
+fn original(name: &'static str, value: &'static str) -> JarCall<'static> {
+    JarCall::AddOriginal(Cookie::new(name, value))
+}
+
+// What comes of two originals, of which one is removed and one is changed.
+fn played(alloc: Global) -> Result<Exchanged, Fail> {
+    let now = DateTime::new(2015, 10, 21, 7, 28, 0, 0)?;
+    let calls = [
+        original("a", "1"),
+        original("b", "2"),
+        JarCall::Remove(CookieBuilder::new("a", "").path("/").build(), now),
+    ];
+    Ok(exchange(alloc, &calls, now)?)
+}
+
+#[test]
+fn a_removal_reaches_the_next_request(rt: HostRuntime) -> Result<(), Fail> {
+    let e = played(rt.alloc())?;
+    let text = "a=; Path=/; Max-Age=0; Expires=Tue, 21 Oct 2014 07:28:00 GMT";
+    assert!(rt; has_values(&e.response, "set-cookie", &[text]));
+    assert!(rt; has_values(&e.request, "cookie", &["b=2"]));
+    assert!(rt; shows(&e.next, &[("b", "2")]));
+    Ok(())
+}
+
+fn changed(alloc: Global) -> Result<Exchanged, Fail> {
+    let now = DateTime::new(2015, 10, 21, 7, 28, 0, 0)?;
+    let calls = [original("a", "1"), JarCall::Add(Cookie::new("a", "2; 3"))];
+    Ok(exchange(alloc, &calls, now)?)
+}
+
+#[test]
+fn a_change_reaches_the_next_request(rt: HostRuntime) -> Result<(), Fail> {
+    let e = changed(rt.alloc())?;
+    assert!(rt; has_values(&e.response, "set-cookie", &["a=2%3B%203"]));
+    assert!(rt; has_values(&e.request, "cookie", &["a=2%3B%203"]));
+    assert!(rt; shows(&e.next, &[("a", "2; 3")]));
+    Ok(())
+}
