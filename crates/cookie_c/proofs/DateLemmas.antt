@@ -1,5 +1,5 @@
 -- What a text is read as, by what is known of its bytes and its date.
-use Rattle.std.proofs.Common.{◌≡◌, ℕ, List, cond, Option, Some, None, ap, sym, ◌∙◌, IsUtf8}
+use Rattle.std.proofs.Common.{◌≡◌, ℕ, List, cond, Option, ap, sym, ◌∙◌, IsUtf8}
 use Rattle.std.proofs.lemmas.Str.{is_utf8-from_IsUtf8}
 use Rattle.jiff.specs.Types.{DateTime}
 use Rattle.cookie.specs.Moments.{date_of}

@@ -1,5 +1,5 @@
 -- What a jar shows after a cookie was added.
-use Rattle.std.proofs.Common.{◌≡◌, ℕ, List, Option, Some, option_map, ap, sym, ◌∙◌}
+use Rattle.std.proofs.Common.{◌≡◌, ℕ, List, Some, option_map, ap, sym, ◌∙◌}
 use Rattle.cookie.proofs.AnswerLemmas.{view-stored}
 use Rattle.cookie.specs.Jar.{JarState, Add, after, view}
 use Rattle.cookie.specs.Record.{Record}
