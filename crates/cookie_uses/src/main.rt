@@ -7,6 +7,7 @@ mod counting;
 mod dates;
 mod flash;
 mod following;
+mod headers;
 mod printing;
 mod reading;
 mod removal;
@@ -30,5 +31,6 @@ fn main(rt: HostRuntime) -> Result<()> {
     show::flash(&rt, now)?;
     show::calls(&rt, now)?;
     show::browser(&rt, now)?;
+    show::headers(&rt)?;
     show::runtime(&rt)
 }

@@ -1,12 +1,13 @@
 //! What `main` prints of each use.
 use crate::{
-    agents, answer, counting, dates, flash, following, printing, reading, removal, requests,
-    runtime, sealing, session, team,
+    agents, answer, counting, dates, flash, following, headers, printing, reading, removal,
+    requests, runtime, sealing, session, team,
 };
 use anyhow::Result;
 use cookie::{Cookie, CookieBuilder, CookieJar, DateText, JarError, Key};
 use cookie_agent::Site;
 use cookie_client::{ChildCall, Client, ClientError, JarCall, Played};
+use http_header::{HeaderMap, HeaderValue};
 use jiff::civil::DateTime;
 use rand::SeedableRng;
 use rand::rngs::StdRng;
@@ -164,6 +165,15 @@ pub fn browser(rt: &HostRuntime, now: DateTime) -> Result<()> {
     let text = "cart=3; Domain=example.com; Path=/shop; Secure";
     let header = agents::next_header(alloc, &site, text, now)?;
     println!(rt; "browser: {header}")?;
+    Ok(())
+}
+
+pub fn headers(rt: &HostRuntime) -> Result<()> {
+    let mut request = HeaderMap::new(rt.alloc());
+    request.append("cookie", HeaderValue::from_static("lang=en"))?;
+    let jar = headers::jar_of(rt.alloc(), RandomState::new(rt)?, &request)?;
+    let has_lang = jar.get("lang").is_some();
+    println!(rt; "a header map with lang: {has_lang}")?;
     Ok(())
 }
 
