@@ -1,4 +1,4 @@
--- What a jar shows after a call that changed it.
+-- What a jar shows after an addition.
 use Rattle.std.proofs.Common.{◌≡◌, Bool, true, false, cond, Option, Some, refl, ap, ◌∙◌}
 use Rattle.std.proofs.lemmas.Map.Text.{is_eq-slice_cmp}
 use Rattle.std.specs.Cmp.Lexicographic.{nat_list_cmp_total}
