@@ -90,8 +90,8 @@ impl<'a, S: Storing> ChildJar<'a, S> {
     /// this name behind the prefix. Where there is an original of that name, the delta gets a cookie that tells the
     /// client to drop it, with this cookie's path and domain.
     ///
-    /// Fails with `JarError::OutOfMemory` alone, and then leaves the jar as it was. A signed child jar's is never refused
-    /// where there is no such original.
+    /// Fails with `JarError::OutOfMemory` alone, and then leaves the jar as it was. A signed child jar's is never
+    /// refused where there is no such original.
     pub fn remove(&mut self, cookie: Cookie<'static>, now: DateTime) -> Result<(), JarError>
         ensures gives { Gives refusal.OutOfMemory result (λ _.
             jar_of self.new ≡ after

@@ -212,8 +212,8 @@ impl CookieJar {
     }
 }
 
-/// Prints the originals and the changes by name, with their values, for `{:?}` and derives. No contract says more of the
-/// text. A jar holds no key.
+/// Prints the originals and the changes by name, with their values, for `{:?}` and derives. No contract says more of
+/// the text. A jar holds no key.
 impl fmt::Debug for CookieJar {
     fn fmt<W: fmt::Write>(&self, f: &mut fmt::Formatter<W>) -> fmt::Result {
         f.debug_struct("CookieJar")

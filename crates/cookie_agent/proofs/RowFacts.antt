@@ -1,4 +1,5 @@
--- Rows of the agent's definitions, worked by hand: domains and paths (RFC 6265 5.1.3, 5.1.4), and what a store shows (RFC 6265 5.3, 5.4).
+-- Rows of the agent's definitions, worked by hand: domains and paths (RFC 6265 5.1.3, 5.1.4), and what a store shows
+-- (RFC 6265 5.3, 5.4).
 use Rattle.std.specs.Prelude.{◌≡◌, ℕ, true, false, List, [], ◌∷◌, map, codes, refl, Some, None, Option}
 use Rattle.jiff.specs.Types.{DateTime}
 use Rattle.cookie.specs.Record.{Record, plain}

@@ -79,7 +79,8 @@ Mirrors site now store values =
 abbrev pub values_of : Name → List Record → List (List ℕ)
 values_of name cookies = map (λ c. c.value) (filter (λ c. bytes_eq c.name name) cookies)
 
--- The header is read as what the jar shows: none of its texts is refused, and those of a name are the one that the jar shows under it, if it shows one.
+-- The header is read as what the jar shows: none of its texts is refused, and those of a name are the one that the jar
+-- shows under it, if it shows one.
 pub record SiteAgrees (jar : JarState) (header : List ℕ) : Type 0 where
   pub read : map (cookie_of true) (header_texts header)
       ≡ map (λ c. Some c) (header_cookies true header)
@@ -88,7 +89,8 @@ pub record SiteAgrees (jar : JarState) (header : List ℕ) : Type 0 where
 
 -- ---- the delta
 
--- an entry of the delta: a cookie with a name, in its name's scope, that is live, or whose age is zero where it tells the agent to drop it
+-- an entry of the delta: a cookie with a name, in its name's scope, that is live, or whose age is zero where it tells
+-- the agent to drop it
 pub record IsScopedEntry (site : SiteView) (now : DateTime) (scopes : Name → ScopeView)
     (name : Name) (entry : Marked) : Type 0 where
   pub cookie : IsNamed entry.cookie
@@ -135,7 +137,8 @@ IsSent =
 
 -- ---- two sites
 
--- Two sites at two moments are alike for a store: each name's scope takes in both or neither, their connections are alike, and what is unexpired at the one moment is so at the other.
+-- Two sites at two moments are alike for a store: each name's scope takes in both or neither, their connections are
+-- alike, and what is unexpired at the one moment is so at the other.
 pub record AreAlike (scopes : Name → ScopeView) (store : Store) (site other : SiteView)
     (now later : DateTime) : Type 0 where
   pub reach : (name : Name) → reaches site (scopes name) ≡ reaches other (scopes name)

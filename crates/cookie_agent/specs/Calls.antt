@@ -22,7 +22,8 @@ pub record IsScopedAddition (site : SiteView) (now : DateTime) (scopes : Name �
   pub removal : IsScopedRemoval site scopes cookie
   pub live : is_live cookie now ≡ true
 
--- an addition or a removal in its name's scope, or a reset: the agent knows nothing of originals, and isn't told of a forced removal
+-- an addition or a removal in its name's scope, or a reset: the agent knows nothing of originals, and isn't told of a
+-- forced removal
 abbrev pub IsScopedChange : SiteView → DateTime → (Name → ScopeView) → Change → Type 0
 IsScopedChange site now scopes (AddOriginal cookie) = ⊥
 IsScopedChange site now scopes (Add cookie) = IsScopedAddition site now scopes cookie

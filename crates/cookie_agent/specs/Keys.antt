@@ -25,7 +25,8 @@ pub record Visit : Type 0 where
 abbrev pub jar_of : Visit → JarState
 jar_of visit = after_all visit.changes (jar_for visit.header)
 
--- The header is the agent's, each change is scoped, and the texts are those of the jar's delta, in any order and with any repetition.
+-- The header is the agent's, each change is scoped, and the texts are those of the jar's delta, in any order and with
+-- any repetition.
 pub record IsVisit (scopes : Name → ScopeView) (before : Store) (visit : Visit) : Type 0 where
   pub sent : IsHeader visit.site visit.now before visit.header
   pub known : All IsKnownChange visit.changes

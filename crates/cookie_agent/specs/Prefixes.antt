@@ -59,7 +59,8 @@ pub record IsSecured (cookie : Record) : Type 0 where
   pub is : cookie_of false (cookie_text true false cookie) ≡ Some read
   pub secure : meets_secure read ≡ true
 
--- So it is of what the jar with the prefix `__Secure-` stores, and of what tells the agent to drop it, where path and domain set no other field.
+-- So it is of what the jar with the prefix `__Secure-` stores, and of what tells the agent to drop it, where path and
+-- domain set no other field.
 abbrev pub AreSecured : Type 0
 AreSecured =
     (cookie : Record) → IsNamed (conforming_cookie secure_prefix secure_cookie cookie)
@@ -68,7 +69,8 @@ AreSecured =
     × ((now : DateTime)
     → IsSecured (removal now (conforming_cookie secure_prefix secure_cookie cookie)))
 
--- Each cookie with the path `/` and without a domain has the whole host as its scope, and the site sees it: one scope serves all names.
+-- Each cookie with the path `/` and without a domain has the whole host as its scope, and the site sees it: one scope
+-- serves all names.
 abbrev pub IsScopedWhole : SiteView → Type 0
 IsScopedWhole site =
     (cookie : Record) → cookie.path ≡ Some (codes "/") → cookie.domain ≡ None

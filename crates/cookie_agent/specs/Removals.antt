@@ -1,4 +1,5 @@
--- Removals that remove nothing: a user agent drops a cookie only where name, domain and path are those of a stored one (RFC 6265 5.3, step 11).
+-- Removals that remove nothing: a user agent drops a cookie only where name, domain and path are those of a stored one
+-- (RFC 6265 5.3, step 11).
 use Rattle.std.specs.Prelude.{◌≡◌, ℕ, false, List, All, Some, pos}
 use Rattle.jiff.specs.Types.{DateTime}
 use Rattle.cookie.specs.CookieOf.{cookie_of}

@@ -36,7 +36,8 @@ wide_scope site domain path =
     })
     else None
 
--- the scope of a cookie with this domain and path that the site sets, if it may; an empty domain counts as none (5.2.3; 5.3, steps 4 to 7)
+-- the scope of a cookie with this domain and path that the site sets, if it may; an empty domain counts as none (5.2.3;
+-- 5.3, steps 4 to 7)
 abbrev pub scope_by : SiteView → Option (List ℕ) → Option (List ℕ) → Option ScopeView
 scope_by site None path = Some (own_scope site path)
 scope_by site (Some []) path = Some (own_scope site path)

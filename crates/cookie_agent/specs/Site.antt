@@ -3,7 +3,8 @@ use Rattle.std.specs.Prelude.{ℕ, ◌==◌, ◌&&◌, ◌||◌, not, Bool, List
 use Rattle.std.specs.List.{starts_with, ends_with, before_last}
 use Rattle.std.specs.Str.{bytes_eq, str_to_ascii_lowercase}
 
--- the host, in lower case (5.1.2), whether it is an IP address, the path of the request's URI, and whether the connection is secure
+-- the host, in lower case (5.1.2), whether it is an IP address, the path of the request's URI, and whether the
+-- connection is secure
 pub record SiteView : Type 0 where
   pub host : List ℕ
   pub is_address : Bool
@@ -24,7 +25,8 @@ site_of host is_address path is_secure =
       is_secure = is_secure;
     }
 
--- the host is the domain; or it is no address, the domain is a suffix of it, and the last byte before that is a dot (5.1.3)
+-- the host is the domain; or it is no address, the domain is a suffix of it, and the last byte before that is a dot
+-- (5.1.3)
 abbrev pub host_matches : List ℕ → Bool → List ℕ → Bool
 host_matches host is_address domain =
     bytes_eq host domain
@@ -41,13 +43,15 @@ abbrev pub or_slash : List ℕ → List ℕ
 or_slash [] = codes "/"
 or_slash (c ∷ cs) = c ∷ cs
 
--- what stands before the last `/` of a path that begins with `/`, or `/` where that is empty or the path doesn't begin so (5.1.4)
+-- what stands before the last `/` of a path that begins with `/`, or `/` where that is empty or the path doesn't begin
+-- so (5.1.4)
 abbrev pub default_path : List ℕ → List ℕ
 default_path path =
     if starts_with eqb path (codes "/")
     then or_slash (before_last (λ b. b == 47) path) else codes "/"
 
--- the request's path is the cookie's, or begins with it where the cookie's ends in `/` or the request's goes on with `/` (5.1.4)
+-- the request's path is the cookie's, or begins with it where the cookie's ends in `/` or the request's goes on with
+-- `/` (5.1.4)
 abbrev pub path_matches : List ℕ → List ℕ → Bool
 path_matches request cookie =
     bytes_eq request cookie

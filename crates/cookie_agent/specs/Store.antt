@@ -91,7 +91,8 @@ put same cookie (old ∷ store) =
     if same old cookie
     then cookie ∷ filter (λ c. not (same c cookie)) store else old ∷ put same cookie store
 
--- the store once a cookie is stored in a scope; one without a scope changes nothing. One that is expired drops the one with its key
+-- the store once a cookie is stored in a scope; one without a scope changes nothing. One that is expired drops the one
+-- with its key
 abbrev pub after_stored : SameKey → DateTime → Option ScopeView → Record → Store → Store
 after_stored same now None cookie store = unexpired now store
 after_stored same now (Some scope) cookie store =

@@ -36,7 +36,8 @@ pub record IsVisited (before : Store) (request : AgentRequest) (visited : Visite
   -- its agent is the one before, which read the delta's texts in some order
   pub read : (texts : List (List ℕ)) × AreDeltaTexts visited.jar.delta texts
       × (visited.agent ≡ after_texts standard_key request.site.now request.moment texts before)
-  -- where each accepted call is scoped, then whatever the order and the repetition of the delta's texts, each header that is then sent to the site is read as what the jar shows
+  -- where each accepted call is scoped, then whatever the order and the repetition of the delta's texts, each header
+  -- that is then sent to the site is read as what the jar shows
   pub agrees : (scopes : Name → ScopeView) → IsOurStore scopes before
       → AreScoped scopes request visited
       → (texts : List (List ℕ)) → AreDeltaTexts visited.jar.delta texts

@@ -53,8 +53,8 @@ impl Agent {
     /// cookie (RFC 6265 5.3).
     ///
     /// A cookie whose domain the site may set takes the place of the one with its name, domain and path, or comes last,
-    /// as it stands there, with nothing decoded; what is expired is dropped, so a cookie that is expired drops the one in
-    /// whose place it comes. Fails with `AgentError::OutOfMemory` alone, and then the agent is as before.
+    /// as it stands there, with nothing decoded; what is expired is dropped, so a cookie that is expired drops the one
+    /// in whose place it comes. Fails with `AgentError::OutOfMemory` alone, and then the agent is as before.
     pub fn read(&mut self, site: &Site, text: &str, now: DateTime) -> Result<bool, AgentError>
         ensures gives { Gives OutOfMemory result (λ is_cookie.
             (self.new ≡ after_text standard_key site.now now text.now self.old)

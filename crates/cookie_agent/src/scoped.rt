@@ -16,8 +16,8 @@ use jiff::civil::DateTime;
 
 /// Whether a user agent at the site can follow the call at the moment `now` in UTC, where the scope is that of the
 /// call's name: an addition of a cookie that is live (`cookie_client::is_live`), a removal or a reset, whose cookie, as
-/// the jar stores it, has a name, gets that scope at the site, is sent to the site, and has a path and a domain that are
-/// read as they are printed.
+/// the jar stores it, has a name, gets that scope at the site, is sent to the site, and has a path and a domain that
+/// are read as they are printed.
 pub fn is_scoped(call: &JarCall<'_>, site: &Site, scope: &Scope, now: DateTime) -> bool
     ensures { IsTrue result ↔ IsScopedCall site.now now (λ _. scope.now) call.now }
 {

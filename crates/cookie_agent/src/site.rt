@@ -127,8 +127,8 @@ impl Site {
         Ok(self.wide_scope(alloc, domain, path)?)
     }
 
-    /// The whole host of the site and no other, which is the scope of each cookie with the path `/` and without a domain,
-    /// and so of all that a jar with the prefix `__Host-` stores and removes (RFC 6265bis 4.1.3). Fails with
+    /// The whole host of the site and no other, which is the scope of each cookie with the path `/` and without a
+    /// domain, and so of all that a jar with the prefix `__Host-` stores and removes (RFC 6265bis 4.1.3). Fails with
     /// `AgentError::OutOfMemory` alone.
     pub fn host_scope(&self, alloc: Global) -> Result<Scope, AgentError>
         ensures { Gives OutOfMemory result (λ scope. scope ≡ host_scope self.now) }
@@ -136,9 +136,9 @@ impl Site {
         Ok(self.own_scope(alloc, Some("/"))?)
     }
 
-    /// What holds at every site: it sees its whole host, which is the scope of each cookie with the path `/` and without
-    /// a domain; and what jars with the prefixes `__Host-` and `__Secure-` store and remove meets what a browser asks of
-    /// such names (RFC 6265bis 5.7). It does nothing.
+    /// What holds at every site: it sees its whole host, which is the scope of each cookie with the path `/` and
+    /// without a domain; and what jars with the prefixes `__Host-` and `__Secure-` store and remove meets what a
+    /// browser asks of such names (RFC 6265bis 5.7). It does nothing.
     pub fn known(&self)
         ensures reaches { reaches self.now (host_scope self.now) ≡ true }
         ensures whole { IsScopedWhole self.now }

@@ -1,5 +1,5 @@
--- What a call answers that has a text for its caller's buffer, and what it leaves there: `old` is the buffer at the call
--- and `new` at the return.
+-- What a call answers that has a text for its caller's buffer, and what it leaves there: `old` is the buffer at the
+-- call and `new` at the return.
 use Rattle.std.specs.Prelude.{◌≡◌, ℕ, ◌<◌, ◌≤◌, ◌⊎◌, List, ◌++◌, drop, length}
 use Rattle.cookie_c.specs.Codes.{code_of}
 use Rattle.cookie_c.specs.declared.answer.Answer.{Answer}

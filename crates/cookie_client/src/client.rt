@@ -66,8 +66,8 @@ impl Client {
         self.values.pairs()
     }
 
-    /// Holds this value for the name from now on. Fails with `ClientError::OutOfMemory` alone, and then the client is as
-    /// before.
+    /// Holds this value for the name from now on. Fails with `ClientError::OutOfMemory` alone, and then the client is
+    /// as before.
     pub fn hold(&mut self, name: &str, value: &str) -> Result<(), ClientError>
         ensures gives { Gives OutOfMemory result (λ _.
             self.new ≡ insert self.old name.now value.now) }
@@ -101,9 +101,9 @@ impl Client {
         Ok(())
     }
 
-    /// Reads the text of a `Set-Cookie` header at a moment in UTC (RFC 6265 5.3), and answers whether it is a
-    /// cookie. One that is live ([`is_live`]) sets its name to its value, one that isn't drops its name, and a text that
-    /// is no cookie changes nothing. Fails with `ClientError::OutOfMemory` alone, and then the client is as before.
+    /// Reads the text of a `Set-Cookie` header at a moment in UTC (RFC 6265 5.3), and answers whether it is a cookie.
+    /// One that is live ([`is_live`]) sets its name to its value, one that isn't drops its name, and a text that is no
+    /// cookie changes nothing. Fails with `ClientError::OutOfMemory` alone, and then the client is as before.
     pub fn read(&mut self, text: &str, now: DateTime) -> Result<bool, ClientError>
         ensures gives { Gives OutOfMemory result (λ is_cookie.
             (self.new ≡ after_text now text.now self.old)

@@ -113,8 +113,8 @@ pub(crate) fn is_accepted(alloc: Global, jar: &mut CookieJar, call: &JarCall<'_>
 /// Makes the calls in order, and answers which were accepted: one outcome a call, true where it was.
 ///
 /// A call that is refused, or whose cookie finds no memory to be copied, has the outcome false and changes nothing.
-/// Forced removals and resets are always accepted; an addition through a private jar that is too long to be sealed never
-/// is. It fails only where the list of outcomes finds no memory, before any call is made: then it answers
+/// Forced removals and resets are always accepted; an addition through a private jar that is too long to be sealed
+/// never is. It fails only where the list of outcomes finds no memory, before any call is made: then it answers
 /// `ClientError::OutOfMemory`, and the jar is as before.
 pub fn replay(
     alloc: Global,

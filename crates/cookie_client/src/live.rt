@@ -20,8 +20,8 @@ fn is_later(expires: Option<Expiration>, now: DateTime) -> bool
 
 /// Whether the cookie is live at the moment `now` in UTC, so that a client keeps it (RFC 6265 5.2.2, 5.3).
 ///
-/// It is where its age, in whole seconds, is above zero; and, where it has no age, where its expiry, in whole seconds of
-/// UTC, is later than `now`. One with neither is live, and so is one that ends with the session.
+/// It is where its age, in whole seconds, is above zero; and, where it has no age, where its expiry, in whole seconds
+/// of UTC, is later than `now`. One with neither is live, and so is one that ends with the session.
 pub fn is_live(cookie: &Cookie<'_>, now: DateTime) -> bool
     ensures { result ≡ is_live cookie.now.fields now }
 {

@@ -217,16 +217,16 @@ fn answer(alloc: Global, jar: CookieJar, now: DateTime, bytes: &[u8]) -> Result<
 /// a date in UTC, in one of the four forms that `cookie::read_date` takes, of the year 100 or later.
 ///
 /// Line 1 of the input is the value of a `Cookie` header, which may be empty: its cookies are the jar's originals and
-/// what the client holds. Each further line is a call: `add TEXT` with the text of a `Set-Cookie` header, `remove NAME`,
-/// `force NAME` or `reset`; an empty line is none. What is written is a line `Set-Cookie: TEXT` for each cookie of the
-/// jar's delta, in byte order of the names, and then the line `Cookie: HEADER` of the client that has read them
-/// (RFC 6265 4.1, 5.3, 5.4).
+/// what the client holds. Each further line is a call: `add TEXT` with the text of a `Set-Cookie` header,
+/// `remove NAME`, `force NAME` or `reset`; an empty line is none. What is written is a line `Set-Cookie: TEXT` for each
+/// cookie of the jar's delta, in byte order of the names, and then the line `Cookie: HEADER` of the client that has
+/// read them (RFC 6265 4.1, 5.3, 5.4).
 ///
-/// Fails with `BadMoment` before anything is read. Then come, in this order, `Input` where a read fails, `BadInput` where
-/// the bytes aren't UTF-8, `BadLine` at the first line that is no call, counted from 1, and `Output` where a write fails,
-/// an interrupted one too, or takes nothing. `OutOfMemory` may stand in the place of any but `BadMoment`, before anything
-/// is written. After `Output` a beginning of the text was written that isn't the whole, after any other failure nothing.
-/// It doesn't flush.
+/// Fails with `BadMoment` before anything is read. Then come, in this order, `Input` where a read fails, `BadInput`
+/// where the bytes aren't UTF-8, `BadLine` at the first line that is no call, counted from 1, and `Output` where a
+/// write fails, an interrupted one too, or takes nothing. `OutOfMemory` may stand in the place of any but `BadMoment`,
+/// before anything is written. After `Output` a beginning of the text was written that isn't the whole, after any other
+/// failure nothing. It doesn't flush.
 pub fn run<R: Read, W: Write>(
     alloc: Global,
     moment: &str,

@@ -82,7 +82,8 @@ same_name c r is e = by c.name refl
         let outcome = text_outcome c (record { cookie = is; name = λ empty. let never : b ∷ bs ≡ [] = sym f ∙ empty in cc }) in
         ap (λ (x : Record). x.name) (same_Some _ _ (sym e ∙ outcome.1)) ∙ outcome.2
 
--- and so is the age, in whole seconds, where it is set: the printed age comes behind the path and the domain, and the last one counts
+-- and so is the age, in whole seconds, where it is set: the printed age comes behind the path and the domain, and the
+-- last one counts
 pub age_outcome : (r : Record) (age : ℤ) → IsNamed r → r.max_age ≡ Some age → (n : Record) × (cookie_of true (cookie_text true false r) ≡ Some n) × (n.name ≡ r.name) × (n.value ≡ r.value) × (n.max_age ≡ Some (whole_age age))
 age_outcome r age named e =
     let P : List (List ℕ) → Type 0 = λ ps. IsLastSet key.MaxAge ps (Some (whole_age age)) in
@@ -93,7 +94,8 @@ age_outcome r age named e =
 pub removal_outcome : (r : Record) → IsNamed r → r.max_age ≡ Some (pos 0) → (n : Record) × (cookie_of true (cookie_text true false r) ≡ Some n) × (n.name ≡ r.name) × (n.value ≡ r.value) × (n.max_age ≡ Some (pos 0))
 removal_outcome r named e = age_outcome r (pos 0) named e
 
--- where the path and the domain hold no `;`, the age is kept, in whole seconds, and the expiry, but for short years, which are never earlier
+-- where the path and the domain hold no `;`, the age is kept, in whole seconds, and the expiry, but for short years,
+-- which are never earlier
 pub live_outcome : (r : Record) → IsNamed r → IsUncut r → (n : Record) × (cookie_of true (cookie_text true false r) ≡ Some n) × (n.name ≡ r.name) × (n.value ≡ r.value) × (n.max_age ≡ option_map whole_age r.max_age) × IsExpiryReadBack r.expires n.expires
 live_outcome r named uncut =
     (read_record r, (cookie_of-Reads true (cookie_text true false r) (read_record r)).1 (uncut_form r named uncut), refl, refl, refl, read_expiry-is r.expires)

@@ -36,7 +36,8 @@ seconds_of_digits (d ∷ ds) =
     if list_all is_ascii_digit (d ∷ ds)
     then Some (min (digits_value 10 (d ∷ ds)) 9223372036854775807) else None
 
--- the seconds that the value of `max-age` gives, if it is valid (RFC 6265 5.2.2): one leading `-` is taken off, and makes them zero
+-- the seconds that the value of `max-age` gives, if it is valid (RFC 6265 5.2.2): one leading `-` is taken off, and
+-- makes them zero
 abbrev pub max_age_seconds : List ℕ → Option ℕ
 max_age_seconds v =
     if starts_with eqb v (45 ∷ [])

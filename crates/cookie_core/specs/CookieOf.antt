@@ -68,7 +68,8 @@ abbrev pub decoded_text : Bool → List ℕ → Option (List ℕ)
 decoded_text false t = Some t
 decoded_text true t = if is_utf8 (unescape t) then Some (unescape t) else None
 
--- the record that the pieces of a text are read as, if the first has a `=`, a name that is not empty, and can be decoded
+-- the record that the pieces of a text are read as, if the first has a `=`, a name that is not empty, and can be
+-- decoded
 abbrev pub cookie_in : Bool → List (List ℕ) → Option Record
 cookie_in decode [] = None
 cookie_in decode (p ∷ ps) = do

@@ -19,7 +19,8 @@ HasPair t =
     (p : List ℕ) × (ps : List (List ℕ)) × (n : List ℕ) × (v : List ℕ) × IsPieces t p ps
     × IsPair p n v × (n ≢ [])
 
--- what the text is read as, as it stands or decoded; memory can be wanting in the place of a record or of a refusal to decode
+-- what the text is read as, as it stands or decoded; memory can be wanting in the place of a record or of a refusal to
+-- decode
 abbrev pub ReadsInMemory : Bool → List ℕ → Result Record ParseError → Type 0
 ReadsInMemory decode t (Err OutOfMemory) = HasPair t
 ReadsInMemory decode t o = Reads decode t o

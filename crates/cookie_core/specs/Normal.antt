@@ -68,7 +68,8 @@ pub record IsUncut (r : Record) : Type 0 where
   pub path : IfSome r.path (Lacks 59)
   pub domain : IfSome r.domain (Lacks 59)
 
--- what a printed expiry is read as: the date-time of the year rule, in whole seconds (RFC 6265 5.1.1), and nothing where it is no date-time
+-- what a printed expiry is read as: the date-time of the year rule, in whole seconds (RFC 6265 5.1.1), and nothing
+-- where it is no date-time
 abbrev pub IsExpiryReadBack : Option Expiration → Option Expiration → Type 0
 IsExpiryReadBack (Some (expiration.DateTime m)) (Some (expiration.DateTime back)) =
     IsReadBack m back
@@ -76,7 +77,8 @@ IsExpiryReadBack (Some (expiration.DateTime m)) _ = ⊥
 IsExpiryReadBack _ None = Unit {0}
 IsExpiryReadBack _ (Some x) = ⊥
 
--- same_site is `None`, secure is false, and partitioned is not true: `Secure` is printed the second time, and not the first
+-- same_site is `None`, secure is false, and partitioned is not true: `Secure` is printed the second time, and not the
+-- first
 abbrev pub GainsSecure : Record → Type 0
 GainsSecure r =
     (r.same_site ≡ Some same_site.None) × (r.secure ≡ Some false) × (r.partitioned ≢ Some true)

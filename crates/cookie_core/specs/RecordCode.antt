@@ -7,7 +7,8 @@ use Rattle.cookie_core.specs.declared.same_site.SameSite.{SameSite}
 use Rattle.cookie_core.specs.contracts.expiration.Expiration as expiration
 use Rattle.cookie_core.specs.contracts.same_site.SameSite as same_site
 
--- the fields of a record, as nested pairs: its name and value, its flags, the rule of other sites, its place, its lifetime
+-- the fields of a record, as nested pairs: its name and value, its flags, the rule of other sites, its place, its
+-- lifetime
 abbrev pub FieldPairs : Type 0
 FieldPairs =
     (List ℕ × List ℕ) × ((Option Bool × (Option Bool × Option Bool))

@@ -1,4 +1,5 @@
--- When two cookies are equal: a relation of the library, not of RFC 6265 5.3, which tells cookies apart by name, domain and path.
+-- When two cookies are equal: a relation of the library, not of RFC 6265 5.3, which tells cookies apart by name, domain
+-- and path.
 use Rattle.std.specs.Prelude.{◌≡◌, ℕ, List, Bool, true, bytes_eq}
 use Rattle.std.specs.Bool.{beq}
 use Rattle.std.specs.Cmp.{IsEquivalence, IsPartialEquivalence, partial_equiv_from_equiv, and_equiv, on_equiv, int_eq_equiv, bool_eq_equiv}

@@ -6,7 +6,8 @@ use Rattle.cookie_core.specs.Reads.{Reads, fields_of}
 use Rattle.cookie_core.specs.Record.{Record, CookieView, all_lent, no_raw_forms}
 use Rattle.cookie_core.specs.declared.parse_error.ParseError.{ParseError}
 
--- a splitter: the texts that are left, whether they are decoded, and whether the cookies have texts of their own; it can want memory where either is so
+-- a splitter: the texts that are left, whether they are decoded, and whether the cookies have texts of their own; it
+-- can want memory where either is so
 pub record SplitView : Type 0 where
   pub texts : List (List ℕ)
   pub is_decoded : Bool
@@ -49,7 +50,8 @@ pub record IsAlike (s s' : SplitView) : Type 0 where
   pub is_decoded : s'.is_decoded ≡ s.is_decoded
   pub is_owned : s'.is_owned ≡ s.is_owned
 
--- an item is what its text is read as; want of memory comes only where the cookie gets texts of its own, or an escape is undone
+-- an item is what its text is read as; want of memory comes only where the cookie gets texts of its own, or an escape
+-- is undone
 pub record IsItem (s : SplitView) (t : List ℕ) (o : Result CookieView ParseError) : Type 0 where
   pub reads : ReadsItem s.is_decoded s.is_owned t (fields_of o)
   pub fault : IfErr o (NamesFault t)

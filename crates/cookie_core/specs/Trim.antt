@@ -1,4 +1,5 @@
--- A text without the white space at its ends: RFC 6265 5.2 removes leading and trailing white space, and here that is Unicode White_Space. `IsWhite` is an inner word.
+-- A text without the white space at its ends: RFC 6265 5.2 removes leading and trailing white space, and here that is
+-- Unicode White_Space. `IsWhite` is an inner word.
 use Rattle.std.specs.Prelude.{◌≡◌, ℕ, true, false, List, [], ◌∷◌, ◌++◌, All, IsUtf8}
 use Rattle.std.specs.Char.{is_whitespace}
 use Rattle.std.specs.Str.{chars}

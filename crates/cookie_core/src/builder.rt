@@ -184,8 +184,8 @@ impl<'c> Builder<Cookie<'c>> {
         self
     }
 
-    /// Makes it a cookie that tells a client at `now`, which is in UTC, to drop the one of its name, path and domain, as
-    /// [`Cookie::make_removal`] (RFC 6265 3.1).
+    /// Makes it a cookie that tells a client at `now`, which is in UTC, to drop the one of its name, path and domain,
+    /// as [`Cookie::make_removal`] (RFC 6265 3.1).
     pub fn removal(mut self, now: DateTime) -> CookieBuilder<'c>
         ensures fields { result.fields ≡ removal now self.entry.fields }
         ensures raw { result.raw ≡ record self.entry.raw { value = None } }

@@ -212,10 +212,10 @@ impl<'a, 'c> fmt::Display for AttributesOf<'a, 'c> {
 /// (RFC 6265 4.1.1).
 ///
 /// The attributes stand in this order, each where it is set: `HttpOnly`, `SameSite`, `Partitioned`, `Secure`, `Path`,
-/// `Domain`, `Max-Age` in whole seconds, `Expires` in whole seconds of UTC. A flag that is false isn't printed. `Secure`
-/// is printed where it is set to true, where the cookie is partitioned, and, unless it is set to false, where
-/// `SameSite` is `None` (RFC 6265bis 4.1.2). Path and domain are printed as they are: docs/DIFFERENCES.md says what they
-/// mustn't hold.
+/// `Domain`, `Max-Age` in whole seconds, `Expires` in whole seconds of UTC. A flag that is false isn't printed.
+/// `Secure` is printed where it is set to true, where the cookie is partitioned, and, unless it is set to false, where
+/// `SameSite` is `None` (RFC 6265bis 4.1.2). Path and domain are printed as they are: docs/DIFFERENCES.md says what
+/// they mustn't hold.
 #[derive(Drop)]
 pub struct Display<'a, 'c> {
     cookie: &'a Cookie<'c>,
@@ -310,8 +310,8 @@ impl<'a, 'c> fmt::Display for Display<'a, 'c> {
     }
 }
 
-/// Prints the cookie as a `Set-Cookie` header has it, its name and value as they are, with the attributes in the order of
-/// [`Display`].
+/// Prints the cookie as a `Set-Cookie` header has it, its name and value as they are, with the attributes in the order
+/// of [`Display`].
 impl<'c> fmt::Display for Cookie<'c> {
     ghost output = { λ c. Some (cookie_text false false c.fields) };
 

@@ -49,8 +49,9 @@ fn columns(h: u128) -> [[u8; 16]; 16]
     columns
 }
 
-// The product of a block and the one whose columns are handed in. Byte `b` of what a byte of the block adds is looked up
-// for all sixteen at once. From the last `b` to the first, what has been summed moves one byte on, from `first` into `rest`.
+// The product of a block and the one whose columns are handed in. Byte `b` of what a byte of the block adds is looked
+// up for all sixteen at once. From the last `b` to the first, what has been summed moves one byte on, from `first` into
+// `rest`.
 fn product(upper: &[[u8; 16]; 16], lower: &[[u8; 16]; 16], block: u128) -> u128
     ensures { (h : ℕ) → h < 2 ^ 128 → upper.now ≡ columns h → lower.now ≡ columns (times_power 4 h)
         → result ≡ field_product block h }
