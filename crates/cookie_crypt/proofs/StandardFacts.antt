@@ -9,17 +9,17 @@ use Rattle.cookie_crypt.specs.BlockField.{times_x, times_power, product_below, f
 use Rattle.cookie_crypt.specs.Ghash.{times_often, ghash}
 use Rattle.cookie_crypt.specs.Gcm.{number_of, bytes_of, counter_block, key_stream, gctr, block_at, blocks, hashed_blocks, hash_subkey, masked_hash, tag_of}
 
--- FIPS 197, 4.2: the product of 57 and 83
+-- FIPS 197 4.2: the product of 57 and 83
 product_of_the_standard : byte_product 0x57 0x83 ≡ 0xc1
 unfolding byte_product byte_product_below byte_times_power byte_times_x
 product_of_the_standard = refl
 
--- FIPS 197, 5.1.1: S of 53
+-- FIPS 197 5.1.1: S of 53
 s_box_of_the_standard : s_box 0x53 ≡ 0xed
 unfolding s_box affine_below inverse inverse_in_last byte_product byte_product_below byte_times_power byte_times_x
 s_box_of_the_standard = refl
 
--- FIPS 197, C.3
+-- FIPS 197 C.3
 block_of_the_standard : encrypt_block (range_with_len 0 32) (0x00 ∷ 0x11 ∷ 0x22 ∷ 0x33 ∷ 0x44 ∷ 0x55 ∷ 0x66 ∷ 0x77 ∷ 0x88 ∷ 0x99 ∷ 0xaa ∷ 0xbb ∷ 0xcc ∷ 0xdd ∷ 0xee ∷ 0xff ∷ [])
     ≡ 0x8e ∷ 0xa2 ∷ 0xb7 ∷ 0xca ∷ 0x51 ∷ 0x67 ∷ 0x45 ∷ 0xbf ∷ 0xea ∷ 0xfc ∷ 0x49 ∷ 0x90 ∷ 0x4b ∷ 0x49 ∷ 0x60 ∷ 0x89 ∷ []
 unfolding byte_times_x byte_times_power byte_product_below byte_product inverse_in_last inverse affine_below s_box sub_bytes shift_rows mix_columns added_word next_word words key_expansion add_round_key rounds cipher encrypt_block

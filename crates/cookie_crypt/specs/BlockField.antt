@@ -1,4 +1,4 @@
--- The field of 2 ^ 128 elements in which GCM multiplies (SP 800-38D, 6.3).
+-- The field of 2 ^ 128 elements in which GCM multiplies (SP 800-38D 6.3).
 --
 -- A block is the number that its sixteen bytes write, the first byte highest. So its leftmost bit, bit 127, is the
 -- coefficient of x ^ 0, and bit 0 that of x ^ 127. The sum of two blocks is `bit_xor`.

@@ -1,4 +1,4 @@
--- The field of 2 ^ 8 elements of AES (FIPS 197, 4). Bit i of a byte is the coefficient of x ^ i, and the sum of two
+-- The field of 2 ^ 8 elements of AES (FIPS 197 4). Bit i of a byte is the coefficient of x ^ i, and the sum of two
 -- bytes is `bit_xor` (4.1).
 use Rattle.std.specs.Prelude.{◌≡◌, ◌≢◌, ℕ, zero, suc, ◌-◌, ◌*◌, ◌/◌, ◌%◌, ◌<◌, ◌==◌, if◌then◌else◌, bit_xor}
 use Rattle.std.specs.Int.{bit_at}

@@ -1,4 +1,4 @@
--- The expansion of a key to 64 bytes, two blocks of HMAC-SHA256 (RFC 5869, 2.3).
+-- The expansion of a key to 64 bytes, two blocks of HMAC-SHA256 (RFC 5869 2.3).
 use Rattle.std.specs.Prelude.{ℕ, List, [], ◌∷◌, ◌++◌}
 use Rattle.cookie_crypt.specs.Hmac.{hmac}
 

@@ -1,4 +1,4 @@
--- The authentication hash of GCM under a block h (SP 800-38D, 6.4), as a sum of blocks times powers of h, and by the
+-- The authentication hash of GCM under a block h (SP 800-38D 6.4), as a sum of blocks times powers of h, and by the
 -- standard's steps.
 use Rattle.std.specs.Prelude.{◌≡◌, ℕ, zero, suc, ◌^◌, ◌<◌, bit_xor, List, [], ◌∷◌, length}
 use Rattle.cookie_crypt.specs.BlockField.{field_product, block_one}

@@ -1,4 +1,4 @@
--- The map S on bytes (FIPS 197, 5.1.1).
+-- The map S on bytes (FIPS 197 5.1.1).
 use Rattle.std.specs.Prelude.{ℕ, zero, suc, ◌+◌, ◌*◌, ◌%◌, ◌^◌}
 use Rattle.std.specs.Int.{bit_at}
 use Rattle.cookie_crypt.specs.ByteField.{inverse}

@@ -1,4 +1,4 @@
-//! Blocks of sixteen bytes: as numbers, as counters (SP 800-38D, 6.2), and of padded data.
+//! Blocks of sixteen bytes: as numbers, as counters (SP 800-38D 6.2), and of padded data.
 ghost use Rattle.std.specs.Prelude.{◌≡◌, ◌<◌, ◌≤◌, ◌+◌, ◌*◌, ℕ, bit_xor, length, slice_index};
 ghost use Rattle.cookie_crypt.specs.Gcm.{number_of, bytes_of, counter_block, block_at};
 

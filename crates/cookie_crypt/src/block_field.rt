@@ -1,4 +1,4 @@
-//! The field of GCM (SP 800-38D, 6.3).
+//! The field of GCM (SP 800-38D 6.3).
 ghost use Rattle.std.specs.Prelude.{◌≡◌, ◌≤◌};
 ghost use Rattle.cookie_crypt.specs.BlockField.{times_x, product_below, times_power};
 

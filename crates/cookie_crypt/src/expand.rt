@@ -1,4 +1,4 @@
-//! The expansion of a key by HMAC-SHA256 (RFC 5869, 2.3).
+//! The expansion of a key by HMAC-SHA256 (RFC 5869 2.3).
 ghost use Rattle.std.specs.Prelude.{◌≡◌, ◌++◌};
 ghost use Rattle.cookie_crypt.specs.Expand.{expand64};
 
@@ -14,7 +14,7 @@ fn joined(first: &[u8; 32], second: &[u8; 32]) -> [u8; 64]
     bytes
 }
 
-/// The first 64 bytes of the expansion of `prk`, a pseudorandom key, with `info` (RFC 5869, 2.3). `prk` must be
+/// The first 64 bytes of the expansion of `prk`, a pseudorandom key, with `info` (RFC 5869 2.3). `prk` must be
 /// random, of at least 32 bytes.
 pub fn expand64(prk: &[u8], info: &[u8]) -> [u8; 64]
     ensures { result ≡ expand64 prk.now info.now }

@@ -15,12 +15,12 @@ use crate::steps::Steps;
 use std::alloc::AllocError;
 use std::marker::Model;
 
-// The most bytes of a text, and of associated data (SP 800-38D, 5.2.1.1).
+// The most bytes of a text, and of associated data (SP 800-38D 5.2.1.1).
 const LONGEST_TEXT: usize = (1 << 36) - 32;
 
 const LONGEST_DATA: usize = (1 << 61) - 1;
 
-// Adds the stream under the nonce to the text (SP 800-38D, 6.5).
+// Adds the stream under the nonce to the text (SP 800-38D 6.5).
 fn add_key_stream(cipher: &Aes256, nonce: &[u8; 12], text: &mut [u8], steps: &mut Steps)
     requires within { length text.old ≤ 2 ^ 36 - 32 }
     requires room { steps.old.blocks + block_count (length text.old) < 2 ^ 64 }
@@ -34,7 +34,7 @@ fn add_key_stream(cipher: &Aes256, nonce: &[u8; 12], text: &mut [u8], steps: &mu
     }
 }
 
-// The tag of an encrypted text (SP 800-38D, 7.1, steps 4 to 6).
+// The tag of an encrypted text (SP 800-38D 7.1, steps 4 to 6).
 fn tag_of(cipher: &Aes256, nonce: &[u8; 12], aad: &[u8], text: &[u8], steps: &mut Steps) -> [u8; 16]
     requires within { IsWithin (length aad.now) (length text.now) }
     requires room { steps.old.blocks < 2 ^ 40 }
@@ -89,7 +89,7 @@ impl Gcm {
     }
 
     /// Encrypts the text in place, and gives the tag of it and of the associated data `aad`
-    /// (SP 800-38D, 7.1). No two texts may be sealed under one key and one nonce, and under one key at
+    /// (SP 800-38D 7.1). No two texts may be sealed under one key and one nonce, and under one key at
     /// most 2^32 random nonces may be drawn (8.3).
     ///
     /// `None` where the text has more than 2^36 - 32 bytes or the data more than 2^61 - 1. `steps` is
@@ -127,7 +127,7 @@ impl Gcm {
         Some(tag_of(cipher, nonce, aad, text, steps))
     }
 
-    /// Decrypts the text in place and answers true where text and tag are a sealing (SP 800-38D, 7.2).
+    /// Decrypts the text in place and answers true where text and tag are a sealing (SP 800-38D 7.2).
     /// Else it leaves the text as it was. The tags are compared to their last byte, wherever they differ.
     ///
     /// `steps` is set to what was done, whatever it held.

@@ -1,4 +1,4 @@
-//! The authentication hash of GCM, in Horner's order (SP 800-38D, 6.4).
+//! The authentication hash of GCM, in Horner's order (SP 800-38D 6.4).
 ghost use Rattle.std.specs.Prelude.{◌≡◌, ◌<◌, ◌+◌, ◌*◌, ◌^◌, length};
 ghost use Rattle.cookie_crypt.specs.Gcm.{blocks};
 ghost use Rattle.cookie_crypt.specs.Ghash.{ghash_from};

@@ -1,4 +1,4 @@
-//! Products in the field of GCM (SP 800-38D, 6.3), by look-ups of sixteen bytes at a time.
+//! Products in the field of GCM (SP 800-38D 6.3), by look-ups of sixteen bytes at a time.
 ghost use Rattle.std.specs.Prelude.{◌≡◌, ◌<◌, ◌^◌, ℕ};
 ghost use Rattle.cookie_crypt.specs.BlockField.{times_power, field_product};
 ghost use Rattle.cookie_crypt.specs.Code.{rows, columns};

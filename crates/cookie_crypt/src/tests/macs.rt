@@ -5,7 +5,7 @@ use std::test::Fail;
 
 const LONGEST: usize = 256;
 
-// Key, message and the first bytes of its HMAC: RFC 4231, 4.2, Wycheproof, RFC 4231, 4.7, whose key is longer than a
+// Key, message and the first bytes of its HMAC: RFC 4231 4.2, Wycheproof, RFC 4231 4.7, whose key is longer than a
 // block, and by another implementation (Python's hmac) keys of a block and of one byte more.
 const MACS: [(&str, &str, &str); 13] = [
     (

@@ -31,7 +31,7 @@ fn substitute(byte: u8) -> u8 {
     S_BOX[byte as usize]
 }
 
-// The round keys, one after the other (FIPS 197, 5.2).
+// The round keys, one after the other (FIPS 197 5.2).
 fn round_keys(key: &[u8; 32]) -> [u8; 240] {
     let mut words = [0; 240];
     'key: for i in 0..32usize {
@@ -61,7 +61,7 @@ fn round_keys(key: &[u8; 32]) -> [u8; 240] {
     words
 }
 
-// S and the rotation of the rows (FIPS 197, 5.1.1 and 5.1.2).
+// S and the rotation of the rows (FIPS 197 5.1.1 and 5.1.2).
 fn substituted_rows(state: &[u8; 16]) -> [u8; 16] {
     let mut bytes = [0; 16];
     for i in 0..16usize {
@@ -70,7 +70,7 @@ fn substituted_rows(state: &[u8; 16]) -> [u8; 16] {
     bytes
 }
 
-// The columns times the matrix (FIPS 197, 5.1.3).
+// The columns times the matrix (FIPS 197 5.1.3).
 fn mixed_columns(state: &[u8; 16]) -> [u8; 16] {
     let mut bytes = [0; 16];
     for i in 0..16usize {
@@ -82,7 +82,7 @@ fn mixed_columns(state: &[u8; 16]) -> [u8; 16] {
     bytes
 }
 
-/// The block, encrypted (FIPS 197, 5.1).
+/// The block, encrypted (FIPS 197 5.1).
 pub fn encrypted(key: &[u8; 32], block: &[u8; 16]) -> [u8; 16] {
     let words = round_keys(key);
     let mut state = *block;
@@ -100,7 +100,7 @@ pub fn encrypted(key: &[u8; 32], block: &[u8; 16]) -> [u8; 16] {
     state
 }
 
-// The product of two blocks (SP 800-38D, 6.3).
+// The product of two blocks (SP 800-38D 6.3).
 fn product(x: u128, y: u128) -> u128 {
     let mut sum = 0;
     let mut moved = y;
@@ -113,7 +113,7 @@ fn product(x: u128, y: u128) -> u128 {
     sum
 }
 
-// The hash after the padded bytes (SP 800-38D, 6.4).
+// The hash after the padded bytes (SP 800-38D 6.4).
 fn hashed(hash: u128, subkey: u128, bytes: &[u8]) -> u128 {
     let mut hash = hash;
     'chunks: for chunk in bytes.chunks(16) {
@@ -133,7 +133,7 @@ fn counter_block(nonce: &[u8; 12], counter: u32) -> [u8; 16] {
     block
 }
 
-/// Encrypts the text in place and gives the tag (SP 800-38D, 7.1).
+/// Encrypts the text in place and gives the tag (SP 800-38D 7.1).
 pub fn seal(key: &[u8; 32], nonce: &[u8; 12], aad: &[u8], text: &mut [u8]) -> [u8; 16] {
     let mut counter = 1u32;
     'chunks: for chunk in text.chunks_mut(16) {

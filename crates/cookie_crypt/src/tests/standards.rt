@@ -7,7 +7,7 @@ use std::test::Fail;
 
 const QUESTION: &[u8; 28] = b"what do ya want for nothing?";
 
-// RFC 4231, 4.3.
+// RFC 4231 4.3.
 const ANSWER: &str = "5bdcc146bf60754e6a042426089575c75a003f089d2739839dec58b964ec3843";
 
 #[test]
@@ -17,7 +17,7 @@ fn s_of_three_bytes(rt: HostRuntime) {
     assert_eq!(rt; (values[0], values[1], values[2]), (0x63, 0x7c, 0xed));
 }
 
-// FIPS 197, C.3.
+// FIPS 197 C.3.
 #[test]
 fn block_of_the_standard(rt: HostRuntime) {
     let key = key_of("000102030405060708090a0b0c0d0e0f101112131415161718191a1b1c1d1e1f");
@@ -73,7 +73,7 @@ fn steps_of(aad: &[u8], text: &mut [u8]) -> (u64, u64, u64) {
     (steps.blocks(), steps.products(), steps.table_steps())
 }
 
-// Blocks, products and look-ups by SP 800-38D, 7.1: a block each for H and J0, and four bits a look-up.
+// Blocks, products and look-ups by SP 800-38D 7.1: a block each for H and J0, and four bits a look-up.
 #[test]
 fn steps_are_counted(rt: HostRuntime) {
     assert_eq!(rt; steps_of(&[0; 22], &mut [0; 12]), (3, 4, 128));
