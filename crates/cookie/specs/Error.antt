@@ -1,4 +1,4 @@
--- What becomes of the errors of one cookie, of a key and of a jar where they are passed on as one, and its texts.
+-- The one error that `?` makes of the errors of a text, of a key and of a jar, and its texts.
 use Rattle.std.specs.Prelude.{ℕ, List, codes}
 use Rattle.cookie_core.specs.ParseError.{error_text}
 use Rattle.cookie_core.specs.declared.parse_error.ParseError.{ParseError}
@@ -10,17 +10,17 @@ use Rattle.cookie.specs.declared.error.Error.TheVariants as failure
 use Rattle.cookie.specs.declared.jar_error.JarError.{JarError}
 use Rattle.cookie.specs.declared.jar_error.JarError.TheVariants.{OutOfMemory as NoMemoryToStore}
 
--- that of a text that is no cookie, unless memory was wanting
+-- what it is of a text's refusal: a case of its own, or want of memory
 abbrev pub parse_failure : ParseError → Error
 parse_failure NoMemoryToRead = failure.OutOfMemory
 parse_failure error = failure.Parse error
 
--- that of a jar's refusal, unless memory was wanting
+-- what it is of a jar's refusal: a case of its own, or want of memory
 abbrev pub jar_failure : JarError → Error
 jar_failure NoMemoryToStore = failure.OutOfMemory
 jar_failure error = failure.Jar error
 
--- its text, which is that of the error it was made of
+-- its text, which is that of the error that it was made of
 abbrev pub failure_text : Error → List ℕ
 failure_text failure.OutOfMemory = codes "out of memory"
 failure_text (failure.Parse error) = error_text error

@@ -8,9 +8,9 @@ use cookie_core::ParseError;
 use std::alloc::{AllocError, AllocFailed};
 use std::{error, fmt};
 
-/// Why a call failed, for a function that reads texts, makes keys and changes jars: `?` makes it of the error of each.
+/// Why a call failed, for a function that reads texts, makes keys and changes jars: `?` makes it of their errors.
 ///
-/// Want of memory is one case, whichever call found none.
+/// Want of memory is one case, whichever call ran out of it.
 #[derive(Clone, Copy, Debug, PartialEq, Eq)]
 pub enum Error {
     /// Memory ran out.
