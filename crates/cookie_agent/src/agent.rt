@@ -75,7 +75,7 @@ impl Agent {
         }
     }
 
-    /// Takes a cookie that was read.
+    // Takes a cookie that was read.
     fn take(&mut self, site: &Site, cookie: &Cookie<'_>, now: DateTime) -> Result<(), AgentError>
         ensures gives { Gives OutOfMemory result (λ _.
             self.new ≡ after_cookie standard_key site.now now (Some cookie.now.fields) self.old) }
@@ -120,15 +120,15 @@ impl Agent {
     }
 }
 
-/// Drops the cookies that are expired.
+// Drops the cookies that are expired.
 fn drop_expired(cookies: &mut Vec<StoredCookie>, now: DateTime)
     ensures { cookies.new.items ≡ unexpired now cookies.old.items }
 {
     cookies.retain(|cookie| cookie.is_unexpired(now));
 }
 
-/// Puts a cookie in the place of the one with its key that isn't expired, or last, and drops what is expired. After an
-/// error the cookies are as before.
+// Puts a cookie in the place of the one with its key that isn't expired, or last, and drops what is expired. After an
+// error the cookies are as before.
 fn put(
     cookies: &mut Vec<StoredCookie>,
     cookie: StoredCookie,
@@ -144,8 +144,8 @@ fn put(
     Ok(())
 }
 
-/// Puts a cookie in the place of the one with its key that isn't expired, or last. After an error the cookies are as
-/// before.
+// Puts a cookie in the place of the one with its key that isn't expired, or last. After an error the cookies are as
+// before.
 fn put_in_place(
     cookies: &mut Vec<StoredCookie>,
     cookie: StoredCookie,
@@ -166,7 +166,7 @@ fn put_in_place(
     Ok(())
 }
 
-/// Copies of the cookies.
+// Copies of the cookies.
 fn copies(alloc: Global, cookies: &[StoredCookie]) -> Result<Vec<StoredCookie>, AllocError>
     ensures { IfOk result (λ made. made.items ≡ cookies.now) }
 {

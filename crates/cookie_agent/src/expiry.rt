@@ -19,7 +19,7 @@ pub(crate) enum Expiry {
 }
 
 impl Expiry {
-    /// That of a cookie which is read at the moment `now`.
+    // That of a cookie which is read at the moment `now`.
     pub(crate) fn of(cookie: &Cookie<'_>, now: DateTime) -> Expiry
         ensures { expiry_moment result
             ≡ expiry_by now cookie.now.fields.max_age cookie.now.fields.expires }
@@ -36,7 +36,7 @@ impl Expiry {
         }
     }
 
-    /// Whether it is later than a moment.
+    // Whether it is later than a moment.
     pub(crate) fn is_later(self, now: DateTime) -> bool
         ensures { result ≡ is_later (expiry_moment self) now }
     {

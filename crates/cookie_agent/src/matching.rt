@@ -2,7 +2,7 @@
 ghost use Rattle.std.specs.Prelude.{◌≡◌};
 ghost use Rattle.cookie_agent.specs.Site.{default_path, host_matches, or_slash, path_matches};
 
-/// Whether the host is the domain, or is no address and ends in a dot and the domain.
+// Whether the host is the domain, or is no address and ends in a dot and the domain.
 pub(crate) fn host_matches(host: &str, is_address: bool, domain: &str) -> bool
     ensures { result ≡ host_matches host.now is_address domain.now }
 {
@@ -17,7 +17,7 @@ pub(crate) fn host_matches(host: &str, is_address: bool, domain: &str) -> bool
     host[..host.len() - domain.len()].ends_with(b".")
 }
 
-/// Whether a request's path matches a cookie's path.
+// Whether a request's path matches a cookie's path.
 pub(crate) fn path_matches(request: &str, cookie: &str) -> bool
     ensures { result ≡ path_matches request.now cookie.now }
 {
@@ -32,7 +32,7 @@ pub(crate) fn path_matches(request: &str, cookie: &str) -> bool
     cookie.ends_with(b"/") || request[cookie.len()..].starts_with(b"/")
 }
 
-/// The path of a cookie that is set without one at a request's path.
+// The path of a cookie that is set without one at a request's path.
 pub(crate) fn default_path(path: &str) -> &str
     ensures { result.now ≡ default_path path.now }
 {
@@ -45,7 +45,7 @@ pub(crate) fn default_path(path: &str) -> &str
     }
 }
 
-/// The path, or `/` where it is empty.
+// The path, or `/` where it is empty.
 fn or_slash(path: &str) -> &str
     ensures { result.now ≡ or_slash path.now }
 {

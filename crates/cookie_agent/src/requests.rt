@@ -46,7 +46,7 @@ pub fn visits(
     Ok(visited)
 }
 
-/// Makes one request.
+// Makes one request.
 fn visit(
     alloc: Global,
     agent: &Agent,
@@ -70,7 +70,7 @@ fn visit(
     })
 }
 
-/// Has the agent read texts in order.
+// Has the agent read texts in order.
 fn read_texts(
     agent: &mut Agent,
     site: &Site,

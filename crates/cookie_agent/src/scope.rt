@@ -45,14 +45,14 @@ impl Scope {
         self.is_host_only
     }
 
-    /// Whether its domain is this one in lower case.
+    // Whether its domain is this one in lower case.
     pub(crate) fn is_domain(&self, domain: &str) -> bool
         ensures { result ≡ bytes_eq (str_to_ascii_lowercase domain.now) self.now.domain }
     {
         domain.eq_ignore_ascii_case(self.domain.as_str())
     }
 
-    /// A copy of it.
+    // A copy of it.
     pub(crate) fn clone(&self, alloc: Global) -> Result<Scope, AllocError>
         ensures { IfOk result (λ made. made ≡ self.now) }
     {

@@ -39,7 +39,7 @@ fn is_scoped_call(call: &JarCall<'_>, site: &Site, scope: &Scope, now: DateTime)
     }
 }
 
-/// Whether a call on a child jar is in the scope, where the jar stores the cookie's name and attributes as they are.
+// Whether a call on a child jar is in the scope, where the jar stores the cookie's name and attributes as they are.
 fn is_child(call: &ChildCall, site: &Site, scope: &Scope, now: DateTime) -> bool
     ensures { result ≡ is_scoped_change site.now now scope.now (asked_of_child call.now) }
 {
@@ -50,7 +50,7 @@ fn is_child(call: &ChildCall, site: &Site, scope: &Scope, now: DateTime) -> bool
     }
 }
 
-/// Whether a call on the child jar of a prefix is in the scope.
+// Whether a call on the child jar of a prefix is in the scope.
 fn is_prefixed_child(
     kind: PrefixKind,
     call: &ChildCall,
@@ -69,7 +69,7 @@ fn is_prefixed_child(
     }
 }
 
-/// Whether the removal of a cookie through the child jar of a prefix is in the scope.
+// Whether the removal of a cookie through the child jar of a prefix is in the scope.
 fn is_prefixed_removal(kind: PrefixKind, cookie: &Cookie<'_>, site: &Site, scope: &Scope) -> bool
     ensures { result ≡ is_scoped_removal site.now scope.now (stored_with kind cookie.now.fields) }
 {
@@ -98,7 +98,7 @@ fn is_removal(cookie: &Cookie<'_>, site: &Site, scope: &Scope) -> bool
         )
 }
 
-/// Whether a cookie with these attributes has the scope at the site, and is sent to it.
+// Whether a cookie with these attributes has the scope at the site, and is sent to it.
 fn is_asked(
     site: &Site,
     scope: &Scope,
@@ -134,7 +134,7 @@ fn is_plain_domain(domain: Option<&str>) -> bool
     }
 }
 
-/// Whether the text is read as it is printed, and has no control character.
+// Whether the text is read as it is printed, and has no control character.
 fn is_plain(text: &str) -> bool
     ensures { result ≡ is_plain text.now }
 {
@@ -161,7 +161,7 @@ fn lacks_controls(text: &str) -> bool
         .all(|byte| *byte > 31 && *byte != 127)
 }
 
-/// Whether the text isn't empty and doesn't begin with a dot.
+// Whether the text isn't empty and doesn't begin with a dot.
 fn begins_plainly(text: &str) -> bool
     ensures { result ≡ begins_plainly text.now }
 {
@@ -177,7 +177,7 @@ fn is_name(text: &str) -> bool
     !text.is_empty()
 }
 
-/// Whether `Secure` is printed.
+// Whether `Secure` is printed.
 fn prints_secure(cookie: &Cookie<'_>) -> bool
     ensures { result ≡ prints_secure cookie.now.fields }
 {

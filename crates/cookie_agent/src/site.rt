@@ -178,7 +178,7 @@ impl Site {
         }))
     }
 
-    /// A cookie's path, if it begins with `/`, and else the default path.
+    // A cookie's path, if it begins with `/`, and else the default path.
     fn path_of<'a>(&'a self, path: Option<&'a str>) -> &'a str
         ensures { result.now ≡ path_of self.now (text_of path.entry) }
     {
@@ -188,7 +188,7 @@ impl Site {
         }
     }
 
-    /// Whether the site gives the scope to a cookie with this domain and this path.
+    // Whether the site gives the scope to a cookie with this domain and this path.
     pub(crate) fn gives_scope(
         &self,
         scope: &Scope,
@@ -244,7 +244,7 @@ impl Site {
     }
 }
 
-/// The path, with `/` before it where it doesn't begin with one.
+// The path, with `/` before it where it doesn't begin with one.
 fn request_path(alloc: Global, path: &str) -> Result<String, AllocError>
     ensures { IfOk result (λ made. string_bytes made ≡ request_path path.now) }
 {

@@ -43,7 +43,7 @@ impl Model for StoredCookie {
 }
 
 impl StoredCookie {
-    /// What a cookie that was read at the moment `now` is stored as.
+    // What a cookie that was read at the moment `now` is stored as.
     pub(crate) fn of(
         alloc: Global,
         scope: Scope,
@@ -62,7 +62,7 @@ impl StoredCookie {
         })
     }
 
-    /// A copy of it.
+    // A copy of it.
     pub(crate) fn clone(&self, alloc: Global) -> Result<StoredCookie, AllocError>
         ensures { IfOk result (λ made. made ≡ self.now) }
     {
@@ -76,14 +76,14 @@ impl StoredCookie {
         })
     }
 
-    /// Whether it isn't expired at the moment, and has the name, domain and path of the other.
+    // Whether it isn't expired at the moment, and has the name, domain and path of the other.
     pub(crate) fn gives_place(&self, other: &StoredCookie, now: DateTime) -> bool
         ensures { result ≡ gives_place other.now now self.now }
     {
         self.is_unexpired(now) && self.is_same(other)
     }
 
-    /// Whether it has the same name, domain and path.
+    // Whether it has the same name, domain and path.
     fn is_same(&self, other: &StoredCookie) -> bool
         ensures { result ≡ standard_key self.now other.now }
     {
@@ -92,14 +92,14 @@ impl StoredCookie {
             && self.scope.path() == other.scope.path()
     }
 
-    /// Whether it isn't expired at the moment.
+    // Whether it isn't expired at the moment.
     pub(crate) fn is_unexpired(&self, now: DateTime) -> bool
         ensures { result ≡ is_later self.now.expiry now }
     {
         self.expiry.is_later(now)
     }
 
-    /// Whether it is sent to the site at the moment.
+    // Whether it is sent to the site at the moment.
     pub(crate) fn is_visible(&self, site: &Site, now: DateTime) -> bool
         ensures { result ≡ is_visible site.now now self.now }
     {
@@ -108,14 +108,14 @@ impl StoredCookie {
             && (site.is_secure() || !self.is_secure_only)
     }
 
-    /// The length of its path, in bytes.
+    // The length of its path, in bytes.
     pub(crate) fn path_length(&self) -> usize
         ensures { result ≡ path_length self.now }
     {
         self.scope.path().len()
     }
 
-    /// Writes its name and its value behind the text.
+    // Writes its name and its value behind the text.
     pub(crate) fn push_pair(&self, header: &mut String) -> Result<(), AllocError>
         ensures { OnOk result (string_bytes header.new
             ≡ string_bytes header.old ++ pair_of self.now) }
@@ -126,7 +126,7 @@ impl StoredCookie {
     }
 }
 
-/// Whether it is set, and true.
+// Whether it is set, and true.
 fn is_true(flag: Option<bool>) -> bool
     ensures { result ≡ is_true flag }
 {

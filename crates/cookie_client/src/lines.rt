@@ -28,7 +28,7 @@ impl<'t> Lines<'t> {
     }
 }
 
-/// The line without one carriage return at its end.
+// The line without one carriage return at its end.
 fn without_return(line: &str) -> &str
     ensures { result.now ≡ without_return line.now }
 {

@@ -30,7 +30,7 @@ impl Model for TextMap {
 
 #[tactic(auto, using(crate::proofs::TextMapLemmas::by_name_calls))]
 impl TextMap {
-    /// An empty map.
+    // An empty map.
     pub(crate) fn new(alloc: Global) -> TextMap
         ensures { result ≡ empty }
     {
@@ -40,14 +40,14 @@ impl TextMap {
         }
     }
 
-    /// The text at `name`.
+    // The text at `name`.
     pub(crate) fn get(&self, name: &str) -> Option<&str>
         ensures { option_copied result ≡ get self.now name.now }
     {
         Some(self.texts.get(name)?.as_str())
     }
 
-    /// Puts a copy of `text` at `name`. On an error the map stays as it was.
+    // Puts a copy of `text` at `name`. On an error the map stays as it was.
     pub(crate) fn set(&mut self, name: &str, text: &str) -> Result<(), AllocError>
         ensures ok { OnOk result (self.new ≡ insert self.old name.now text.now) }
         ensures err { OnErr result (self.new ≡ self.old) }
@@ -58,7 +58,7 @@ impl TextMap {
         Ok(())
     }
 
-    /// A map of the same texts.
+    // A map of the same texts.
     pub(crate) fn clone(&self) -> Result<TextMap, AllocError>
         ensures { IfOk result (λ made. made ≡ self.now) }
     {
@@ -68,14 +68,14 @@ impl TextMap {
         })
     }
 
-    /// Drops the text at `name`.
+    // Drops the text at `name`.
     pub(crate) fn remove(&mut self, name: &str)
         ensures { self.new ≡ remove self.old name.now }
     {
         self.texts.remove(name);
     }
 
-    /// The names with their texts, in byte order of the names.
+    // The names with their texts, in byte order of the names.
     pub(crate) fn pairs(&self) -> Pairs<'_>
         ensures listed { result ≡ entries self.now }
         ensures fits { length result < 2 ^ 64 }

@@ -62,7 +62,7 @@ impl Steps {
         self.table_steps
     }
 
-    /// One block, encrypted.
+    // One block, encrypted.
     pub(crate) fn encrypt_block(&mut self, cipher: &Aes256, block: [u8; 16]) -> [u8; 16]
         requires { self.old.blocks + 1 < 2 ^ 64 }
         ensures made { result ≡ encrypt_block cipher.now block }
@@ -72,7 +72,7 @@ impl Steps {
         cipher.encrypt_block(block)
     }
 
-    /// The product of a block and the block whose multiples are handed in, four bits of each byte at a time.
+    // The product of a block and the block whose multiples are handed in, four bits of each byte at a time.
     pub(crate) fn product(&mut self, multiples: &Multiples, block: u128) -> u128
         requires room { self.old.products + 1 < 2 ^ 64 }
         requires room_for_steps { self.old.table_steps + 32 < 2 ^ 64 }

@@ -11,7 +11,7 @@ use jiff::civil::DateTime;
 use rand_core::TryRng;
 use std::alloc::Global;
 
-/// Shows the home page: its message is dropped, so that it is shown once, and the number of greetings is stored.
+// Shows the home page: its message is dropped, so that it is shown once, and the number of greetings is stored.
 pub(crate) fn show(
     alloc: Global,
     site: &Site<'_>,
@@ -31,7 +31,7 @@ pub(crate) fn show(
     Ok(())
 }
 
-/// Logs the user in.
+// Logs the user in.
 pub(crate) fn log_in<R: TryRng>(
     alloc: Global,
     site: &Site<'_>,
@@ -46,7 +46,7 @@ pub(crate) fn log_in<R: TryRng>(
     sign(alloc, site, jar, SiteCookie::Notice, "You are logged in.")
 }
 
-/// Logs the user out: the client is told to drop the user and the number of greetings.
+// Logs the user out: the client is told to drop the user and the number of greetings.
 pub(crate) fn log_out(
     alloc: Global,
     site: &Site<'_>,
