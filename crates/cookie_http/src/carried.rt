@@ -28,6 +28,8 @@ pub struct Exchanged {
 /// Makes the calls on a new jar, as `mirror` does, and carries them over header maps: the delta to the `Set-Cookie`
 /// fields of a response, which a client reads that held each name's last original, and what it then sends to the jar
 /// of its next request. `now` is in UTC.
+///
+/// It fails for want of memory, or with `InvalidValue` where `append_delta` does; its contract speaks of no refusal.
 pub fn exchange(alloc: Global, calls: &[JarCall<'_>], now: DateTime) -> Result<Exchanged, HttpError>
     ensures { IfOk result (IsCarried now calls.now) }
 {

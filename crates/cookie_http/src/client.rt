@@ -34,7 +34,7 @@ pub fn cookie_of_client(client: &Client) -> Result<HeaderValue, HttpError>
 }
 
 /// Has the client read all `Set-Cookie` fields of a response, in order, at the moment `now` in UTC (RFC 6265 5.2, 5.3).
-/// A field that is no UTF-8 is passed over.
+/// A field that isn't UTF-8 is passed over.
 ///
 /// It fails for want of memory alone, and then leaves the client as it was.
 pub fn read_response(
@@ -54,7 +54,7 @@ pub fn read_response(
     Ok(())
 }
 
-// Has the client read the text of one field, unless it is no UTF-8.
+// Has the client read the text of one field, unless it isn't UTF-8.
 fn read_value(client: &mut Client, value: &HeaderValue, now: DateTime) -> Result<(), HttpError>
     ensures { Gives refusal.OutOfMemory result (λ _.
         client.new ≡ after_texts now (filter is_utf8 (value.now.bytes ∷ [])) client.old) }

@@ -15,7 +15,7 @@ pub enum HttpError {
     OutOfMemory,
     /// A cookie's path or domain holds a byte that no field value may hold, as a line break (RFC 9110 5.5).
     InvalidValue,
-    /// The map has as many fields as it can count.
+    /// The map has no room: it has 24,576 names, or as many values as it can count.
     TooManyFields,
 }
 

@@ -16,7 +16,7 @@ use std::str;
 /// A new jar whose originals are the cookies of a request's `Cookie` fields, decoded. Its hash is fixed: where
 /// strangers choose the names, take `with_headers`.
 ///
-/// Several fields are read as one, joined by `; ` (RFC 9113 8.2.3). A field that is no UTF-8 is passed over, and so is
+/// Several fields are read as one, joined by `; ` (RFC 9113 8.2.3). A field that isn't UTF-8 is passed over, and so is
 /// a piece that is no cookie. It fails for want of memory alone.
 pub fn jar_from_headers(alloc: Global, headers: &HeaderMap) -> Result<CookieJar, HttpError>
     ensures { Gives refusal.OutOfMemory result (λ jar. jar ≡ jar_for (cookie_header headers.now)) }
@@ -27,7 +27,7 @@ pub fn jar_from_headers(alloc: Global, headers: &HeaderMap) -> Result<CookieJar,
 /// The jar with the cookies of a request's `Cookie` fields as originals, read as by `jar_from_headers`. A server hands
 /// in `CookieJar::with_hasher(alloc, state)`, so that nobody can choose names that make the jar slow.
 ///
-/// It fails for want of memory alone.
+/// It fails for want of memory alone, and then the jar is gone.
 pub fn with_headers(
     alloc: Global,
     jar: CookieJar,

@@ -17,8 +17,11 @@ use std::alloc::Global;
 /// (RFC 6265 4.1.1).
 ///
 /// Names and values are escaped, and a path and a domain aren't. So it refuses a delta with a cookie whose path or
-/// domain holds a byte that no field value may hold, as a line break, which would split the response (RFC 9110 5.5).
-/// After any refusal the map is as before.
+/// domain holds a byte that no field value may hold, as a line break, which would split the response (RFC 9110 5.5):
+/// that is `InvalidValue`. A `;` there isn't refused, and begins another attribute (RFC 6265 5.2).
+///
+/// Else it fails for want of memory, or with `TooManyFields` where the map has no room. After any refusal the map is as
+/// before.
 pub fn append_delta(
     alloc: Global,
     jar: &CookieJar,
