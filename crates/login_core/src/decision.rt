@@ -28,7 +28,8 @@ use std::hash::RandomState;
 /// Answers a request at the moment `now` in UTC. The keys of `state` were drawn, so that nobody can choose names that
 /// make the jar slow. `rng` must be a cryptographic generator.
 ///
-/// Fails where memory or the generator failed, or the user's name is too long to be sealed.
+/// Fails for want of memory, where the generator fails (`Generator`), or where the user's name is too long to be sealed
+/// (`TooLong`). The contract speaks of the other answers alone.
 pub fn answer<R: TryRng>(
     alloc: Global,
     state: RandomState,

@@ -15,8 +15,10 @@ pub struct Credentials {
     pub password: String,
 }
 
-/// The form's user and password, if it has both. Of two fields of a name the first counts, and bytes that are no UTF-8
+/// The form's user and password, if it has both. Of two fields of a name the first counts, and bytes that aren't UTF-8
 /// count as U+FFFD.
+///
+/// Fails for want of memory alone.
 pub fn read_credentials(alloc: Global, form: &[u8]) -> Result<Option<Credentials>, AllocError>
     ensures { IfOk result (λ found. option_map pair_of found ≡ credentials_of form.now) }
 {

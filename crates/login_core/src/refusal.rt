@@ -11,9 +11,9 @@ pub enum Refusal {
     Forbidden,
     /// There is no such page.
     NotFound,
-    /// The page answers GET alone.
+    /// The page answers only GET.
     OnlyGet,
-    /// The page answers POST alone.
+    /// The page answers only POST.
     OnlyPost,
 }
 

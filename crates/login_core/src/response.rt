@@ -22,7 +22,7 @@ pub struct Response {
 
 impl Response {
     /// The response's fields and the empty line, as a CGI program writes them (RFC 3875 6.2.1). `base` is the path of
-    /// the program, without a line break.
+    /// the program, which stands in `Location` as it is: without a line break, which nobody checks here.
     ///
     /// Fails for want of memory alone.
     pub fn head(&self, alloc: Global, base: &str) -> Result<Vec<u8>, AllocError>
@@ -33,8 +33,7 @@ impl Response {
         Ok(text)
     }
 
-    /// The response as a CGI program writes it: its fields, an empty line, and the page. `base` is the path of the
-    /// program, without a line break.
+    /// The response as a CGI program writes it: its fields, an empty line, and the page. `base` is as in `head`.
     ///
     /// Fails for want of memory alone.
     pub fn text(&self, alloc: Global, base: &str) -> Result<Vec<u8>, AllocError>

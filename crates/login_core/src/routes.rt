@@ -15,7 +15,8 @@ pub enum Route {
     LogOut,
 }
 
-/// The page that a request asks for, or why there is none.
+/// The page that a request asks for, or why there is none: `NotFound` at another path, and at another method `OnlyGet`
+/// or `OnlyPost` (RFC 9110 15.5.5, 15.5.6). HEAD is another method here: hand it in as GET.
 pub fn find_route(method: &str, path: &str) -> Result<Route, Refusal>
     ensures { result ≡ route_of method.now path.now }
 {

@@ -9,6 +9,6 @@ pub struct Site<'a> {
     pub key: &'a Key,
     /// Who may log in.
     pub users: &'a [User],
-    /// Whether the connection is secure, which a browser has to be told by the cookies' names.
+    /// Whether the connection is secure, so that the cookies have `Secure` and names that begin with `__Host-`.
     pub is_secure: bool,
 }

@@ -12,7 +12,7 @@ use std::alloc::{AllocError, Global};
 pub enum SiteCookie {
     /// Who is logged in, sealed.
     User,
-    /// How often that user was greeted, signed.
+    /// How many greetings were shown since the last logout, signed.
     Visits,
     /// A message that is shown once, signed.
     Notice,
@@ -33,8 +33,8 @@ impl SiteCookie {
         }
     }
 
-    /// The cookie with that value: for every path of this host, kept from scripts and from other sites' forms, and on a
-    /// secure connection for secure ones alone.
+    /// The cookie with that value: for every path of this host, hidden from scripts, not sent with other sites' forms,
+    /// and, where it was set over a secure connection, sent over secure ones alone.
     ///
     /// Fails for want of memory alone.
     pub fn with_value(

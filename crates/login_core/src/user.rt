@@ -2,7 +2,7 @@
 ghost use Rattle.std.specs.Prelude.{◌≡◌};
 ghost use Rattle.login_core.specs.Users.{is_known, is_known_as};
 
-/// A user and the password, as they are.
+/// A user's name and password, neither of them hashed.
 #[derive(Drop)]
 pub struct User {
     /// The name, which is case sensitive.
@@ -20,7 +20,7 @@ impl User {
     }
 }
 
-/// Whether the password is one of the user's of that name. A comparison may end at the first byte that differs.
+/// Whether one of the users has this name and this password. A comparison may end at the first byte that differs.
 pub fn is_known(users: &[User], name: &str, password: &str) -> bool
     ensures { result ≡ is_known name.now password.now users.now }
 {

@@ -14,13 +14,16 @@ use std::alloc::Global;
 pub struct Visitor {
     /// Who is logged in.
     pub user: Option<String>,
-    /// How often this user was greeted, this time counted in.
+    /// How many greetings were shown since the last logout, this one included, whoever was greeted; 1 where no number
+    /// is signed.
     pub visits: u64,
     /// The message that is to be shown now.
     pub notice: Option<String>,
 }
 
-/// Reads what the jar's cookies say.
+/// Reads what the jar's cookies say. One that isn't sealed or signed under the site's key counts as none.
+///
+/// Fails for want of memory alone.
 pub fn read_visitor(alloc: Global, site: &Site<'_>, jar: &CookieJar) -> Result<Visitor, JarError>
     ensures { IfOk result (IsVisitor site.now jar.now) }
 {
@@ -64,7 +67,7 @@ fn signed_value(
     }
 }
 
-// How often the user was greeted, this time counted in.
+// How many greetings were shown, this one included.
 fn visits_of(alloc: Global, site: &Site<'_>, jar: &CookieJar) -> Result<u64, JarError>
     ensures { IfOk result (λ visits. (before : ℕ) → before + 1 < 2 ^ 64
         → HasSigned site.now jar.now which_cookie.Visits (decimal before) → visits ≡ before + 1) }
