@@ -21,13 +21,13 @@ pub struct Moment {
     pub status: u32,
     /// The year, from -9999 to 9999.
     pub year: i16,
-    /// The month, from 1.
+    /// The month, from 1 to 12.
     pub month: i8,
-    /// The day of the month, from 1.
+    /// The day of the month, from 1 to 31.
     pub day: i8,
     /// The hour, from 0 to 23.
     pub hour: i8,
-    /// The minute.
+    /// The minute, from 0 to 59.
     pub minute: i8,
     /// The second, from 0 to 59.
     pub second: i8,
@@ -79,7 +79,8 @@ pub extern "C" fn cookie_read_date(text: &[u8]) -> Moment
     }
 }
 
-/// The date and time in UTC as `Wed, 21 Oct 2015 07:28:00 GMT` (RFC 9110 5.6.7, `IMF-fixdate`), for the buffer.
+/// The date and time in UTC as `Wed, 21 Oct 2015 07:28:00 GMT` (RFC 9110 5.6.7, `IMF-fixdate`), for the buffer. A year
+/// below 1000 has as many digits as it needs, and one below 0 a sign, which that form doesn't have.
 ///
 /// Refuses numbers that no date and time has; else it fails for want of memory alone.
 #[unsafe(no_mangle)]

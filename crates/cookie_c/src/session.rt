@@ -29,9 +29,9 @@ impl RandomSource for Seed {
 }
 
 /// The text that the program `cookiejar` writes for the moment and the input: for each cookie of the jar's delta a line
-/// `Set-Cookie: ..`, and then the line `Cookie: ..` of a client that read them. The first line of the input is a
-/// `Cookie` header; each later one that isn't empty begins with `add `, `remove ` or `force `, or is `reset`. The
-/// moment is a date in UTC of the year 100 or later. The two numbers of the seed are random; the jar hashes names with
+/// `Set-Cookie: ..`, and then the line `Cookie: ..` of a client that read them. The first line of the input is the
+/// value of a `Cookie` header; each later one that isn't empty begins with `add `, `remove ` or `force `, or is
+/// `reset`. The moment is a date in UTC of the year 100 or later. The two seeds are random; the jar hashes names with
 /// them.
 ///
 /// Refuses a moment that is no such date, then an input that isn't UTF-8, then the first bad line, counted from 1, with

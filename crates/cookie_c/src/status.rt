@@ -15,7 +15,7 @@ pub enum Status {
     KeyTooShort = 4,
     /// The master key has fewer than 32 bytes.
     MasterTooShort = 5,
-    /// The nonce hasn't twelve bytes.
+    /// The nonce doesn't have twelve bytes.
     BadNonce = 6,
     /// The value isn't signed under the key and the name.
     NotSigned = 7,
@@ -27,7 +27,7 @@ pub enum Status {
     NoDate = 10,
     /// The moment is no date of the year 100 or later.
     BadMoment = 11,
-    /// A line asks for no call.
+    /// A line asks for no call; its number, from 1, stands in the length.
     BadLine = 12,
 }
 
