@@ -23,15 +23,15 @@ is_home (Ok LogIn) = false
 is_home (Ok LogOut) = false
 is_home (Err refusal) = false
 
-module _ (site : Site) (before after : JarState) (page : Page) where
+module _ (IsDrawn : List ℕ → Type 0) (site : Site) (before after : JarState) (page : Page) where
   -- a form to log in greets nobody yet
-  entering : (found : Option (List ℕ × List ℕ)) → LogsIn site found before page after → greeted page ≡ None
+  entering : (found : Option (List ℕ × List ℕ)) → LogsIn IsDrawn site found before page after → greeted page ≡ None
   entering None (refused, same) = ap greeted refused
   entering (Some (user, password)) answered = by (is_known user password site.users.now) answered
     where
-      by : (known : Bool) → MatchBool known (Admits site user before page after) (Refuses Forbidden before page after)
+      by : (known : Bool) → MatchBool known (Admits IsDrawn site user before page after) (Refuses Forbidden before page after)
           → greeted page ≡ None
-      by true (nonce, is_nonce, moved, changed) = ap greeted moved
+      by true (nonce, is_nonce, drawn, moved, changed) = ap greeted moved
       by false (refused, same) = ap greeted refused
 
   module _ (user : List ℕ) where
@@ -45,7 +45,7 @@ module _ (site : Site) (before after : JarState) (page : Page) where
 
     -- a user is greeted exactly where the route is the home page, and the cookie is sealed for the user
     pub greeted_exactly : (request : Request) (now : DateTime) (route : Result Route Refusal)
-        → Answers site request now before route page after
+        → Answers IsDrawn site request now before route page after
         → (greeted page ≡ Some user) ↔ ((route ≡ Ok Home) × IsLoggedIn site before user)
     greeted_exactly request now (Ok Home) (visitor, is, shows, changed) = (
       λ greets. (refl, (is.user user).0 (sym (ap greeted shows) ∙ greets)),

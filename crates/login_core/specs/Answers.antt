@@ -34,24 +34,28 @@ Shows site now before page after =
 abbrev pub Refuses : Refusal → JarState → Page → JarState → Type 0
 Refuses refusal before page after = (page ≡ Refused refusal) × (after ≡ before)
 
--- the user is logged in under some nonce, and sent to the home page
-abbrev pub Admits : Site → List ℕ → JarState → Page → JarState → Type 0
-Admits site user before page after =
-    (nonce : List ℕ) × IsNonce nonce × (page ≡ Moved) × (after ≡ logged_in site nonce user before)
+-- the user is logged in under a nonce that was drawn, and sent to the home page
+abbrev pub Admits : (List ℕ → Type 0) → Site → List ℕ → JarState → Page → JarState → Type 0
+Admits IsDrawn site user before page after =
+    (nonce : List ℕ) × IsNonce nonce × IsDrawn nonce × (page ≡ Moved)
+    × (after ≡ logged_in site nonce user before)
 
 -- a form to log in is answered: a user whose password is right is logged in
-abbrev pub LogsIn : Site → Option (List ℕ × List ℕ) → JarState → Page → JarState → Type 0
-LogsIn site None before page after = Refuses BadRequest before page after
-LogsIn site (Some (user, password)) before page after =
-    MatchBool (is_known user password site.users.now) (Admits site user before page after) (Refuses Forbidden before page after)
+abbrev pub LogsIn : (List ℕ → Type 0) → Site → Option (List ℕ × List ℕ) → JarState → Page → JarState → Type 0
+LogsIn IsDrawn site None before page after = Refuses BadRequest before page after
+LogsIn IsDrawn site (Some (user, password)) before page after =
+    MatchBool (is_known user password site.users.now) (Admits IsDrawn site user before page after)
+    (Refuses Forbidden before page after)
 
 -- the user is logged out, and sent to the home page
 abbrev pub LogsOut : Site → DateTime → JarState → Page → JarState → Type 0
 LogsOut site now before page after = (page ≡ Moved) × (after ≡ logged_out site now before)
 
 -- what the route of a request makes of the jar and shows
-abbrev pub Answers : Site → Request → DateTime → JarState → Result Route Refusal → Page → JarState → Type 0
-Answers site request now before (Ok Home) page after = Shows site now before page after
-Answers site request now before (Ok LogIn) page after = LogsIn site (credentials_of request.form.now) before page after
-Answers site request now before (Ok LogOut) page after = LogsOut site now before page after
-Answers site request now before (Err refusal) page after = Refuses refusal before page after
+abbrev pub Answers : (List ℕ → Type 0) → Site → Request → DateTime → JarState → Result Route Refusal → Page → JarState
+    → Type 0
+Answers IsDrawn site request now before (Ok Home) page after = Shows site now before page after
+Answers IsDrawn site request now before (Ok LogIn) page after =
+    LogsIn IsDrawn site (credentials_of request.form.now) before page after
+Answers IsDrawn site request now before (Ok LogOut) page after = LogsOut site now before page after
+Answers IsDrawn site request now before (Err refusal) page after = Refuses refusal before page after

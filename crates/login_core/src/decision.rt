@@ -44,7 +44,8 @@ pub fn answer<R: TryRng>(
 
     // The page is the route's, and its `Set-Cookie` fields are the changes that the page makes.
     ensures answers { IfOk result (λ response. (jar : JarState)
-        × Answers site.now request.now now (jar_for request.now.cookies.now)
+        × Answers (λ nonce. R.may_fill rng.old nonce rng.new)
+        site.now request.now now (jar_for request.now.cookies.now)
         (route_of request.now.method.now request.now.path.now) response.page jar
         × AreDeltaTexts jar.delta (map string_bytes response.cookies.items)) }
 {
@@ -73,7 +74,8 @@ fn decide<R: TryRng>(
     now: DateTime,
     rng: &mut R,
 ) -> Result<Page, JarError>
-    ensures { IfOk result (λ page. Answers site.now request.now now jar.old
+    ensures { IfOk result (λ page. Answers (λ nonce. R.may_fill rng.old nonce rng.new)
+        site.now request.now now jar.old
         (route_of request.now.method.now request.now.path.now) page jar.new) }
 {
     match find_route(request.method, request.path) {
@@ -106,7 +108,8 @@ fn enter<R: TryRng>(
     jar: &mut CookieJar,
     rng: &mut R,
 ) -> Result<Page, JarError>
-    ensures { IfOk result (λ page. LogsIn site.now (credentials_of form.now) jar.old page jar.new) }
+    ensures { IfOk result (λ page. LogsIn (λ nonce. R.may_fill rng.old nonce rng.new)
+        site.now (credentials_of form.now) jar.old page jar.new) }
 {
     match read_credentials(alloc, form)? {
         Some(found) => admit(alloc, site, &found, jar, rng),
@@ -122,8 +125,8 @@ fn admit<R: TryRng>(
     jar: &mut CookieJar,
     rng: &mut R,
 ) -> Result<Page, JarError>
-    ensures { IfOk result (λ page.
-        LogsIn site.now (Some (pair_of found.now)) jar.old page jar.new) }
+    ensures { IfOk result (λ page. LogsIn (λ nonce. R.may_fill rng.old nonce rng.new)
+        site.now (Some (pair_of found.now)) jar.old page jar.new) }
 {
     let user = found.user.as_str();
     if !is_known(site.users, user, found.password.as_str()) {

@@ -8,14 +8,14 @@ pub returns-clause-greeted : goal.returns-clause-greeted
 returns-clause-greeted g c user =
     let request = c.args.request.now in
     let route = route_of request.method.now request.path.now in
-    greeted_exactly c.args.site.now _ c.decide.new.jar c.in_ok-page.page user request c.args.now route
-    (subst (λ before. Answers c.args.site.now request c.args.now before route c.in_ok-page.page c.decide.new.jar) c.in_ok-jar.ensures c.in_ok-page.ensures)
+    greeted_exactly _ c.args.site.now _ c.decide.new.jar c.in_ok-page.page user request c.args.now route
+    (subst (λ before. Answers (λ nonce. g.R.TryRng.may_fill c.args.rng.now nonce c.decide.new.rng) c.args.site.now request c.args.now before route c.in_ok-page.page c.decide.new.jar) c.in_ok-jar.ensures c.in_ok-page.ensures)
 
 pub returns-clause-answers : goal.returns-clause-answers
 returns-clause-answers g c =
     let request = c.args.request.now in
     let route = route_of request.method.now request.path.now in (
       c.decide.new.jar,
-      subst (λ before. Answers c.args.site.now request c.args.now before route c.in_ok-page.page c.decide.new.jar) c.in_ok-jar.ensures c.in_ok-page.ensures,
+      subst (λ before. Answers (λ nonce. g.R.TryRng.may_fill c.args.rng.now nonce c.decide.new.rng) c.args.site.now request c.args.now before route c.in_ok-page.page c.decide.new.jar) c.in_ok-jar.ensures c.in_ok-page.ensures,
       c.in_ok-cookies.ensures,
     )
