@@ -25,6 +25,3 @@ pub use jar_error::JarError;
 pub use secure::{
     Key, KeyError, PrivateJar, PrivateJarMut, Sealer, SignedJar, SignedJarMut, Signer,
 };
-
-#[cfg(test)]
-mod tests;

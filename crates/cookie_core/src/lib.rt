@@ -29,6 +29,3 @@ pub use expiration::Expiration;
 pub use parse_error::ParseError;
 pub use same_site::SameSite;
 pub use split::SplitCookies;
-
-#[cfg(test)]
-mod tests;

@@ -10,6 +10,3 @@ mod text;
 pub use days::days_after;
 pub use forms::read_date;
 pub use text::DateText;
-
-#[cfg(test)]
-mod tests;

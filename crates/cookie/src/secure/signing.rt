@@ -73,34 +73,3 @@ pub(crate) fn verify<'c>(
     cookie.set_value_owned(value);
     Ok(Some(cookie))
 }
-
-#[cfg(test)]
-mod tests {
-    use super::signature;
-    use base64::engine::general_purpose::STANDARD;
-    use cookie_crypt::{Mac, hmac};
-    use std::test::Fail;
-
-    const KEY: &[u8; 32] = b"a key that signs, of 32 bytes...";
-
-    // Name, value, and what is signed of them: the length of the name in eight bytes, the name and the value.
-    const MESSAGES: [(&str, &str, &[u8]); 5] = [
-        ("id", "v", b"\0\0\0\0\0\0\0\x02\x69\x64\x76"),
-        ("ab", "c", b"\0\0\0\0\0\0\0\x02\x61\x62\x63"),
-        ("a", "bc", b"\0\0\0\0\0\0\0\x01\x61\x62\x63"),
-        ("", "abc", b"\0\0\0\0\0\0\0\0\x61\x62\x63"),
-        ("", "", b"\0\0\0\0\0\0\0\0"),
-    ];
-
-    #[test]
-    fn names_are_signed_with_their_values(rt: HostRuntime) -> Result<(), Fail> {
-        for (name, value, message) in MESSAGES {
-            let expected = STANDARD.encode(rt.alloc(), &hmac(KEY, &[message]))?;
-            assert!(rt;
-                expected.as_bytes() == signature(&Mac::new(KEY), name, value).as_slice(),
-                "{name}={value}"
-            );
-        }
-        Ok(())
-    }
-}

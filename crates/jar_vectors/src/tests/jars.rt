@@ -3,6 +3,7 @@ use cookie::{Cookie, CookieJar, JarError};
 use jar_steps::{Step, after, counts, first_wrong, moment};
 use jiff::SignedDuration;
 use std::alloc::Global;
+use std::hash::RandomState;
 use std::test::Fail;
 
 // The place of the first wrong step on a new jar.
@@ -303,5 +304,17 @@ fn a_jar_is_shown_with_its_values(rt: HostRuntime) -> Result<(), Fail> {
     let shown =
         "CookieJar { originals: {\"o\": Original { cookie: Cookie { name: \"o\", value: \"1\", http_only: None, secure: None, partitioned: None, same_site: None, path: None, domain: None, max_age: None, expires: None } }}, delta: {\"d\": DeltaCookie { cookie: Cookie { name: \"d\", value: \"2\", http_only: None, secure: None, partitioned: None, same_site: None, path: None, domain: None, max_age: None, expires: None }, removed: false }} }";
     assert_eq!(rt; format!(in rt.alloc(); "{jar:?}")?.as_str(), shown);
+    Ok(())
+}
+
+#[test]
+fn a_jar_with_drawn_keys_answers_as_any_other(rt: HostRuntime) -> Result<(), Fail> {
+    let mut jar = CookieJar::with_hasher(rt.alloc(), RandomState::new(&rt)?);
+    jar.add_original(Cookie::new("name", "val"))?;
+    jar.add(Cookie::new("name", "new"))?;
+    let copy = jar.clone()?;
+    assert!(rt; copy.get("name").map(|c| c.value()) == Some("new"));
+    assert!(rt; copy.original("name").map(|c| c.value()) == Some("val"));
+    assert!(rt; copy.original("new").is_none());
     Ok(())
 }

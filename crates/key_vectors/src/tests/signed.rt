@@ -318,6 +318,10 @@ fn is_signed_as(
 fn values_are_signed_as_elsewhere(rt: HostRuntime) -> Result<(), Fail> {
     for (name, value, text) in [
         ("a", "", "HW3uV96hz6aABeiuBtrHK9wYx+lHdaNpiQeln6wCTEU="),
+        ("ab", "c", "8i21DTCOSSWa3mXtuZT5Yx34+2bh0BFUBIMOkBs1Sas=c"),
+        ("a", "bc", "1SE4c+NvQWYRluVqRbA7xnuDiVIudJ0JDxaCM2FOn8M=bc"),
+        ("", "abc", "CHgyaAPC4BiCYFLfCcqG9gIq81YLm41bB/yRloo0g5k=abc"),
+        ("", "", "ak5ER0UaE++u3dnVZhAdu410EdpWqbSBVdxBKG8KTa4="),
         (
             "\u{e9}",
             "1",
