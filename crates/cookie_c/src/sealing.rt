@@ -109,7 +109,8 @@ fn sealed(alloc: Global, keyed: &Keyed<'_>, nonce: [u8; 12]) -> Result<CookieJar
     ensures sealed { IsSealable keyed.now.name.now keyed.now.text.now
         → Gives refusal.OutOfMemory result (λ jar.
         option_map (λ c. c.value) (view jar keyed.now.name.now)
-        ≡ Some (sealing (encryption_half keyed.now.key) keyed.now.name.now nonce keyed.now.text.now)) }
+        ≡ Some (sealing (encryption_half keyed.now.key)
+        keyed.now.name.now nonce keyed.now.text.now)) }
     ensures too_long { ¬ IsSealable keyed.now.name.now keyed.now.text.now
         → (result ≡ Err refusal.TooLong) ⊎ (result ≡ Err refusal.OutOfMemory) }
 {
