@@ -26,7 +26,7 @@ pub fn remove_as_set(
     ensures domain { (removal now set.now.fields).domain ≡ set.now.fields.domain }
     ensures err { OnErr result (jar.new ≡ jar.old) }
 {
-    jar.remove(set.clone(alloc)?, now)?;
+    cookie_http::remove_as_set(alloc, jar, set, now)?;
     Ok(())
 }
 
