@@ -4,7 +4,7 @@ ghost use Rattle.cookie_crypt.specs.Expand.{expand64};
 
 use crate::mac::hmac;
 
-fn joined(first: &[u8; 32], second: &[u8; 32]) -> [u8; 64]
+fn join(first: &[u8; 32], second: &[u8; 32]) -> [u8; 64]
     ensures { result ≡ first.now ++ second.now }
 {
     let mut bytes = [0; 64];
@@ -21,5 +21,5 @@ pub fn expand64(prk: &[u8], info: &[u8]) -> [u8; 64]
 {
     let first = hmac(prk, &[info, &[1]]);
     let second = hmac(prk, &[&first, info, &[2]]);
-    joined(&first, &second)
+    join(&first, &second)
 }

@@ -13,7 +13,7 @@ const INNER_MASK: u8 = 0x36;
 const OUTER_MASK: u8 = 0x5c;
 
 // The key padded with zeros, with the mask added to each byte.
-fn masked(key: &[u8], mask: u8) -> [u8; 64]
+fn mask_key(key: &[u8], mask: u8) -> [u8; 64]
     requires { length key.now ≤ 64 }
     ensures { result ≡ masked key.now mask }
 {
@@ -25,12 +25,12 @@ fn masked(key: &[u8], mask: u8) -> [u8; 64]
 }
 
 // A hasher that has taken in the masked key.
-fn keyed(key: &[u8], mask: u8) -> Sha256
+fn hasher_of(key: &[u8], mask: u8) -> Sha256
     requires { length key.now ≤ 64 }
     ensures { Holds256 result (masked key.now mask) }
 {
     let mut hasher = Sha256::new();
-    hasher.update(&masked(key, mask));
+    hasher.update(&mask_key(key, mask));
     hasher
 }
 
@@ -51,7 +51,11 @@ fn hmac_short(key: &[u8], pieces: &[&[u8]]) -> [u8; 32]
     requires { length key.now ≤ 64 }
     ensures { result ≡ hmac_short key.now (concat (map (λ piece. piece.now) pieces.now)) }
 {
-    code(keyed(key, INNER_MASK), keyed(key, OUTER_MASK), pieces)
+    code(
+        hasher_of(key, INNER_MASK),
+        hasher_of(key, OUTER_MASK),
+        pieces,
+    )
 }
 
 /// HMAC-SHA256 of the joined pieces under the key (RFC 2104). The key must be random.
@@ -100,8 +104,8 @@ impl Mac {
     {
         Mac {
             key: *key,
-            inner: keyed(key, INNER_MASK),
-            outer: keyed(key, OUTER_MASK),
+            inner: hasher_of(key, INNER_MASK),
+            outer: hasher_of(key, OUTER_MASK),
         }
     }
 

@@ -8,6 +8,6 @@ unfolding expand64
 returns c =
     let prk : List ℕ = c.args.prk.now in
     let info : List ℕ = c.args.info.now in
-    c.joined.ensures
+    c.join.ensures
     ∙ ap (λ b. c.hmac-first.result ++ b) (c.hmac-second.ensures ∙ ap (hmac prk) (sym (append_assoc c.hmac-first.result info (2 ∷ []))))
     ∙ ap (λ first. first ++ hmac prk (first ++ info ++ 2 ∷ [])) c.hmac-first.ensures

@@ -2,7 +2,7 @@ use Rattle.std.proofs.Common.{◌≡◌, ℕ, ◌++◌, List, slice_index, lengt
 use Rattle.std.proofs.lemmas.List.{length-append}
 use Rattle.std.proofs.lemmas.List.FromFn.{fill_by_all}
 use Rattle.cookie_crypt.proofs.Made.{made_all}
-use Rattle.cookie_crypt.proofs.expand.joined.Goals as goal
+use Rattle.cookie_crypt.proofs.expand.join.Goals as goal
 
 pub returns : goal.returns
 returns c =

@@ -3,8 +3,8 @@ use Rattle.std.proofs.lemmas.List.FromFn.{fill_by_all}
 use Rattle.cookie_crypt.specs.Hmac.{masked}
 use Rattle.cookie_crypt.proofs.Made.{made_more, made_all}
 use Rattle.cookie_crypt.proofs.MacLemmas.{length-masked, masked_byte, masked_zero}
-use Rattle.cookie_crypt.proofs.mac.masked.Goals as goal
-use Rattle.cookie_crypt.proofs.mac.masked.Goals.{then-i-key, else-i-key}
+use Rattle.cookie_crypt.proofs.mac.mask_key.Goals as goal
+use Rattle.cookie_crypt.proofs.mac.mask_key.Goals.{then-i-key, else-i-key}
 
 pub loop-i-preserved : goal.loop-i-preserved
 loop-i-preserved c =
