@@ -15,7 +15,7 @@ pub(crate) struct DeltaCookie {
 }
 
 impl DeltaCookie {
-    pub(crate) fn added(cookie: Cookie<'static>) -> DeltaCookie
+    pub(crate) fn addition(cookie: Cookie<'static>) -> DeltaCookie
         ensures { delta_mark result ≡ added_mark cookie.entry.fields }
     {
         DeltaCookie {
@@ -24,7 +24,7 @@ impl DeltaCookie {
         }
     }
 
-    pub(crate) fn removed(mut cookie: Cookie<'static>, now: DateTime) -> DeltaCookie
+    pub(crate) fn removal(mut cookie: Cookie<'static>, now: DateTime) -> DeltaCookie
         ensures { delta_mark result ≡ dropped_mark (removal now cookie.entry.fields) }
     {
         cookie.make_removal(now);

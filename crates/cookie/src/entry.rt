@@ -27,7 +27,7 @@ pub(crate) trait Entry: Drop {
         ensures { result.now ≡ name_of (shows self.now) };
 
     // A copy that shows the same.
-    fn copied(&self, alloc: Global) -> Result<Self, AllocError>
+    fn copy(&self, alloc: Global) -> Result<Self, AllocError>
         ensures { IfOk result (λ copy. shows copy ≡ shows self.now) };
 }
 
@@ -42,7 +42,7 @@ impl Entry for Original {
         self.cookie.name()
     }
 
-    fn copied(&self, alloc: Global) -> Result<Original, AllocError> {
+    fn copy(&self, alloc: Global) -> Result<Original, AllocError> {
         let cookie = self.cookie.clone(alloc)?;
         Ok(Original { cookie })
     }
@@ -59,7 +59,7 @@ impl Entry for DeltaCookie {
         self.cookie.name()
     }
 
-    fn copied(&self, alloc: Global) -> Result<DeltaCookie, AllocError> {
+    fn copy(&self, alloc: Global) -> Result<DeltaCookie, AllocError> {
         let cookie = self.cookie.clone(alloc)?;
         Ok(DeltaCookie {
             cookie,
@@ -136,7 +136,7 @@ pub(crate) fn copy<X: Entry>(
     let mut made = IndexMap::with_capacity_and_hasher(alloc, table.len(), *table.hasher())?;
     for (key, entry) in table {
         let key = String::from_str(alloc, key.as_str())?;
-        set(&mut made, key, entry.copied(alloc)?)?;
+        set(&mut made, key, entry.copy(alloc)?)?;
     }
     Ok(made)
 }

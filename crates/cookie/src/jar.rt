@@ -125,7 +125,7 @@ impl CookieJar {
             self.new ≡ after (Add cookie.entry.fields) self.old) }
         ensures err { OnErr result (self.new ≡ self.old) }
     {
-        put(&mut self.delta, DeltaCookie::added(cookie))?;
+        put(&mut self.delta, DeltaCookie::addition(cookie))?;
         Ok(())
     }
 
@@ -140,7 +140,7 @@ impl CookieJar {
         ensures certain { get self.old.originals cookie.entry.fields.name ≡ None → IsOk result }
     {
         if find(&self.originals, cookie.name()).is_some() {
-            put(&mut self.delta, DeltaCookie::removed(cookie, now))?;
+            put(&mut self.delta, DeltaCookie::removal(cookie, now))?;
         } else {
             discard(&mut self.delta, cookie.name());
         }

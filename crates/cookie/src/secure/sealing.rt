@@ -119,10 +119,10 @@ fn unseal(alloc: Global, cipher: &Gcm, name: &str, text: &str) -> Result<Option<
         → (option_map string_bytes answer ≡ Some v) ↔ IsSealed cipher.now name.now text.now v) }
 {
     cipher.known();
-    let Some(bytes) = decoded(alloc, text)? else {
+    let Some(bytes) = decode(alloc, text)? else {
         return Ok(None);
     };
-    let Some(plain) = opened(alloc, cipher, name, bytes.as_slice())? else {
+    let Some(plain) = open(alloc, cipher, name, bytes.as_slice())? else {
         return Ok(None);
     };
     match String::from_utf8(plain) {
@@ -132,7 +132,7 @@ fn unseal(alloc: Global, cipher: &Gcm, name: &str, text: &str) -> Result<Option<
 }
 
 // The bytes that the text is the padded base64 of, if it is that of any.
-fn decoded(alloc: Global, text: &str) -> Result<Option<Vec<u8>>, AllocError>
+fn decode(alloc: Global, text: &str) -> Result<Option<Vec<u8>>, AllocError>
     ensures exact { IfOk result (λ answer.
         (b : List ℕ) → IsBytes b
         → (option_map (λ v. v.items) answer ≡ Some b) ↔ (text.now ≡ encode_of standard b)) }
@@ -146,7 +146,7 @@ fn decoded(alloc: Global, text: &str) -> Result<Option<Vec<u8>>, AllocError>
 }
 
 // The bytes of the value that the others are a sealing of under the name, if they are one.
-fn opened(
+fn open(
     alloc: Global,
     cipher: &Gcm,
     name: &str,

@@ -42,7 +42,7 @@ pub(crate) fn sign<'c>(
 }
 
 // What stands behind the signature in a value, where it is signed.
-fn verified<'v>(mac: &Mac, name: &str, value: &'v str) -> Option<&'v str>
+fn unsign<'v>(mac: &Mac, name: &str, value: &'v str) -> Option<&'v str>
     ensures { (v : List ℕ)
         → (option_copied result ≡ Some v) ↔ (value.now ≡ signing mac.now name.now v) }
 {
@@ -66,7 +66,7 @@ pub(crate) fn verify<'c>(
         AnswersExactly (IsSigningOf mac.now) (Some cookie.entry.fields)
         (option_map (λ c. c.fields) answer)) }
 {
-    let Some(value) = verified(mac, cookie.name(), cookie.value()) else {
+    let Some(value) = unsign(mac, cookie.name(), cookie.value()) else {
         return Ok(None);
     };
     let value = String::from_str(alloc, value)?;

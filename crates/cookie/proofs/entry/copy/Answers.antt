@@ -18,8 +18,8 @@ loop-key-preserved g c =
     (c.in-Some.key, c.in-Some.entry) c.loop-key.yielded_by c.in-Some.is c.next.ensures.steps string_eq_equiv c.args.table.now start.0 start.4 in
     rw c.in_ok-set.ensures.ok (
     copied_more g.X.Entry.shows c.args.table.now.entries c.loop-key.key-iterator c.next.new.self (by_name g.X.Entry.shows c.loop-key.made.entries)
-    c.in-Some.key.now c.in-Some.entry.now (string_bytes c.in_ok-key.key) (g.X.Entry.shows c.in_ok-copied.field-0)
-    (c.in_ok-key.ensures.ok ∙ c.as_str.ensures.value) c.in_ok-copied.ensures c.in-Some.ensures.steps found.1 c.loop-key.invariant)
+    c.in-Some.key.now c.in-Some.entry.now (string_bytes c.in_ok-key.key) (g.X.Entry.shows c.in_ok-copy.field-0)
+    (c.in_ok-key.ensures.ok ∙ c.as_str.ensures.value) c.in_ok-copy.ensures c.in-Some.ensures.steps found.1 c.loop-key.invariant)
 
 pub returns : goal.returns
 returns g c =

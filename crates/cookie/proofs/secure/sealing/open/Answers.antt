@@ -1,6 +1,6 @@
 use Rattle.std.proofs.Common.{refl, rules}
 use Rattle.cookie.proofs.SealingLemmas.{opened_right, opened_whole, opened_without_nonce, opened_without_tag, opened_wrong}
-use Rattle.cookie.proofs.secure.sealing.opened.Goals as goal
+use Rattle.cookie.proofs.secure.sealing.open.Goals as goal
 
 pub returns-in_default : goal.returns-in_default
 returns-in_default c = opened_without_nonce c.args.cipher.now c.args.name.now c.args.bytes.now c.in_default.ensures.cases

@@ -1,6 +1,6 @@
 use Rattle.std.proofs.Common.{◌≡◌, false, true, sym, ◌∙◌}
 use Rattle.cookie.proofs.SigningLemmas.{verified_unsplit, verified_same, verified_other}
-use Rattle.cookie.proofs.secure.signing.verified.Goals as goal
+use Rattle.cookie.proofs.secure.signing.unsign.Goals as goal
 
 pub returns-in_default : goal.returns-in_default
 returns-in_default c =
