@@ -1,38 +1,25 @@
 -- `days_later` is the one date-time that is so many days later.
-use Rattle.std.proofs.Common.{◌≡◌, ℕ, zero, suc, ◌≤◌, Bool, true, false, cond, refl, sym, ◌∙◌, arith, rules, ℤ, pos, negsuc, neg_ℤ, ◌+ℤ◌, ◌≤ℤ◌, int_lt, unsigned_abs}
+use Rattle.std.proofs.Common.{◌≡◌, ℕ, zero, suc, ◌≤◌, Bool, true, false, cond, refl, sym, ◌∙◌, arith, ℤ, pos, negsuc, neg_ℤ, ◌+ℤ◌, ◌≤ℤ◌, int_lt, unsigned_abs}
 use Rattle.std.proofs.lemmas.Int.{ints, by_lt_z}
 use Rattle.jiff.specs.Types.{DateTime, Date}
-use Rattle.jiff.specs.Words.{epoch_day, time_nanos}
-use Rattle.jiff.proofs.Family.{days_from_civil-min, epoch_day_same, same_date, same_time}
+use Rattle.jiff.specs.Words.{epoch_day}
+use Rattle.jiff.proofs.Family.{days_from_civil-min, same_date, same_time}
 use Rattle.jiff.proofs.SpanFacts.{signed_arith}
 use Rattle.cookie_date.specs.Days.{IsFirstMoment, IsLastMoment, IsDaysLater}
 use Rattle.cookie_date.specs.Moments.{date_later, first_moment, last_moment, days_later}
-use Rattle.cookie_date.proofs.CalendarLemmas.{date_at-found, date_at-parts, time_at-found, time_at-parts, epoch_day-next_date}
+use Rattle.cookie_date.proofs.CalendarLemmas.{epoch_day-next_date}
 
--- `first_moment` is the first date-time, whatever other it is given
-first_moment-is : (m : DateTime) → IsFirstMoment (first_moment m)
+first_moment-is : IsFirstMoment first_moment
 unfolding first_moment
-first_moment-is m =
-    let (d, found) = date_at-found (neg_ℤ (pos 9999)) 1 1 (search rules) (search rules) (search rules) in
-    let (t, shown) = time_at-found 0 0 0 0 (omega arith) (omega arith) (omega arith) (omega arith) in
-    let clock = time_at-parts 0 0 0 0 t shown in
-    let nanos : time_nanos t ≡ 0 = rw (clock.0, clock.1, clock.2, clock.3) refl in
-    rw (found, shown) (date_at-parts (neg_ℤ (pos 9999)) 1 1 d found, nanos)
+first_moment-is = ((refl, refl, refl), refl)
 
-last_moment-is : (m : DateTime) → IsLastMoment (last_moment m)
+last_moment-is : IsLastMoment last_moment
 unfolding last_moment
-last_moment-is m =
-    let (d, found) = date_at-found (pos 9999) 12 31 (search rules) (search rules) (search rules) in
-    let (t, shown) = time_at-found 23 59 59 999_999_999 (omega arith) (omega arith) (omega arith) (omega arith) in
-    let clock = time_at-parts 23 59 59 999_999_999 t shown in
-    let nanos : time_nanos t ≡ 86_399_999_999_999 = rw (clock.0, clock.1, clock.2, clock.3) refl in
-    rw (found, shown) (date_at-parts (pos 9999) 12 31 d found, nanos)
+last_moment-is = ((refl, refl, refl), refl)
 
-epoch_day-first_moment : (m : DateTime) → epoch_day (first_moment m).date ≡ neg_ℤ (pos 4_371_587)
-epoch_day-first_moment m =
-    let is = first_moment-is m in
-    let first : Date = record { year = neg_ℤ (pos 9999); month = 1; day = 1; year_in = search rules; month_in = search rules; day_in = search rules } in
-    epoch_day_same (first_moment m).date first is.0.0 is.0.1 is.0.2 ∙ days_from_civil-min
+epoch_day-first_moment : epoch_day first_moment.date ≡ neg_ℤ (pos 4_371_587)
+unfolding first_moment
+epoch_day-first_moment = days_from_civil-min
 
 -- counting days moves the day number
 epoch_day-date_later : (first : Date) → epoch_day first ≡ neg_ℤ (pos 4_371_587) → (k : ℕ) → k ≤ 7_304_483 → epoch_day (date_later first k) +ℤ pos 4_371_587 ≡ pos k
@@ -53,19 +40,19 @@ unfolding days_later
 days_later-is m n = by_day (epoch_day m.date +ℤ n) refl
   where
     counted : ℤ → DateTime
-    counted day = record { date = date_later (first_moment m).date (unsigned_abs (day +ℤ pos 4_371_587)); time = m.time }
+    counted day = record { date = date_later first_moment.date (unsigned_abs (day +ℤ pos 4_371_587)); time = m.time }
 
-    by_day : (day : ℤ) → epoch_day m.date +ℤ n ≡ day → IsDaysLater m n (cond (int_lt day (neg_ℤ (pos 4_371_587))) (first_moment m) (cond (int_lt (pos 2_932_896) day) (last_moment m) (counted day)))
+    by_day : (day : ℤ) → epoch_day m.date +ℤ n ≡ day → IsDaysLater m n (cond (int_lt day (neg_ℤ (pos 4_371_587))) first_moment (cond (int_lt (pos 2_932_896) day) last_moment (counted day)))
     by_day day is = go (int_lt day (neg_ℤ (pos 4_371_587))) (int_lt (pos 2_932_896) day) refl refl
       where
-        go : (low high : Bool) → int_lt day (neg_ℤ (pos 4_371_587)) ≡ low → int_lt (pos 2_932_896) day ≡ high → IsDaysLater m n (cond low (first_moment m) (cond high (last_moment m) (counted day)))
-        go true high e f = record { within = λ h. absurd (omega (arith, ints)); above = λ h. absurd (omega (arith, ints)); below = λ h. first_moment-is m }
-        go false true e f = record { within = λ h. absurd (omega (arith, ints)); above = λ h. last_moment-is m; below = λ h. absurd (omega (arith, ints)) }
+        go : (low high : Bool) → int_lt day (neg_ℤ (pos 4_371_587)) ≡ low → int_lt (pos 2_932_896) day ≡ high → IsDaysLater m n (cond low first_moment (cond high last_moment (counted day)))
+        go true high e f = record { within = λ h. absurd (omega (arith, ints)); above = λ h. absurd (omega (arith, ints)); below = λ h. first_moment-is }
+        go false true e f = record { within = λ h. absurd (omega (arith, ints)); above = λ h. last_moment-is; below = λ h. absurd (omega (arith, ints)) }
         go false false e f =
             let from : pos 0 ≤ℤ (day +ℤ pos 4_371_587) = omega (arith, ints) in
             let to : day ≤ℤ pos 2_932_896 = omega (arith, ints) in
             let back = from_zero (day +ℤ pos 4_371_587) from in
-            let there = epoch_day-date_later (first_moment m).date (epoch_day-first_moment m) (unsigned_abs (day +ℤ pos 4_371_587)) (omega (arith, signed_arith)) in
+            let there = epoch_day-date_later first_moment.date (epoch_day-first_moment) (unsigned_abs (day +ℤ pos 4_371_587)) (omega (arith, signed_arith)) in
             let on_day : epoch_day (counted day).date ≡ epoch_day m.date +ℤ n = omega (arith, signed_arith) in
             record { within = λ h. (on_day, refl); above = λ h. absurd (omega (arith, signed_arith)); below = λ h. absurd (omega (arith, signed_arith)) }
 

@@ -1,5 +1,6 @@
 -- The date-time that a text stands for, and the one that lies some days later, as functions.
-use Rattle.std.specs.Prelude.{ℕ, zero, suc, List, Option, Some, unwrap_or, ℤ, pos, neg_ℤ, ◌+ℤ◌, int_lt, unsigned_abs, if◌then◌else◌}
+use Rattle.std.specs.Prelude.{ℕ, zero, suc, List, Option, Some, ℤ, pos, neg_ℤ, ◌+ℤ◌, int_lt, unsigned_abs, if◌then◌else◌}
+use Rattle.std.proofs.Common.{lit<, lit≤}
 use Rattle.jiff.specs.Types.{DateTime, Date}
 use Rattle.jiff.specs.Words.{epoch_day}
 use Rattle.cookie_date.specs.Forms.{full_year}
@@ -21,18 +22,50 @@ unfoldable pub date_later : Date → ℕ → Date
 date_later first zero = first
 date_later first (suc days) = next_date (date_later first days)
 
--- the first date-time of the calendar; its date and time exist, so those of the other one are never taken
-unfoldable pub first_moment : DateTime → DateTime
-first_moment other = record {
-  date = unwrap_or (date_at (neg_ℤ (pos 9999)) 1 1) other.date;
-  time = unwrap_or (time_at 0 0 0 0) other.time;
+-- the first date-time of the calendar, -9999-01-01 00:00:00
+unfoldable pub first_moment : DateTime
+first_moment = record {
+  date = record {
+    year = neg_ℤ (pos 9999);
+    month = 1;
+    day = 1;
+    year_in = (record { le = tt }, record { le = tt });
+    month_in = (lit≤ tt, lit≤ tt);
+    day_in = (lit≤ tt, lit≤ tt);
+  };
+  time = record {
+    hour = 0;
+    minute = 0;
+    second = 0;
+    subsec_nanosecond = 0;
+    hour_in = lit< tt;
+    minute_in = lit< tt;
+    second_in = lit< tt;
+    subsec_in = lit< tt;
+  };
 }
 
--- the last one, likewise
-unfoldable pub last_moment : DateTime → DateTime
-last_moment other = record {
-  date = unwrap_or (date_at (pos 9999) 12 31) other.date;
-  time = unwrap_or (time_at 23 59 59 999_999_999) other.time;
+-- the last one, 9999-12-31 23:59:59.999999999
+unfoldable pub last_moment : DateTime
+last_moment = record {
+  date = record {
+    year = pos 9999;
+    month = 12;
+    day = 31;
+    year_in = (record { le = tt }, record { le = tt });
+    month_in = (lit≤ tt, lit≤ tt);
+    day_in = (lit≤ tt, lit≤ tt);
+  };
+  time = record {
+    hour = 23;
+    minute = 59;
+    second = 59;
+    subsec_nanosecond = 999_999_999;
+    hour_in = lit< tt;
+    minute_in = lit< tt;
+    second_in = lit< tt;
+    subsec_in = lit< tt;
+  };
 }
 
 -- The date-time so many days later, found by counting from the first date of the calendar. That it is exactly the
@@ -40,9 +73,9 @@ last_moment other = record {
 unfoldable pub days_later : DateTime → ℤ → DateTime
 days_later moment days =
     let day = epoch_day moment.date +ℤ days in
-    if int_lt day (neg_ℤ (pos 4_371_587)) then first_moment moment
-    else if int_lt (pos 2_932_896) day then last_moment moment
+    if int_lt day (neg_ℤ (pos 4_371_587)) then first_moment
+    else if int_lt (pos 2_932_896) day then last_moment
     else record {
-      date = date_later (first_moment moment).date (unsigned_abs (day +ℤ pos 4_371_587));
+      date = date_later first_moment.date (unsigned_abs (day +ℤ pos 4_371_587));
       time = moment.time;
     }
