@@ -49,10 +49,8 @@ impl<'a> Iterator for Delta<'a> {
     ghost remaining = { λ s. at_most (length s) };
 
     fn next(&mut self) -> Option<&'a Cookie<'static>> {
-        match self.entries.next() {
-            Some(entry) => Some(&entry.cookie),
-            None => None,
-        }
+        let entry = self.entries.next()?;
+        Some(&entry.cookie)
     }
 }
 

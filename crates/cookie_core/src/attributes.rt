@@ -161,10 +161,8 @@ fn expiration(text: &str) -> Option<Expiration>
     ensures { MatchOption result ((x : Expiration) → ¬ (GivesExpiry text.now x))
         (GivesExpiry text.now) }
 {
-    match read_date(text) {
-        Some(moment) => Some(Expiration::DateTime(moment)),
-        None => None,
-    }
+    let moment = read_date(text)?;
+    Some(Expiration::DateTime(moment))
 }
 
 impl Attributes {

@@ -9,8 +9,8 @@ no_expiry : (t : List ℕ) → ReadsAsDate t None → (x : Expiration) → ¬ (G
 no_expiry t none (expiration.DateTime m) gives = let e = (none m).1 gives in absurd cc
 no_expiry t none expiration.Session gives = gives
 
-pub returns-in-Some : goal.returns-in-Some
-returns-in-Some c = (c.in-Some.ensures.exact _).0 refl
+pub returns-in_err-moment : goal.returns-in_err-moment
+returns-in_err-moment c = rw c.from_residual.ensures (no_expiry c.args.text.now c.in_err-moment.ensures.exact)
 
-pub returns-in-None : goal.returns-in-None
-returns-in-None c = no_expiry c.args.text.now c.in-None.ensures.exact
+pub returns : goal.returns
+returns c = (c.in_ok-moment.ensures.exact _).0 refl
