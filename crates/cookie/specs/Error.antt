@@ -2,22 +2,22 @@
 use Rattle.std.specs.Prelude.{ℕ, List, codes}
 use Rattle.cookie_core.specs.ParseError.{error_text}
 use Rattle.cookie_core.specs.declared.parse_error.ParseError.{ParseError}
-use Rattle.cookie_core.specs.declared.parse_error.ParseError.TheVariants.{OutOfMemory as NoMemoryToRead}
+use Rattle.cookie_core.specs.declared.parse_error.ParseError.TheVariants as reading
 use Rattle.cookie.specs.JarError.{refusal_text}
 use Rattle.cookie.specs.KeyError.{key_refusal_text}
 use Rattle.cookie.specs.declared.error.Error.{Error}
 use Rattle.cookie.specs.declared.error.Error.TheVariants as failure
 use Rattle.cookie.specs.declared.jar_error.JarError.{JarError}
-use Rattle.cookie.specs.declared.jar_error.JarError.TheVariants.{OutOfMemory as NoMemoryToStore}
+use Rattle.cookie.specs.declared.jar_error.JarError.TheVariants as refusal
 
 -- what it is of a text's refusal: a case of its own, or want of memory
 abbrev pub parse_failure : ParseError → Error
-parse_failure NoMemoryToRead = failure.OutOfMemory
+parse_failure reading.OutOfMemory = failure.OutOfMemory
 parse_failure error = failure.Parse error
 
 -- what it is of a jar's refusal: a case of its own, or want of memory
 abbrev pub jar_failure : JarError → Error
-jar_failure NoMemoryToStore = failure.OutOfMemory
+jar_failure refusal.OutOfMemory = failure.OutOfMemory
 jar_failure error = failure.Jar error
 
 -- its text, which is that of the error that it was made of

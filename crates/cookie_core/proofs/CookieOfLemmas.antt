@@ -32,7 +32,7 @@ use Rattle.cookie_core.specs.declared.same_site.SameSite.TheVariants as same_sit
 use Rattle.cookie_core.specs.declared.expiration.Expiration.{Expiration}
 use Rattle.cookie_core.specs.declared.expiration.Expiration.TheVariants as expiration
 use Rattle.cookie_core.specs.declared.parse_error.ParseError.{ParseError}
-use Rattle.cookie_core.specs.declared.parse_error.ParseError.TheVariants.{MissingPair, EmptyName, Utf8Error, OutOfMemory}
+use Rattle.cookie_core.specs.declared.parse_error.ParseError.TheVariants as refusal
 use Rattle.cookie_core.proofs.PieceLemmas.{IsPieces-pieces}
 use Rattle.cookie_core.proofs.SpanLemmas.{Lacks-front}
 use Rattle.cookie_core.proofs.ReadingLemmas.{not_lacking, IsAttribute-unique, IsPieces-unique, IsPieces-some}
@@ -228,12 +228,12 @@ not_undecodable true n v n' v' h k (inr u) = u (subst IsUtf8 k.0 k.1)
 
 -- pieces that are read as a record are not refused
 ReadsPieces-one : (decode : Bool) (p : List ℕ) (ps : List (List ℕ)) (r : Record) (e : ParseError) → ReadsPieces decode p ps (Ok r) → ¬ (ReadsPieces decode p ps (Err e))
-ReadsPieces-one decode p ps r MissingPair (n, v, (a, b, whole, _, _, _), _, _, _, _) h = not_lacking 61 p a b whole h
-ReadsPieces-one decode p ps r EmptyName (n, v, pair, some, _, _, _) (w, h) = some (IsAttribute-unique p n (Some v) [] (Some w) pair h).0
-ReadsPieces-one decode p ps r (Utf8Error x) (n, v, pair, some, name, value, _) (m, w, pair', _, bad) =
+ReadsPieces-one decode p ps r refusal.MissingPair (n, v, (a, b, whole, _, _, _), _, _, _, _) h = not_lacking 61 p a b whole h
+ReadsPieces-one decode p ps r refusal.EmptyName (n, v, pair, some, _, _, _) (w, h) = some (IsAttribute-unique p n (Some v) [] (Some w) pair h).0
+ReadsPieces-one decode p ps r (refusal.Utf8Error x) (n, v, pair, some, name, value, _) (m, w, pair', _, bad) =
     let (same_name, same_value) = IsAttribute-unique p m (Some w) n (Some v) pair' pair in
     not_undecodable decode n v r.name r.value name value (subst (IsUndecodable decode n) (same_Some w v same_value) (subst (λ k. IsUndecodable decode k w) same_name bad))
-ReadsPieces-one decode p ps r OutOfMemory h k = k
+ReadsPieces-one decode p ps r refusal.OutOfMemory h k = k
 
 -- ---- texts
 

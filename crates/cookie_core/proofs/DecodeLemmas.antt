@@ -16,7 +16,7 @@ use Rattle.cookie_core.specs.Pieces.{IsPieces}
 use Rattle.cookie_core.specs.Reads.{Reads, IsUndecodable, fields_of}
 use Rattle.cookie_core.specs.Record.{Record, CookieView, RawForms, all_lent, no_raw_forms}
 use Rattle.cookie_core.specs.declared.parse_error.ParseError.{ParseError}
-use Rattle.cookie_core.specs.declared.parse_error.ParseError.TheVariants.{MissingPair, EmptyName, Utf8Error, OutOfMemory}
+use Rattle.cookie_core.specs.declared.parse_error.ParseError.TheVariants as refusal
 use Rattle.cookie_core.proofs.CookieOfLemmas.{cookie_of-Reads, cookie_of-refused, cookie_of-result}
 use Rattle.cookie_core.proofs.EscapeLemmas.{or_false, unescape-same}
 use Rattle.cookie_core.proofs.ReadingLemmas.{SetsAttributes-named}
@@ -38,16 +38,16 @@ IsUndecodable-blamed_text n v h = blamed-undecodable n v (is_utf8 (unescape n)) 
 
 -- the name is blamed where it can't be decoded, and else the value
 pub blamed-name : (n v : List ℕ) (e : ParseError) → IsRefusedFor n e → IsRefusedForPair n v e
-blamed-name n v (Utf8Error x) h = rw (not_utf8 (unescape n) h.faulty) h
-blamed-name n v OutOfMemory h = h
-blamed-name n v MissingPair h = h
-blamed-name n v EmptyName h = h
+blamed-name n v (refusal.Utf8Error x) h = rw (not_utf8 (unescape n) h.faulty) h
+blamed-name n v refusal.OutOfMemory h = h
+blamed-name n v refusal.MissingPair h = h
+blamed-name n v refusal.EmptyName h = h
 
 pub blamed-value : (n v : List ℕ) (e : ParseError) → IsUtf8 (unescape n) → IsRefusedFor v e → IsRefusedForPair n v e
-blamed-value n v (Utf8Error x) u h = rw (is_utf8-from_IsUtf8 (unescape n) u) h
-blamed-value n v OutOfMemory u h = h
-blamed-value n v MissingPair u h = h
-blamed-value n v EmptyName u h = h
+blamed-value n v (refusal.Utf8Error x) u h = rw (is_utf8-from_IsUtf8 (unescape n) u) h
+blamed-value n v refusal.OutOfMemory u h = h
+blamed-value n v refusal.MissingPair u h = h
+blamed-value n v refusal.EmptyName u h = h
 
 -- ---- decoding
 
@@ -76,18 +76,18 @@ pub ReadsInMemory-decoded : (t : List ℕ) (c : CookieView) (o : Result CookieVi
 ReadsInMemory-decoded t c (Ok d) h (e, _, n, v) =
     let (p, ps, pieces, pair, some, sets) = plain_parts t c.fields h in
     subst (λ (r : Record). ReadsInMemory true t (Ok r)) (sym e) (p, ps, pieces, (c.fields.name, c.fields.value, pair, some, (refl, n), (refl, v), SetsAttributes-named ps c.fields (unescape c.fields.name) (unescape c.fields.value) sets))
-ReadsInMemory-decoded t c (Err (Utf8Error x)) h (_, k) =
+ReadsInMemory-decoded t c (Err (refusal.Utf8Error x)) h (_, k) =
     let (p, ps, pieces, pair, some, sets) = plain_parts t c.fields h in
     (p, ps, pieces, (c.fields.name, c.fields.value, pair, some, IsUndecodable-blamed_text c.fields.name c.fields.value k.faulty))
-ReadsInMemory-decoded t c (Err OutOfMemory) h k =
+ReadsInMemory-decoded t c (Err refusal.OutOfMemory) h k =
     let (p, ps, pieces, pair, some, sets) = plain_parts t c.fields h in
     (p, ps, c.fields.name, c.fields.value, pieces, pair, some)
-ReadsInMemory-decoded t c (Err MissingPair) h (_, k) = absurd k
-ReadsInMemory-decoded t c (Err EmptyName) h (_, k) = absurd k
+ReadsInMemory-decoded t c (Err refusal.MissingPair) h (_, k) = absurd k
+ReadsInMemory-decoded t c (Err refusal.EmptyName) h (_, k) = absurd k
 
 pub NamesFault-decoded : (t : List ℕ) (c : CookieView) (o : Result CookieView ParseError) → Reads false t (Ok c.fields) → Decodes c o → IfErr o (NamesFault t)
 NamesFault-decoded t c (Ok d) h k = tt
-NamesFault-decoded t c (Err (Utf8Error x)) h (_, k) = (c.fields, (cookie_of-Reads false t c.fields).1 h, k)
+NamesFault-decoded t c (Err (refusal.Utf8Error x)) h (_, k) = (c.fields, (cookie_of-Reads false t c.fields).1 h, k)
 NamesFault-decoded t c (Err e) h k = tt
 
 pub IsCertain-decoded : (t : List ℕ) (c : CookieView) (o : Result CookieView ParseError) → Reads false t (Ok c.fields) → Decodes c o → IsCertain t o
@@ -103,13 +103,13 @@ raw-decoded t c raw (Err x) h e k = tt
 
 -- what is refused as it stands is refused with decoding
 pub ReadsInMemory-refused : (t : List ℕ) (e : ParseError) → Reads false t (Err e) → ReadsInMemory true t (Err e)
-ReadsInMemory-refused t MissingPair h = h
-ReadsInMemory-refused t EmptyName h = h
-ReadsInMemory-refused t (Utf8Error x) (p, ps, pieces, (n, v, pair, some, bad)) = absurd bad
-ReadsInMemory-refused t OutOfMemory h = absurd h.3
+ReadsInMemory-refused t refusal.MissingPair h = h
+ReadsInMemory-refused t refusal.EmptyName h = h
+ReadsInMemory-refused t (refusal.Utf8Error x) (p, ps, pieces, (n, v, pair, some, bad)) = absurd bad
+ReadsInMemory-refused t refusal.OutOfMemory h = absurd h.3
 
 pub NamesFault-refused : (t : List ℕ) (e : ParseError) → Reads false t (Err e) → NamesFault t e
-NamesFault-refused t (Utf8Error x) (p, ps, pieces, (n, v, pair, some, bad)) = absurd bad
+NamesFault-refused t (refusal.Utf8Error x) (p, ps, pieces, (n, v, pair, some, bad)) = absurd bad
 NamesFault-refused t e h = tt
 
 pub IsCertain-refused : {C : Type 0} (t : List ℕ) (e : ParseError) (o : Result C ParseError) → Reads false t (Err e) → IsCertain t o
@@ -118,7 +118,7 @@ IsCertain-refused t e o h r s d = absurd (none-some r (sym (cookie_of-refused fa
 -- what is said of `cookie_of`
 pub AgreesInMemory-reads : (decode : Bool) (t : List ℕ) (o : Result Record ParseError) → ReadsInMemory decode t o → AgreesInMemory decode t o
 AgreesInMemory-reads decode t (Ok r) h = cookie_of-result decode t (Ok r) h
-AgreesInMemory-reads decode t (Err OutOfMemory) h = tt
+AgreesInMemory-reads decode t (Err refusal.OutOfMemory) h = tt
 AgreesInMemory-reads decode t (Err e) h = cookie_of-result decode t (Err e) h
 
 -- ---- what a decoded cookie lends
@@ -149,5 +149,5 @@ ReadsInMemory-own decode t (Ok c) (Ok d) h k = rw k (h, refl)
 -- a reader that wants no memory
 pub ReadsInMemory-reads : (decode : Bool) (t : List ℕ) (o : Result Record ParseError) → Reads decode t o → ReadsInMemory decode t o
 ReadsInMemory-reads decode t (Ok r) h = h
-ReadsInMemory-reads decode t (Err OutOfMemory) h = absurd h.3
+ReadsInMemory-reads decode t (Err refusal.OutOfMemory) h = absurd h.3
 ReadsInMemory-reads decode t (Err e) h = h

@@ -11,17 +11,17 @@ use Rattle.cookie_core.specs.Reads.{fields_of}
 use Rattle.cookie_core.specs.Record.{Record, CookieView, plain}
 use Rattle.cookie_core.specs.Text.{cookie_text}
 use Rattle.cookie_core.specs.declared.parse_error.ParseError.{ParseError}
-use Rattle.cookie_core.specs.declared.parse_error.ParseError.TheVariants.{MissingPair, EmptyName, Utf8Error, OutOfMemory}
+use Rattle.cookie_core.specs.declared.parse_error.ParseError.TheVariants as refusal
 use Rattle.cookie_core.proofs.HeaderLemmas.{header_texts-joined}
 use Rattle.cookie_core.proofs.NormalFormLemmas.{cookie_of-stripped}
 
 -- a text that is the record r gives it, unless memory is wanting
-pub agreed-gives : (t : List ℕ) (r : Record) (o : Result CookieView ParseError) → AgreesInMemory true t (fields_of o) → cookie_of true t ≡ Some r → Gives OutOfMemory o (λ c. c.fields ≡ r)
+pub agreed-gives : (t : List ℕ) (r : Record) (o : Result CookieView ParseError) → AgreesInMemory true t (fields_of o) → cookie_of true t ≡ Some r → Gives refusal.OutOfMemory o (λ c. c.fields ≡ r)
 agreed-gives t r (Ok c) h e = same_Some _ _ (h ∙ e)
-agreed-gives t r (Err OutOfMemory) h e = refl
-agreed-gives t r (Err MissingPair) h e = absurd (none-some _ (h ∙ e))
-agreed-gives t r (Err EmptyName) h e = absurd (none-some _ (h ∙ e))
-agreed-gives t r (Err (Utf8Error x)) h e = absurd (none-some _ (h ∙ e))
+agreed-gives t r (Err refusal.OutOfMemory) h e = refl
+agreed-gives t r (Err refusal.MissingPair) h e = absurd (none-some _ (h ∙ e))
+agreed-gives t r (Err refusal.EmptyName) h e = absurd (none-some _ (h ∙ e))
+agreed-gives t r (Err (refusal.Utf8Error x)) h e = absurd (none-some _ (h ∙ e))
 
 -- stripped texts are read as their names and values
 pub stripped_texts-read : (rs : List Record) → All IsNamed rs → map (cookie_of true) (map (cookie_text true true) rs) ≡ map (λ r. Some (plain r.name r.value)) rs

@@ -10,7 +10,7 @@ use Rattle.cookie_core.specs.SameSite.{same_site_text}
 use Rattle.cookie_core.specs.Text.{is_true, prints_secure, seconds_text, expiry_text, scope_text, place_text, lifetime_text, attributes_text, cookie_text}
 use Rattle.cookie_core.specs.Walk.{before_rest}
 use Rattle.cookie_core.specs.declared.attributes.Key.TheVariants as key
-use Rattle.cookie_core.specs.declared.parse_error.ParseError.TheVariants.{EmptyName}
+use Rattle.cookie_core.specs.declared.parse_error.ParseError.TheVariants as refusal
 use Rattle.cookie_core.proofs.CookieOfLemmas.{cookie_of-Reads, cookie_of-refused, last_set-IsLastSet, SetsAttributes-record_in}
 use Rattle.cookie_core.proofs.ExpiryTextLemmas.{read_expiry-is}
 use Rattle.cookie_core.proofs.NormalFormLemmas.{escaped_pair, escaped_pair-apart, escaped_pair-pair, cookie_text-pair, Reads-printed, uncut_form}
@@ -68,7 +68,7 @@ unfolding escape
 nameless_outcome r none =
     let h = any_pieces r in
     let pair : IsPair (escaped_pair r) [] (escape r.value) = subst (λ n. IsPair (escaped_pair r) n (escape r.value)) (ap escape none) (escaped_pair-pair r) in
-    cookie_of-refused true (cookie_text true false r) EmptyName
+    cookie_of-refused true (cookie_text true false r) refusal.EmptyName
     (Reads-empty_name (cookie_text true false r) (escaped_pair r) (escape r.value) (before_rest h.pieces None)
     (sym (cookie_text-pair r) ∙ ap (λ t. escaped_pair r ++ t) h.text) (escaped_pair-apart r) pair true)
 

@@ -15,7 +15,7 @@ use Rattle.jiff.specs.Words.{signed_nanos}
 use Rattle.jiff.specs.declared.SignedDuration.{SignedDuration}
 use Rattle.cookie_core.specs.Walk.{behind, before_rest, HasRead}
 use Rattle.cookie_core.specs.declared.part.Part.{Part}
-use Rattle.cookie_core.specs.declared.parse_error.ParseError.TheVariants.{MissingPair, EmptyName}
+use Rattle.cookie_core.specs.declared.parse_error.ParseError.TheVariants as refusal
 use mathlib.Core.Logic.{◌≢◌}
 use Rattle.cookie_core.specs.Pieces.{Lacks, joined_pieces, IsPieces}
 use Rattle.cookie_core.specs.Reads.{Reads}
@@ -212,11 +212,11 @@ pub first_piece : (t p : List ℕ) (o : Option (List ℕ)) → t ≡ p ++ behind
 first_piece t p o e l ps f a =
     record { joined = e ∙ ap (λ u. p ++ behind u) f ∙ sym (joined-before_rest p ps); first = l; later = a }
 
-pub Reads-no_pair : (t p : List ℕ) (o : Option (List ℕ)) → t ≡ p ++ behind o → Lacks 59 p → Lacks 61 p → (decode : Bool) → Reads decode t (Err MissingPair)
+pub Reads-no_pair : (t p : List ℕ) (o : Option (List ℕ)) → t ≡ p ++ behind o → Lacks 59 p → Lacks 61 p → (decode : Bool) → Reads decode t (Err refusal.MissingPair)
 Reads-no_pair t p o e l h decode =
     let q = rest_pieces o in (p, q.0, first_piece t p o e l q.0 q.1 q.2, h)
 
-pub Reads-empty_name : (t p v : List ℕ) (o : Option (List ℕ)) → t ≡ p ++ behind o → Lacks 59 p → IsPair p [] v → (decode : Bool) → Reads decode t (Err EmptyName)
+pub Reads-empty_name : (t p v : List ℕ) (o : Option (List ℕ)) → t ≡ p ++ behind o → Lacks 59 p → IsPair p [] v → (decode : Bool) → Reads decode t (Err refusal.EmptyName)
 Reads-empty_name t p v o e l h decode =
     let q = rest_pieces o in (p, q.0, first_piece t p o e l q.0 q.1 q.2, (v, h))
 

@@ -11,7 +11,7 @@ use Rattle.cookie_core.specs.Pieces.{IsPieces}
 use Rattle.cookie_core.specs.Reads.{Reads}
 use Rattle.cookie_core.specs.Record.{Record, RawForms, all_lent}
 use Rattle.cookie_core.specs.declared.parse_error.ParseError.{ParseError}
-use Rattle.cookie_core.specs.declared.parse_error.ParseError.TheVariants.{Utf8Error, OutOfMemory}
+use Rattle.cookie_core.specs.declared.parse_error.ParseError.TheVariants as refusal
 
 -- the first piece of the text has a value, and a name that is not empty
 abbrev pub HasPair : List ℕ → Type 0
@@ -22,12 +22,12 @@ HasPair t =
 -- what the text is read as, as it stands or decoded; memory can be wanting in the place of a record or of a refusal to
 -- decode
 abbrev pub ReadsInMemory : Bool → List ℕ → Result Record ParseError → Type 0
-ReadsInMemory decode t (Err OutOfMemory) = HasPair t
+ReadsInMemory decode t (Err refusal.OutOfMemory) = HasPair t
 ReadsInMemory decode t o = Reads decode t o
 
 -- the answer is the one of `cookie_of`, unless memory was wanting
 abbrev pub AgreesInMemory : Bool → List ℕ → Result Record ParseError → Type 0
-AgreesInMemory decode t (Err OutOfMemory) = Unit {0}
+AgreesInMemory decode t (Err refusal.OutOfMemory) = Unit {0}
 AgreesInMemory decode t o = result_ok o ≡ cookie_of decode t
 
 -- the bytes are not UTF-8, and their first fault stands at this place and has this length, if they don't end within it
@@ -42,7 +42,7 @@ blamed_text n v = if is_utf8 (unescape n) then unescape v else unescape n
 
 -- a refusal to decode names the first fault of the name or of the value, as they stand in the text
 abbrev pub NamesFault : List ℕ → ParseError → Type 0
-NamesFault t (Utf8Error e) =
+NamesFault t (refusal.Utf8Error e) =
     (r : Record) × (cookie_of false t ≡ Some r)
     × IsFaultOf (blamed_text r.name r.value) (valid_up_to e) (error_len e)
 NamesFault t _ = Unit {0}

@@ -5,18 +5,18 @@ use Rattle.cookie_core.specs.Decoding.{are_decoded, decoded_forms, IsFaultOf, bl
 use Rattle.cookie_core.specs.Escapes.{unescape}
 use Rattle.cookie_core.specs.Record.{Record, CookieView}
 use Rattle.cookie_core.specs.declared.parse_error.ParseError.{ParseError}
-use Rattle.cookie_core.specs.declared.parse_error.ParseError.TheVariants.{Utf8Error, OutOfMemory}
+use Rattle.cookie_core.specs.declared.parse_error.ParseError.TheVariants as refusal
 
 -- the refusal is one that decoding the text t can have
 abbrev pub IsRefusedFor : List ℕ → ParseError → Type 0
-IsRefusedFor t (Utf8Error e) = IsFaultOf (unescape t) (valid_up_to e) (error_len e)
-IsRefusedFor t OutOfMemory = Unit {0}
+IsRefusedFor t (refusal.Utf8Error e) = IsFaultOf (unescape t) (valid_up_to e) (error_len e)
+IsRefusedFor t refusal.OutOfMemory = Unit {0}
 IsRefusedFor t _ = ⊥
 
 -- or decoding the name n and the value v
 abbrev pub IsRefusedForPair : List ℕ → List ℕ → ParseError → Type 0
-IsRefusedForPair n v (Utf8Error e) = IsFaultOf (blamed_text n v) (valid_up_to e) (error_len e)
-IsRefusedForPair n v OutOfMemory = Unit {0}
+IsRefusedForPair n v (refusal.Utf8Error e) = IsFaultOf (blamed_text n v) (valid_up_to e) (error_len e)
+IsRefusedForPair n v refusal.OutOfMemory = Unit {0}
 IsRefusedForPair n v _ = ⊥
 
 -- the record with the name and the value that its own stand for

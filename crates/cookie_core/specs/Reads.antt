@@ -6,7 +6,7 @@ use Rattle.cookie_core.specs.Escapes.{unescape}
 use Rattle.cookie_core.specs.Pieces.{Lacks, IsPieces}
 use Rattle.cookie_core.specs.Record.{Record, CookieView}
 use Rattle.cookie_core.specs.declared.parse_error.ParseError.{ParseError}
-use Rattle.cookie_core.specs.declared.parse_error.ParseError.TheVariants.{MissingPair, EmptyName, Utf8Error, OutOfMemory}
+use Rattle.cookie_core.specs.declared.parse_error.ParseError.TheVariants as refusal
 
 -- the text t is read as u: as it stands, or as the text of its bytes without escapes
 abbrev pub IsDecoded : Bool → List ℕ → List ℕ → Type 0
@@ -20,11 +20,11 @@ IsUndecodable true n v = (¬ (IsUtf8 (unescape n))) ⊎ (¬ (IsUtf8 (unescape v)
 
 -- what the first piece p and the later pieces ps are read as
 abbrev pub ReadsPieces : Bool → List ℕ → List (List ℕ) → Result Record ParseError → Type 0
-ReadsPieces decode p ps (Err MissingPair) = Lacks 61 p
-ReadsPieces decode p ps (Err EmptyName) = (v : List ℕ) × IsPair p [] v
-ReadsPieces decode p ps (Err (Utf8Error e)) =
+ReadsPieces decode p ps (Err refusal.MissingPair) = Lacks 61 p
+ReadsPieces decode p ps (Err refusal.EmptyName) = (v : List ℕ) × IsPair p [] v
+ReadsPieces decode p ps (Err (refusal.Utf8Error e)) =
     (n : List ℕ) × (v : List ℕ) × IsPair p n v × (n ≢ []) × IsUndecodable decode n v
-ReadsPieces decode p ps (Err OutOfMemory) = ⊥
+ReadsPieces decode p ps (Err refusal.OutOfMemory) = ⊥
 ReadsPieces decode p ps (Ok r) =
     (n : List ℕ) × (v : List ℕ) × IsPair p n v × (n ≢ []) × IsDecoded decode n r.name
     × IsDecoded decode v r.value × SetsAttributes ps r

@@ -1,6 +1,7 @@
 //! Why a text is no cookie.
 ghost use Rattle.std.specs.Prelude.{◌≡◌};
 ghost use Rattle.cookie_core.specs.ParseError.{error_text};
+ghost use Rattle.cookie_core.specs.declared.parse_error.ParseError.TheVariants as refusal;
 
 use std::alloc::{AllocError, AllocFailed};
 use std::error::Error;
@@ -50,9 +51,6 @@ impl fmt::Display for ParseError {
 impl Error for ParseError {}
 
 impl From<Utf8Error> for ParseError {
-    ghost use Rattle.std.specs.Prelude.{◌≡◌};
-    ghost use Rattle.cookie_core.specs.declared.parse_error.ParseError.TheVariants as refusal;
-
     ghost from_gives = { λ error e. e ≡ refusal.Utf8Error error };
 
     fn from(error: Utf8Error) -> ParseError {
@@ -61,9 +59,7 @@ impl From<Utf8Error> for ParseError {
 }
 
 impl From<AllocError> for ParseError {
-    ghost use Rattle.cookie_core.specs.declared.parse_error.ParseError.TheVariants.{OutOfMemory};
-
-    ghost from_gives = { λ _ error. error ≡ OutOfMemory };
+    ghost from_gives = { λ _ error. error ≡ refusal.OutOfMemory };
 
     fn from(_error: AllocError) -> ParseError {
         ParseError::OutOfMemory
@@ -71,9 +67,7 @@ impl From<AllocError> for ParseError {
 }
 
 impl<T: Drop> From<AllocFailed<T>> for ParseError {
-    ghost use Rattle.cookie_core.specs.declared.parse_error.ParseError.TheVariants.{OutOfMemory};
-
-    ghost from_gives = { λ _ error. error ≡ OutOfMemory };
+    ghost from_gives = { λ _ error. error ≡ refusal.OutOfMemory };
 
     fn from(_error: AllocFailed<T>) -> ParseError {
         ParseError::OutOfMemory
