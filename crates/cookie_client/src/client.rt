@@ -7,7 +7,7 @@ ghost use Rattle.cookie.specs.Header.{header_texts};
 ghost use Rattle.cookie.specs.Memory.{Gives};
 ghost use Rattle.cookie.specs.Record.{IsCookie, plain};
 ghost use Rattle.cookie_client.specs.Client.{after_cookie, after_text, header_text, pair_text};
-ghost use Rattle.cookie_client.specs.declared.client_error.ClientError.TheVariants.{OutOfMemory};
+ghost use Rattle.cookie_client.specs.declared.client_error.ClientError.TheVariants as refusal;
 
 use crate::client_error::ClientError;
 use crate::live::is_live;
@@ -69,7 +69,7 @@ impl Client {
     /// Holds this value for the name from now on. Fails with `ClientError::OutOfMemory` alone, and then the client is
     /// as before.
     pub fn hold(&mut self, name: &str, value: &str) -> Result<(), ClientError>
-        ensures gives { Gives OutOfMemory result (λ _.
+        ensures gives { Gives refusal.OutOfMemory result (λ _.
             self.new ≡ insert self.old name.now value.now) }
         ensures err { OnErr result (self.new ≡ self.old) }
     {
@@ -79,7 +79,7 @@ impl Client {
 
     /// A client that holds the same values. Fails with `ClientError::OutOfMemory` alone.
     pub fn clone(&self) -> Result<Client, ClientError>
-        ensures { Gives OutOfMemory result (λ made. made ≡ self.now) }
+        ensures { Gives refusal.OutOfMemory result (λ made. made ≡ self.now) }
     {
         Ok(Client {
             alloc: self.alloc,
@@ -89,7 +89,7 @@ impl Client {
 
     // Takes a cookie that was read: one that is live sets its name to its value, and another drops its name.
     fn take(&mut self, cookie: &Cookie<'_>, now: DateTime) -> Result<(), ClientError>
-        ensures gives { Gives OutOfMemory result (λ _.
+        ensures gives { Gives refusal.OutOfMemory result (λ _.
             self.new ≡ after_cookie now (Some cookie.now.fields) self.old) }
         ensures err { OnErr result (self.new ≡ self.old) }
     {
@@ -105,7 +105,7 @@ impl Client {
     /// One that is live ([`is_live`]) sets its name to its value, one that isn't drops its name, and a text that is no
     /// cookie changes nothing. Fails with `ClientError::OutOfMemory` alone, and then the client is as before.
     pub fn read(&mut self, text: &str, now: DateTime) -> Result<bool, ClientError>
-        ensures gives { Gives OutOfMemory result (λ is_cookie.
+        ensures gives { Gives refusal.OutOfMemory result (λ is_cookie.
             (self.new ≡ after_text now text.now self.old)
             × (is_cookie ≡ is_some (cookie_of true text.now))) }
         ensures err { OnErr result (self.new ≡ self.old) }
@@ -127,7 +127,7 @@ impl Client {
     /// Where it holds nothing under the empty name, the header's cookies, decoded, are those names and values, and none
     /// is refused. Fails with `ClientError::OutOfMemory` alone.
     pub fn header(&self) -> Result<String, ClientError>
-        ensures text { Gives OutOfMemory result (λ header.
+        ensures text { Gives refusal.OutOfMemory result (λ header.
             string_bytes header ≡ header_text self.now) }
         ensures reads_back { get self.now [] ≡ None → IfOk result (λ header.
             map (cookie_of true) (header_texts (string_bytes header))

@@ -1,5 +1,7 @@
 //! Why a client's call fails.
 ghost use Rattle.std.specs.Prelude.{◌≡◌};
+ghost use Rattle.cookie.specs.declared.error.Error.TheVariants as failure;
+ghost use Rattle.cookie_client.specs.declared.client_error.ClientError.TheVariants as refusal;
 
 use std::alloc::{AllocError, AllocFailed};
 use std::error::Error;
@@ -25,9 +27,7 @@ impl fmt::Display for ClientError {
 impl Error for ClientError {}
 
 impl From<AllocError> for ClientError {
-    ghost use Rattle.cookie_client.specs.declared.client_error.ClientError.TheVariants.{OutOfMemory};
-
-    ghost from_gives = { λ _ e. e ≡ OutOfMemory };
+    ghost from_gives = { λ _ e. e ≡ refusal.OutOfMemory };
 
     fn from(_error: AllocError) -> ClientError {
         ClientError::OutOfMemory
@@ -35,9 +35,7 @@ impl From<AllocError> for ClientError {
 }
 
 impl<T: Drop> From<AllocFailed<T>> for ClientError {
-    ghost use Rattle.cookie_client.specs.declared.client_error.ClientError.TheVariants.{OutOfMemory};
-
-    ghost from_gives = { λ _ e. e ≡ OutOfMemory };
+    ghost from_gives = { λ _ e. e ≡ refusal.OutOfMemory };
 
     fn from(_error: AllocFailed<T>) -> ClientError {
         ClientError::OutOfMemory
@@ -45,9 +43,7 @@ impl<T: Drop> From<AllocFailed<T>> for ClientError {
 }
 
 impl From<ClientError> for cookie::Error {
-    ghost use Rattle.cookie.specs.declared.error.Error.TheVariants.{OutOfMemory};
-
-    ghost from_gives = { λ _ e. e ≡ OutOfMemory };
+    ghost from_gives = { λ _ e. e ≡ failure.OutOfMemory };
 
     fn from(_error: ClientError) -> cookie::Error {
         cookie::Error::OutOfMemory

@@ -7,7 +7,7 @@ ghost use Rattle.cookie_client.specs.Agreement.{value_of};
 ghost use Rattle.cookie_client.specs.Exchange.{IsExchange};
 ghost use Rattle.cookie_client.specs.Originals.{client_for, jar_for};
 ghost use Rattle.cookie_client.specs.Rounds.{AreRounds};
-ghost use Rattle.cookie_client.specs.declared.client_error.ClientError.TheVariants.{OutOfMemory};
+ghost use Rattle.cookie_client.specs.declared.client_error.ClientError.TheVariants as refusal;
 
 use crate::call::JarCall;
 use crate::client::Client;
@@ -73,7 +73,7 @@ pub(crate) fn visit(
 
 // A client that holds the values of the cookies that the jar shows.
 fn client_of(alloc: Global, jar: &CookieJar) -> Result<Client, ClientError>
-    ensures { Gives OutOfMemory result (λ client.
+    ensures { Gives refusal.OutOfMemory result (λ client.
         (name : Name) → get client name ≡ value_of (view jar.now name)) }
 {
     let mut client = Client::new(alloc);
