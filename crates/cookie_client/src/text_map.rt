@@ -16,16 +16,17 @@ pub(crate) struct TextMap {
 }
 
 impl Model for TextMap {
-    ghost use Rattle.std.specs.Prelude.{List, ℕ};
+    ghost use Rattle.std.specs.Prelude.{List, ℕ, string_bytes};
     ghost use Rattle.std.specs.FinMap.{FinMap};
     ghost use Rattle.cookie.specs.Jar.{name_cmp};
-    ghost use Rattle.cookie_client.specs.TextMap.{texts_code, by_name};
+    ghost use Rattle.cookie.specs.Table.{by_name};
+    ghost use Rattle.cookie_client.specs.TextMap.{texts_code};
 
     ghost Value = { FinMap name_cmp (List ℕ) };
 
     ghost coded = { texts_code };
 
-    ghost view = { λ a. by_name a.texts.entries };
+    ghost view = { λ a. by_name string_bytes a.texts.entries };
 }
 
 #[tactic(auto, using(crate::proofs::TextMapLemmas::by_name_calls))]
@@ -94,11 +95,11 @@ pub struct Pairs<'a> {
 
 impl<'a> Model for Pairs<'a> {
     ghost use Rattle.std.specs.Prelude.{List, ℕ};
-    ghost use Rattle.cookie_client.specs.TextMap.{bytes_of};
+    ghost use Rattle.cookie_client.specs.TextMap.{text_pairs};
 
     ghost Value = { List (List ℕ × List ℕ) };
 
-    ghost view = { λ a. bytes_of a.rest };
+    ghost view = { λ a. text_pairs a.rest };
 }
 
 impl<'a> Iterator for Pairs<'a> {
