@@ -11,7 +11,7 @@ use Rattle.cookie.specs.Record.{Record}
 use Rattle.cookie.proofs.NameLemmas.{get_inserted}
 use Rattle.cookie_client.specs.Client.{Values}
 use Rattle.cookie_client.specs.Originals.{holding, with_originals}
-use Rattle.cookie_client.specs.Steps.{HoldsAdded}
+use Rattle.cookie_client.specs.ExchangeCode.{HoldsAdded}
 
 module _ (reading : List ℕ → Option Record) where
   -- one text's cookie first, and then the others'

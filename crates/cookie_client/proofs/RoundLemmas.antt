@@ -22,7 +22,7 @@ use Rattle.cookie_client.specs.Client.{Values, header_text}
 use Rattle.cookie_client.specs.Exchange.{IsExchange, accepted_calls, changes_by}
 use Rattle.cookie_client.specs.Originals.{client_for, holding, jar_for, with_originals}
 use Rattle.cookie_client.specs.Rounds.{IsFitChange, IsRound, AreRounds}
-use Rattle.cookie_client.specs.Steps.{IsHeaderOf}
+use Rattle.cookie_client.specs.ExchangeCode.{IsHeaderOf}
 use Rattle.cookie_client.specs.declared.call.JarCall.{JarCall}
 use Rattle.cookie_client.specs.declared.exchange.Played.{Played}
 use Rattle.cookie_client.specs.declared.request.Request.{Request}

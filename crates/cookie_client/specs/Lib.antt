@@ -2,6 +2,7 @@ pub mod Agreement
 pub mod Calls
 pub mod Client
 pub mod Exchange
+pub mod ExchangeCode
 pub mod Lines
 pub mod Live
 pub mod Originals
@@ -9,5 +10,4 @@ pub mod Rounds
 pub mod Run
 pub mod RunError
 pub mod Session
-pub mod Steps
 pub mod TextMap

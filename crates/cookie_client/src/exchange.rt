@@ -8,7 +8,7 @@ ghost use Rattle.cookie_client.specs.Calls.{IsFitCall};
 ghost use Rattle.cookie_client.specs.Client.{after_texts};
 ghost use Rattle.cookie_client.specs.Exchange.{IsExchange, accepted_calls, changes_by};
 ghost use Rattle.cookie_client.specs.Originals.{holds_originals};
-ghost use Rattle.cookie_client.specs.Steps.{after_originals};
+ghost use Rattle.cookie_client.specs.ExchangeCode.{after_originals};
 
 use crate::call::{JarCall, known_calls};
 use crate::client::Client;

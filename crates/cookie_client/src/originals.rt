@@ -7,7 +7,7 @@ ghost use Rattle.cookie.specs.History.{after_all, originals_of};
 ghost use Rattle.cookie.specs.Record.{Record};
 ghost use Rattle.cookie_client.specs.Calls.{IsOutcome, Handling, asked_of_child, change_of, changes_of, prefixed_by, stored_by};
 ghost use Rattle.cookie_client.specs.Originals.{holding};
-ghost use Rattle.cookie_client.specs.Steps.{HoldsAdded, after_originals};
+ghost use Rattle.cookie_client.specs.ExchangeCode.{HoldsAdded, after_originals};
 
 use crate::call::JarCall;
 use crate::child_call::ChildCall;

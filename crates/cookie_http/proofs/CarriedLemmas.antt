@@ -18,7 +18,7 @@ use Rattle.cookie_client.specs.Calls.{IsFitCall}
 use Rattle.cookie_client.specs.Client.{Values, header_text}
 use Rattle.cookie_client.specs.Exchange.{IsExchange, accepted_calls, changes_by}
 use Rattle.cookie_client.specs.Originals.{holds_originals, jar_for}
-use Rattle.cookie_client.specs.Steps.{IsHeaderOf}
+use Rattle.cookie_client.specs.ExchangeCode.{IsHeaderOf}
 use Rattle.cookie_client.specs.declared.call.JarCall.{JarCall}
 use Rattle.cookie_client.proofs.DeltaTextLemmas.{AreDeltaTexts-walk}
 use Rattle.cookie_client.proofs.RoundLemmas.{fresh, held_again, holds_header, told}

@@ -2,7 +2,7 @@ use Rattle.std.proofs.Common.{List, ap, ◌∙◌}
 use Rattle.cookie.specs.Jar.{Change}
 use Rattle.cookie_client.specs.Calls.{changes_of}
 use Rattle.cookie_client.specs.Client.{after_texts}
-use Rattle.cookie_client.specs.Steps.{after_originals}
+use Rattle.cookie_client.specs.ExchangeCode.{after_originals}
 use Rattle.cookie_client.proofs.AgreementLemmas.{agreement}
 use Rattle.cookie_client.proofs.ChangeLemmas.{fit_changes, known_changes}
 use Rattle.cookie_client.proofs.exchange.exchange.Goals as goal

@@ -3,7 +3,7 @@ use Rattle.std.proofs.lemmas.List.{drop_more}
 use Rattle.std.specs.FinMap.{empty, get, get-empty}
 use Rattle.cookie.specs.Jar.{name_cmp}
 use Rattle.cookie_client.specs.Rounds.{AreRounds, IsRound}
-use Rattle.cookie_client.specs.Steps.{IsHeaderOf}
+use Rattle.cookie_client.specs.ExchangeCode.{IsHeaderOf}
 use Rattle.cookie_client.proofs.RoundLemmas.{round_of, rounds-length, told}
 use Rattle.cookie_client.proofs.requests.rounds.Goals as goal
 

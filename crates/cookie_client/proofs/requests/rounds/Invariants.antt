@@ -2,7 +2,7 @@ use Rattle.std.proofs.Common.{◌++◌, List, drop, string_bytes}
 use Rattle.std.specs.FinMap.{empty}
 use Rattle.cookie_client.specs.Client.{Values}
 use Rattle.cookie_client.specs.Rounds.{AreRounds}
-use Rattle.cookie_client.specs.Steps.{IsHeaderOf}
+use Rattle.cookie_client.specs.ExchangeCode.{IsHeaderOf}
 use Rattle.cookie_client.specs.declared.exchange.Played.{Played}
 use Rattle.cookie_client.proofs.requests.rounds.Given as goal
 
