@@ -165,7 +165,12 @@ fn output(alloc: Global, client: &Client, jar: &CookieJar) -> Result<String, Run
 }
 
 // The text of a session at a moment. A call that is refused ends it.
-fn played(alloc: Global, jar: CookieJar, now: DateTime, text: &str) -> Result<String, RunError>
+fn session_text(
+    alloc: Global,
+    jar: CookieJar,
+    now: DateTime,
+    text: &str,
+) -> Result<String, RunError>
     requires { jar ≡ empty_jar }
     ensures played { MatchResult result
         (λ answer. session_of_lines now (lines_of text.now) ≡ Ok (string_bytes answer))
@@ -208,7 +213,7 @@ fn answer(alloc: Global, jar: CookieJar, now: DateTime, bytes: &[u8]) -> Result<
         IsOfAgreement now (lines_of bytes.now) (string_bytes text)) }
 {
     match str::from_utf8(bytes) {
-        Ok(text) => played(alloc, jar, now, text),
+        Ok(text) => session_text(alloc, jar, now, text),
         Err(_) => Err(RunError::BadInput),
     }
 }

@@ -17,7 +17,7 @@ pub fn delta_texts(
     ensures { IfOk result (λ texts. AreDeltaTexts jar.now.delta (map string_bytes texts.items)) }
 {
     let texts = walked_texts(alloc, jar)?;
-    reordered(alloc, texts, pick)
+    reorder(alloc, texts, pick)
 }
 
 // The texts in the order of the walk.
@@ -44,11 +44,7 @@ fn place_of(pick: &[usize], turn: usize, left: usize) -> usize
 }
 
 // The texts in the order that `pick` asks for.
-fn reordered(
-    alloc: Global,
-    mut texts: Vec<String>,
-    pick: &[usize],
-) -> Result<Vec<String>, AllocError>
+fn reorder(alloc: Global, mut texts: Vec<String>, pick: &[usize]) -> Result<Vec<String>, AllocError>
     ensures { IfOk result (λ ordered. IsPermutation texts.items ordered.items) }
 {
     let mut ordered = Vec::with_capacity(alloc, texts.len())?;

@@ -10,11 +10,11 @@ pub returns-in-Ok-clause-played : goal.returns-in-Ok-clause-played
 returns-in-Ok-clause-played c =
     let is : session_of_bytes c.args.now c.args.bytes.now ≡ session_of_lines c.args.now (lines_of c.in-Ok.text.now) =
     session_of_bytes-text c.args.now c.args.bytes.now c.in-Ok.ensures.cases.1 ∙ ap (λ t. session_of_lines c.args.now (lines_of t)) (sym c.in-Ok.ensures.cases.0) in
-    subst (λ s. MatchResult c.played.result (λ text. s ≡ Ok (string_bytes text)) (Refuses s)) (sym is) c.played.ensures.played
+    subst (λ s. MatchResult c.session_text.result (λ text. s ≡ Ok (string_bytes text)) (Refuses s)) (sym is) c.session_text.ensures.played
 
 pub returns-in-Ok-clause-agreement : goal.returns-in-Ok-clause-agreement
 returns-in-Ok-clause-agreement c =
-    subst (λ bytes. IfOk c.played.result (λ text. IsOfAgreement c.args.now (lines_of bytes) (string_bytes text))) c.in-Ok.ensures.cases.0 c.played.ensures.agreement
+    subst (λ bytes. IfOk c.session_text.result (λ text. IsOfAgreement c.args.now (lines_of bytes) (string_bytes text))) c.in-Ok.ensures.cases.0 c.session_text.ensures.agreement
 
 pub returns-in-Err-clause-played : goal.returns-in-Err-clause-played
 returns-in-Err-clause-played c = session_of_bytes-bad c.args.now c.args.bytes.now c.in-Err.ensures.cases.0

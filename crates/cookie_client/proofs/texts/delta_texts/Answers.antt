@@ -6,5 +6,5 @@ use Rattle.cookie_client.proofs.texts.delta_texts.Goals as goal
 
 pub returns : goal.returns
 returns c =
-    IfOk-weaker c.reordered.result _ _ (λ ordered moved.
-    AreDeltaTexts-moved c.args.jar.now.delta _ _ (IsPermutation-map string_bytes _ _ moved) c.in_ok-texts.ensures) c.reordered.ensures
+    IfOk-weaker c.reorder.result _ _ (λ ordered moved.
+    AreDeltaTexts-moved c.args.jar.now.delta _ _ (IsPermutation-map string_bytes _ _ moved) c.in_ok-texts.ensures) c.reorder.ensures

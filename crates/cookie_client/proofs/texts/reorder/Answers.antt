@@ -1,7 +1,7 @@
 use Rattle.std.proofs.Common.{sym, subst, IsPermutation, List, ◌++◌, ◌∷◌, [], arith, ◌<◌, ◌≤◌, ◌-◌, length}
 use mathlib.Core.List.{append-nil}
 use Rattle.std.proofs.lemmas.List.Sorted.{IsPermutation-more, IsPermutation-trans}
-use Rattle.cookie_client.proofs.texts.reordered.Goals as goal
+use Rattle.cookie_client.proofs.texts.reorder.Goals as goal
 
 pub loop-texts-preserved : goal.loop-texts-preserved
 loop-texts-preserved c =

@@ -1,5 +1,5 @@
 use Rattle.std.proofs.Common.{◌++◌, IsPermutation, length}
-use Rattle.cookie_client.proofs.texts.reordered.Given as goal
+use Rattle.cookie_client.proofs.texts.reorder.Given as goal
 
 -- the texts so far, and those that are left, are the texts
 abbrev pub invariant-loop-texts : goal.invariant-loop-texts

@@ -10,7 +10,7 @@ use Rattle.cookie_client.specs.Session.{cookie_line, delta_texts, session_of_lin
 use Rattle.cookie_client.specs.declared.call.JarCall.{JarCall}
 use Rattle.cookie_client.proofs.RunLemmas.{matched, session_of_lines-refused, written_by}
 use Rattle.cookie_client.proofs.SessionLemmas.{lines_of-length}
-use Rattle.cookie_client.proofs.session.played.Goals as goal
+use Rattle.cookie_client.proofs.session.session_text.Goals as goal
 
 pub calls_of-requires : goal.calls_of-requires
 calls_of-requires c =
