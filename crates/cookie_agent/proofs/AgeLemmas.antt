@@ -13,7 +13,7 @@ use Rattle.cookie.specs.Types as expiration
 use Rattle.cookie.proofs.ExpiryTextLemmas.{never_earlier}
 use Rattle.cookie.proofs.NormalLemmas.{whole_age-above}
 use Rattle.cookie_client.specs.Live as live
-use Rattle.cookie_agent.specs.Store.{is_later, expiry_nanos, expiry_by}
+use Rattle.cookie_agent.specs.Store.{is_unexpired, expiry_nanos, expiry_by}
 
 lt_le : (n a b : ℤ) → int_lt n a ≡ true → a ≤ℤ b → int_lt n b ≡ true
 lt_le n a b lt le = grind (arith, signed_arith)
@@ -35,7 +35,7 @@ whole_or_more m back is =
     = whole ∙ ap (λ n. civil_seconds back *ℤ pos 1_000_000_000 +ℤ pos n) (sym is.6) ∙ sym (civil_nanos-civil_seconds back) in
     subst (λ n. civil_nanos (whole_second m) ≤ℤ n) same (never_earlier m back is)
 
-later_kept : (e back : Option Expiration) (now : DateTime) → IsExpiryReadBack e back → live.is_later e now ≡ true → is_later (expiry_nanos back) now ≡ true
+later_kept : (e back : Option Expiration) (now : DateTime) → IsExpiryReadBack e back → live.is_later e now ≡ true → is_unexpired (expiry_nanos back) now ≡ true
 later_kept None None now is later = refl
 later_kept None (Some x) now is later = absurd is
 later_kept (Some expiration.Session) None now is later = refl
@@ -46,10 +46,10 @@ later_kept (Some (expiration.AtDateTime m)) (Some (expiration.AtDateTime back)) 
     lt_le (civil_nanos now) (civil_nanos (whole_second m)) (civil_nanos back) later (whole_or_more m back is)
 
 pub unexpired_kept : (age back : Option ℤ) (e x : Option Expiration) (now : DateTime) → back ≡ option_map whole_age age → IsExpiryReadBack e x
-    → live.is_live_by age e now ≡ true → is_later (expiry_by now back x) now ≡ true
-unexpired_kept None back e x now is readback live = ap (λ o. is_later (expiry_by now o x) now) is ∙ later_kept e x now readback live
+    → live.is_live_by age e now ≡ true → is_unexpired (expiry_by now back x) now ≡ true
+unexpired_kept None back e x now is readback live = ap (λ o. is_unexpired (expiry_by now o x) now) is ∙ later_kept e x now readback live
 unexpired_kept (Some age) back e x now is readback live =
-    ap (λ o. is_later (expiry_by now o x) now) is ∙ further (civil_nanos now) (whole_age age) (above (whole_age age) (whole_age-above age ∙ live))
+    ap (λ o. is_unexpired (expiry_by now o x) now) is ∙ further (civil_nanos now) (whole_age age) (above (whole_age age) (whole_age-above age ∙ live))
 
-pub expired_kept : (back : Option ℤ) (x : Option Expiration) (now : DateTime) → back ≡ Some (pos 0) → is_later (expiry_by now back x) now ≡ false
-expired_kept back x now is = ap (λ o. is_later (expiry_by now o x) now) is ∙ not_further (civil_nanos now)
+pub expired_kept : (back : Option ℤ) (x : Option Expiration) (now : DateTime) → back ≡ Some (pos 0) → is_unexpired (expiry_by now back x) now ≡ false
+expired_kept back x now is = ap (λ o. is_unexpired (expiry_by now o x) now) is ∙ not_further (civil_nanos now)

@@ -22,7 +22,7 @@ use Rattle.cookie_agent.specs.Agreement.{IsOurs, seen, Mirrors, IsScopedEntry, I
 use Rattle.cookie_agent.specs.Site.{SiteView}
 use Rattle.cookie_agent.specs.Scopes.{ScopeView, scope_of, scope_by}
 use Rattle.cookie_agent.specs.Sent.{is_visible}
-use Rattle.cookie_agent.specs.Store.{SameKey, IsKey, Stored, Store, stored_in, is_later, unexpired, put, after_stored, after_cookie, after_text, after_texts}
+use Rattle.cookie_agent.specs.Store.{SameKey, IsKey, Stored, Store, stored_in, is_unexpired, unexpired, put, after_stored, after_cookie, after_text, after_texts}
 use Rattle.cookie_agent.proofs.AgeLemmas.{unexpired_kept, expired_kept}
 use Rattle.cookie_agent.proofs.PutLemmas.{All-put}
 use Rattle.cookie_agent.proofs.PlainTextLemmas.{raw_record, plain_form, uncut, path_same, domain_same}
@@ -79,14 +79,14 @@ module _ (same : SameKey) (key : IsKey same) (site : SiteView) (now : DateTime) 
         ∙ ap (λ s. after_stored same now s (raw_record entry.cookie) store) scope_read
 
     -- it reaches the site, and is not expired where it is an addition
-    visible_if : is_visible site now x ≡ is_later x.expiry now
+    visible_if : is_visible site now x ≡ is_unexpired x.expiry now
     visible_if =
-        ap (λ b. is_later x.expiry now && (b && (site.is_secure || not x.is_secure_only))) is.scoped.reaches
-        ∙ ap (λ b. is_later x.expiry now && (site.is_secure || not b)) (true_shown (prints_secure entry.cookie))
-        ∙ ap (λ b. is_later x.expiry now && b) is.scoped.secure
-        ∙ and_true (is_later x.expiry now)
+        ap (λ b. is_unexpired x.expiry now && (b && (site.is_secure || not x.is_secure_only))) is.scoped.reaches
+        ∙ ap (λ b. is_unexpired x.expiry now && (site.is_secure || not b)) (true_shown (prints_secure entry.cookie))
+        ∙ ap (λ b. is_unexpired x.expiry now && b) is.scoped.secure
+        ∙ and_true (is_unexpired x.expiry now)
 
-    kept_fate : (is_later x.expiry now ≡ not entry.removed)
+    kept_fate : (is_unexpired x.expiry now ≡ not entry.removed)
     kept_fate =
         ⊎_elim
         (λ f. expired_kept (raw_record entry.cookie).max_age (raw_record entry.cookie).expires now (ap (option_map _) f.1) ∙ ap not (sym f.0))
@@ -103,7 +103,7 @@ module _ (same : SameKey) (key : IsKey same) (site : SiteView) (now : DateTime) 
         key.settled d x e (o.scope ∙ ap scopes n)
 
     All-unexpired : (store : Store) → All Ours store → All Ours (unexpired now store)
-    All-unexpired store all = All-filter (λ d. is_later d.expiry now) Ours store all
+    All-unexpired store all = All-filter (λ d. is_unexpired d.expiry now) Ours store all
 
     all_alone : (store : Store) → All Ours store → IsAlone (is_visible site now) same key x store
     all_alone store all = All-weaker Ours (λ d. is_visible site now d ≡ true → d.name ≡ x.name → same d x ≡ true) alone_one store all

@@ -23,7 +23,7 @@ use Rattle.cookie.proofs.LawLemmas.{joined-read}
 use Rattle.cookie_client.specs.Agreement.{value_of}
 use Rattle.cookie_agent.specs.Agreement.{IsOurs, values_of, IsSent}
 use Rattle.cookie_agent.specs.Scopes.{ScopeView}
-use Rattle.cookie_agent.specs.Sent.{is_visible, visible, pair_of}
+use Rattle.cookie_agent.specs.Sent.{is_visible, visible, sent_pair}
 use Rattle.cookie_agent.specs.Store.{Stored, Store}
 
 -- ---- what passes a test
@@ -103,13 +103,13 @@ module _ (scopes : Name → ScopeView) where
         name = λ e. o.named.name (sym n ∙ e);
       }
 
-  text_same : (c : Stored) → IsOurs scopes c → pair_of c ≡ cookie_text true true (plain_of c)
+  text_same : (c : Stored) → IsOurs scopes c → sent_pair c ≡ cookie_text true true (plain_of c)
   text_same c o =
       let n : escape (unescape c.name) ≡ c.name = ap escape (back o.name c.name o.named.cookie.name o.names) ∙ sym o.names in
       let v : escape (unescape c.value) ≡ c.value = ap escape (back o.value c.value o.named.cookie.value o.values) ∙ sym o.values in
       sym (ap (λ t. t ++ 61 ∷ (escape (unescape c.value) ++ [])) n ∙ ap (λ t. c.name ++ 61 ∷ t) (append-nil (escape (unescape c.value)) ∙ v))
 
-  pub texts_same : (cs : Store) → All (IsOurs scopes) cs → map pair_of cs ≡ map (cookie_text true true) (map plain_of cs)
+  pub texts_same : (cs : Store) → All (IsOurs scopes) cs → map sent_pair cs ≡ map (cookie_text true true) (map plain_of cs)
   texts_same [] all = refl
   texts_same (c ∷ cs) all =
       let e = text_same c (All-head (IsOurs scopes) c cs all) in

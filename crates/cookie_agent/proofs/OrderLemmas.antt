@@ -8,7 +8,7 @@ use Rattle.std.specs.Ordering.{is_lt}
 use denote.Ref.{Bor}
 use Rattle.jiff.specs.Types.{DateTime}
 use Rattle.cookie.specs.Header.{joined_texts}
-use Rattle.cookie_agent.specs.Sent.{path_length, greater_first, visible, pair_of, IsOrderedHeader}
+use Rattle.cookie_agent.specs.Sent.{path_length, greater_first, visible, sent_pair, IsOrderedHeader}
 use Rattle.cookie_agent.specs.SentCode.{targets, IsByPath}
 use Rattle.cookie_agent.specs.Site.{SiteView}
 use Rattle.cookie_agent.specs.Store.{Stored, Store}
@@ -54,7 +54,7 @@ by_path xs ys same moved sorted stable =
     }
 
 pub ordered_header : (site : SiteView) (now : DateTime) (store : Store) (header : List ℕ) (created ordered : Store)
-    → created ≡ visible site now store → IsByPath created ordered → header ≡ joined_texts (map pair_of ordered) → IsOrderedHeader site now store header
+    → created ≡ visible site now store → IsByPath created ordered → header ≡ joined_texts (map sent_pair ordered) → IsOrderedHeader site now store header
 ordered_header site now store header created ordered all is text =
     let found : IsByPath (visible site now store) ordered = subst (λ c. IsByPath c ordered) all is in
     record {

@@ -6,7 +6,7 @@ use Rattle.std.proofs.lemmas.List.Elements.{All-nil, All-cons, All-head, All-tai
 use Rattle.std.specs.List.{filter}
 use Rattle.jiff.specs.Types.{DateTime}
 use Rattle.cookie_agent.specs.Apart.{IsApart, gives_place}
-use Rattle.cookie_agent.specs.Store.{SameKey, Stored, Store, is_later, unexpired, standard_key, put}
+use Rattle.cookie_agent.specs.Store.{SameKey, Stored, Store, is_unexpired, unexpired, standard_key, put}
 use Rattle.cookie_agent.proofs.KeyLemmas.{turned_key, same_key}
 
 -- the others
@@ -21,9 +21,9 @@ kept_all c x e (d ∷ xs) all =
 
 pub unexpired-twice : (now : DateTime) (xs : Store) → unexpired now (unexpired now xs) ≡ unexpired now xs
 unexpired-twice now [] = refl
-unexpired-twice now (c ∷ xs) = by (unexpired-twice now xs) (is_later c.expiry now) refl
+unexpired-twice now (c ∷ xs) = by (unexpired-twice now xs) (is_unexpired c.expiry now) refl
   where
-    by : unexpired now (unexpired now xs) ≡ unexpired now xs → (b : Bool) → is_later c.expiry now ≡ b
+    by : unexpired now (unexpired now xs) ≡ unexpired now xs → (b : Bool) → is_unexpired c.expiry now ≡ b
         → unexpired now (cond b (c ∷ unexpired now xs) (unexpired now xs)) ≡ cond b (c ∷ unexpired now xs) (unexpired now xs)
     by rest true e = ap (λ b. cond b (c ∷ unexpired now (unexpired now xs)) (unexpired now (unexpired now xs))) e ∙ ap (λ l. c ∷ l) rest
     by rest false e = rest
@@ -32,9 +32,9 @@ module _ (now : DateTime) (x : Stored) where
   -- an expired one is passed over
   past : (c : Stored) (xs ys : Store) → unexpired now (put standard_key x (unexpired now xs)) ≡ unexpired now ys → gives_place x now c ≡ false
       → unexpired now (put standard_key x (unexpired now (c ∷ xs))) ≡ unexpired now (c ∷ ys)
-  past c xs ys rest none = by (is_later c.expiry now) refl none
+  past c xs ys rest none = by (is_unexpired c.expiry now) refl none
     where
-      by : (b : Bool) → is_later c.expiry now ≡ b → b && standard_key c x ≡ false
+      by : (b : Bool) → is_unexpired c.expiry now ≡ b → b && standard_key c x ≡ false
           → unexpired now (put standard_key x (cond b (c ∷ unexpired now xs) (unexpired now xs))) ≡ cond b (c ∷ unexpired now ys) (unexpired now ys)
       by true fresh other =
           ap (λ b. unexpired now (cond b (x ∷ without x (unexpired now xs)) (c ∷ put standard_key x (unexpired now xs)))) other
@@ -46,12 +46,12 @@ module _ (now : DateTime) (x : Stored) where
       → unexpired now (put standard_key x (unexpired now xs)) ≡ unexpired now (set xs i x)
   put_at d [] i apart below before here = absurd (omega arith)
   put_at d (c ∷ xs) zero apart below before here =
-      let both = and_parts (is_later c.expiry now) (standard_key c x) here in
-      let others : All (λ y. standard_key y c ≡ false) (unexpired now xs) = All-filter (λ y. is_later y.expiry now) (λ y. standard_key y c ≡ false) xs apart.0 in
+      let both = and_parts (is_unexpired c.expiry now) (standard_key c x) here in
+      let others : All (λ y. standard_key y c ≡ false) (unexpired now xs) = All-filter (λ y. is_unexpired y.expiry now) (λ y. standard_key y c ≡ false) xs apart.0 in
       ap (λ b. unexpired now (put standard_key x (cond b (c ∷ unexpired now xs) (unexpired now xs)))) both.0
       ∙ ap (λ b. unexpired now (cond b (x ∷ without x (unexpired now xs)) (c ∷ put standard_key x (unexpired now xs)))) both.1
       ∙ ap (λ l. unexpired now (x ∷ l)) (kept_all c x both.1 (unexpired now xs) others)
-      ∙ ap (λ l. cond (is_later x.expiry now) (x ∷ l) l) (unexpired-twice now xs)
+      ∙ ap (λ l. cond (is_unexpired x.expiry now) (x ∷ l) l) (unexpired-twice now xs)
   put_at d (c ∷ xs) (suc i) apart below before here =
       past c xs (set xs i x) (put_at d xs i apart.1 (omega arith) (λ k lt. before (suc k) (omega arith)) here) (before 0 (omega arith))
 
@@ -91,7 +91,7 @@ apart-put x (c ∷ xs) apart = by (apart-put x xs apart.1) (standard_key c x) re
 
 pub apart-stored : (now : DateTime) (x : Stored) (xs : Store) → IsApart xs → IsApart (unexpired now (put standard_key x (unexpired now xs)))
 apart-stored now x xs apart =
-    apart-filter (λ c. is_later c.expiry now) (put standard_key x (unexpired now xs)) (apart-put x (unexpired now xs) (apart-filter (λ c. is_later c.expiry now) xs apart))
+    apart-filter (λ c. is_unexpired c.expiry now) (put standard_key x (unexpired now xs)) (apart-put x (unexpired now xs) (apart-filter (λ c. is_unexpired c.expiry now) xs apart))
 
 -- what was told of the element at a place
 pub told_at : (x : Stored) (now : DateTime) (xs : Store) (i : ℕ) (old : Stored) (b : Bool) → old ≡ get_or xs i old → i < length xs → b ≡ gives_place x now old → (d : Stored)

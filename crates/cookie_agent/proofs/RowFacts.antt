@@ -3,7 +3,7 @@
 use Rattle.std.specs.Prelude.{◌≡◌, ℕ, true, false, List, [], ◌∷◌, map, codes, refl, Some, None, Option}
 use Rattle.jiff.specs.Types.{DateTime}
 use Rattle.cookie.specs.Record.{Record, plain}
-use Rattle.cookie_agent.specs.Sent.{visible, pair_of}
+use Rattle.cookie_agent.specs.Sent.{visible, sent_pair}
 use Rattle.cookie_agent.specs.Site.{SiteView, domain_matches, default_path, path_matches}
 use Rattle.cookie_agent.specs.Store.{Store, standard_key, after_cookie}
 
@@ -112,7 +112,7 @@ set_by site now (cookie ∷ cookies) store = set_by site now cookies (after_cook
 
 -- what the site sees
 abbrev shown : SiteView → DateTime → Store → List (List ℕ)
-shown site now store = map pair_of (visible site now store)
+shown site now store = map sent_pair (visible site now store)
 
 pub two_paths : (now : DateTime)
     → shown below now (set_by below now (scoped (codes "n") (codes "1") (Some (codes "/")) None ∷ scoped (codes "n") (codes "2") (Some (codes "/a")) None ∷ []) [])

@@ -10,7 +10,7 @@ use Rattle.jiff.specs.Types.{DateTime}
 use Rattle.cookie_agent.specs.Site.{SiteView}
 use Rattle.cookie_agent.specs.Scopes.{reaches}
 use Rattle.cookie_agent.specs.Sent.{is_visible}
-use Rattle.cookie_agent.specs.Store.{SameKey, IsKey, Stored, Store, put, is_later, unexpired}
+use Rattle.cookie_agent.specs.Store.{SameKey, IsKey, Stored, Store, put, is_unexpired, unexpired}
 use Rattle.cookie_agent.specs.Agreement.{seen}
 
 equal_false : (a b : List ℕ) → a ≢ b → bytes_eq a b ≡ false
@@ -122,9 +122,9 @@ module _ (site : SiteView) (now : DateTime) where
 
   given-unexpired : (name : List ℕ) (store : Store) → given (is_visible site now) name (unexpired now store) ≡ given (is_visible site now) name store
   given-unexpired name [] = refl
-  given-unexpired name (c ∷ store) = by (given-unexpired name store) (is_later c.expiry now) refl
+  given-unexpired name (c ∷ store) = by (given-unexpired name store) (is_unexpired c.expiry now) refl
     where
-      by : given (is_visible site now) name (unexpired now store) ≡ given (is_visible site now) name store → (b : Bool) → is_later c.expiry now ≡ b
+      by : given (is_visible site now) name (unexpired now store) ≡ given (is_visible site now) name store → (b : Bool) → is_unexpired c.expiry now ≡ b
           → given (is_visible site now) name (cond b (c ∷ unexpired now store) (unexpired now store)) ≡ given (is_visible site now) name (c ∷ store)
       by rest true e = onto (is_visible site now) name c (unexpired now store) store rest
       by rest false e =

@@ -15,7 +15,7 @@ use Rattle.cookie.proofs.NameLemmas.{get_inserted}
 use Rattle.cookie_agent.specs.Agreement.{IsOurs, IsOurStore, IsScopedEntry, IsScopedDelta}
 use Rattle.cookie_agent.specs.Calls.{IsScopedChange}
 use Rattle.cookie_client.specs.Calls.{IsKnownChange}
-use Rattle.cookie_agent.specs.Keys.{Visit, jar_of, AreVisits, after_visit, AllFollow, IsFollowedByAnyKey}
+use Rattle.cookie_agent.specs.Keys.{Visit, visit_jar, AreVisits, after_visit, AllFollow, IsFollowedByAnyKey}
 use Rattle.cookie_agent.specs.Scopes.{ScopeView}
 use Rattle.cookie_agent.specs.Site.{SiteView}
 use Rattle.cookie_agent.specs.Store.{SameKey, IsKey, Store}
@@ -105,11 +105,11 @@ all_follow : (same : SameKey) → IsKey same → (scopes : Name → ScopeView) (
 all_follow same key scopes before ours [] are = tt
 all_follow same key scopes before ours (visit ∷ visits) are =
     let is = are.0 in
-    let can : IsFollowable scopes before visit.site visit.now visit.header (jar_of visit)
+    let can : IsFollowable scopes before visit.site visit.now visit.header (visit_jar visit)
     = followable scopes before ours visit.site visit.now visit.header is.sent visit.changes is.known is.scoped in (
-      agreed same key scopes before ours visit.site visit.now visit.header (jar_of visit) can visit.texts is.texts,
+      agreed same key scopes before ours visit.site visit.now visit.header (visit_jar visit) can visit.texts is.texts,
       all_follow same key scopes (after_visit same visit before)
-          (stays same key scopes before ours visit.site visit.now visit.header (jar_of visit) can visit.texts is.texts) visits are.1,
+          (stays same key scopes before ours visit.site visit.now visit.header (visit_jar visit) can visit.texts is.texts) visits are.1,
     )
 
 pub by_any_key : IsFollowedByAnyKey

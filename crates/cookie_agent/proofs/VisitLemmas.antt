@@ -23,7 +23,7 @@ use Rattle.cookie_agent.specs.Agreement.{IsOurs, IsOurStore, IsKnownView, IsScop
 use Rattle.cookie_agent.specs.Site.{SiteView}
 use Rattle.cookie_agent.specs.Scopes.{ScopeView}
 use Rattle.cookie_agent.specs.Sent.{is_visible, visible, IsHeader}
-use Rattle.cookie_agent.specs.Store.{SameKey, IsKey, Stored, Store, is_later, unexpired, put, after_text, after_texts}
+use Rattle.cookie_agent.specs.Store.{SameKey, IsKey, Stored, Store, is_unexpired, unexpired, put, after_text, after_texts}
 use Rattle.cookie_agent.proofs.FollowLemmas.{escape_injective, is_ours, text_stored, x, followed}
 use Rattle.cookie_agent.proofs.KeyLemmas.{turned_test}
 use Rattle.cookie_agent.proofs.PutLemmas.{All-put}
@@ -57,7 +57,7 @@ fewer p q (c ∷ xs) = by (fewer p q xs) (p c)
 
 Once-unexpired : (now : DateTime) (store : Store) → Once store → Once (unexpired now store)
 Once-unexpired now store once name =
-    let h = fewer (λ c. is_later c.expiry now) (λ c. bytes_eq c.name name) store in
+    let h = fewer (λ c. is_unexpired c.expiry now) (λ c. bytes_eq c.name name) store in
     let k = once name in
     omega arith
 
@@ -98,11 +98,11 @@ module _ (same : SameKey) (key : IsKey same) (site : SiteView) (now : DateTime) 
       let y : Stored = x same key site now scopes name entry is in
       let alone = λ (d : Stored) (o : IsOurs scopes d) (e : d.name ≡ escape entry.cookie.name).
       key.settled d y e (o.scope ∙ ap scopes (escape_injective o.name entry.cookie.name o.named.cookie.name is.cookie.cookie.name (sym o.names ∙ e))) in
-      let fresh : All (IsOurs scopes) (unexpired now store) = All-filter (λ d. is_later d.expiry now) (IsOurs scopes) store ours.each in
+      let fresh : All (IsOurs scopes) (unexpired now store) = All-filter (λ d. is_unexpired d.expiry now) (IsOurs scopes) store ours.each in
       let put_in : All (IsOurs scopes) (put same y (unexpired now store)) = All-put same (IsOurs scopes) y (is_ours same key site now scopes name entry is) (unexpired now store) fresh in
       subst (IsOurStore scopes) (sym (text_stored same key site now scopes name entry is store))
       (record {
-        each = All-filter (λ d. is_later d.expiry now) (IsOurs scopes) (put same y (unexpired now store)) put_in;
+        each = All-filter (λ d. is_unexpired d.expiry now) (IsOurs scopes) (put same y (unexpired now store)) put_in;
         once = Once-unexpired now (put same y (unexpired now store)) (Once-put same key scopes y alone (unexpired now store) fresh (Once-unexpired now store ours.once));
       })
 

@@ -17,7 +17,7 @@ use Rattle.cookie_client.specs.Live.{is_live}
 use Rattle.cookie_agent.specs.Scopes.{ScopeView, scope_of, reaches}
 use Rattle.cookie_agent.specs.Sent.{is_visible, IsHeader}
 use Rattle.cookie_agent.specs.Site.{SiteView}
-use Rattle.cookie_agent.specs.Store.{SameKey, Stored, Store, is_later, after_texts}
+use Rattle.cookie_agent.specs.Store.{SameKey, Stored, Store, is_unexpired, after_texts}
 
 -- ---- the premise
 
@@ -143,4 +143,4 @@ pub record AreAlike (scopes : Name → ScopeView) (store : Store) (site other : 
     (now later : DateTime) : Type 0 where
   pub reach : (name : Name) → reaches site (scopes name) ≡ reaches other (scopes name)
   pub secure : site.is_secure ≡ other.is_secure
-  pub ages : All (λ c. is_later c.expiry now ≡ is_later c.expiry later) store
+  pub ages : All (λ c. is_unexpired c.expiry now ≡ is_unexpired c.expiry later) store

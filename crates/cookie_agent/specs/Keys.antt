@@ -22,8 +22,8 @@ pub record Visit : Type 0 where
   pub texts : List (List ℕ)
 
 -- its jar: what the changes make of a new one with the header's cookies as its originals
-abbrev pub jar_of : Visit → JarState
-jar_of visit = after_all visit.changes (jar_for visit.header)
+abbrev pub visit_jar : Visit → JarState
+visit_jar visit = after_all visit.changes (jar_for visit.header)
 
 -- The header is the agent's, each change is scoped, and the texts are those of the jar's delta, in any order and with
 -- any repetition.
@@ -31,7 +31,7 @@ pub record IsVisit (scopes : Name → ScopeView) (before : Store) (visit : Visit
   pub sent : IsHeader visit.site visit.now before visit.header
   pub known : All IsKnownChange visit.changes
   pub scoped : All (IsScopedChange visit.site visit.now scopes) visit.changes
-  pub texts : AreDeltaTexts (jar_of visit).delta visit.texts
+  pub texts : AreDeltaTexts (visit_jar visit).delta visit.texts
 
 -- the agent after the response
 abbrev pub after_visit : SameKey → Visit → Store → Store
@@ -48,7 +48,7 @@ abbrev pub AllFollow : SameKey → Store → List Visit → Type 0
 AllFollow same before [] = Unit {0}
 AllFollow same before (visit ∷ visits) =
     ((header : List ℕ) → IsHeader visit.site visit.now (after_visit same visit before) header
-    → SiteAgrees (jar_of visit) header)
+    → SiteAgrees (visit_jar visit) header)
     × AllFollow same (after_visit same visit before) visits
 
 -- So it is for any visits of an agent that held nothing, whichever key it goes by.

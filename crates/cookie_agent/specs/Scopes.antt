@@ -1,6 +1,5 @@
 -- Where a cookie is sent (RFC 6265 5.2.3, 5.2.4 and 5.3).
-use Rattle.std.specs.Prelude.{ℕ, ◌&&◌, true, false, Bool, List, [], ◌∷◌, codes, eqb, Option, Some, None, option_map, if◌then◌else◌}
-use denote.Ref.{Bor}
+use Rattle.std.specs.Prelude.{ℕ, ◌&&◌, true, false, Bool, List, [], ◌∷◌, codes, eqb, Option, Some, None, if◌then◌else◌}
 use Rattle.std.specs.List.{starts_with}
 use Rattle.std.specs.Str.{bytes_eq, str_to_ascii_lowercase}
 use Rattle.cookie.specs.Record.{Record}
@@ -16,10 +15,6 @@ pub record ScopeView : Type 0 where
 abbrev pub path_of : SiteView → Option (List ℕ) → List ℕ
 path_of site None = default_path site.path
 path_of site (Some path) = if starts_with eqb path (codes "/") then path else default_path site.path
-
--- the bytes of a text, where there is one
-abbrev pub text_of : Option (Bor (List ℕ)) → Option (List ℕ)
-text_of text = option_map (λ t. t.now) text
 
 -- the site's host alone
 abbrev pub own_scope : SiteView → Option (List ℕ) → ScopeView

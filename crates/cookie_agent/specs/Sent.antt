@@ -7,12 +7,12 @@ use Rattle.jiff.specs.Types.{DateTime}
 use Rattle.cookie.specs.Header.{joined_texts}
 use Rattle.cookie_agent.specs.Scopes.{reaches}
 use Rattle.cookie_agent.specs.Site.{SiteView}
-use Rattle.cookie_agent.specs.Store.{Stored, Store, is_later}
+use Rattle.cookie_agent.specs.Store.{Stored, Store, is_unexpired}
 
 -- the cookie is sent to the site at the moment (step 1)
 abbrev pub is_visible : SiteView → DateTime → Stored → Bool
 is_visible site now cookie =
-    is_later cookie.expiry now
+    is_unexpired cookie.expiry now
     && (reaches site cookie.scope && (site.is_secure || not cookie.is_secure_only))
 
 -- the cookies that are sent, in the order of their creation
@@ -20,15 +20,15 @@ abbrev pub visible : SiteView → DateTime → Store → Store
 visible site now store = filter (is_visible site now) store
 
 -- the cookie as it stands in the header (step 4)
-abbrev pub pair_of : Stored → List ℕ
-pair_of cookie = cookie.name ++ 61 ∷ cookie.value
+abbrev pub sent_pair : Stored → List ℕ
+sent_pair cookie = cookie.name ++ 61 ∷ cookie.value
 
 -- the header of the cookies that are sent, in some order
 pub record IsHeader (site : SiteView) (now : DateTime) (store : Store)
     (header : List ℕ) : Type 0 where
   pub cookies : Store
   pub sent : IsPermutation (visible site now store) cookies
-  pub text : header ≡ joined_texts (map pair_of cookies)
+  pub text : header ≡ joined_texts (map sent_pair cookies)
 
 -- the length of a cookie's path
 abbrev pub path_length : Stored → ℕ

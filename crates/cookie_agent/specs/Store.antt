@@ -76,13 +76,13 @@ pub record IsKey (same : SameKey) : Type 0 where
 -- ---- the store after a response (5.3, steps 11 and 12)
 
 -- the expiry is after now, or there is none
-abbrev pub is_later : Option ℤ → DateTime → Bool
-is_later None now = true
-is_later (Some expiry) now = int_lt (civil_nanos now) expiry
+abbrev pub is_unexpired : Option ℤ → DateTime → Bool
+is_unexpired None now = true
+is_unexpired (Some expiry) now = int_lt (civil_nanos now) expiry
 
 -- without the cookies that are expired
 abbrev pub unexpired : DateTime → Store → Store
-unexpired now store = filter (λ c. is_later c.expiry now) store
+unexpired now store = filter (λ c. is_unexpired c.expiry now) store
 
 -- a cookie takes the place, and so the creation time, of one with the same key; else it comes last
 abbrev pub put : SameKey → Stored → Store → Store

@@ -7,7 +7,7 @@ ghost use Rattle.cookie_agent.specs.Keys.{IsFollowedByAnyKey};
 ghost use Rattle.cookie_agent.specs.Removals.{IsMissed};
 ghost use Rattle.cookie_agent.specs.Sent.{IsOrderedHeader};
 ghost use Rattle.cookie_agent.specs.Store.{IsKey, after_cookie, after_text, browser_key, put, standard_key, unexpired};
-ghost use Rattle.cookie_agent.specs.declared.agent_error.AgentError.TheVariants.{OutOfMemory};
+ghost use Rattle.cookie_agent.specs.declared.agent_error.AgentError.TheVariants as refusal;
 
 use crate::agent_error::AgentError;
 use crate::header::{by_path, joined_pairs, visible};
@@ -56,7 +56,7 @@ impl Agent {
     /// as it stands there, with nothing decoded; what is expired is dropped, so a cookie that is expired drops the one
     /// in whose place it comes. Fails with `AgentError::OutOfMemory` alone, and then the agent is as before.
     pub fn read(&mut self, site: &Site, text: &str, now: DateTime) -> Result<bool, AgentError>
-        ensures gives { Gives OutOfMemory result (λ is_cookie.
+        ensures gives { Gives refusal.OutOfMemory result (λ is_cookie.
             (self.new ≡ after_text standard_key site.now now text.now self.old)
             × (is_cookie ≡ is_some (cookie_of false text.now))) }
         ensures err { OnErr result (self.new ≡ self.old) }
@@ -77,7 +77,7 @@ impl Agent {
 
     // Takes a cookie that was read.
     fn take(&mut self, site: &Site, cookie: &Cookie<'_>, now: DateTime) -> Result<(), AgentError>
-        ensures gives { Gives OutOfMemory result (λ _.
+        ensures gives { Gives refusal.OutOfMemory result (λ _.
             self.new ≡ after_cookie standard_key site.now now (Some cookie.now.fields) self.old) }
         ensures err { OnErr result (self.new ≡ self.old) }
     {
@@ -101,7 +101,7 @@ impl Agent {
     /// The value of the `Cookie` header of a request to the site at a moment in UTC (RFC 6265 5.4): longer paths first,
     /// and the earlier creation first among equals. Fails with `AgentError::OutOfMemory` alone.
     pub fn header(&self, site: &Site, now: DateTime) -> Result<String, AgentError>
-        ensures { Gives OutOfMemory result (λ header.
+        ensures { Gives refusal.OutOfMemory result (λ header.
             IsOrderedHeader site.now now self.now (string_bytes header)) }
     {
         let sent = visible(self.alloc, &self.cookies, site, now)?;
@@ -111,7 +111,7 @@ impl Agent {
 
     /// A user agent that stores the same. Fails with `AgentError::OutOfMemory` alone.
     pub fn clone(&self) -> Result<Agent, AgentError>
-        ensures { Gives OutOfMemory result (λ made. made ≡ self.now) }
+        ensures { Gives refusal.OutOfMemory result (λ made. made ≡ self.now) }
     {
         Ok(Agent {
             alloc: self.alloc,

@@ -1,5 +1,7 @@
 //! Why a call of a user agent fails.
 ghost use Rattle.std.specs.Prelude.{◌≡◌};
+ghost use Rattle.cookie.specs.declared.error.Error.TheVariants as failure;
+ghost use Rattle.cookie_agent.specs.declared.agent_error.AgentError.TheVariants as refusal;
 
 use cookie_client::ClientError;
 use std::alloc::{AllocError, AllocFailed};
@@ -26,9 +28,7 @@ impl fmt::Display for AgentError {
 impl Error for AgentError {}
 
 impl From<AllocError> for AgentError {
-    ghost use Rattle.cookie_agent.specs.declared.agent_error.AgentError.TheVariants.{OutOfMemory};
-
-    ghost from_gives = { λ _ e. e ≡ OutOfMemory };
+    ghost from_gives = { λ _ e. e ≡ refusal.OutOfMemory };
 
     fn from(_error: AllocError) -> AgentError {
         AgentError::OutOfMemory
@@ -36,9 +36,7 @@ impl From<AllocError> for AgentError {
 }
 
 impl<T: Drop> From<AllocFailed<T>> for AgentError {
-    ghost use Rattle.cookie_agent.specs.declared.agent_error.AgentError.TheVariants.{OutOfMemory};
-
-    ghost from_gives = { λ _ e. e ≡ OutOfMemory };
+    ghost from_gives = { λ _ e. e ≡ refusal.OutOfMemory };
 
     fn from(_error: AllocFailed<T>) -> AgentError {
         AgentError::OutOfMemory
@@ -46,9 +44,7 @@ impl<T: Drop> From<AllocFailed<T>> for AgentError {
 }
 
 impl From<ClientError> for AgentError {
-    ghost use Rattle.cookie_agent.specs.declared.agent_error.AgentError.TheVariants.{OutOfMemory};
-
-    ghost from_gives = { λ _ e. e ≡ OutOfMemory };
+    ghost from_gives = { λ _ e. e ≡ refusal.OutOfMemory };
 
     fn from(_error: ClientError) -> AgentError {
         AgentError::OutOfMemory
@@ -56,9 +52,7 @@ impl From<ClientError> for AgentError {
 }
 
 impl From<AgentError> for cookie::Error {
-    ghost use Rattle.cookie.specs.declared.error.Error.TheVariants.{OutOfMemory};
-
-    ghost from_gives = { λ _ e. e ≡ OutOfMemory };
+    ghost from_gives = { λ _ e. e ≡ failure.OutOfMemory };
 
     fn from(_error: AgentError) -> cookie::Error {
         cookie::Error::OutOfMemory

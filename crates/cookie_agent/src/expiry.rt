@@ -1,7 +1,7 @@
 //! When a stored cookie expires (RFC 6265 5.3, step 3).
 ghost use Rattle.std.specs.Prelude.{◌≡◌};
 ghost use Rattle.cookie_agent.specs.ExpiryCode.{expiry_moment};
-ghost use Rattle.cookie_agent.specs.Store.{expiry_by, is_later};
+ghost use Rattle.cookie_agent.specs.Store.{expiry_by, is_unexpired};
 
 use cookie::Cookie;
 use jiff::SignedDuration;
@@ -37,8 +37,8 @@ impl Expiry {
     }
 
     // Whether it is later than a moment.
-    pub(crate) fn is_later(self, now: DateTime) -> bool
-        ensures { result ≡ is_later (expiry_moment self) now }
+    pub(crate) fn is_unexpired(self, now: DateTime) -> bool
+        ensures { result ≡ is_unexpired (expiry_moment self) now }
     {
         match self {
             Expiry::Never => true,

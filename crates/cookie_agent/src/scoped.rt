@@ -1,11 +1,11 @@
 //! Whether a user agent can follow a call.
 ghost use Rattle.std.specs.Prelude.{◌≡◌, ◌↔◌, true, IsTrue};
+ghost use Rattle.std.specs.Option.{option_copied};
 ghost use Rattle.cookie.specs.Text.{prints_secure};
 ghost use Rattle.cookie_client.specs.Calls.{asked_of_child, change_of, prefixed_by, stored_by, stored_with};
 ghost use Rattle.cookie_client.specs.Live.{is_live};
 ghost use Rattle.cookie_agent.specs.Agreement.{lacks_controls};
 ghost use Rattle.cookie_agent.specs.Calls.{IsScopedCall};
-ghost use Rattle.cookie_agent.specs.Scopes.{text_of};
 ghost use Rattle.cookie_agent.specs.ScopedCode.{begins_plainly, is_asked, is_name, is_plain, is_plain_domain, is_plain_path, is_scoped_addition, is_scoped_change, is_scoped_removal, is_trimmed, lacks_semicolons};
 
 use crate::scope::Scope;
@@ -107,7 +107,7 @@ fn is_asked(
     is_secure: bool,
 ) -> bool
     ensures { result
-        ≡ is_asked site.now scope.now (text_of domain.entry) (text_of path.entry) is_secure }
+        ≡ is_asked site.now scope.now (option_copied domain.entry) (option_copied path.entry) is_secure }
 {
     is_plain_path(path)
         && is_plain_domain(domain)
@@ -117,7 +117,7 @@ fn is_asked(
 }
 
 fn is_plain_path(path: Option<&str>) -> bool
-    ensures { result ≡ is_plain_path (text_of path.entry) }
+    ensures { result ≡ is_plain_path (option_copied path.entry) }
 {
     match path {
         Some(path) => is_plain(path),
@@ -126,7 +126,7 @@ fn is_plain_path(path: Option<&str>) -> bool
 }
 
 fn is_plain_domain(domain: Option<&str>) -> bool
-    ensures { result ≡ is_plain_domain (text_of domain.entry) }
+    ensures { result ≡ is_plain_domain (option_copied domain.entry) }
 {
     match domain {
         Some(domain) => begins_plainly(domain) && is_plain(domain),

@@ -1,11 +1,12 @@
 //! Where a request goes (RFC 6265 5.1.2 to 5.1.4).
 ghost use Rattle.std.specs.Prelude.{◌≡◌, true, false, IfOk, string_bytes};
+ghost use Rattle.std.specs.Option.{option_copied};
 ghost use Rattle.cookie.specs.Memory.{Gives};
 ghost use Rattle.cookie_agent.specs.Prefixes.{AreHostBound, AreSecured, IsScopedWhole, host_scope};
-ghost use Rattle.cookie_agent.specs.Scopes.{own_scope, path_of, reaches, scope_by, text_of, wide_scope};
+ghost use Rattle.cookie_agent.specs.Scopes.{own_scope, path_of, reaches, scope_by, wide_scope};
 ghost use Rattle.cookie_agent.specs.ScopedCode.{gives_own, gives_scope, gives_wide};
 ghost use Rattle.cookie_agent.specs.Site.{default_path, domain_matches, path_matches, request_path, site_of};
-ghost use Rattle.cookie_agent.specs.declared.agent_error.AgentError.TheVariants.{OutOfMemory};
+ghost use Rattle.cookie_agent.specs.declared.agent_error.AgentError.TheVariants as refusal;
 
 use crate::agent_error::AgentError;
 use crate::matching::{default_path, host_matches, path_matches};
@@ -47,10 +48,10 @@ impl Site {
     /// lower case; a path that doesn't begin with `/` gets one, so an empty one is `/`. Fails with
     /// `AgentError::OutOfMemory` alone.
     pub fn new(alloc: Global, host: &str, path: &str, is_secure: bool) -> Result<Site, AgentError>
-        ensures { Gives OutOfMemory result (λ site.
+        ensures { Gives refusal.OutOfMemory result (λ site.
             site ≡ site_of host.now false path.now is_secure) }
     {
-        Site::made(alloc, host, false, path, is_secure)
+        Site::of_parts(alloc, host, false, path, is_secure)
     }
 
     /// The same of a host that is an IP address, which no domain but itself matches (RFC 6265 5.1.3). Fails with
@@ -61,20 +62,20 @@ impl Site {
         path: &str,
         is_secure: bool,
     ) -> Result<Site, AgentError>
-        ensures { Gives OutOfMemory result (λ site.
+        ensures { Gives refusal.OutOfMemory result (λ site.
             site ≡ site_of host.now true path.now is_secure) }
     {
-        Site::made(alloc, host, true, path, is_secure)
+        Site::of_parts(alloc, host, true, path, is_secure)
     }
 
-    fn made(
+    fn of_parts(
         alloc: Global,
         host: &str,
         is_address: bool,
         path: &str,
         is_secure: bool,
     ) -> Result<Site, AgentError>
-        ensures { Gives OutOfMemory result (λ site.
+        ensures { Gives refusal.OutOfMemory result (λ site.
             site ≡ site_of host.now is_address path.now is_secure) }
     {
         Ok(Site {
@@ -115,8 +116,8 @@ impl Site {
         path: Option<&str>,
         domain: Option<&str>,
     ) -> Result<Option<Scope>, AgentError>
-        ensures { Gives OutOfMemory result (λ scope.
-            scope ≡ scope_by self.now (text_of domain.entry) (text_of path.entry)) }
+        ensures { Gives refusal.OutOfMemory result (λ scope.
+            scope ≡ scope_by self.now (option_copied domain.entry) (option_copied path.entry)) }
     {
         let Some(domain) = domain else {
             return Ok(Some(self.own_scope(alloc, path)?));
@@ -131,7 +132,7 @@ impl Site {
     /// domain, and so of all that a jar with the prefix `__Host-` stores and removes (RFC 6265bis 4.1.3). Fails with
     /// `AgentError::OutOfMemory` alone.
     pub fn host_scope(&self, alloc: Global) -> Result<Scope, AgentError>
-        ensures { Gives OutOfMemory result (λ scope. scope ≡ host_scope self.now) }
+        ensures { Gives refusal.OutOfMemory result (λ scope. scope ≡ host_scope self.now) }
     {
         Ok(self.own_scope(alloc, Some("/"))?)
     }
@@ -149,7 +150,7 @@ impl Site {
     }
 
     fn own_scope(&self, alloc: Global, path: Option<&str>) -> Result<Scope, AllocError>
-        ensures { IfOk result (λ scope. scope ≡ own_scope self.now (text_of path.entry)) }
+        ensures { IfOk result (λ scope. scope ≡ own_scope self.now (option_copied path.entry)) }
     {
         Ok(Scope {
             domain: String::from_str(alloc, self.host.as_str())?,
@@ -165,7 +166,7 @@ impl Site {
         path: Option<&str>,
     ) -> Result<Option<Scope>, AllocError>
         ensures { IfOk result (λ scope.
-            scope ≡ wide_scope self.now domain.now (text_of path.entry)) }
+            scope ≡ wide_scope self.now domain.now (option_copied path.entry)) }
     {
         let domain = domain.to_ascii_lowercase(alloc)?;
         if !self.matches_domain(domain.as_str()) {
@@ -180,7 +181,7 @@ impl Site {
 
     // A cookie's path, if it begins with `/`, and else the default path.
     fn path_of<'a>(&'a self, path: Option<&'a str>) -> &'a str
-        ensures { result.now ≡ path_of self.now (text_of path.entry) }
+        ensures { result.now ≡ path_of self.now (option_copied path.entry) }
     {
         match path {
             Some(path) if path.as_bytes().starts_with(b"/") => path,
@@ -196,7 +197,7 @@ impl Site {
         path: Option<&str>,
     ) -> bool
         ensures { result
-            ≡ gives_scope self.now scope.now (text_of domain.entry) (text_of path.entry) }
+            ≡ gives_scope self.now scope.now (option_copied domain.entry) (option_copied path.entry) }
     {
         let Some(domain) = domain else {
             return self.gives_own(scope, path);
@@ -208,7 +209,7 @@ impl Site {
     }
 
     fn gives_own(&self, scope: &Scope, path: Option<&str>) -> bool
-        ensures { result ≡ gives_own self.now scope.now (text_of path.entry) }
+        ensures { result ≡ gives_own self.now scope.now (option_copied path.entry) }
     {
         scope.is_host_only()
             && scope.domain() == self.host.as_str()
@@ -216,7 +217,7 @@ impl Site {
     }
 
     fn gives_wide(&self, scope: &Scope, domain: &str, path: Option<&str>) -> bool
-        ensures { result ≡ gives_wide self.now scope.now domain.now (text_of path.entry) }
+        ensures { result ≡ gives_wide self.now scope.now domain.now (option_copied path.entry) }
     {
         !scope.is_host_only()
             && scope.is_domain(domain)

@@ -2,8 +2,8 @@
 ghost use Rattle.std.specs.Prelude.{◌≡◌, ◌++◌, IfOk, OnOk, string_bytes};
 ghost use Rattle.cookie.specs.Text.{is_true};
 ghost use Rattle.cookie_agent.specs.Apart.{gives_place};
-ghost use Rattle.cookie_agent.specs.Sent.{is_visible, pair_of, path_length};
-ghost use Rattle.cookie_agent.specs.Store.{is_later, standard_key, stored_in};
+ghost use Rattle.cookie_agent.specs.Sent.{is_visible, sent_pair, path_length};
+ghost use Rattle.cookie_agent.specs.Store.{is_unexpired, standard_key, stored_in};
 
 use crate::expiry::Expiry;
 use crate::scope::Scope;
@@ -94,16 +94,16 @@ impl StoredCookie {
 
     // Whether it isn't expired at the moment.
     pub(crate) fn is_unexpired(&self, now: DateTime) -> bool
-        ensures { result ≡ is_later self.now.expiry now }
+        ensures { result ≡ is_unexpired self.now.expiry now }
     {
-        self.expiry.is_later(now)
+        self.expiry.is_unexpired(now)
     }
 
     // Whether it is sent to the site at the moment.
     pub(crate) fn is_visible(&self, site: &Site, now: DateTime) -> bool
         ensures { result ≡ is_visible site.now now self.now }
     {
-        self.expiry.is_later(now)
+        self.expiry.is_unexpired(now)
             && site.is_reached(&self.scope)
             && (site.is_secure() || !self.is_secure_only)
     }
@@ -118,7 +118,7 @@ impl StoredCookie {
     // Writes its name and its value behind the text.
     pub(crate) fn push_pair(&self, header: &mut String) -> Result<(), AllocError>
         ensures { OnOk result (string_bytes header.new
-            ≡ string_bytes header.old ++ pair_of self.now) }
+            ≡ string_bytes header.old ++ sent_pair self.now) }
     {
         header.push_str(self.name.as_str())?;
         header.push_str("=")?;

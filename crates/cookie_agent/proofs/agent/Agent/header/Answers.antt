@@ -1,7 +1,7 @@
 -- The visible cookies, in the order of the sort, are written.
 use Rattle.std.proofs.Common.{map, ap, ◌∙◌}
 use Rattle.cookie.specs.Header.{joined_texts}
-use Rattle.cookie_agent.specs.Sent.{pair_of, visible}
+use Rattle.cookie_agent.specs.Sent.{sent_pair, visible}
 use Rattle.cookie_agent.specs.SentCode.{targets}
 use Rattle.cookie_agent.proofs.OrderLemmas.{ordered_header}
 use Rattle.cookie_agent.proofs.agent.Agent.header.Goals as goal
@@ -11,4 +11,4 @@ returns c =
     ordered_header c.args.site.now c.args.now c.args.self.now _ (targets c.in_ok-sent.sent.items) (targets c.in_ok-sent-2.sent.items)
     (c.in_ok-sent.ensures ∙ ap (visible c.args.site.now c.args.now) (c.deref.ensures.value ∙ c.self.view_is))
     c.in_ok-sent-2.ensures
-    (c.in_ok-joined_pairs.ensures ∙ ap (λ cookies. joined_texts (map pair_of (targets cookies))) c.deref-2.ensures.value)
+    (c.in_ok-joined_pairs.ensures ∙ ap (λ cookies. joined_texts (map sent_pair (targets cookies))) c.deref-2.ensures.value)

@@ -1,7 +1,7 @@
 -- What is stored is apart.
 use Rattle.std.proofs.Common.{sym, subst}
 use Rattle.cookie_agent.specs.Apart.{IsApart}
-use Rattle.cookie_agent.specs.Store.{is_later}
+use Rattle.cookie_agent.specs.Store.{is_unexpired}
 use Rattle.cookie_agent.proofs.PutLemmas.{apart-filter, apart-stored}
 use Rattle.cookie_agent.proofs.agent.Agent.take.Goals as goal
 
@@ -11,4 +11,4 @@ invariant_of-self c =
 
 pub invariant_of-self-in-None : goal.invariant_of-self-in-None
 invariant_of-self-in-None c =
-    subst IsApart (sym c.drop_expired.ensures) (apart-filter (λ d. is_later d.expiry c.args.now) c.self.inside.cookies.items c.self.invariant)
+    subst IsApart (sym c.drop_expired.ensures) (apart-filter (λ d. is_unexpired d.expiry c.args.now) c.self.inside.cookies.items c.self.invariant)

@@ -3,7 +3,7 @@ use Rattle.std.proofs.Common.{codes, eqb, sym, ap, ◌∙◌}
 use Rattle.std.specs.List.{starts_with}
 use Rattle.std.specs.Str.{str_to_ascii_lowercase}
 use Rattle.cookie_agent.proofs.SiteLemmas.{lowered_twice, request_path-begins}
-use Rattle.cookie_agent.proofs.site.Site.made.Goals as goal
+use Rattle.cookie_agent.proofs.site.Site.of_parts.Goals as goal
 
 pub invariant_of-result : goal.invariant_of-result
 invariant_of-result c = (
