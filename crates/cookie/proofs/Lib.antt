@@ -26,6 +26,7 @@ pub use Rattle.cookie_core.proofs.ExpiryLemmas
 pub use Rattle.cookie_core.proofs.ExpiryTextLemmas
 pub use Rattle.cookie_core.proofs.GraphicLemmas
 pub use Rattle.cookie_core.proofs.HeaderLemmas
+pub use Rattle.cookie_core.proofs.JoinLemmas
 pub use Rattle.cookie_core.proofs.LawLemmas
 pub use Rattle.cookie_core.proofs.NormalFormLemmas
 pub use Rattle.cookie_core.proofs.NormalLemmas

@@ -1,5 +1,5 @@
--- A printed date is trimmed, and holds no `;`.
-use Rattle.std.proofs.Common.{◌≡◌, Bool, true, ◌&&◌, ℕ, ℤ, ◌+◌, ◌-◌, ◌/◌, ◌%◌, ◌<◌, codes, pos, negsuc, neg_ℤ, ◌<ℤ◌, ◌^◌, List, [], ◌∷◌, ◌++◌, length, get_or, refl, zero, suc, arith, length-append}
+-- A printed date is visible ASCII and spaces, is trimmed, and holds no `;`.
+use Rattle.std.proofs.Common.{◌≡◌, Bool, true, ◌&&◌, ℕ, ℤ, ◌+◌, ◌-◌, ◌/◌, ◌%◌, ◌<◌, codes, pos, negsuc, neg_ℤ, ◌<ℤ◌, ◌^◌, List, [], ◌∷◌, ◌++◌, length, get_or, refl, zero, suc, arith, length-append, nat_le, nat_lt}
 use Rattle.std.specs.Fmt.{signed_decimal, decimal}
 use Rattle.std.specs.List.{list_all}
 use Rattle.std.specs.Str.{trim, skip_leading_whitespace, drop_trailing_whitespace}
@@ -17,9 +17,9 @@ use Rattle.cookie_core.proofs.ByteLemmas.{is_low, is_other, all-append, all-weak
 use Rattle.cookie_core.proofs.EscapeTextLemmas.{is_token}
 use Rattle.cookie_core.proofs.GraphicLemmas.{trim-same, drop_trailing-append}
 
--- ASCII but `;`
+-- visible ASCII or a space, but not `;`
 abbrev pub is_date_byte : ℕ → Bool
-is_date_byte b = is_low b && is_other 59 b
+is_date_byte b = nat_le 32 b && (nat_lt b 127 && is_other 59 b)
 
 token_is_date_byte : (b : ℕ) → is_token b ≡ true → is_date_byte b ≡ true
 token_is_date_byte b h = grind (arith, nat_tests)
@@ -71,7 +71,7 @@ year_passes : (y : ℤ) → signed_small y → list_all is_date_byte (signed_dec
 year_passes (pos n) h = all-weaker is_token is_date_byte token_is_date_byte (decimal n) (decimal_is_tokens n h)
 year_passes (negsuc n) h = all-weaker is_token is_date_byte token_is_date_byte (decimal (suc n)) (decimal_is_tokens (suc n) h)
 
-date_passes : (m : DateTime) → list_all is_date_byte (moment_text m) ≡ true
+pub date_passes : (m : DateTime) → list_all is_date_byte (moment_text m) ≡ true
 date_passes m =
     let p = is_date_byte in
     let day : m.date.day < 100 = omega (arith, m.date.day_in, day_bound m.date.year m.date.month) in

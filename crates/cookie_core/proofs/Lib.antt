@@ -12,6 +12,7 @@ pub mod ExpiryLemmas
 pub mod ExpiryTextLemmas
 pub mod GraphicLemmas
 pub mod HeaderLemmas
+pub mod JoinLemmas
 pub mod LawLemmas
 pub mod NormalFormLemmas
 pub mod NormalLemmas

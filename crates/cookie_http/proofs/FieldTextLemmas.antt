@@ -1,5 +1,6 @@
 -- The text of a cookie whose path and domain can stand in a field is UTF-8 and a field value (RFC 9110 5.5).
-use Rattle.std.proofs.Common.{◌≡◌, Bool, true, false, ℕ, ℤ, codes, List, [], ◌∷◌, ◌++◌, map, Option, Some, None, option_map, IfSome, IsTrue, refl}
+use Rattle.std.proofs.Common.{◌≡◌, Bool, true, false, ℕ, ℤ, arith, codes, List, [], ◌∷◌, ◌++◌, map, Option, Some, None, option_map, IfSome, IsTrue, refl}
+use Rattle.std.proofs.lemmas.Bool.Decides.{nat_tests}
 use Rattle.std.proofs.lemmas.List.Elements.{All-append}
 use Rattle.std.proofs.lemmas.Str.{IsUtf8-append}
 use Rattle.std.specs.FinMap.{entries}
@@ -19,10 +20,16 @@ use Rattle.cookie.specs.Text.{attribute_text, attributes_text, scope_text, place
 use Rattle.cookie.specs.Types.{AtDateTime, Expiration, Lax, NoSameSite, SameSite, Session, Strict}
 use Rattle.cookie.proofs.AgeTextLemmas.{age_is_tokens}
 use Rattle.cookie.proofs.ByteLemmas.{all-weaker}
+use Rattle.cookie.proofs.DateTextLemmas.{date_passes, is_date_byte}
 use Rattle.cookie.proofs.EscapeTextLemmas.{escape_is_tokens, is_token}
 use Rattle.cookie_client.specs.Client.{Values, header_text, pair_text}
 use Rattle.cookie_http.specs.Response.{FitsField}
-use Rattle.cookie_http.proofs.DateFieldLemmas.{date_is_shown, token_is_shown}
+
+token_is_shown : (b : ℕ) → is_token b ≡ true → is_visible_or_blank b ≡ true
+token_is_shown b h = grind (arith, nat_tests)
+
+date_byte_is_shown : (b : ℕ) → is_date_byte b ≡ true → is_visible_or_blank b ≡ true
+date_byte_is_shown b h = grind (arith, nat_tests)
 
 -- what holds of joined texts and of visible ASCII holds of a cookie's text, if it holds of the path and the domain
 module _ (P : List ℕ → Type 0) (join : (a b : List ℕ) → P a → P b → P (a ++ b)) (shown : (t : List ℕ) → IsVisibleAscii t → P t) where
@@ -54,7 +61,7 @@ module _ (P : List ℕ → Type 0) (join : (a b : List ℕ) → P a → P b → 
   age None h = tt
 
   expiry : (o : Option Expiration) → IfSome (expiry_text o) P
-  expiry (Some (AtDateTime m)) = written (moment_text m) (date_is_shown m)
+  expiry (Some (AtDateTime m)) = written (moment_text m) (all-weaker is_date_byte is_visible_or_blank date_byte_is_shown (moment_text m) (date_passes m))
   expiry (Some Session) = tt
   expiry None = tt
 

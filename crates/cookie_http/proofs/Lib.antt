@@ -1,6 +1,5 @@
 pub mod CarriedLemmas
-pub mod DateFieldLemmas
 pub mod FieldTextLemmas
-pub mod JoinLemmas
 pub mod ReadLemmas
+pub mod RequestLemmas
 pub mod ResponseLemmas

@@ -2,7 +2,7 @@ use Rattle.std.proofs.Common.{ap, sym, ◌∙◌}
 use Rattle.std.specs.List.{flat_map}
 use Rattle.cookie_client.specs.Originals.{with_originals}
 use Rattle.cookie_http.specs.Fields.{cookies_of}
-use Rattle.cookie_http.proofs.JoinLemmas.{cookie_header-fields, with_originals-more}
+use Rattle.cookie_http.proofs.RequestLemmas.{cookie_header-fields, with_originals-more}
 use Rattle.cookie_http.proofs.request.with_headers.Goals as goal
 
 pub loop-value-init : goal.loop-value-init

@@ -1,7 +1,7 @@
 use Rattle.std.proofs.Common.{IsUtf8, true, ap, sym, subst, ◌∙◌}
 use Rattle.cookie.specs.CookieOf.{header_cookies}
 use Rattle.cookie_client.specs.Originals.{with_originals}
-use Rattle.cookie_http.proofs.JoinLemmas.{no_cookies, text_cookies}
+use Rattle.cookie_http.proofs.RequestLemmas.{no_cookies, text_cookies}
 use Rattle.cookie_http.proofs.request.with_value.Goals as goal
 
 pub returns-in_ok-with_originals-in-Ok : goal.returns-in_ok-with_originals-in-Ok

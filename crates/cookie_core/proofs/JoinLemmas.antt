@@ -1,24 +1,16 @@
--- Fields that are read one after the other are read as one, joined by `; ` (RFC 9113 8.2.3).
-use Rattle.std.proofs.Common.{◌≡◌, ◌==◌, ◌<◌, Bool, true, false, cond, not, ℕ, List, [], ◌∷◌, ◌++◌, map, length, codes, refl, sym, ap, ◌∙◌, arith}
-use Rattle.std.proofs.lemmas.Bool.{false_from_ne_true}
+-- Headers that are joined by `; ` are read one after the other.
+use Rattle.std.proofs.Common.{◌≡◌, ◌==◌, ◌<◌, Bool, true, false, not, ℕ, List, [], ◌∷◌, ◌++◌, map, length, refl, sym, ap, ◌∙◌, arith}
 use Rattle.std.proofs.lemmas.List.{append-nil, map-append}
 use Rattle.std.proofs.lemmas.List.Elements.{filter-append, filter_map-append}
-use Rattle.std.proofs.lemmas.List.Folds.{flat_map-map}
 use Rattle.std.proofs.lemmas.List.Splits.{slice_split-cons_yes, slice_split-cons_no, length-slice_split}
-use Rattle.std.proofs.lemmas.Str.{chars-append, chars-IsAscii, is_utf8-from_IsUtf8, IsUtf8-from_ascii, IsUtf8-from_is_utf8}
+use Rattle.std.proofs.lemmas.Str.{chars-append, chars-IsAscii, IsUtf8-from_ascii}
 use Rattle.std.specs.List.{filter, filter_map, flat_map, onto_first, slice_split}
-use Rattle.std.specs.Str.{IsAscii, IsUtf8, chars, encode_utf8_all, is_utf8, skip_leading_whitespace, trim, trim_end, trim_start}
-use Rattle.http_header.specs.FieldValue.{FieldValue}
-use Rattle.http_header.specs.HeaderMap.{Entries, get_all}
-use Rattle.cookie.specs.CookieOf.{cookie_of, header_cookies}
-use Rattle.cookie.specs.Header.{joined_texts, kept_texts}
-use Rattle.cookie.specs.Jar.{AddOriginal, JarState, after}
-use Rattle.cookie.specs.Pieces.{pieces}
-use Rattle.cookie.specs.Record.{Record}
-use Rattle.cookie.proofs.ByteLemmas.{IsAscii-from_test}
-use Rattle.cookie.proofs.GraphicLemmas.{trim-graphic}
-use Rattle.cookie_client.specs.Originals.{with_originals}
-use Rattle.cookie_http.specs.Fields.{cookie_header, cookies_of}
+use Rattle.std.specs.Str.{IsAscii, chars, encode_utf8_all, skip_leading_whitespace, trim, trim_end, trim_start}
+use Rattle.cookie_core.specs.CookieOf.{cookie_of, header_cookies}
+use Rattle.cookie_core.specs.Header.{joined_texts, kept_texts}
+use Rattle.cookie_core.specs.Pieces.{pieces}
+use Rattle.cookie_core.proofs.ByteLemmas.{IsAscii-from_test}
+use Rattle.cookie_core.proofs.GraphicLemmas.{trim-graphic}
 
 module _ {X : Type 0} (p : X → Bool) where
   onto_more : (x : X) (parts others : List (List X)) → 0 < length parts → onto_first x (parts ++ others) ≡ onto_first x parts ++ others
@@ -89,33 +81,3 @@ header_cookies-joined [] = cookies_nothing
 header_cookies-joined (a ∷ []) = ap (header_cookies true) (append-nil a) ∙ sym (append-nil (header_cookies true a))
 header_cookies-joined (a ∷ b ∷ texts) =
     cookies_both a (joined_texts (b ∷ texts)) ∙ ap (λ cookies. header_cookies true a ++ cookies) (header_cookies-joined (b ∷ texts))
-
--- ---- the fields of a map
-
-kept_values : (values : List (List ℕ)) → flat_map (header_cookies true) (filter is_utf8 values) ≡ flat_map cookies_of values
-kept_values [] = refl
-kept_values (value ∷ values) = by (is_utf8 value) (kept_values values)
-  where
-    by : (b : Bool) → flat_map (header_cookies true) (filter is_utf8 values) ≡ flat_map cookies_of values
-        → flat_map (header_cookies true) (cond b (value ∷ filter is_utf8 values) (filter is_utf8 values)) ≡ cond b (header_cookies true value) [] ++ flat_map cookies_of values
-    by true later = ap (λ cookies. header_cookies true value ++ cookies) later
-    by false later = later
-
--- the cookies of a field that is UTF-8
-pub text_cookies : (value : List ℕ) → IsUtf8 value → header_cookies true value ≡ cookies_of value
-text_cookies value utf8 = sym (ap (λ b. cond b (header_cookies true value) []) (is_utf8-from_IsUtf8 value utf8))
-
--- and of another
-pub no_cookies : (value : List ℕ) → ¬ (IsUtf8 value) → [] ≡ cookies_of value
-no_cookies value bad = sym (ap (λ b. cond b (header_cookies true value) []) (false_from_ne_true (is_utf8 value) (λ e. bad (IsUtf8-from_is_utf8 value e))))
-
--- the cookies of a request's fields are those of each field, in order
-pub cookie_header-fields : (m : Entries FieldValue) → header_cookies true (cookie_header m) ≡ flat_map (λ v. cookies_of v.bytes) (get_all m (codes "cookie"))
-cookie_header-fields m =
-    let values = get_all m (codes "cookie") in
-    header_cookies-joined (filter is_utf8 (map (λ v. v.bytes) values)) ∙ kept_values (map (λ v. v.bytes) values) ∙ flat_map-map cookies_of (λ v. v.bytes) values
-
--- the first cookies, and then the others
-pub with_originals-more : (first later : List Record) (jar : JarState) → with_originals later (with_originals first jar) ≡ with_originals (first ++ later) jar
-with_originals-more [] later jar = refl
-with_originals-more (cookie ∷ first) later jar = with_originals-more first later (after (AddOriginal cookie) jar)
