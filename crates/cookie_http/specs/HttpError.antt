@@ -6,10 +6,10 @@ use Rattle.cookie_http.specs.declared.http_error.HttpError.{HttpError}
 use Rattle.cookie_http.specs.declared.http_error.HttpError.TheVariants as refusal
 
 -- the text of a refusal
-abbrev pub refusal_text : HttpError → List ℕ
-refusal_text refusal.OutOfMemory = codes "out of memory"
-refusal_text refusal.InvalidValue = codes "a cookie's path or domain is no field value"
-refusal_text refusal.TooManyFields = codes "too many header fields"
+abbrev pub http_refusal_text : HttpError → List ℕ
+http_refusal_text refusal.OutOfMemory = codes "out of memory"
+http_refusal_text refusal.InvalidValue = codes "a cookie's path or domain is no field value"
+http_refusal_text refusal.TooManyFields = codes "too many header fields"
 
 -- a header map's refusal, as one of carrying cookies
 abbrev pub refusal_of : HeaderMapError → HttpError

@@ -21,9 +21,9 @@ pub enum HttpError {
 
 impl fmt::Display for HttpError {
     ghost use Rattle.std.specs.Prelude.{Some};
-    ghost use Rattle.cookie_http.specs.HttpError.{refusal_text};
+    ghost use Rattle.cookie_http.specs.HttpError.{http_refusal_text};
 
-    ghost output = { λ e. Some (refusal_text e) };
+    ghost output = { λ e. Some (http_refusal_text e) };
 
     fn fmt<W: fmt::Write>(&self, f: &mut fmt::Formatter<W>) -> fmt::Result {
         f.write_str(match self {
