@@ -15,7 +15,8 @@ IsRefusedFor t _ = ⊥
 
 -- or decoding the name n and the value v
 abbrev pub IsRefusedForPair : List ℕ → List ℕ → ParseError → Type 0
-IsRefusedForPair n v (refusal.Utf8Error e) = IsFaultOf (blamed_text n v) (valid_up_to e) (error_len e)
+IsRefusedForPair n v (refusal.Utf8Error e) =
+    IsFaultOf (blamed_text n v) (valid_up_to e) (error_len e)
 IsRefusedForPair n v refusal.OutOfMemory = Unit {0}
 IsRefusedForPair n v _ = ⊥
 

@@ -22,7 +22,8 @@ AreSameTexts texts others = All (Contains others) texts × All (Contains texts) 
 -- What came of calls over header maps.
 pub record IsCarried (now : DateTime) (calls : List JarCall) (e : Exchanged) : Type 0 where
   -- the jar and the client are those of `mirror`: the client held each name's last original
-  pub exchange : IsExchange now empty_jar (holds_originals (changes_by calls e.played)) calls e.played
+  pub exchange : IsExchange now empty_jar (holds_originals (changes_by calls e.played))
+      calls e.played
   -- the response has one `Set-Cookie` field for each cookie of the jar's delta, and no other field
   pub response : AddsDelta e.played.jar.delta [] e.response
   -- the client is the one before that read these fields, in any order and with any repetition

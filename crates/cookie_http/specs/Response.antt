@@ -15,7 +15,8 @@ with_set_cookies texts m = append_all m (map (λ text. (codes "set-cookie", plai
 
 -- the cookies of a delta, each once, in any order
 abbrev pub WalksDelta : FinMap name_cmp Marked → List Record → Type 0
-WalksDelta delta cookies = Walks (λ name. option_map (λ entry. entry.cookie) (get delta name)) cookies
+WalksDelta delta cookies =
+    Walks (λ name. option_map (λ entry. entry.cookie) (get delta name)) cookies
 
 -- the second map is the first with one more `Set-Cookie` field for each cookie of the delta
 pub record AddsDelta (delta : FinMap name_cmp Marked) (old new : Entries FieldValue) : Type 0 where
@@ -33,12 +34,16 @@ pub record FitsField (cookie : Record) : Type 0 where
 
 -- each cookie of the delta does
 abbrev pub AllFitFields : FinMap name_cmp Marked → Type 0
-AllFitFields delta = (name : Name) (entry : Marked) → get delta name ≡ Some entry → FitsField entry.cookie
+AllFitFields delta =
+    (name : Name) (entry : Marked) → get delta name ≡ Some entry → FitsField entry.cookie
 
 -- the map has as many names as it can count, and no `Set-Cookie` field, or it can't count so many more values
 abbrev pub LacksRoom : ℕ → Entries FieldValue → Type 0
-LacksRoom n m = (¬ (ContainsKey m (codes "set-cookie")) × (24576 ≤ length m)) ⊎ (2 ^ 64 ≤ value_count m + n)
+LacksRoom n m =
+    (¬ (ContainsKey m (codes "set-cookie")) × (24576 ≤ length m))
+    ⊎ (2 ^ 64 ≤ value_count m + n)
 
 -- it has no room for the cookies of the delta
 abbrev pub LacksRoomFor : FinMap name_cmp Marked → Entries FieldValue → Type 0
-LacksRoomFor delta m = (cookies : List Record) × WalksDelta delta cookies × LacksRoom (length cookies) m
+LacksRoomFor delta m =
+    (cookies : List Record) × WalksDelta delta cookies × LacksRoom (length cookies) m
