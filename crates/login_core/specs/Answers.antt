@@ -23,12 +23,14 @@ use Rattle.login_core.specs.declared.visitor.Visitor.{Visitor}
 -- the request asks for the home page, and carries a cookie that is sealed for the user under the key
 abbrev pub IsGreeted : Site → Request → List ℕ → Type 0
 IsGreeted site request user =
-    (route_of request.method.now request.path.now ≡ Ok Home) × IsLoggedIn site (jar_for request.cookies.now) user
+    (route_of request.method.now request.path.now ≡ Ok Home)
+    × IsLoggedIn site (jar_for request.cookies.now) user
 
 -- the home page shows what the cookies say, and the jar is changed by that
 abbrev pub Shows : Site → DateTime → JarState → Page → JarState → Type 0
 Shows site now before page after =
-    (visitor : Visitor) × IsVisitor site before visitor × (page ≡ ShowHome visitor) × (after ≡ shown site now visitor before)
+    (visitor : Visitor) × IsVisitor site before visitor × (page ≡ ShowHome visitor)
+    × (after ≡ shown site now visitor before)
 
 -- the request is refused, and the jar stays
 abbrev pub Refuses : Refusal → JarState → Page → JarState → Type 0
@@ -41,7 +43,8 @@ Admits IsDrawn site user before page after =
     × (after ≡ logged_in site nonce user before)
 
 -- a form to log in is answered: a user whose password is right is logged in
-abbrev pub LogsIn : (List ℕ → Type 0) → Site → Option (List ℕ × List ℕ) → JarState → Page → JarState → Type 0
+abbrev pub LogsIn : (List ℕ → Type 0) → Site → Option (List ℕ × List ℕ)
+    → JarState → Page → JarState → Type 0
 LogsIn IsDrawn site None before page after = Refuses BadRequest before page after
 LogsIn IsDrawn site (Some (user, password)) before page after =
     MatchBool (is_known user password site.users.now) (Admits IsDrawn site user before page after)
@@ -52,8 +55,8 @@ abbrev pub LogsOut : Site → DateTime → JarState → Page → JarState → Ty
 LogsOut site now before page after = (page ≡ Moved) × (after ≡ logged_out site now before)
 
 -- what the route of a request makes of the jar and shows
-abbrev pub Answers : (List ℕ → Type 0) → Site → Request → DateTime → JarState → Result Route Refusal → Page → JarState
-    → Type 0
+abbrev pub Answers : (List ℕ → Type 0) → Site → Request → DateTime
+    → JarState → Result Route Refusal → Page → JarState → Type 0
 Answers IsDrawn site request now before (Ok Home) page after = Shows site now before page after
 Answers IsDrawn site request now before (Ok LogIn) page after =
     LogsIn IsDrawn site (credentials_of request.form.now) before page after

@@ -14,11 +14,15 @@ use Rattle.login_core.specs.declared.visitor.Visitor.{Visitor}
 
 -- the user is stored, sealed under the key
 abbrev pub seals : Site → List ℕ → List ℕ → JarState → JarState
-seals site nonce user jar = after (Add (sealed_cookie (encryption_half site.key.now) nonce (kept site.is_secure User user))) jar
+seals site nonce user jar =
+    after
+    (Add (sealed_cookie (encryption_half site.key.now) nonce (kept site.is_secure User user)))
+    jar
 
 -- a text is stored, signed under the key
 abbrev pub signs : Site → SiteCookie → List ℕ → JarState → JarState
-signs site which text jar = after (Add (signed_cookie (signing_half site.key.now) (kept site.is_secure which text))) jar
+signs site which text jar =
+    after (Add (signed_cookie (signing_half site.key.now) (kept site.is_secure which text))) jar
 
 -- a cookie is removed, with what it was set with
 abbrev pub removes : Site → DateTime → SiteCookie → JarState → JarState
@@ -26,11 +30,13 @@ removes site now which jar = after (Remove (kept site.is_secure which []) now) j
 
 -- the message was shown, if there was one
 abbrev pub without_notice : Site → DateTime → Visitor → JarState → JarState
-without_notice site now visitor jar = if is_some visitor.notice then removes site now Notice jar else jar
+without_notice site now visitor jar =
+    if is_some visitor.notice then removes site now Notice jar else jar
 
 -- the user was greeted, if there is one
 abbrev pub counted : Site → Visitor → JarState → JarState
-counted site visitor jar = if is_some visitor.user then signs site Visits (decimal visitor.visits) jar else jar
+counted site visitor jar =
+    if is_some visitor.user then signs site Visits (decimal visitor.visits) jar else jar
 
 -- the home page was shown
 abbrev pub shown : Site → DateTime → Visitor → JarState → JarState
@@ -38,7 +44,8 @@ shown site now visitor jar = counted site visitor (without_notice site now visit
 
 -- the user logged in
 abbrev pub logged_in : Site → List ℕ → List ℕ → JarState → JarState
-logged_in site nonce user jar = signs site Notice (codes "You are logged in.") (seals site nonce user jar)
+logged_in site nonce user jar =
+    signs site Notice (codes "You are logged in.") (seals site nonce user jar)
 
 -- the user and the number of greetings are removed
 abbrev pub forgets : Site → DateTime → JarState → JarState

@@ -7,12 +7,14 @@ use Rattle.form_urlencoded.specs.Form.{decode, raw_pairs}
 use Rattle.login_core.specs.declared.form.Credentials.{Credentials}
 
 -- the text that the bytes of a name or a value stand for
-abbrev pub text_of : List ℕ → List ℕ
-text_of bytes = utf8_lossy (decode bytes)
+abbrev pub form_text : List ℕ → List ℕ
+form_text bytes = utf8_lossy (decode bytes)
 
 -- the value of the first of these fields that has the name
 abbrev pub value_in : List ℕ → List (List ℕ × List ℕ) → Option (List ℕ)
-value_in name fields = option_map (λ field. text_of field.1) (find (λ field. bytes_eq (text_of field.0) name) fields)
+value_in name fields =
+    option_map (λ field. form_text field.1)
+    (find (λ field. bytes_eq (form_text field.0) name) fields)
 
 -- the value of the form's first field of that name
 abbrev pub field_of : List ℕ → List ℕ → Option (List ℕ)
@@ -29,5 +31,5 @@ abbrev pub credentials_of : List ℕ → Option (List ℕ × List ℕ)
 credentials_of form = both (field_of (codes "user") form) (field_of (codes "password") form)
 
 -- they, as texts
-abbrev pub pair_of : Credentials → List ℕ × List ℕ
-pair_of found = (string_bytes found.user, string_bytes found.password)
+abbrev pub credential_texts : Credentials → List ℕ × List ℕ
+credential_texts found = (string_bytes found.user, string_bytes found.password)

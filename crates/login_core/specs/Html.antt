@@ -13,8 +13,12 @@ use Rattle.login_core.specs.declared.visitor.Visitor.{Visitor}
 -- character references (13.1.4), and each other byte as it is
 abbrev pub escape : ℕ → List ℕ
 escape b =
-    if b == 38 then codes "&amp;" else (if b == 60 then codes "&lt;" else (if b == 62 then codes "&gt;"
-    else (if b == 34 then codes "&quot;" else (if b == 39 then codes "&#x27;" else b ∷ []))))
+    if b == 38 then codes "&amp;"
+    else if b == 60 then codes "&lt;"
+    else if b == 62 then codes "&gt;"
+    else if b == 34 then codes "&quot;"
+    else if b == 39 then codes "&#x27;"
+    else b ∷ []
 
 -- a text from outside, escaped
 abbrev pub escaped : List ℕ → List ℕ
@@ -54,7 +58,8 @@ user_html base (Some user) visits = greeting_html base user visits
 -- the home page
 abbrev pub home_html : List ℕ → Visitor → List ℕ
 home_html base visitor =
-    notice_html (option_map string_bytes visitor.notice) ++ user_html base (option_map string_bytes visitor.user) visitor.visits
+    notice_html (option_map string_bytes visitor.notice)
+    ++ user_html base (option_map string_bytes visitor.user) visitor.visits
 
 -- a refusal in words
 abbrev pub reason_html : Refusal → List ℕ

@@ -35,5 +35,5 @@ head_of base response =
     ++ flat_map (λ c. cookie_line (string_bytes c)) response.cookies.items ++ codes "\r\n"
 
 -- the response
-abbrev pub text_of : List ℕ → Response → List ℕ
-text_of base response = head_of base response ++ html_of base response.page
+abbrev pub response_text : List ℕ → Response → List ℕ
+response_text base response = head_of base response ++ html_of base response.page

@@ -13,7 +13,8 @@ by_method wanted refusal page method = if bytes_eq method wanted then Ok page el
 -- `GET /`, `POST /login` and `POST /logout`
 abbrev pub route_of : List ℕ → List ℕ → Result Route Refusal
 route_of method path =
-    if bytes_eq path [] || bytes_eq path (codes "/") then by_method (codes "GET") OnlyGet Home method
-    else (if bytes_eq path (codes "/login") then by_method (codes "POST") OnlyPost LogIn method
-    else (if bytes_eq path (codes "/logout") then by_method (codes "POST") OnlyPost LogOut method
-    else Err NotFound))
+    if bytes_eq path [] || bytes_eq path (codes "/")
+    then by_method (codes "GET") OnlyGet Home method
+    else if bytes_eq path (codes "/login") then by_method (codes "POST") OnlyPost LogIn method
+    else if bytes_eq path (codes "/logout") then by_method (codes "POST") OnlyPost LogOut method
+    else Err NotFound

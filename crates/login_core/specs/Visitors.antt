@@ -15,16 +15,21 @@ use Rattle.login_core.specs.declared.visitor.Visitor.{Visitor}
 -- the jar shows a cookie of the site whose value is signed for this text under the key
 abbrev pub HasSigned : Site → JarState → SiteCookie → List ℕ → Type 0
 HasSigned site jar which text =
-    IsStoredFor (IsSigningOf (signing_half site.key.now)) (view jar (name_of site.is_secure which)) text
+    IsStoredFor (IsSigningOf (signing_half site.key.now))
+    (view jar (name_of site.is_secure which)) text
 
 -- the jar shows a cookie whose value is sealed for the user under the key
 abbrev pub IsLoggedIn : Site → JarState → List ℕ → Type 0
 IsLoggedIn site jar user =
-    IsStoredFor (IsSealingOf (encryption_half site.key.now)) (view jar (name_of site.is_secure User)) user
+    IsStoredFor (IsSealingOf (encryption_half site.key.now))
+    (view jar (name_of site.is_secure User)) user
 
 -- the visitor is as the jar's cookies say
 pub record IsVisitor (site : Site) (jar : JarState) (visitor : Visitor) : Type 0 where
-  pub user : (user : List ℕ) → (option_map string_bytes visitor.user ≡ Some user) ↔ IsLoggedIn site jar user
+  pub user : (user : List ℕ)
+      → (option_map string_bytes visitor.user ≡ Some user) ↔ IsLoggedIn site jar user
   -- one more greeting than the client was told of
-  pub visits : (before : ℕ) → before + 1 < 2 ^ 64 → HasSigned site jar Visits (decimal before) → visitor.visits ≡ before + 1
-  pub notice : (text : List ℕ) → (option_map string_bytes visitor.notice ≡ Some text) ↔ HasSigned site jar Notice text
+  pub visits : (before : ℕ) → before + 1 < 2 ^ 64
+      → HasSigned site jar Visits (decimal before) → visitor.visits ≡ before + 1
+  pub notice : (text : List ℕ)
+      → (option_map string_bytes visitor.notice ≡ Some text) ↔ HasSigned site jar Notice text

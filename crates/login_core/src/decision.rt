@@ -4,7 +4,7 @@ ghost use Rattle.cookie.specs.Jar.{JarState};
 ghost use Rattle.cookie_client.specs.Agreement.{AreDeltaTexts};
 ghost use Rattle.cookie_client.specs.Originals.{jar_for};
 ghost use Rattle.login_core.specs.Answers.{Answers, IsGreeted, LogsIn, LogsOut, Shows};
-ghost use Rattle.login_core.specs.Forms.{credentials_of, pair_of};
+ghost use Rattle.login_core.specs.Forms.{credentials_of, credential_texts};
 ghost use Rattle.login_core.specs.Pages.{greeted};
 ghost use Rattle.login_core.specs.Routes.{route_of};
 
@@ -126,7 +126,7 @@ fn admit<R: TryRng>(
     rng: &mut R,
 ) -> Result<Page, JarError>
     ensures { IfOk result (λ page. LogsIn (λ nonce. R.may_fill rng.old nonce rng.new)
-        site.now (Some (pair_of found.now)) jar.old page jar.new) }
+        site.now (Some (credential_texts found.now)) jar.old page jar.new) }
 {
     let user = found.user.as_str();
     if !is_known(site.users, user, found.password.as_str()) {

@@ -1,7 +1,7 @@
 //! The fields of a form (URL Standard 5.1).
 ghost use Rattle.std.specs.Prelude.{◌≡◌, IfOk, option_map, string_bytes};
 ghost use Rattle.std.specs.Str.{bytes_eq};
-ghost use Rattle.login_core.specs.Forms.{credentials_of, field_of, pair_of, text_of};
+ghost use Rattle.login_core.specs.Forms.{credentials_of, field_of, credential_texts, form_text};
 
 use form_urlencoded::{decode, raw_pairs};
 use std::alloc::{AllocError, Global};
@@ -20,7 +20,7 @@ pub struct Credentials {
 ///
 /// Fails for want of memory alone.
 pub fn read_credentials(alloc: Global, form: &[u8]) -> Result<Option<Credentials>, AllocError>
-    ensures { IfOk result (λ found. option_map pair_of found ≡ credentials_of form.now) }
+    ensures { IfOk result (λ found. option_map credential_texts found ≡ credentials_of form.now) }
 {
     let user = field(alloc, form, "user")?;
     let password = field(alloc, form, "password")?;
@@ -36,7 +36,7 @@ fn field(alloc: Global, form: &[u8], name: &str) -> Result<Option<String>, Alloc
 {
     for (key, value) in raw_pairs(form) {
         if stands_for(alloc, key, name)? {
-            let text = decoded(alloc, value)?;
+            let text = form_text(alloc, value)?;
             return Ok(Some(text));
         }
     }
@@ -45,15 +45,15 @@ fn field(alloc: Global, form: &[u8], name: &str) -> Result<Option<String>, Alloc
 
 // Whether these bytes stand for the text.
 fn stands_for(alloc: Global, bytes: &[u8], text: &str) -> Result<bool, AllocError>
-    ensures { IfOk result (λ is_text. is_text ≡ bytes_eq (text_of bytes.now) text.now) }
+    ensures { IfOk result (λ is_text. is_text ≡ bytes_eq (form_text bytes.now) text.now) }
 {
-    let found = decoded(alloc, bytes)?;
+    let found = form_text(alloc, bytes)?;
     Ok(found.as_str() == text)
 }
 
 // The text that these bytes stand for.
-fn decoded(alloc: Global, bytes: &[u8]) -> Result<String, AllocError>
-    ensures { IfOk result (λ text. string_bytes text ≡ text_of bytes.now) }
+fn form_text(alloc: Global, bytes: &[u8]) -> Result<String, AllocError>
+    ensures { IfOk result (λ text. string_bytes text ≡ form_text bytes.now) }
 {
     decode(alloc, bytes)?.into_owned(alloc)
 }

@@ -1,7 +1,7 @@
 //! A response, and its text.
 ghost use Rattle.std.specs.Prelude.{◌≡◌, ◌++◌, IfOk, OnOk, string_bytes};
 ghost use Rattle.std.specs.List.{flat_map};
-ghost use Rattle.login_core.specs.Responses.{cookie_line, head_of, place_line, status_line, text_of};
+ghost use Rattle.login_core.specs.Responses.{cookie_line, head_of, place_line, status_line, response_text};
 
 use crate::markup::html;
 use crate::page::Page;
@@ -37,7 +37,7 @@ impl Response {
     ///
     /// Fails for want of memory alone.
     pub fn text(&self, alloc: Global, base: &str) -> Result<Vec<u8>, AllocError>
-        ensures { IfOk result (λ text. text.items ≡ text_of base.now self.now) }
+        ensures { IfOk result (λ text. text.items ≡ response_text base.now self.now) }
     {
         let mut text = self.head(alloc, base)?;
         let page = html(alloc, base, &self.page)?;
