@@ -24,14 +24,17 @@ pub record IsRefused (why : Status) (answer : Answer) (old new : List ℕ) : Typ
 
 -- the text is given, or memory was wanting
 abbrev pub IsGivenInMemory : List ℕ → Answer → List ℕ → List ℕ → Type 0
-IsGivenInMemory text answer old new = IsGiven text answer old new ⊎ IsRefused status.OutOfMemory answer old new
+IsGivenInMemory text answer old new =
+    IsGiven text answer old new ⊎ IsRefused status.OutOfMemory answer old new
 
 -- the call is refused, or memory was wanting
 abbrev pub IsRefusedInMemory : Status → Answer → List ℕ → List ℕ → Type 0
-IsRefusedInMemory why answer old new = IsRefused why answer old new ⊎ IsRefused status.OutOfMemory answer old new
+IsRefusedInMemory why answer old new =
+    IsRefused why answer old new ⊎ IsRefused status.OutOfMemory answer old new
 
 -- A value is given that the text stands for, or there is none and the call is refused, or memory was wanting.
 abbrev pub IsReadBack : (List ℕ → Type 0) → Status → Answer → List ℕ → List ℕ → Type 0
 IsReadBack StandsFor why answer old new =
     ((value : List ℕ) × StandsFor value × IsGiven value answer old new)
-    ⊎ ((((value : List ℕ) → ¬ StandsFor value) × IsRefused why answer old new) ⊎ IsRefused status.OutOfMemory answer old new)
+    ⊎ ((((value : List ℕ) → ¬ StandsFor value) × IsRefused why answer old new)
+    ⊎ IsRefused status.OutOfMemory answer old new)

@@ -11,7 +11,15 @@ use Rattle.cookie_c.specs.declared.status.Status.TheVariants as status
 -- the answer of a call that has no date
 abbrev pub refused_moment : Status → Moment
 refused_moment why =
-    record { status = code_of why; year = pos 0; month = pos 0; day = pos 0; hour = pos 0; minute = pos 0; second = pos 0 }
+    record {
+      status = code_of why;
+      year = pos 0;
+      month = pos 0;
+      day = pos 0;
+      hour = pos 0;
+      minute = pos 0;
+      second = pos 0;
+    }
 
 -- the numbers of a date and time, without the fraction of a second
 abbrev pub told_moment : DateTime → Moment
@@ -33,4 +41,5 @@ moment_or_refusal (Some moment) = told_moment moment
 
 -- what a text is read as
 abbrev pub moment_in : List ℕ → Moment
-moment_in text = if is_utf8 text then moment_or_refusal (date_of text) else refused_moment status.NotUtf8
+moment_in text =
+    if is_utf8 text then moment_or_refusal (date_of text) else refused_moment status.NotUtf8

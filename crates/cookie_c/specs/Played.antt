@@ -16,7 +16,8 @@ IsFault (BadLine line) answer = IsTold status.BadLine line answer
 -- the session's text is given, or its fault told, or memory was wanting
 abbrev pub IsSession : Result (List ℕ) Fault → Answer → List ℕ → List ℕ → Type 0
 IsSession (Ok text) answer old new = IsGivenInMemory text answer old new
-IsSession (Err fault) answer old new = (IsFault fault answer × (new ≡ old)) ⊎ IsRefused status.OutOfMemory answer old new
+IsSession (Err fault) answer old new =
+    (IsFault fault answer × (new ≡ old)) ⊎ IsRefused status.OutOfMemory answer old new
 
 -- the refusal is the session's fault, or want of memory
 abbrev pub IsPlayedFor : Result (List ℕ) Fault → RunError → Type 0
