@@ -16,7 +16,7 @@ pub struct Answer {
 
 impl Answer {
     // This status and number.
-    pub(crate) fn told(status: Status, length: usize) -> Answer
+    pub(crate) fn of(status: Status, length: usize) -> Answer
         ensures { IsTold status length result }
     {
         Answer {
@@ -29,7 +29,7 @@ impl Answer {
     pub(crate) fn refusal(why: Status) -> Answer
         ensures { IsTold why 0 result }
     {
-        Answer::told(why, 0)
+        Answer::of(why, 0)
     }
 
     // The text, for the buffer.
@@ -38,9 +38,9 @@ impl Answer {
     {
         let length = text.len();
         if out.len() < length {
-            return Answer::told(Status::BufferTooShort, length);
+            return Answer::of(Status::BufferTooShort, length);
         }
         out[..length].copy_from_slice(text);
-        Answer::told(Status::Done, length)
+        Answer::of(Status::Done, length)
     }
 }

@@ -72,7 +72,7 @@ pub extern "C" fn cookie_open(
         status.NotSealed result out.old out.new }
 {
     match Keyed::of(key, name, text) {
-        Ok(keyed) => match opened(alloc, &keyed) {
+        Ok(keyed) => match opened_cookie(alloc, &keyed) {
             Ok(Some(cookie)) => Answer::give(cookie.value().as_bytes(), out),
             Ok(None) => Answer::refusal(Status::NotSealed),
             Err(_) => Answer::refusal(Status::OutOfMemory),
@@ -96,7 +96,7 @@ fn give_sealed(alloc: Global, keyed: &Keyed<'_>, nonce: &[u8], out: &mut [u8]) -
     }
     let mut copy = [0; 12];
     copy.copy_from_slice(nonce);
-    match sealed(alloc, keyed, copy) {
+    match sealed_jar(alloc, keyed, copy) {
         Ok(jar) => give_value(&jar, keyed.name, out),
         Err(JarError::TooLong) => Answer::refusal(Status::TooLong),
         Err(JarError::OutOfMemory | JarError::Generator) => Answer::refusal(Status::OutOfMemory),
@@ -105,7 +105,7 @@ fn give_sealed(alloc: Global, keyed: &Keyed<'_>, nonce: &[u8], out: &mut [u8]) -
 
 // A jar that has the cookie, sealed.
 #[tactic(auto, using(crate::proofs::StoredLemmas::value_stored))]
-fn sealed(alloc: Global, keyed: &Keyed<'_>, nonce: [u8; 12]) -> Result<CookieJar, JarError>
+fn sealed_jar(alloc: Global, keyed: &Keyed<'_>, nonce: [u8; 12]) -> Result<CookieJar, JarError>
     ensures sealed { IsSealable keyed.now.name.now keyed.now.text.now
         → Gives refusal.OutOfMemory result (λ jar.
         option_map (λ c. c.value) (view jar keyed.now.name.now)
@@ -121,7 +121,7 @@ fn sealed(alloc: Global, keyed: &Keyed<'_>, nonce: [u8; 12]) -> Result<CookieJar
 }
 
 // The cookie with the value that the text is a sealing of, if it is one.
-fn opened(alloc: Global, keyed: &Keyed<'_>) -> Result<Option<Cookie<'static>>, JarError>
+fn opened_cookie(alloc: Global, keyed: &Keyed<'_>) -> Result<Option<Cookie<'static>>, JarError>
     ensures { Gives refusal.OutOfMemory result (λ answer.
         AnswersExactly (IsSealingOf (encryption_half keyed.now.key))
         (Some (plain keyed.now.name.now keyed.now.text.now))

@@ -52,11 +52,11 @@ pub extern "C" fn cookie_run(
     let Ok(moment) = str::from_utf8(moment) else {
         return Answer::refusal(Status::BadMoment);
     };
-    match played(alloc, &Seed::of(seed, other_seed), moment, input) {
+    match session_text(alloc, &Seed::of(seed, other_seed), moment, input) {
         Ok(text) => Answer::give(text.as_slice(), out),
         Err(RunError::BadMoment) => Answer::refusal(Status::BadMoment),
         Err(RunError::BadInput) => Answer::refusal(Status::NotUtf8),
-        Err(RunError::BadLine(line)) => Answer::told(Status::BadLine, line),
+        Err(RunError::BadLine(line)) => Answer::of(Status::BadLine, line),
         Err(RunError::OutOfMemory | RunError::Input | RunError::Output) => {
             Answer::refusal(Status::OutOfMemory)
         }
@@ -64,7 +64,7 @@ pub extern "C" fn cookie_run(
 }
 
 // The session's text.
-fn played(alloc: Global, seed: &Seed, moment: &str, input: &[u8]) -> Result<Vec<u8>, RunError>
+fn session_text(alloc: Global, seed: &Seed, moment: &str, input: &[u8]) -> Result<Vec<u8>, RunError>
     ensures { MatchResult result
         (λ text. session moment.now input.now ≡ Ok text.items)
         (IsPlayedFor (session moment.now input.now)) }

@@ -38,7 +38,7 @@ pub extern "C" fn cookie_sign(
         result out.old out.new }
 {
     match Keyed::of(key, name, value) {
-        Ok(keyed) => match signed(alloc, &keyed) {
+        Ok(keyed) => match signed_jar(alloc, &keyed) {
             Ok(jar) => give_value(&jar, keyed.name, out),
             Err(_) => Answer::refusal(Status::OutOfMemory),
         },
@@ -66,7 +66,7 @@ pub extern "C" fn cookie_verify(
         status.NotSigned result out.old out.new }
 {
     match Keyed::of(key, name, text) {
-        Ok(keyed) => match verified(alloc, &keyed) {
+        Ok(keyed) => match verified_cookie(alloc, &keyed) {
             Ok(Some(cookie)) => Answer::give(cookie.value().as_bytes(), out),
             Ok(None) => Answer::refusal(Status::NotSigned),
             Err(_) => Answer::refusal(Status::OutOfMemory),
@@ -77,7 +77,7 @@ pub extern "C" fn cookie_verify(
 
 // A jar that has the cookie, signed.
 #[tactic(auto, using(crate::proofs::StoredLemmas::value_stored))]
-fn signed(alloc: Global, keyed: &Keyed<'_>) -> Result<CookieJar, JarError>
+fn signed_jar(alloc: Global, keyed: &Keyed<'_>) -> Result<CookieJar, JarError>
     ensures { Gives refusal.OutOfMemory result (λ jar.
         option_map (λ c. c.value) (view jar keyed.now.name.now)
         ≡ Some (signing (signing_half keyed.now.key) keyed.now.name.now keyed.now.text.now)) }
@@ -89,7 +89,7 @@ fn signed(alloc: Global, keyed: &Keyed<'_>) -> Result<CookieJar, JarError>
 }
 
 // The cookie with the value that the text is the signing of, if it is one.
-fn verified(alloc: Global, keyed: &Keyed<'_>) -> Result<Option<Cookie<'static>>, JarError>
+fn verified_cookie(alloc: Global, keyed: &Keyed<'_>) -> Result<Option<Cookie<'static>>, JarError>
     ensures { Gives refusal.OutOfMemory result (λ answer.
         AnswersExactly (IsSigningOf (signing_half keyed.now.key))
         (Some (plain keyed.now.name.now keyed.now.text.now))

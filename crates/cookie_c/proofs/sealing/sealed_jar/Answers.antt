@@ -4,7 +4,7 @@ use Rattle.cookie.specs.Keys.{encryption_half}
 use Rattle.cookie.specs.Record.{plain}
 use Rattle.cookie.specs.Sealing.{sealed_cookie}
 use Rattle.cookie_c.proofs.StoredLemmas.{value_stored}
-use Rattle.cookie_c.proofs.sealing.sealed.Goals as goal
+use Rattle.cookie_c.proofs.sealing.sealed_jar.Goals as goal
 
 pub returns-clause-sealed : goal.returns-clause-sealed
 returns-clause-sealed c = λ _.

@@ -4,7 +4,7 @@ use Rattle.cookie.specs.Keys.{signing_half}
 use Rattle.cookie.specs.Record.{plain}
 use Rattle.cookie.specs.Signing.{signed_cookie}
 use Rattle.cookie_c.proofs.StoredLemmas.{value_stored}
-use Rattle.cookie_c.proofs.signing.signed.Goals as goal
+use Rattle.cookie_c.proofs.signing.signed_jar.Goals as goal
 
 pub returns : goal.returns
 returns c =
