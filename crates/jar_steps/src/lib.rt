@@ -4,7 +4,7 @@
 mod rows;
 mod steps;
 
-pub use rows::{counts, moment, shown, test_key};
+pub use rows::{counts, moment, shown_value, test_key};
 pub use steps::{Step, after, first_wrong};
 
 #[cfg(test)]

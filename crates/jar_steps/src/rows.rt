@@ -21,7 +21,7 @@ pub fn test_key() -> Key {
 }
 
 /// The value that the jar shows under a name.
-pub fn shown<'a>(jar: &'a CookieJar, name: &str) -> Option<&'a str> {
+pub fn shown_value<'a>(jar: &'a CookieJar, name: &str) -> Option<&'a str> {
     Some(jar.get(name)?.value())
 }
 

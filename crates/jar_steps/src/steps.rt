@@ -1,4 +1,4 @@
-use crate::rows::{counts, moment, shown};
+use crate::rows::{counts, moment, shown_value};
 use cookie::{Cookie, CookieJar};
 use std::alloc::Global;
 use std::test::Fail;
@@ -31,8 +31,8 @@ impl Step {
             Step::ResetDelta => jar.reset_delta(),
             Step::Counts(changes, shown) => return Ok(counts(jar) == (changes, shown)),
             Step::DeltaCounts(all, valued) => return Ok(delta_counts(jar) == (all, valued)),
-            Step::Shows(name, value) => return Ok(shown(jar, name) == Some(value)),
-            Step::Lacks(name) => return Ok(shown(jar, name).is_none()),
+            Step::Shows(name, value) => return Ok(shown_value(jar, name) == Some(value)),
+            Step::Lacks(name) => return Ok(shown_value(jar, name).is_none()),
         }
         Ok(true)
     }

@@ -7,14 +7,14 @@ mod refusals;
 mod signed;
 
 use cookie::{Cookie, CookieBuilder, CookieJar, Expiration, SameSite};
-use jar_steps::shown;
+use jar_steps::shown_value;
 use jiff::SignedDuration;
 use std::alloc::Global;
 use std::test::Fail;
 
 // Whether the jar shows another value under the name.
 fn is_hidden(jar: &CookieJar, name: &str, value: &str) -> bool {
-    match shown(jar, name) {
+    match shown_value(jar, name) {
         Some(text) => text != value,
         None => false,
     }
@@ -48,7 +48,7 @@ fn has_all_fields(cookie: &Cookie<'_>) -> bool {
 
 // Puts one more character behind the value that the jar shows.
 fn lengthen(alloc: Global, jar: &mut CookieJar, name: &'static str) -> Result<(), Fail> {
-    let mut value = String::from_str(alloc, shown(jar, name).ok_or("a value")?)?;
+    let mut value = String::from_str(alloc, shown_value(jar, name).ok_or("a value")?)?;
     value.push_str("l")?;
     let mut cookie = Cookie::named(name);
     cookie.set_value_owned(value);

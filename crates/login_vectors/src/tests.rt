@@ -170,7 +170,7 @@ fn post(
 }
 
 // A request that is refused.
-fn refused(method: &'static str, path: &'static str, status: u16, part: &'static str) -> Row {
+fn refusal(method: &'static str, path: &'static str, status: u16, part: &'static str) -> Row {
     Row {
         is_secure: true,
         method,

@@ -1,7 +1,7 @@
 //! The user agent against a second body of it, over requests that are drawn.
 use super::at;
 use super::draws::{Drawing, Draws, NAMES, SPOTS};
-use super::owned_request::{OwnedRequest, visited};
+use super::owned_request::{OwnedRequest, visit_each};
 use super::plain_agent::PlainAgent;
 use super::plain_jar::PlainJar;
 use cookie::CookieJar;
@@ -24,12 +24,12 @@ fn request_of(alloc: Global, drawing: &Drawing) -> Result<OwnedRequest, Fail> {
     })
 }
 
-fn played(alloc: Global, drawings: &[Drawing], pick: Pick) -> Result<Vec<Visited>, Fail> {
+fn play(alloc: Global, drawings: &[Drawing], pick: Pick) -> Result<Vec<Visited>, Fail> {
     let mut requests = Vec::new(alloc);
     for drawing in drawings {
         requests.push(request_of(alloc, drawing)?)?;
     }
-    visited(alloc, &requests, &pick)
+    visit_each(alloc, &requests, &pick)
 }
 
 // The names of the jar's delta, in the order in which their texts are read.
@@ -118,7 +118,7 @@ fn is_visited_alike(
 
 // Whether the requests come to the same with both bodies.
 fn are_visited_alike(alloc: Global, drawings: &[Drawing], pick: Pick) -> Result<bool, Fail> {
-    let visited = played(alloc, drawings, pick)?;
+    let visited = play(alloc, drawings, pick)?;
     if visited.len() != drawings.len() {
         return Ok(false);
     }

@@ -24,7 +24,7 @@ impl OwnedRequest {
 }
 
 // What comes of up to five requests: a list of requests that are lent can't be made one by one here.
-pub(super) fn visited(
+pub(super) fn visit_each(
     alloc: Global,
     requests: &[OwnedRequest],
     pick: &[usize],

@@ -144,7 +144,7 @@ impl PlainAgent {
     }
 
     // What is sent to the site: longer paths first, and then the earlier.
-    fn sent(&self, spot: Spot, second: i8) -> Result<Vec<Held>, AllocError> {
+    fn pairs_for(&self, spot: Spot, second: i8) -> Result<Vec<Held>, AllocError> {
         let mut sent = Vec::new(self.alloc);
         for length in [2usize, 1] {
             for held in &self.cookies {
@@ -159,7 +159,7 @@ impl PlainAgent {
     /// The header of a request to the site.
     pub(super) fn header(&self, spot: Spot, second: i8) -> Result<String, AllocError> {
         let mut header = String::new(self.alloc);
-        for held in &self.sent(spot, second)? {
+        for held in &self.pairs_for(spot, second)? {
             if !header.is_empty() {
                 header.push_str("; ")?;
             }
@@ -173,7 +173,7 @@ impl PlainAgent {
     /// A jar with what is sent as its originals, the last of a name alone.
     pub(super) fn jar(&self, spot: Spot, second: i8) -> Result<PlainJar, AllocError> {
         let mut jar = PlainJar::new(self.alloc);
-        for held in &self.sent(spot, second)? {
+        for held in &self.pairs_for(spot, second)? {
             jar.add_original(held.name, held.value)?;
         }
         Ok(jar)

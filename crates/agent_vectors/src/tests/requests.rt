@@ -1,6 +1,6 @@
 //! Many requests of one user agent, and the trap of removals.
 use super::at;
-use super::owned_request::{OwnedRequest, visited};
+use super::owned_request::{OwnedRequest, visit_each};
 use super::places::Place::{self, Http, Https};
 use cookie::{Cookie, CookieBuilder};
 use cookie_agent::Visited;
@@ -117,12 +117,12 @@ fn request_of(alloc: Global, row: Row) -> Result<OwnedRequest, Fail> {
 }
 
 // What comes of the requests.
-fn played(alloc: Global, rows: &[Row], pick: &[usize]) -> Result<Vec<Visited>, Fail> {
+fn play(alloc: Global, rows: &[Row], pick: &[usize]) -> Result<Vec<Visited>, Fail> {
     let mut requests = Vec::new(alloc);
     for row in rows {
         requests.push(request_of(alloc, *row)?)?;
     }
-    visited(alloc, &requests, pick)
+    visit_each(alloc, &requests, pick)
 }
 
 // Whether the request's agent then sends the header to its place.
@@ -134,7 +134,7 @@ fn is_right(alloc: Global, row: Row, visited: &Visited) -> Result<bool, Fail> {
 
 // The place of the first request after which another header is sent.
 fn first_wrong(alloc: Global, rows: &[Row], pick: &[usize]) -> Result<Option<usize>, Fail> {
-    let visited = played(alloc, rows, pick)?;
+    let visited = play(alloc, rows, pick)?;
     if visited.len() != rows.len() {
         return Err(Fail::new("another count"));
     }
@@ -148,7 +148,7 @@ fn first_wrong(alloc: Global, rows: &[Row], pick: &[usize]) -> Result<Option<usi
 
 // What the last of the requests came to.
 fn last_of(alloc: Global, rows: &[Row]) -> Result<Visited, Fail> {
-    let mut visited = played(alloc, rows, &[])?;
+    let mut visited = play(alloc, rows, &[])?;
     Ok(visited.pop().ok_or("no request")?)
 }
 

@@ -123,7 +123,7 @@ fn additions_and_removals_are_changes(rt: HostRuntime) -> Result<(), Fail> {
 }
 
 // A jar that shows `o` and `gone`, once these calls are made on it, and their outcomes.
-fn replayed(alloc: Global, steps: &[Step]) -> Result<(CookieJar, Vec<bool>), Fail> {
+fn jar_after(alloc: Global, steps: &[Step]) -> Result<(CookieJar, Vec<bool>), Fail> {
     let shown = [Step::AddOriginal("o", "1"), Step::Add("gone", "1")];
     let mut jar = after(alloc, &shown)?;
     let calls = calls(alloc, steps)?;
@@ -133,7 +133,7 @@ fn replayed(alloc: Global, steps: &[Step]) -> Result<(CookieJar, Vec<bool>), Fai
 
 #[test]
 fn calls_are_made_in_order_on_the_jar_handed_in(rt: HostRuntime) -> Result<(), Fail> {
-    let (mut jar, outcomes) = replayed(
+    let (mut jar, outcomes) = jar_after(
         rt.alloc(),
         &[
             Step::Add("gone", "2"),
@@ -164,7 +164,7 @@ fn calls_are_made_in_order_on_the_jar_handed_in(rt: HostRuntime) -> Result<(), F
 // An original that is held already, and removals of names that the jar lacks.
 #[test]
 fn calls_that_bring_nothing_new_are_accepted(rt: HostRuntime) -> Result<(), Fail> {
-    let (mut jar, outcomes) = replayed(
+    let (mut jar, outcomes) = jar_after(
         rt.alloc(),
         &[
             Step::AddOriginal("o", "1"),
@@ -186,7 +186,7 @@ fn calls_that_bring_nothing_new_are_accepted(rt: HostRuntime) -> Result<(), Fail
 
 #[test]
 fn no_calls_have_no_outcomes(rt: HostRuntime) -> Result<(), Fail> {
-    let (mut jar, outcomes) = replayed(rt.alloc(), &[])?;
+    let (mut jar, outcomes) = jar_after(rt.alloc(), &[])?;
     assert!(rt; outcomes.is_empty());
     assert_eq!(rt; first_wrong(&mut jar, &[Step::Counts(1, 2)])?, None);
     Ok(())

@@ -62,7 +62,7 @@ fn a_client_undoes_and_writes_escapes(rt: HostRuntime) -> Result<(), Fail> {
 }
 
 // The client's names and values, in the order of its walk.
-fn listed(alloc: Global, client: &Client) -> Result<String, Fail> {
+fn list(alloc: Global, client: &Client) -> Result<String, Fail> {
     let mut text = String::new(alloc);
     for (name, value) in client.iter() {
         text.push_str(name)?;
@@ -81,13 +81,13 @@ fn a_client_lists_what_it_holds(rt: HostRuntime) -> Result<(), Fail> {
     for (name, value) in [("b", "1"), ("ab", ";"), ("B", "3"), ("a", ""), ("b", "4")] {
         holds(&mut client, name, value)?;
     }
-    assert_eq!(rt; listed(rt.alloc(), &client)?.as_str(), "B:3,a:,ab:;,b:4,");
+    assert_eq!(rt; list(rt.alloc(), &client)?.as_str(), "B:3,a:,ab:;,b:4,");
     assert_eq!(rt; client.iter().count(), 4);
     Ok(())
 }
 
 // A clone of a client with two cookies, once that client holds another value.
-fn copied(client: &mut Client) -> Result<Client, Fail> {
+fn clone_before_change(client: &mut Client) -> Result<Client, Fail> {
     holds(client, "a", "1")?;
     holds(client, "b", "2")?;
     let copy = client.clone()?;
@@ -98,7 +98,7 @@ fn copied(client: &mut Client) -> Result<Client, Fail> {
 #[test]
 fn a_copy_of_a_client_goes_its_own_way(rt: HostRuntime) -> Result<(), Fail> {
     let mut client = Client::new(rt.alloc());
-    let mut copy = copied(&mut client)?;
+    let mut copy = clone_before_change(&mut client)?;
     holds(&mut copy, "c", "4")?;
     assert!(rt; has_header(&client, "a=3; b=2")?);
     assert!(rt; has_header(&copy, "a=1; b=2; c=4")?);

@@ -2,7 +2,7 @@
 use super::flat_jar::{FlatJar, Pair};
 use cookie::{Cookie, CookieJar};
 use cookie_client::{JarCall, replay};
-use jar_steps::{moment, shown};
+use jar_steps::{moment, shown_value};
 use std::alloc::{AllocError, Global};
 use std::test::Fail;
 
@@ -74,7 +74,7 @@ fn shown_by(alloc: Global, jar: &CookieJar) -> Result<Vec<Pair<'_>>, AllocError>
 // Whether the two jars answer the same for each name.
 fn is_answered_alike(jar: &CookieJar, flat: &FlatJar) -> bool {
     for name in NAMES {
-        if shown(jar, name) != flat.get(name) {
+        if shown_value(jar, name) != flat.get(name) {
             return false;
         }
     }
@@ -85,7 +85,7 @@ fn is_answered_alike(jar: &CookieJar, flat: &FlatJar) -> bool {
 fn is_met_alike(alloc: Global, jar: &CookieJar, flat: &FlatJar) -> Result<bool, AllocError> {
     let mut delta = flat.delta()?;
     delta.sort()?;
-    let mut shown = flat.shown()?;
+    let mut shown = flat.shown_pairs()?;
     shown.sort()?;
     Ok(delta_of(alloc, jar)? == delta && shown_by(alloc, jar)? == shown)
 }

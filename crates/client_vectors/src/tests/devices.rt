@@ -55,7 +55,7 @@ impl ShortWriter {
     }
 
     /// The bytes that it took.
-    pub(super) fn taken(&self) -> &[u8] {
+    pub(super) fn bytes(&self) -> &[u8] {
         self.taken.as_slice()
     }
 }

@@ -9,7 +9,7 @@ use std::alloc::Global;
 use std::test::Fail;
 
 // What comes of the calls at the moment of most rows, with the texts read in the order of `pick`.
-fn played(alloc: Global, steps: &[Step], pick: &[usize]) -> Result<Played, Fail> {
+fn play(alloc: Global, steps: &[Step], pick: &[usize]) -> Result<Played, Fail> {
     let calls = calls(alloc, steps)?;
     Ok(mirror(alloc, calls.as_slice(), pick, moment()?)?)
 }
@@ -21,7 +21,7 @@ fn header_of(
     pick: &[usize],
     changes: usize,
 ) -> Result<String, Fail> {
-    let played = played(alloc, steps, pick)?;
+    let played = play(alloc, steps, pick)?;
     if counts(&played.jar).0 != changes {
         return Err(Fail::new("another count of changes"));
     }
@@ -29,7 +29,7 @@ fn header_of(
 }
 
 // How many of the calls were refused.
-fn refused(played: &Played) -> usize {
+fn refusal_count(played: &Played) -> usize {
     let mut refused = 0usize;
     for outcome in &played.outcomes {
         if !outcome {
@@ -41,10 +41,10 @@ fn refused(played: &Played) -> usize {
 
 // Whether each call was taken, the client's header is this text, and the jar shows what it has to.
 fn is_played_as(alloc: Global, steps: &[Step], header: &str, shown: &[Step]) -> Result<bool, Fail> {
-    let mut played = played(alloc, steps, &[])?;
+    let mut played = play(alloc, steps, &[])?;
     Ok(
         played.outcomes.len() == steps.len()
-            && refused(&played) == 0
+            && refusal_count(&played) == 0
             && has_header(&played, header)?
             && first_wrong(&mut played.jar, shown)?.is_none(),
     )
@@ -144,7 +144,11 @@ fn a_forced_removal_is_not_told(rt: HostRuntime) -> Result<(), Fail> {
 }
 
 // What comes of one addition at the moment, and whether it is fit there.
-fn added(alloc: Global, cookie: Cookie<'static>, now: DateTime) -> Result<(Played, bool), Fail> {
+fn play_addition(
+    alloc: Global,
+    cookie: Cookie<'static>,
+    now: DateTime,
+) -> Result<(Played, bool), Fail> {
     let calls = [JarCall::Add(cookie)];
     let played = mirror(alloc, &calls, &[], now)?;
     Ok((played, calls[0].is_fit(now)))
@@ -164,7 +168,7 @@ fn with_expiry(expiry: DateTime) -> Cookie<'static> {
 fn an_expiry_of_two_digits_is_read_by_the_year_rule(rt: HostRuntime) -> Result<(), Fail> {
     let now = DateTime::new(50, 1, 1, 0, 0, 0, 0)?;
     let cookie = with_expiry(DateTime::new(60, 1, 1, 0, 0, 0, 0)?);
-    let (played, is_fit) = added(rt.alloc(), cookie, now)?;
+    let (played, is_fit) = play_addition(rt.alloc(), cookie, now)?;
     assert!(rt; is_fit);
     assert!(rt; has_header(&played, "a=1")?);
     Ok(())
@@ -178,22 +182,22 @@ fn with_half_a_second() -> Cookie<'static> {
 
 #[test]
 fn an_unfit_addition_is_shown_by_the_jar_alone(rt: HostRuntime) -> Result<(), Fail> {
-    let (mut played, is_fit) = added(rt.alloc(), with_half_a_second(), moment()?)?;
-    assert!(rt; !is_fit && refused(&played) == 0);
+    let (mut played, is_fit) = play_addition(rt.alloc(), with_half_a_second(), moment()?)?;
+    assert!(rt; !is_fit && refusal_count(&played) == 0);
     assert!(rt; has_header(&played, "")?);
     assert!(rt; first_wrong(&mut played.jar, &[Step::Shows("a", "1")])?.is_none());
     Ok(())
 }
 
 // What comes of an addition of that cookie, and one of another name.
-fn both_added(alloc: Global, cookie: Cookie<'static>) -> Result<Played, Fail> {
+fn play_two_additions(alloc: Global, cookie: Cookie<'static>) -> Result<Played, Fail> {
     let calls = [JarCall::Add(cookie), JarCall::Add(Cookie::new("b", "2"))];
     Ok(mirror(alloc, &calls, &[], moment()?)?)
 }
 
 #[test]
 fn a_fit_addition_behind_an_unfit_one_is_followed(rt: HostRuntime) -> Result<(), Fail> {
-    let mut played = both_added(rt.alloc(), with_half_a_second())?;
+    let mut played = play_two_additions(rt.alloc(), with_half_a_second())?;
     assert!(rt; played.outcomes.as_slice() == [true; 2].as_slice());
     assert!(rt; has_header(&played, "b=2")?);
     let shown = [

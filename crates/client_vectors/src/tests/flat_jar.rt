@@ -140,7 +140,7 @@ impl FlatJar {
     }
 
     /// The pairs of the cookies that the jar shows.
-    pub(super) fn shown(&self) -> Result<Vec<Pair<'_>>, AllocError> {
+    pub(super) fn shown_pairs(&self) -> Result<Vec<Pair<'_>>, AllocError> {
         let mut pairs = Vec::new(self.alloc);
         for held in &self.changes {
             if !held.is_removal {

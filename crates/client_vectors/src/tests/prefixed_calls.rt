@@ -34,7 +34,7 @@ fn prefixed_calls(now: DateTime) -> [JarCall<'static>; 4] {
 }
 
 // What comes of the first of these calls.
-fn played(alloc: Global, count: usize) -> Result<Played, Fail> {
+fn play(alloc: Global, count: usize) -> Result<Played, Fail> {
     let now = moment()?;
     let calls = prefixed_calls(now);
     let calls = calls.get(..count).ok_or("fewer calls")?;
@@ -47,7 +47,7 @@ fn has_header(played: &Played, header: &str) -> Result<bool, Fail> {
 
 #[test]
 fn a_client_follows_prefixed_calls(rt: HostRuntime) -> Result<(), Fail> {
-    let played = played(rt.alloc(), 3)?;
+    let played = play(rt.alloc(), 3)?;
     assert!(rt; played.outcomes.as_slice() == [true; 3].as_slice());
     assert!(rt; has_text(rt.alloc(), &played, "__Host-h=2; Secure; Path=/")?);
     assert!(rt; has_text(rt.alloc(), &played, "__Secure-s=3; Secure")?);
@@ -57,7 +57,7 @@ fn a_client_follows_prefixed_calls(rt: HostRuntime) -> Result<(), Fail> {
 
 #[test]
 fn a_client_follows_a_prefixed_removal(rt: HostRuntime) -> Result<(), Fail> {
-    let played = played(rt.alloc(), 4)?;
+    let played = play(rt.alloc(), 4)?;
     assert!(rt; has_text(rt.alloc(), &played, REMOVED)?);
     assert!(rt; has_header(&played, "__Secure-s=3")?);
     Ok(())

@@ -1,7 +1,7 @@
 //! Calls through private child jars, and a client that follows them.
 use cookie::{Cookie, CookieJar, Key};
 use cookie_client::{ChildCall, JarCall, Played, mirror};
-use jar_steps::{moment, shown};
+use jar_steps::{moment, shown_value};
 use std::alloc::Global;
 use std::test::Fail;
 
@@ -14,7 +14,7 @@ fn answers(jar: &CookieJar, key: &Key, name: &str, value: &str) -> Result<bool, 
 }
 
 // What comes of the first of three calls through a private jar: an original, a change, and a removal.
-fn played(alloc: Global, key: &Key, count: usize) -> Result<Played, Fail> {
+fn play(alloc: Global, key: &Key, count: usize) -> Result<Played, Fail> {
     let now = moment()?;
     let calls = [
         JarCall::Private(key, [0; 12], ChildCall::AddOriginal(Cookie::new("a", "1"))),
@@ -28,7 +28,7 @@ fn played(alloc: Global, key: &Key, count: usize) -> Result<Played, Fail> {
 #[test]
 fn a_client_follows_private_calls(rt: HostRuntime) -> Result<(), Fail> {
     let key = Key::from(&[0; 64]);
-    let played = played(rt.alloc(), &key, 2)?;
+    let played = play(rt.alloc(), &key, 2)?;
     assert!(rt; played.outcomes.as_slice() == [true; 2].as_slice());
     assert!(rt; is_followed(&played, "a"));
     assert!(rt; is_followed(&played, "b"));
@@ -39,12 +39,12 @@ fn a_client_follows_private_calls(rt: HostRuntime) -> Result<(), Fail> {
 
 // Whether the client has the value that the jar shows under the name.
 fn is_followed(played: &Played, name: &str) -> bool {
-    played.client.get(name).is_some() && played.client.get(name) == shown(&played.jar, name)
+    played.client.get(name).is_some() && played.client.get(name) == shown_value(&played.jar, name)
 }
 
 #[test]
 fn a_client_follows_a_private_removal(rt: HostRuntime) -> Result<(), Fail> {
-    let played = played(rt.alloc(), &Key::from(&[0; 64]), 3)?;
+    let played = play(rt.alloc(), &Key::from(&[0; 64]), 3)?;
     assert!(rt; played.client.get("a").is_none());
     assert!(rt; is_followed(&played, "b"));
     Ok(())

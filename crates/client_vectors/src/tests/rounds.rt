@@ -3,7 +3,7 @@ use super::comparison::{Draws, NAMES, is_alike};
 use super::flat_jar::FlatJar;
 use cookie::{Cookie, CookieBuilder};
 use cookie_client::{ChildCall, JarCall, Played, Request, rounds};
-use jar_steps::{counts, moment, shown, test_key};
+use jar_steps::{counts, moment, shown_value, test_key};
 use jiff::SignedDuration;
 use jiff::civil::DateTime;
 use std::alloc::{AllocError, Global};
@@ -159,8 +159,8 @@ fn a_client_is_told_neither_originals_nor_forced_removals(rt: HostRuntime) -> Re
     let second = [forces(forced), adds("", "3")];
     let requests = [Request { calls: &first }, Request { calls: &second }];
     let last = last_of(rt.alloc(), &requests)?;
-    assert!(rt; shown(&last.jar, "a").is_none() && shown(&last.jar, "b").is_none());
-    assert!(rt; shown(&last.jar, "") == Some("3"));
+    assert!(rt; shown_value(&last.jar, "a").is_none() && shown_value(&last.jar, "b").is_none());
+    assert!(rt; shown_value(&last.jar, "") == Some("3"));
     assert_eq!(rt; last.client.header()?.as_str(), "b=1");
     Ok(())
 }
@@ -177,7 +177,7 @@ fn what_a_jar_keeps_to_itself_is_gone_by_the_next_request(rt: HostRuntime) -> Re
         Request { calls: &third },
     ];
     let last = last_of(rt.alloc(), &requests)?;
-    assert!(rt; shown(&last.jar, "b") == Some("1"));
+    assert!(rt; shown_value(&last.jar, "b") == Some("1"));
     assert_eq!(rt; counts(&last.jar), (1, 2));
     Ok(())
 }

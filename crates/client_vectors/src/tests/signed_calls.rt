@@ -5,7 +5,7 @@ use jar_steps::{moment, test_key};
 use std::alloc::Global;
 use std::test::Fail;
 
-fn signed<'k>(key: &'k Key, call: ChildCall) -> JarCall<'k> {
+fn signed_call<'k>(key: &'k Key, call: ChildCall) -> JarCall<'k> {
     JarCall::Signed(key, call)
 }
 
@@ -14,12 +14,12 @@ fn header_after(alloc: Global, count: usize) -> Result<String, Fail> {
     let key = test_key();
     let now = moment()?;
     let calls = [
-        signed(
+        signed_call(
             &key,
             ChildCall::AddOriginal(Cookie::new("a", "Tamper-proof")),
         ),
-        signed(&key, ChildCall::Add(Cookie::new("b", "Tamper-proof"))),
-        signed(&key, ChildCall::Remove(Cookie::named("a"), now)),
+        signed_call(&key, ChildCall::Add(Cookie::new("b", "Tamper-proof"))),
+        signed_call(&key, ChildCall::Remove(Cookie::named("a"), now)),
     ];
     let calls = calls.get(..count).ok_or("fewer calls")?;
     Ok(mirror(alloc, calls, &[], now)?.client.header()?)
@@ -53,8 +53,8 @@ fn a_call_with_a_key_is_looked_at_as_it_was_handed_in(rt: HostRuntime) -> Result
     let original = ChildCall::AddOriginal(Cookie::new("a", "1"));
     let nameless = ChildCall::Remove(Cookie::named(""), now);
     for (call, is_fit, is_change) in &[
-        (signed(&key, cut_path()), false, true),
-        (signed(&key, original), true, false),
+        (signed_call(&key, cut_path()), false, true),
+        (signed_call(&key, original), true, false),
         (JarCall::Private(&key, [0; 12], nameless), false, true),
     ] {
         assert_eq!(rt; (call.is_fit(now), call.is_change()), (*is_fit, *is_change));

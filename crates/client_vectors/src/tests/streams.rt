@@ -44,7 +44,7 @@ fn a_failed_write_leaves_a_beginning(rt: HostRuntime) -> Result<(), Fail> {
         let is_output = matches!(outcome, Ok(()) | Err(RunError::Output));
         assert!(rt; is_output, "after {left}");
         let wanted = OUTPUT.get(..left).unwrap_or(OUTPUT);
-        assert!(rt; output.taken() == wanted, "after {left}");
+        assert!(rt; output.bytes() == wanted, "after {left}");
     }
     let mut input = INPUT;
     let outcome = run(rt.alloc(), MOMENT, &mut input, &mut FullWriter);
@@ -91,7 +91,7 @@ const CHANGES_TEXT: &str =
     "Set-Cookie: c=3\nSet-Cookie: x=; Max-Age=0; Expires=Tue, 21 Oct 2014 07:28:00 GMT\nCookie: c=3; name=val\n";
 
 // What comes of that session where the writer takes one byte a call, and so many calls.
-fn taken(alloc: Global, left: usize) -> (ShortWriter, bool, bool) {
+fn play_with_room(alloc: Global, left: usize) -> (ShortWriter, bool, bool) {
     let mut input = CHANGES.as_bytes();
     let mut output = ShortWriter::new(alloc, 1, left);
     let outcome = run(alloc, MOMENT, &mut input, &mut output);
@@ -105,11 +105,11 @@ fn taken(alloc: Global, left: usize) -> (ShortWriter, bool, bool) {
 #[test]
 fn each_failed_write_leaves_what_was_taken(rt: HostRuntime) {
     for left in 0..=CHANGES_TEXT.len() {
-        let (output, is_ok, is_output) = taken(rt.alloc(), left);
+        let (output, is_ok, is_output) = play_with_room(rt.alloc(), left);
         assert_eq!(rt; is_ok, left == CHANGES_TEXT.len(), "after {left}");
         assert_eq!(rt; is_output, left < CHANGES_TEXT.len(), "after {left}");
         assert!(rt;
-            Some(output.taken()) == CHANGES_TEXT.as_bytes().get(..left),
+            Some(output.bytes()) == CHANGES_TEXT.as_bytes().get(..left),
             "after {left}"
         );
     }
@@ -171,6 +171,6 @@ fn a_long_text_is_read_and_written_a_little_at_a_time(rt: HostRuntime) -> Result
     let mut input = FailingReader::new(text.as_bytes(), usize::MAX);
     let mut output = ShortWriter::new(rt.alloc(), 7, usize::MAX);
     run(rt.alloc(), MOMENT, &mut input, &mut output)?;
-    assert!(rt; output.taken() == wanted.as_bytes());
+    assert!(rt; output.bytes() == wanted.as_bytes());
     Ok(())
 }

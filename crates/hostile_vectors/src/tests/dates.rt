@@ -377,7 +377,7 @@ const BEGINNINGS: &str = "\
 ";
 
 // The text with another one in the place of a character.
-fn changed(alloc: Global, text: &str, place: usize, other: &str) -> Result<String, Fail> {
+fn replace(alloc: Global, text: &str, place: usize, other: &str) -> Result<String, Fail> {
     let mut changed = String::from_str(alloc, text.get(..place).ok_or("a beginning")?)?;
     changed.push_str(other)?;
     changed.push_str(text.get(place.saturating_add(1)..).ok_or("an end")?)?;
@@ -417,7 +417,7 @@ fn changes(alloc: Global, text: &str) -> Result<String, Fail> {
         for character in characters.chars() {
             let mut other = String::new(alloc);
             other.push(character)?;
-            let changed = changed(alloc, text, place, other.as_str())?;
+            let changed = replace(alloc, text, place, other.as_str())?;
             if changed.as_str() != text {
                 note(alloc, &mut found, changed.as_str(), place, other.as_str())?;
             }
@@ -443,7 +443,7 @@ fn a_changed_character_is_read_or_refused(rt: HostRuntime) -> Result<(), Fail> {
 fn omissions(alloc: Global, text: &str) -> Result<String, Fail> {
     let mut found = String::new(alloc);
     for place in 0..text.len() {
-        let changed = changed(alloc, text, place, "")?;
+        let changed = replace(alloc, text, place, "")?;
         note(alloc, &mut found, changed.as_str(), place, "")?;
     }
     Ok(found)

@@ -50,7 +50,7 @@ fn is_opened(alloc: Global, is_sealed: bool, value: &str) -> Result<bool, Fail> 
 }
 
 // The value with a text in the place of so many characters.
-fn damaged(
+fn replace(
     alloc: Global,
     value: &str,
     place: usize,
@@ -64,11 +64,16 @@ fn damaged(
 }
 
 // How often it is opened with a text in the place of so many characters, at each place where that makes another value.
-fn opened(alloc: Global, is_sealed: bool, length: usize, other: &str) -> Result<usize, Fail> {
+fn opening_count(
+    alloc: Global,
+    is_sealed: bool,
+    length: usize,
+    other: &str,
+) -> Result<usize, Fail> {
     let value = if is_sealed { SEALED } else { SIGNED };
     let mut opened = 0usize;
     for place in 0..=value.len().saturating_sub(length) {
-        let damaged = damaged(alloc, value, place, length, other)?;
+        let damaged = replace(alloc, value, place, length, other)?;
         if damaged.as_str() != value && is_opened(alloc, is_sealed, damaged.as_str())? {
             opened = opened.saturating_add(1);
         }
@@ -102,7 +107,7 @@ fn no_beginning_of_a_value_is_opened(rt: HostRuntime) -> Result<(), Fail> {
 fn no_value_with_a_changed_character_is_opened(rt: HostRuntime) -> Result<(), Fail> {
     for other in ["A", "!", "_", " ", "=", "\n", "\u{e9}"] {
         for is_sealed in [true, false] {
-            assert_eq!(rt; opened(rt.alloc(), is_sealed, 1, other)?, 0);
+            assert_eq!(rt; opening_count(rt.alloc(), is_sealed, 1, other)?, 0);
         }
     }
     Ok(())
@@ -112,9 +117,9 @@ fn no_value_with_a_changed_character_is_opened(rt: HostRuntime) -> Result<(), Fa
 fn no_value_with_a_character_more_or_less_is_opened(rt: HostRuntime) -> Result<(), Fail> {
     for is_sealed in [true, false] {
         for other in ["\n", " ", "=", "A"] {
-            assert_eq!(rt; opened(rt.alloc(), is_sealed, 0, other)?, 0);
+            assert_eq!(rt; opening_count(rt.alloc(), is_sealed, 0, other)?, 0);
         }
-        assert_eq!(rt; opened(rt.alloc(), is_sealed, 1, "")?, 0);
+        assert_eq!(rt; opening_count(rt.alloc(), is_sealed, 1, "")?, 0);
     }
     Ok(())
 }

@@ -5,7 +5,7 @@ use std::alloc::{AllocError, Global};
 use std::test::Fail;
 
 // The text, so many times.
-fn repeated(alloc: Global, text: &str, times: u32) -> Result<String, AllocError> {
+fn repeat(alloc: Global, text: &str, times: u32) -> Result<String, AllocError> {
     let mut all = String::new(alloc);
     for _ in 0..times {
         all.push_str(text)?;
@@ -26,10 +26,10 @@ fn is_refused_throughout(mut items: SplitCookies<'_>, times: u32) -> bool {
 #[test]
 fn ten_thousand_empty_names_are_ten_thousand_refusals(rt: HostRuntime) -> Result<(), Fail> {
     let alloc = rt.alloc();
-    let text = repeated(alloc, "=;", 10_000)?;
+    let text = repeat(alloc, "=;", 10_000)?;
     assert!(rt; is_refused_throughout(Cookie::split_parse(&text), 10_000));
     assert!(rt; is_refused_throughout(Cookie::split_parse_encoded(alloc, &text), 10_000));
-    let own = Cookie::split_parse_owned(alloc, repeated(alloc, "=;", 10_000)?);
+    let own = Cookie::split_parse_owned(alloc, repeat(alloc, "=;", 10_000)?);
     assert!(rt; is_refused_throughout(own, 10_000));
     let own = Cookie::split_parse_encoded_owned(alloc, text);
     assert!(rt; is_refused_throughout(own, 10_000));
@@ -88,7 +88,7 @@ fn the_case_of_keys_is_that_of_ascii(rt: HostRuntime) -> Result<(), Fail> {
 #[test]
 fn an_age_of_many_digits_is_the_greatest(rt: HostRuntime) -> Result<(), Fail> {
     let mut text = String::from_str(rt.alloc(), "a=1; Max-Age=")?;
-    text.push_str(repeated(rt.alloc(), "9", 100_000)?.as_str())?;
+    text.push_str(repeat(rt.alloc(), "9", 100_000)?.as_str())?;
     let greatest = Some(SignedDuration::from_secs(i64::MAX));
     assert!(rt; Cookie::parse(&text)?.max_age() == greatest);
     assert!(rt; Cookie::parse_encoded(rt.alloc(), &text)?.max_age() == greatest);

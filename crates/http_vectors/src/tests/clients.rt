@@ -8,7 +8,7 @@ use std::alloc::Global;
 use std::test::Fail;
 
 // What a client sends that has read a response with these fields.
-fn sent(alloc: Global, values: &[&[u8]]) -> Result<HeaderMap, Fail> {
+fn request_after(alloc: Global, values: &[&[u8]]) -> Result<HeaderMap, Fail> {
     let mut response = HeaderMap::new(alloc);
     put_set_cookies(alloc, &mut response, values)?;
     let mut client = Client::new(alloc);
@@ -67,7 +67,7 @@ fn a_client_sends_what_it_read(rt: HostRuntime) -> Result<(), Fail> {
         ),
     ];
     for (values, text, pairs) in rows {
-        let request = sent(rt.alloc(), values)?;
+        let request = request_after(rt.alloc(), values)?;
         assert!(rt; has_field(&request, text), "{text}");
         assert!(rt;
             shows(&jar_from_headers(rt.alloc(), &request)?, pairs),

@@ -12,7 +12,7 @@ fn original(name: &'static str, value: &'static str) -> JarCall<'static> {
 }
 
 // What comes of two originals, of which one is removed and one is changed.
-fn played(alloc: Global) -> Result<Exchanged, Fail> {
+fn play_removal(alloc: Global) -> Result<Exchanged, Fail> {
     let now = DateTime::new(2015, 10, 21, 7, 28, 0, 0)?;
     let calls = [
         original("a", "1"),
@@ -24,7 +24,7 @@ fn played(alloc: Global) -> Result<Exchanged, Fail> {
 
 #[test]
 fn a_removal_reaches_the_next_request(rt: HostRuntime) -> Result<(), Fail> {
-    let e = played(rt.alloc())?;
+    let e = play_removal(rt.alloc())?;
     let text = "a=; Path=/; Max-Age=0; Expires=Tue, 21 Oct 2014 07:28:00 GMT";
     assert!(rt; has_values(&e.response, "set-cookie", &[text]));
     assert!(rt; has_values(&e.request, "cookie", &["b=2"]));
@@ -32,7 +32,7 @@ fn a_removal_reaches_the_next_request(rt: HostRuntime) -> Result<(), Fail> {
     Ok(())
 }
 
-fn changed(alloc: Global) -> Result<Exchanged, Fail> {
+fn play_change(alloc: Global) -> Result<Exchanged, Fail> {
     let now = DateTime::new(2015, 10, 21, 7, 28, 0, 0)?;
     let calls = [original("a", "1"), JarCall::Add(Cookie::new("a", "2; 3"))];
     Ok(exchange(alloc, &calls, now)?)
@@ -40,7 +40,7 @@ fn changed(alloc: Global) -> Result<Exchanged, Fail> {
 
 #[test]
 fn a_change_reaches_the_next_request(rt: HostRuntime) -> Result<(), Fail> {
-    let e = changed(rt.alloc())?;
+    let e = play_change(rt.alloc())?;
     assert!(rt; has_values(&e.response, "set-cookie", &["a=2%3B%203"]));
     assert!(rt; has_values(&e.request, "cookie", &["a=2%3B%203"]));
     assert!(rt; shows(&e.next, &[("a", "2; 3")]));

@@ -131,7 +131,7 @@ fn moment() -> Result<DateTime, Fail> {
 }
 
 // The fields of a jar with an original, from which the cookie was removed as it was set.
-fn removed(alloc: Global, set: &Cookie<'static>) -> Result<HeaderMap, Fail> {
+fn removal_fields(alloc: Global, set: &Cookie<'static>) -> Result<HeaderMap, Fail> {
     let mut jar = CookieJar::new(alloc);
     jar.add_original(Cookie::new("a", "1"))?;
     remove_as_set(alloc, &mut jar, set, moment()?)?;
@@ -149,7 +149,7 @@ fn a_removal_names_path_and_domain(rt: HostRuntime) -> Result<(), Fail> {
         .build();
     let text =
         "a=; Path=/shop; Domain=example.com; Max-Age=0; Expires=Tue, 21 Oct 2014 07:28:00 GMT";
-    let headers = removed(rt.alloc(), &set)?;
+    let headers = removal_fields(rt.alloc(), &set)?;
     assert!(rt; has_values(&headers, "set-cookie", &[text]));
     Ok(())
 }

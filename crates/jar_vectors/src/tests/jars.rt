@@ -232,7 +232,7 @@ fn a_reset_shows_the_originals_again(rt: HostRuntime) -> Result<(), Fail> {
 }
 
 // A clone of a jar with two originals and two changes, once that jar has lost them.
-fn copied(alloc: Global) -> Result<CookieJar, Fail> {
+fn clone_before_loss(alloc: Global) -> Result<CookieJar, Fail> {
     let steps = [
         Step::AddOriginal("kept", "kept"),
         Step::AddOriginal("gone", "gone"),
@@ -260,12 +260,15 @@ fn a_clone_goes_its_own_way(rt: HostRuntime) -> Result<(), Fail> {
         Step::Lacks("gone"),
         Step::Shows("new", "value"),
     ];
-    assert_eq!(rt; first_wrong(&mut copied(rt.alloc())?, &held)?, None);
+    assert_eq!(rt;
+        first_wrong(&mut clone_before_loss(rt.alloc())?, &held)?,
+        None
+    );
     Ok(())
 }
 
 // A jar that read its original and its change.
-fn with_read(alloc: Global) -> Result<CookieJar, Fail> {
+fn jar_of_texts(alloc: Global) -> Result<CookieJar, Fail> {
     let mut jar = CookieJar::new(alloc);
     jar.add_original(Cookie::parse("a=1")?)?;
     jar.add(Cookie::parse("b=2")?)?;
@@ -274,7 +277,7 @@ fn with_read(alloc: Global) -> Result<CookieJar, Fail> {
 
 #[test]
 fn stored_cookies_keep_their_raw_forms(rt: HostRuntime) -> Result<(), Fail> {
-    let copy = with_read(rt.alloc())?.clone()?;
+    let copy = jar_of_texts(rt.alloc())?.clone()?;
     for cookie in copy.iter() {
         assert!(rt; cookie.value_raw() == Some(cookie.value()));
     }

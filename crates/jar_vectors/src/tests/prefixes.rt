@@ -1,7 +1,7 @@
 //! Names with a prefix, and what a prefix asks of a cookie.
 use cookie::prefix::{Host, NamePrefix, Prefix, Prefixing, Secure};
 use cookie::{Cookie, CookieJar};
-use jar_steps::{counts, moment, shown};
+use jar_steps::{counts, moment, shown_value};
 use std::alloc::Global;
 use std::test::Fail;
 
@@ -89,7 +89,7 @@ fn a_host_cookie_conforms(rt: HostRuntime) -> Result<(), Fail> {
     let mut jar = CookieJar::new(rt.alloc());
     add(&mut jar, Host, loose_cookie())?;
     assert!(rt; shows_host_cookie(&jar)?);
-    assert!(rt; shown(&jar, "__Host-name").is_some() && shown(&jar, "name").is_none());
+    assert!(rt; shown_value(&jar, "__Host-name").is_some() && shown_value(&jar, "name").is_none());
     Ok(())
 }
 

@@ -4,7 +4,7 @@ use cookie::{Error, JarError, Key, KeyError, ParseError};
 use std::test::Fail;
 
 // The bytes from 0 up, so many.
-fn counted<const N: usize>() -> [u8; N] {
+fn count_up<const N: usize>() -> [u8; N] {
     let mut bytes = [0; N];
     let mut next = 0u8;
     for byte in bytes.iter_mut() {
@@ -48,7 +48,7 @@ const DERIVED_OF_CHANGED: [u8; 64] = [
 
 #[test]
 fn from_works(rt: HostRuntime) {
-    let bytes = counted::<70>();
+    let bytes = count_up::<70>();
     let key = Key::from(&bytes);
     assert!(rt; Some(key.signing()) == bytes.get(..32));
     assert!(rt; Some(key.encryption()) == bytes.get(32..64));
@@ -57,7 +57,7 @@ fn from_works(rt: HostRuntime) {
 
 #[test]
 fn try_from_works(rt: HostRuntime) -> Result<(), Fail> {
-    let bytes = counted::<64>();
+    let bytes = count_up::<64>();
     let key = Key::try_from(&bytes)?;
     assert!(rt; Some(key.signing()) == bytes.get(..32));
     assert!(rt; Some(key.encryption()) == bytes.get(32..));
@@ -77,8 +77,8 @@ fn try_from_works(rt: HostRuntime) -> Result<(), Fail> {
 
 #[test]
 fn only_the_first_64_bytes_are_a_key(rt: HostRuntime) {
-    assert!(rt; Key::from(&counted::<65>()) == Key::from(&counted::<64>()));
-    let bytes = counted::<70>();
+    assert!(rt; Key::from(&count_up::<65>()) == Key::from(&count_up::<64>()));
+    let bytes = count_up::<70>();
     let mut others = bytes;
     others[64] = 255;
     assert!(rt; Key::from(&bytes) == Key::from(&others));
@@ -91,10 +91,10 @@ fn only_the_first_64_bytes_are_a_key(rt: HostRuntime) {
 
 #[test]
 fn deterministic_derive(rt: HostRuntime) {
-    let key = Key::derive_from(&counted::<32>());
-    assert!(rt; key == Key::derive_from(&counted::<32>()));
+    let key = Key::derive_from(&count_up::<32>());
+    assert!(rt; key == Key::derive_from(&count_up::<32>()));
     assert!(rt; key.encryption() != key.signing());
-    let mut bytes = counted::<32>();
+    let mut bytes = count_up::<32>();
     for byte in bytes.iter_mut() {
         *byte = byte.wrapping_add(32);
     }
@@ -112,17 +112,17 @@ fn is_derived_as(master: &[u8], key: &[u8]) -> Result<bool, Fail> {
 #[test]
 fn keys_are_derived_as_elsewhere(rt: HostRuntime) -> Result<(), Fail> {
     let mut changed = [255; 64];
-    changed[..32].copy_from_slice(&counted::<32>());
-    assert!(rt; is_derived_as(&counted::<32>(), &DERIVED)?);
-    assert!(rt; is_derived_as(&counted::<33>(), &DERIVED_OF_33)?);
-    assert!(rt; is_derived_as(&counted::<65>(), &DERIVED_OF_65)?);
+    changed[..32].copy_from_slice(&count_up::<32>());
+    assert!(rt; is_derived_as(&count_up::<32>(), &DERIVED)?);
+    assert!(rt; is_derived_as(&count_up::<33>(), &DERIVED_OF_33)?);
+    assert!(rt; is_derived_as(&count_up::<65>(), &DERIVED_OF_65)?);
     assert!(rt; is_derived_as(&changed, &DERIVED_OF_CHANGED)?);
     Ok(())
 }
 
 #[test]
 fn a_short_master_key_is_refused(rt: HostRuntime) -> Result<(), Fail> {
-    match Key::try_derive_from(&counted::<31>()) {
+    match Key::try_derive_from(&count_up::<31>()) {
         Err(error) => {
             assert!(rt; error == KeyError::MasterTooShort(31));
             assert_eq!(rt;
@@ -169,7 +169,7 @@ fn no_key_is_drawn_of_a_generator_that_fails(rt: HostRuntime) -> Result<(), Fail
 
 #[test]
 fn a_clone_is_the_same_key(rt: HostRuntime) -> Result<(), Fail> {
-    let key = Key::from(&counted::<64>());
+    let key = Key::from(&count_up::<64>());
     assert!(rt; key.clone()? == key);
     Ok(())
 }

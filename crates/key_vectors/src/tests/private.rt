@@ -3,7 +3,7 @@ use super::generators::{Counting, Failing};
 use super::keyed_step::KeyedStep;
 use super::{has_all_fields, is_hidden, lengthen, with_all_fields};
 use cookie::{Cookie, CookieJar, JarError, Key};
-use jar_steps::{Step, after, counts, first_wrong, moment, shown, test_key};
+use jar_steps::{Step, after, counts, first_wrong, moment, shown_value, test_key};
 use std::alloc::Global;
 use std::test::Fail;
 
@@ -282,7 +282,7 @@ fn is_held(
     length: usize,
     value: &str,
 ) -> Result<bool, Fail> {
-    match shown(jar, name) {
+    match shown_value(jar, name) {
         Some(text) => Ok(text.len() == length && answers(jar, key, name, value)?),
         None => Ok(false),
     }
@@ -293,7 +293,7 @@ fn a_nonce_is_handed_in(rt: HostRuntime) -> Result<(), Fail> {
     let key = Key::from(&[0; 64]);
     let jar = with_nonces(rt.alloc(), &key)?;
     assert_eq!(rt; counts(&jar), (2, 3));
-    assert!(rt; shown(&jar, "") == Some("AAAAAAAAAAAAAAAAUw+K+8dFNrmpY7TxxMtziw=="));
+    assert!(rt; shown_value(&jar, "") == Some("AAAAAAAAAAAAAAAAUw+K+8dFNrmpY7TxxMtziw=="));
     for (name, length, value) in [("", 40, ""), ("a", 40, ""), ("b", 56, "Tamper-proof")] {
         assert!(rt; is_held(&jar, &key, name, length, value)?);
     }
@@ -311,7 +311,7 @@ fn is_sealed_as(
     let key = test_key();
     let mut jar = CookieJar::new(alloc);
     add_with_nonce(&mut jar, &key, Cookie::new(name, value), [byte; 12])?;
-    Ok(shown(&jar, name) == Some(text) && answers(&jar, &key, name, value)?)
+    Ok(shown_value(&jar, name) == Some(text) && answers(&jar, &key, name, value)?)
 }
 
 // Rows that another implementation sealed (OpenSSL's).
@@ -348,7 +348,7 @@ const DRAWN: [u8; 12] = [6, 0, 0, 0, 7, 0, 0, 0, 8, 0, 0, 0];
 
 // The value that both jars show under the name, where it is the same.
 fn is_alike(jar: &CookieJar, other: &CookieJar, name: &str) -> bool {
-    shown(jar, name).is_some() && shown(jar, name) == shown(other, name)
+    shown_value(jar, name).is_some() && shown_value(jar, name) == shown_value(other, name)
 }
 
 // A jar with the value added under the nonce of the first bytes of that generator.
@@ -420,7 +420,7 @@ fn a_generator_that_fails_adds_nothing(rt: HostRuntime) -> Result<(), Fail> {
         assert!(rt; refusal(&mut jar, &key, left) == Some(JarError::Generator));
         assert!(rt; refusal_of_original(&mut jar, &key, left) == Some(JarError::Generator));
         assert_eq!(rt; counts(&jar), (0, 1));
-        assert_eq!(rt; shown(&jar, "a"), Some("1"));
+        assert_eq!(rt; shown_value(&jar, "a"), Some("1"));
     }
     Ok(())
 }

@@ -47,7 +47,7 @@ fn add_sealed_original(jar: &mut CookieJar, key: &Key) -> Result<(), Fail> {
 }
 
 // A jar with all of these, and with signed and sealed cookies.
-fn held(alloc: Global, key: &Key) -> Result<CookieJar, Fail> {
+fn full_jar(alloc: Global, key: &Key) -> Result<CookieJar, Fail> {
     let mut jar = after(alloc, &STEPS)?;
     add_signed(&mut jar, key, with_all_fields("signed", "7"))?;
     add_sealed(&mut jar, key, with_all_fields("sealed", "8"))?;
@@ -94,7 +94,7 @@ fn refusals(
 #[test]
 fn a_jar_is_as_before_where_the_generator_failed(rt: HostRuntime) -> Result<(), Fail> {
     let key = test_key();
-    let mut jar = held(rt.alloc(), &key)?;
+    let mut jar = full_jar(rt.alloc(), &key)?;
     assert_eq!(rt; counts(&jar), (5, 6));
     let before = texts(rt.alloc(), &jar)?;
     assert_eq!(rt; before.len(), 17);

@@ -3,7 +3,7 @@ use super::generators::Counting;
 use super::keyed_step::KeyedStep;
 use super::{has_all_fields, is_hidden, lengthen, with_all_fields};
 use cookie::{Cookie, CookieJar, Key};
-use jar_steps::{Step, after, counts, first_wrong, moment, shown, test_key};
+use jar_steps::{Step, after, counts, first_wrong, moment, shown_value, test_key};
 use std::alloc::Global;
 use std::test::Fail;
 
@@ -99,7 +99,7 @@ fn wrong(alloc: Global, key: &Key, steps: &[KeyedStep]) -> Result<Option<usize>,
     Ok(None)
 }
 
-fn drawn(seed: u32) -> Key {
+fn draw(seed: u32) -> Key {
     Key::generate(&mut Counting(seed))
 }
 
@@ -114,14 +114,14 @@ fn a_wrong_step_is_found(rt: HostRuntime) -> Result<(), Fail> {
         (KeyedStep::Hides("a", "1"), None),
         (KeyedStep::Jar(Step::Lacks("a")), Some(1)),
     ] {
-        let found = wrong(rt.alloc(), &drawn(1), &[KeyedStep::Add("a", "1"), step])?;
+        let found = wrong(rt.alloc(), &draw(1), &[KeyedStep::Add("a", "1"), step])?;
         assert_eq!(rt; found, place);
     }
     let bare = [
         KeyedStep::Jar(Step::Add("a", "1")),
         KeyedStep::Hides("a", "1"),
     ];
-    assert_eq!(rt; wrong(rt.alloc(), &drawn(1), &bare)?, Some(1));
+    assert_eq!(rt; wrong(rt.alloc(), &draw(1), &bare)?, Some(1));
     Ok(())
 }
 
@@ -140,7 +140,7 @@ fn simple(rt: HostRuntime) -> Result<(), Fail> {
         KeyedStep::Remove("name"),
         KeyedStep::Jar(Step::Counts(0, 0)),
     ];
-    assert_eq!(rt; wrong(rt.alloc(), &drawn(1), &steps)?, None);
+    assert_eq!(rt; wrong(rt.alloc(), &draw(1), &steps)?, None);
     Ok(())
 }
 
@@ -155,7 +155,7 @@ fn private(rt: HostRuntime) -> Result<(), Fail> {
         KeyedStep::Jar(Step::Add("secure", "foobar")),
         KeyedStep::AnswersNothing("secure"),
     ];
-    assert_eq!(rt; wrong(rt.alloc(), &drawn(2), &steps)?, None);
+    assert_eq!(rt; wrong(rt.alloc(), &draw(2), &steps)?, None);
     Ok(())
 }
 
@@ -283,7 +283,7 @@ fn a_verified_cookie_keeps_all_but_its_value(rt: HostRuntime) -> Result<(), Fail
 }
 
 // The encoded text of the cookie that the jar shows.
-fn encoded(alloc: Global, jar: &CookieJar, name: &str) -> Result<String, Fail> {
+fn encoded_text(alloc: Global, jar: &CookieJar, name: &str) -> Result<String, Fail> {
     let cookie = jar.get(name).ok_or("a cookie")?;
     Ok(cookie.encoded().to_string(alloc)?)
 }
@@ -292,8 +292,8 @@ fn encoded(alloc: Global, jar: &CookieJar, name: &str) -> Result<String, Fail> {
 fn a_signed_cookie_is_printed_with_its_signature(rt: HostRuntime) -> Result<(), Fail> {
     let mut jar = CookieJar::new(rt.alloc());
     add(&mut jar, &test_key(), "id", "Tamper-proof")?;
-    assert!(rt; shown(&jar, "id") == Some(SIGNED));
-    let text = encoded(rt.alloc(), &jar, "id")?;
+    assert!(rt; shown_value(&jar, "id") == Some(SIGNED));
+    let text = encoded_text(rt.alloc(), &jar, "id")?;
     assert_eq!(rt;
         text.as_str(),
         "id=cMcV8FaG%2Fz%2FJS4bYk1VWqDagQ9aCoYD675qpIOI2XKU%3DTamper-proof"
@@ -311,7 +311,7 @@ fn is_signed_as(
     let key = test_key();
     let mut jar = CookieJar::new(alloc);
     add(&mut jar, &key, name, value)?;
-    Ok(shown(&jar, name) == Some(text) && answers(&jar, &key, name, value)?)
+    Ok(shown_value(&jar, name) == Some(text) && answers(&jar, &key, name, value)?)
 }
 
 #[test]

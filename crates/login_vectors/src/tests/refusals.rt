@@ -1,6 +1,6 @@
 //! What is refused: the methods and paths, and a generator that fails.
 use super::sevens::Sevens;
-use super::{first_wrong, refused, users};
+use super::{first_wrong, refusal, users};
 use cookie::{JarError, Key};
 use jar_steps::{moment, test_key};
 use jiff::civil::DateTime;
@@ -13,26 +13,26 @@ use std::test::Fail;
 #[test]
 fn other_paths_and_methods_are_refused(rt: HostRuntime) -> Result<(), Fail> {
     let rows = [
-        refused(
+        refusal(
             "GET",
             "/login",
             405,
             "Status: 405 Method Not Allowed\r\nAllow: POST\r\n",
         ),
-        refused("GET", "/logout", 405, "Allow: POST\r\n"),
-        refused("post", "/login", 405, "Allow: POST\r\n"),
-        refused(
+        refusal("GET", "/logout", 405, "Allow: POST\r\n"),
+        refusal("post", "/login", 405, "Allow: POST\r\n"),
+        refusal(
             "POST",
             "/",
             405,
             "Status: 405 Method Not Allowed\r\nAllow: GET, HEAD\r\n",
         ),
-        refused("DELETE", "", 405, "Allow: GET, HEAD\r\n"),
-        refused("", "/", 405, "Allow: GET, HEAD\r\n"),
-        refused("GET", "/nowhere", 404, "Status: 404 Not Found\r\n"),
-        refused("POST", "/login/", 404, "Status: 404 Not Found\r\n"),
-        refused("GET", "//", 404, "Status: 404 Not Found\r\n"),
-        refused("GET", "/Login", 404, "Status: 404 Not Found\r\n"),
+        refusal("DELETE", "", 405, "Allow: GET, HEAD\r\n"),
+        refusal("", "/", 405, "Allow: GET, HEAD\r\n"),
+        refusal("GET", "/nowhere", 404, "Status: 404 Not Found\r\n"),
+        refusal("POST", "/login/", 404, "Status: 404 Not Found\r\n"),
+        refusal("GET", "//", 404, "Status: 404 Not Found\r\n"),
+        refusal("GET", "/Login", 404, "Status: 404 Not Found\r\n"),
     ];
     assert_eq!(rt;
         first_wrong(rt.alloc(), RandomState::new(&rt)?, &rows)?,
@@ -41,7 +41,7 @@ fn other_paths_and_methods_are_refused(rt: HostRuntime) -> Result<(), Fail> {
     Ok(())
 }
 
-fn entered(
+fn enter(
     alloc: Global,
     state: RandomState,
     key: &Key,
@@ -69,7 +69,7 @@ fn a_generator_that_fails_lets_nobody_in(rt: HostRuntime) -> Result<(), Fail> {
     let key = test_key();
     let users = users(alloc)?;
     for left in [0, 11] {
-        let found = entered(alloc, RandomState::new(&rt)?, &key, &users, left, moment()?);
+        let found = enter(alloc, RandomState::new(&rt)?, &key, &users, left, moment()?);
         assert_eq!(rt; found.err(), Some(JarError::Generator));
     }
     Ok(())
