@@ -12,7 +12,8 @@ STATUSES = (
     "DONE BUFFER_TOO_SHORT OUT_OF_MEMORY NOT_UTF8 KEY_TOO_SHORT MASTER_TOO_SHORT BAD_NONCE NOT_SIGNED NOT_SEALED TOO_LONG "
     "NO_DATE BAD_MOMENT BAD_LINE"
 ).split()
-globals().update({name: number for number, name in enumerate(STATUSES)})
+STATUSES += [""] * (23 - len(STATUSES)) + "NO_JAR NOT_FOUND BAD_COOKIE".split()
+globals().update({name: number for number, name in enumerate(STATUSES) if name})
 
 
 class Answer(ctypes.Structure):
@@ -23,6 +24,14 @@ class Moment(ctypes.Structure):
     _fields_ = [("status", ctypes.c_uint32), ("year", ctypes.c_int16)] + [
         (name, ctypes.c_int8) for name in ("month", "day", "hour", "minute", "second")
     ]
+
+
+class Held(ctypes.Structure):
+    _fields_ = [("at", ctypes.c_void_p)]
+
+
+class Handle(ctypes.Structure):
+    _fields_ = [("is_open", ctypes.c_bool), ("held", Held)]
 
 
 class CookieError(ValueError):
@@ -53,17 +62,38 @@ OPEN = declare("open", TEXT * 4, Answer)
 READ_DATE = declare("read_date", TEXT, Moment)
 PRINT_DATE = declare("print_date", [ctypes.c_int16] + [ctypes.c_int8] * 5 + TEXT, Answer)
 RUN = declare("run", [ctypes.c_uint64] * 2 + TEXT * 3, Answer)
+HANDLE = [ctypes.POINTER(Handle)]
+JAR_NEW = declare("jar_new", [ctypes.c_uint64] * 2 + HANDLE, ctypes.c_uint32)
+JAR_ADD_ORIGINALS = declare("jar_add_originals", HANDLE + TEXT, ctypes.c_uint32)
+JAR_ADD = declare("jar_add", HANDLE + TEXT, ctypes.c_uint32)
+JAR_REMOVE = declare("jar_remove", HANDLE + TEXT * 2, ctypes.c_uint32)
+JAR_GET = declare("jar_get", HANDLE + TEXT * 2, Answer)
+JAR_DELTA = declare("jar_delta", HANDLE + TEXT, Answer)
+JAR_FREE = declare("jar_free", HANDLE, None)
 
 
-def given(function, *inputs, room=256):
-    """The bytes that the call gives, in a buffer that has as many."""
+def arguments_of(inputs):
+    """What a call is handed: a text as its bytes and their count."""
     arguments = []
     for value in inputs:
-        if isinstance(value, int):
+        if isinstance(value, (int, Handle)):
             arguments.append(value)
         else:
             value = value.encode() if isinstance(value, str) else bytes(value)
             arguments += [value, len(value)]
+    return arguments
+
+
+def done(function, *inputs):
+    """Makes the call, which has no text to give."""
+    status = function(*arguments_of(inputs))
+    if status != DONE:
+        raise CookieError(status)
+
+
+def given(function, *inputs, room=256):
+    """The bytes that the call gives, in a buffer that has as many."""
+    arguments = arguments_of(inputs)
     while True:
         buffer = ctypes.create_string_buffer(room)
         answer = function(*arguments, buffer, room)
@@ -128,5 +158,48 @@ def run(moment, text):
     """What the program `cookiejar` writes for the moment and the input."""
     if isinstance(moment, datetime.datetime):
         moment = print_date(moment)
-    seeds = (int.from_bytes(os.urandom(8), "little") for _ in range(2))
-    return given(RUN, *seeds, moment, text).decode()
+    return given(RUN, *seeds(), moment, text).decode()
+
+
+def seeds():
+    """Two random numbers, for the hash of a jar's names."""
+    return [int.from_bytes(os.urandom(8), "little") for _ in range(2)]
+
+
+class Jar:
+    """A jar whose originals are the cookies of a `Cookie` header. `with Jar(header) as jar` frees it at the end."""
+
+    def __init__(self, header=""):
+        self.handle = Handle()
+        done(JAR_NEW, *seeds(), self.handle)
+        done(JAR_ADD_ORIGINALS, self.handle, header)
+
+    def __enter__(self):
+        return self
+
+    def __exit__(self, *_):
+        self.close()
+
+    def __del__(self):
+        self.close()
+
+    def add(self, text):
+        """Adds the cookie that the text of a `Set-Cookie` header is."""
+        done(JAR_ADD, self.handle, text)
+
+    def remove(self, name, moment=None):
+        """Removes the cookie of the name, now or at a moment."""
+        moment = moment or datetime.datetime.now(datetime.timezone.utc)
+        done(JAR_REMOVE, self.handle, print_date(moment), name)
+
+    def get(self, name):
+        """The value that the jar shows under the name, or None."""
+        return read(JAR_GET, NOT_FOUND, self.handle, name)
+
+    def delta(self):
+        """The lines `Set-Cookie: ..` of the jar's changes, in any order."""
+        return given(JAR_DELTA, self.handle).decode().split("\n")[:-1]
+
+    def close(self):
+        """Frees the jar. Each other call is refused from then on."""
+        JAR_FREE(self.handle)

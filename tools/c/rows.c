@@ -9,7 +9,7 @@
 #include <sys/mman.h>
 #include <unistd.h>
 
-enum { MOST_FIELDS = 10, PAGES = 4 };
+enum { MOST_FIELDS = 16, PAGES = 4 };
 
 typedef struct text {
     uint8_t *bytes;
@@ -60,11 +60,12 @@ static text unhex(const char *hex) {
 static const char *const NAMES[] = {
     "DONE",      "BUFFER_TOO_SHORT", "OUT_OF_MEMORY", "NOT_UTF8", "KEY_TOO_SHORT", "MASTER_TOO_SHORT", "BAD_NONCE",
     "NOT_SIGNED", "NOT_SEALED",      "TOO_LONG",      "NO_DATE",  "BAD_MOMENT",    "BAD_LINE",
+    [COOKIE_NO_JAR] = "NO_JAR", [COOKIE_NOT_FOUND] = "NOT_FOUND", [COOKIE_BAD_COOKIE] = "BAD_COOKIE",
 };
 
 static uint32_t status_named(const char *name) {
     for (uint32_t i = 0; i < sizeof NAMES / sizeof *NAMES; i++)
-        if (strcmp(NAMES[i], name) == 0)
+        if (NAMES[i] != NULL && strcmp(NAMES[i], name) == 0)
             return i;
     fprintf(stderr, "no status %s\n", name);
     exit(2);
@@ -76,6 +77,82 @@ static void numbers_of(text date, int numbers[6]) {
     memcpy(copy, date.bytes, date.length < 63 ? date.length : 63);
     if (sscanf(copy, "%d %d %d %d %d %d", numbers, numbers + 1, numbers + 2, numbers + 3, numbers + 4, numbers + 5) != 6)
         exit(2);
+}
+
+/* Whether the step of a jar's row is this word; then the text behind the word and a blank is left. A text that is empty
+ * is a null pointer. */
+static int is_step(const char *word, text step, text *rest) {
+    size_t length = strlen(word);
+    if (step.length < length || memcmp(step.bytes, word, length) != 0)
+        return 0;
+    size_t behind = step.length > length ? length + 1 : length;
+    rest->length = step.length - behind;
+    rest->bytes = rest->length > 0 ? step.bytes + behind : NULL;
+    return 1;
+}
+
+static int compare_lines(const void *one, const void *other) { return strcmp(*(char *const *)one, *(char *const *)other); }
+
+/* Puts the lines into their order, since a delta's may stand in any. */
+static void sort_lines(uint8_t *bytes, size_t length) {
+    char copy[4096], *lines[100], *rest = copy;
+    size_t count = 0, at = 0;
+    if (length == 0 || length >= sizeof copy)
+        return;
+    memcpy(copy, bytes, length - 1);
+    copy[length - 1] = '\0';
+    while (count < 100 && (lines[count] = strsep(&rest, "\n")) != NULL)
+        count++;
+    qsort(lines, count, sizeof *lines, compare_lines);
+    for (size_t i = 0; i < count; i++) {
+        memcpy(bytes + at, lines[i], strlen(lines[i]));
+        at += strlen(lines[i]);
+        bytes[at++] = '\n';
+    }
+}
+
+static cookie_answer of_status(uint32_t status) { return (cookie_answer){status, 0}; }
+
+static cookie_answer play_step(cookie_jar *jar, text step, uint8_t *out, size_t length) {
+    text rest;
+    if (is_step("new", step, &rest))
+        return of_status(cookie_jar_new(1, 2, jar));
+    if (is_step("originals", step, &rest))
+        return of_status(cookie_jar_add_originals(jar, rest.bytes, rest.length));
+    if (is_step("add", step, &rest))
+        return of_status(cookie_jar_add(jar, rest.bytes, rest.length));
+    if (is_step("remove", step, &rest)) {
+        uint8_t *name = memchr(rest.bytes, '\n', rest.length);
+        size_t moment_length = (size_t)(name++ - rest.bytes), name_length = rest.length - moment_length - 1;
+        return of_status(cookie_jar_remove(jar, rest.bytes, moment_length, name_length > 0 ? name : NULL, name_length));
+    }
+    if (is_step("get", step, &rest))
+        return cookie_jar_get(jar, rest.bytes, rest.length, out, length);
+    if (is_step("delta", step, &rest)) {
+        cookie_answer answer = cookie_jar_delta(jar, out, length);
+        if (answer.status == COOKIE_DONE)
+            sort_lines(out, answer.length);
+        return answer;
+    }
+    if (is_step("free", step, &rest)) {
+        cookie_jar_free(jar);
+        return of_status(COOKIE_DONE);
+    }
+    fprintf(stderr, "no step %.*s\n", (int)step.length, (char *)step.bytes);
+    exit(2);
+}
+
+/* The steps of a jar's row on a handle: each but the last is done, and the last one's answer is the row's. */
+static cookie_answer play_jar(const text *steps, uint8_t *out, size_t length) {
+    cookie_jar jar = {0};
+    cookie_answer answer = {COOKIE_DONE, 0};
+    for (size_t i = 0; steps[i].length > 0; i++) {
+        if (answer.status != COOKIE_DONE)
+            fault("a step before the last is refused");
+        answer = play_step(&jar, steps[i], out, length);
+    }
+    cookie_jar_free(&jar);
+    return answer;
 }
 
 static cookie_answer call(const char *name, const text *in, uint8_t *out, size_t length) {
@@ -92,6 +169,8 @@ static cookie_answer call(const char *name, const text *in, uint8_t *out, size_t
         return cookie_open(IN(0), IN(1), IN(2), out, length);
     if (strcmp(name, "run") == 0)
         return cookie_run(1, 2, IN(0), IN(1), out, length);
+    if (strcmp(name, "jar") == 0)
+        return play_jar(in, out, length);
     if (strcmp(name, "print_date") == 0) {
         int n[6];
         numbers_of(in[0], n);
@@ -168,6 +247,22 @@ static void overlap(void) {
         for (size_t i = 0; i < sizeof memory; i++)
             if ((i < 100 || i >= 100 + 60 + 48) && memory[i] != 0xa5)
                 fault("a byte beyond the buffer has changed");
+    }
+    for (size_t at = 0; at < 12; at++) {
+        uint8_t memory[40];
+        memset(memory, 0xa5, sizeof memory);
+        memcpy(memory + 10 + at, name, 7);
+        cookie_jar jar = {0};
+        cookie_jar_new(1, 2, &jar);
+        cookie_jar_add(&jar, (const uint8_t *)"session=anna", 12);
+        cookie_answer answer = cookie_jar_get(&jar, memory + 10 + at, 7, memory + 10, 4);
+        tried++;
+        right += answer.status == COOKIE_DONE && answer.length == 4 && memcmp(memory + 10, value, 4) == 0;
+        for (size_t i = 0; i < sizeof memory; i++)
+            if ((i < 10 || i >= 10 + 12 + 7) && memory[i] != 0xa5)
+                fault("a byte beyond the buffer has changed");
+        cookie_jar_free(&jar);
+        cookie_jar_free(&jar);
     }
     printf("overlapping buffers: %d of %d answers right, no fault\n", right, tried);
     if (right != tried)

@@ -13,16 +13,55 @@ FIELDS = ("year", "month", "day", "hour", "minute", "second")
 faults = []
 
 
+def step(handle, text, out, length):
+    """Plays a step of a jar's row: its word, a blank and its text, which is null where it is empty."""
+    word, _, rest = text.partition(b" ")
+    rest = [part for value in rest.split(b"\n", word == b"remove") for part in (value or None, len(value))]
+    if word == b"new":
+        return cookie.Answer(cookie.JAR_NEW(1, 2, handle), 0)
+    if word == b"get":
+        return cookie.JAR_GET(handle, *rest, out, length)
+    if word == b"delta":
+        return cookie.JAR_DELTA(handle, out, length)
+    if word == b"free":
+        cookie.JAR_FREE(handle)
+        return cookie.Answer(cookie.DONE, 0)
+    calls = {b"originals": cookie.JAR_ADD_ORIGINALS, b"add": cookie.JAR_ADD, b"remove": cookie.JAR_REMOVE}
+    return cookie.Answer(calls[word](handle, *rest), 0)
+
+
+def play_jar(steps, out, length):
+    """Plays the steps on a handle: each but the last is done."""
+    handle = cookie.Handle()
+    for text in steps[:-1]:
+        if step(handle, text, out, length).status != cookie.DONE:
+            faults.append(f"{text} is refused")
+    answer = step(handle, steps[-1], out, length)
+    cookie.JAR_FREE(handle)
+    return answer
+
+
+def in_order(text):
+    """The text with its lines in their order, since a delta's may stand in any."""
+    return b"\n".join(sorted(text.split(b"\n")[:-1]) + [b""])
+
+
 def played(call, inputs, length):
     """Status, number and buffer, where the buffer has that length and is null where that is 0."""
+    buffer = ctypes.create_string_buffer(b"\xa5" * (length + 1), length + 1)
+    out = ctypes.cast(buffer, ctypes.c_char_p) if length else None
+    if call == "jar":
+        answer = play_jar(inputs, out, length)
+        given = answer.length if answer.status == cookie.DONE else 0
+        text = buffer.raw[:given]
+        return answer.status, answer.length, (in_order(text) if inputs[-1] == b"delta" else text) + buffer.raw[given:]
     arguments = [1, 2] if call == "run" else []
     if call == "print_date":
         arguments = [int(number) for number in inputs[0].split()]
     else:
         for value in inputs:
             arguments += [value or None, len(value)]
-    buffer = ctypes.create_string_buffer(b"\xa5" * (length + 1), length + 1)
-    answer = CALLS[call](*arguments, ctypes.cast(buffer, ctypes.c_char_p) if length else None, length)
+    answer = CALLS[call](*arguments, out, length)
     return answer.status, answer.length, buffer.raw
 
 
@@ -65,9 +104,19 @@ def use():
     assert cookie.read_date("Wed, 21 Oct 2015 07:28:00 GMT") == moment
     assert cookie.read_date("yesterday") is None
     assert cookie.run(moment, "name=val\nadd a=1\n") == "Set-Cookie: a=1\nCookie: a=1; name=val\n"
+    with cookie.Jar("name=val; n=x%20y") as jar:
+        jar.add("a=1; Path=/")
+        assert jar.get("a") == "1" and jar.get("n") == "x y" and jar.get("b") is None
+        jar.remove("name", moment)
+        assert jar.get("name") is None
+        assert sorted(jar.delta()) == [
+            "Set-Cookie: a=1; Path=/",
+            "Set-Cookie: name=; Max-Age=0; Expires=Tue, 21 Oct 2014 07:28:00 GMT",
+        ]
     for wrong, status in ((lambda: cookie.sign(b"short", "a", "b"), cookie.KEY_TOO_SHORT),
                           (lambda: cookie.sign(key, "a", b"\xff"), cookie.NOT_UTF8),
-                          (lambda: cookie.run(moment, "\nnonsense"), cookie.BAD_LINE)):
+                          (lambda: cookie.run(moment, "\nnonsense"), cookie.BAD_LINE),
+                          (lambda: jar.get("a"), cookie.NO_JAR), (lambda: cookie.Jar().add("a"), cookie.BAD_COOKIE)):
         try:
             wrong()
             faults.append("a use isn't refused")

@@ -21,6 +21,17 @@ struct Moment {
     second: i8,
 }
 
+#[repr(C)]
+struct Held {
+    at: *mut (),
+}
+
+#[repr(C)]
+struct Jar {
+    is_open: bool,
+    held: Held,
+}
+
 type Text = *const u8;
 
 #[rustfmt::skip]
@@ -33,6 +44,13 @@ unsafe extern "C" {
     fn cookie_read_date(text: Text, text_length: usize) -> Moment;
     fn cookie_print_date(year: i16, month: i8, day: i8, hour: i8, minute: i8, second: i8, out: *mut u8, out_length: usize) -> Answer;
     fn cookie_run(seed: u64, other_seed: u64, moment: Text, moment_length: usize, input: Text, input_length: usize, out: *mut u8, out_length: usize) -> Answer;
+    fn cookie_jar_new(seed: u64, other_seed: u64, jar: &mut Jar) -> u32;
+    fn cookie_jar_add_originals(jar: &mut Jar, header: Text, header_length: usize) -> u32;
+    fn cookie_jar_add(jar: &mut Jar, text: Text, text_length: usize) -> u32;
+    fn cookie_jar_remove(jar: &mut Jar, moment: Text, moment_length: usize, name: Text, name_length: usize) -> u32;
+    fn cookie_jar_get(jar: &mut Jar, name: Text, name_length: usize, out: *mut u8, out_length: usize) -> Answer;
+    fn cookie_jar_delta(jar: &mut Jar, out: *mut u8, out_length: usize) -> Answer;
+    fn cookie_jar_free(jar: &mut Jar);
 }
 
 const STATUSES: [&str; 13] = [
@@ -40,13 +58,75 @@ const STATUSES: [&str; 13] = [
     "NOT_SIGNED", "NOT_SEALED", "TOO_LONG", "NO_DATE", "BAD_MOMENT", "BAD_LINE",
 ];
 
+fn number_of(status: &str) -> u32 {
+    let place = STATUSES.iter().position(|name| *name == status);
+    match (status, place) {
+        ("NO_JAR", _) => 23,
+        ("NOT_FOUND", _) => 24,
+        ("BAD_COOKIE", _) => 25,
+        (_, place) => place.expect("a status") as u32,
+    }
+}
+
 fn numbers(date: &[u8]) -> Vec<i32> {
     let text = std::str::from_utf8(date).expect("a date");
     text.split(' ').map(|number| number.parse().expect("a number")).collect()
 }
 
+fn place(text: &[u8]) -> Text {
+    if text.is_empty() { ptr::null() } else { text.as_ptr() }
+}
+
+/// Plays a step of a jar's row: its word, a blank and its text.
+fn play_step(jar: &mut Jar, step: &[u8], out: *mut u8, length: usize) -> Answer {
+    let end = step.iter().position(|byte| *byte == b' ').unwrap_or(step.len());
+    let rest = &step[step.len().min(end + 1)..];
+    let of_status = |status| Answer { status, length: 0 };
+    unsafe {
+        match &step[..end] {
+            b"new" => of_status(cookie_jar_new(1, 2, jar)),
+            b"originals" => of_status(cookie_jar_add_originals(jar, place(rest), rest.len())),
+            b"add" => of_status(cookie_jar_add(jar, place(rest), rest.len())),
+            b"remove" => {
+                let end = rest.iter().position(|byte| *byte == b'\n').expect("a moment and a name");
+                let (moment, name) = (&rest[..end], &rest[end + 1..]);
+                of_status(cookie_jar_remove(jar, place(moment), moment.len(), place(name), name.len()))
+            }
+            b"get" => cookie_jar_get(jar, place(rest), rest.len(), out, length),
+            b"delta" => cookie_jar_delta(jar, out, length),
+            b"free" => {
+                cookie_jar_free(jar);
+                of_status(0)
+            }
+            _ => panic!("no step {step:?}"),
+        }
+    }
+}
+
+/// Plays the steps of a jar's row on a handle: each but the last is done.
+fn play_jar(steps: &[Vec<u8>], out: *mut u8, length: usize) -> Answer {
+    let mut jar = Jar { is_open: false, held: Held { at: ptr::null_mut() } };
+    let (last, before) = steps.split_last().expect("a step");
+    for step in before {
+        assert_eq!(play_step(&mut jar, step, out, length).status, 0, "a step before the last is refused");
+    }
+    let answer = play_step(&mut jar, last, out, length);
+    unsafe { cookie_jar_free(&mut jar) };
+    answer
+}
+
+/// Puts the lines of a delta into their order, since they may stand in any.
+fn in_order(text: &[u8]) -> Vec<u8> {
+    let mut lines: Vec<&[u8]> = text.split_inclusive(|byte| *byte == b'\n').collect();
+    lines.sort();
+    lines.concat()
+}
+
 fn call(name: &str, inputs: &[Vec<u8>], out: *mut u8, length: usize) -> Answer {
-    let at = |i: usize| if inputs[i].is_empty() { ptr::null() } else { inputs[i].as_ptr() };
+    if name == "jar" {
+        return play_jar(inputs, out, length);
+    }
+    let at = |i: usize| place(&inputs[i]);
     let size = |i: usize| inputs[i].len();
     unsafe {
         match name {
@@ -71,12 +151,15 @@ fn is_right(name: &str, inputs: &[Vec<u8>], length: usize, wanted: Answer, text:
     let out = if length == 0 { ptr::null_mut() } else { buffer.as_mut_ptr() };
     let answer = call(name, inputs, out, length);
     let given = if wanted.status == 0 { text.len() } else { 0 };
+    if inputs.last().is_some_and(|last| last == b"delta") {
+        let ordered = in_order(&buffer[..given]);
+        buffer[..given].copy_from_slice(&ordered);
+    }
     answer == wanted && buffer[..given] == text[..given] && buffer[given..].iter().all(|byte| *byte == 0xa5)
 }
 
 fn is_date(text: &[u8], status: u32, wanted: &[u8]) -> bool {
-    let at = if text.is_empty() { ptr::null() } else { text.as_ptr() };
-    let m = unsafe { cookie_read_date(at, text.len()) };
+    let m = unsafe { cookie_read_date(place(text), text.len()) };
     let read: [i32; 6] = [m.year.into(), m.month.into(), m.day.into(), m.hour.into(), m.minute.into(), m.second.into()];
     let wanted = if status == 0 { numbers(wanted) } else { vec![0; 6] };
     m.status == status && read[..] == wanted[..]
@@ -95,7 +178,7 @@ fn main() {
     let (mut rows, mut faults) = (0, 0);
     for (number, line) in text.lines().enumerate().filter(|(_, line)| !line.starts_with('#')) {
         let fields: Vec<&str> = line.split('\t').collect();
-        let status = STATUSES.iter().position(|name| *name == fields[2]).expect("a status") as u32;
+        let status = number_of(fields[2]);
         let length = fields[3].parse().expect("a number");
         let wanted = unhex(fields[4]);
         let inputs: Vec<Vec<u8>> = fields[5..].iter().map(|field| unhex(field)).collect();

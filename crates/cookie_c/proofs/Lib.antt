@@ -1,4 +1,6 @@
 mod DateLemmas
+mod HeldBox
+mod JarLemmas
 mod KeyedLemmas
 mod ReadBackLemmas
 mod StoredLemmas

@@ -18,3 +18,6 @@ code_of status.TooLong = 9
 code_of status.NoDate = 10
 code_of status.BadMoment = 11
 code_of status.BadLine = 12
+code_of status.NoJar = 23
+code_of status.NotFound = 24
+code_of status.BadCookie = 25

@@ -3,6 +3,7 @@
 
 mod answer;
 mod date;
+mod jar;
 mod key;
 mod keyed;
 mod sealing;

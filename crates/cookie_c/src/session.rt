@@ -16,7 +16,7 @@ use std::random::RandomSource;
 
 /// Sixteen bytes that the hash of names is keyed with.
 #[derive(Drop)]
-struct Seed {
+pub(crate) struct Seed {
     bytes: [u8; 16],
 }
 
@@ -79,7 +79,7 @@ fn session_text(alloc: Global, seed: &Seed, moment: &str, input: &[u8]) -> Resul
 }
 
 impl Seed {
-    fn of(seed: u64, other_seed: u64) -> Seed {
+    pub(crate) fn of(seed: u64, other_seed: u64) -> Seed {
         let mut bytes = [0; 16];
         bytes[..8].copy_from_slice(&seed.to_le_bytes());
         bytes[8..].copy_from_slice(&other_seed.to_le_bytes());

@@ -29,6 +29,12 @@ pub enum Status {
     BadMoment = 11,
     /// A line asks for no call; its number, from 1, stands in the length.
     BadLine = 12,
+    /// The handle has no jar.
+    NoJar = 23,
+    /// The jar shows no cookie of the name.
+    NotFound = 24,
+    /// The text is no cookie.
+    BadCookie = 25,
 }
 
 impl Status {

@@ -1,0 +1,56 @@
+-- `into_parts` moves the two fields back, and what they own goes with them: a walk of its MIR.
+use Rattle.std.proofs.Common.{◌≡◌, ◌≢◌, Option, Some, None, List, [], ◌∷◌, ◌++◌, refl, sym, subst}
+use mir.Val.{Val}
+use base.Logic.{SProp, ent, emp, id⊢}
+use prog.Wp.{WpFn}
+use types.Kit.{⋆, ‵, raw, ◌⊛◌, ◌$◌, ◌∵◌, !, qed, by, move, keep, drop, use0, use1, split, fsplit, fjoin, rewrite}
+use types.Part.{whole, sub, agg}
+use types.Run.{stop, fld, no_more, and_then, of_opd, returns, enter}
+use types.ByLocal.{alloc_all, pass_all, free_all, look_at, get, get_in, sets}
+use base.Fml.{ftrue, fsep}
+use contract.Monad.{fact, fact_i}
+use contract.Running.{tables}
+use denote.Exit.{yes}
+use denote.Signature.{type_at, plain}
+use denote.Steps.{nothing, heard}
+use denote.Triple.Walked.{Stays, stay_dropped, walk_of, Goes-dropped}
+use Rattle.std_alloc.proofs.BoxSteps.Form.{D, B, word, box_typed}
+use Rattle.std_alloc.proofs.BoxSteps.Steps.{box_out, box_in}
+use Rattle.std.proofs.raw_atomic.Walks.{proved_at, leaves}
+use Rattle.cookie_c.proofs.HeldBox.{boxed}
+use Rattle.cookie_c.specs.Held.{held_owns}
+use Rattle.cookie_c.specs.contracts.jar.held.Held.{the_row}
+use Rattle.cookie_c.specs.contracts.jar.held.Held.into_parts.{ended, clauses, signature}
+use Rattle.cookie_c.specs.contracts.jar.held.Held.into_parts.Key.{name as #self}
+use Rattle.cookie_c.proofs.jar.held.Held.into_parts.Statement.{statement}
+use Rattle.cookie_c.proofs.jar.held.Held.into_parts.Code as code
+
+some_of : {X : Type 0} (o : Option X) → o ≢ None → (x : X) × (o ≡ Some x)
+some_of None none = absurd (none refl)
+some_of (Some x) none = (x, refl)
+
+pub into_parts_spec : {M : Type 1} → statement M
+into_parts_spec 𝓤 𝓛 𝓜 𝓡 wired =
+    let H = 𝓛.H in let 𝓣 = tables 𝓤 H 𝓜 𝓡 𝓡.env in let c = clauses 𝓛 𝓜.mem 𝓡.returns in
+    let hs : Stays signature.params ended.kept = (stay_dropped (plain (λ _. the_row)) yes, tt) in
+    proved_at 𝓛 ended hs c 𝓜 𝓡 (Goes-dropped 𝓛 0 (plain (λ _. the_row)) yes (λ κs x f. refl), tt) #self code.function (code.unfolded 𝓤 H 𝓜 𝓡 wired) (λ z are.
+    let Post = (walk_of 𝓛 ended hs c).post z in let Run : List Val → SProp 𝓤 = λ ws. WpFn 𝓤 H 𝓣.C 𝓣.Λ code.function (ws ++ []) Post in
+    let held = z.0.3.0 in let To = type_at signature.result tt in
+    qed 𝓛 ((‵ ftrue ⊛ ‵ (fsep (the_row.own_val held z.0.4.0) ftrue)) ∷ raw (fact 𝓤 (held.jar ≢ None)) ∷ []) ∵
+    move ! (1 ∷ []) $ heard ! (held.jar ≢ None) (λ none. let found = some_of held.jar none in let x = found.0 in
+    let v : D boxed = record { ptr = held.at; alloc = held.alloc; value = x } in
+    let made : To.Denot = record { at = held.at; alloc = held.alloc; value = x } in
+    split ! $ drop ! $ fsplit ! $ fsplit ! $ move ! (1 ∷ []) $ rewrite ! 0 (λ o. ‵ (held_owns held.alloc held.at o)) found.1 refl $ move ! (1 ∷ 0 ∷ []) $ fjoin ! $
+    use1 𝓛 (‵ ((B boxed).own_val v z.0.4.0)) (id⊢ 𝓤 _) $
+    box_out boxed ! v z.0.4.0 (λ b o hv e ws fits. box_in boxed ! v b o x e refl $
+    let w = word boxed hv b o in let typed = box_typed boxed hv b o fits in
+    use1 𝓛 (‵ (To.own_val made (w ∷ []))) (id⊢ 𝓤 _) $ keep ! (0 ∷ []) $
+    by ! (subst (λ (us : List Val). ent 𝓤 (⋆ 𝓛 (‵ (To.own_val made (w ∷ [])) ∷ [])) (Run us)) (sym ws)
+    (qed 𝓛 (‵ (To.own_val made (w ∷ [])) ∷ []) ∵ enter ! 𝓣.C 𝓣.Λ code.function (w ∷ []) _ $ alloc_all ! (λ l. pass_all ! refl (typed, tt) $
+    -- let Held { at, alloc } = self;
+    sets ! (of_opd ! (get_in ! (fld ! refl (stop !)) (sub ! 0 refl (whole !)))) refl (tt, tt) $ sets ! (of_opd ! (get_in ! (fld ! refl (stop !)) (sub ! 1 refl (whole !)))) refl fits $
+    -- Parts { at: at as *mut CookieJar, alloc }
+    sets ! (of_opd ! (get ! refl)) refl (tt, tt) $ sets ! (agg ! (and_then ! (get ! refl) (and_then ! (get ! refl) (no_more !)))) refl typed $
+    returns ! (look_at ! 0 refl) $ free_all ! refl $
+    use0 𝓛 (raw (fact 𝓤 (Some x ≡ held.jar))) (fact_i 𝓤 (Some x ≡ held.jar) (emp 𝓤) (sym found.1)) $ move ! (1 ∷ 0 ∷ []) $ nothing ! $ nothing ! $ fjoin ! $ nothing ! $
+    by ! (leaves 𝓛 ended hs c z w made (tt, tt) (tt, tt))))))))

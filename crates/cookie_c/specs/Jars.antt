@@ -1,0 +1,75 @@
+-- The calls on a jar behind a handle: what each answers, and what it leaves. `old` is the jar at the call, and `new` at
+-- the return; of a call that gives a text they are the buffer.
+use Rattle.std.specs.Prelude.{◌≡◌, ℕ, ◌⊎◌, true, false, List, [], map, IsUtf8, Option, Some, None, option_map}
+use Rattle.std.specs.FinMap.{FinMap, get}
+use Rattle.jiff.specs.Types.{DateTime}
+use Rattle.cookie.specs.CookieOf.{cookie_of, header_cookies}
+use Rattle.cookie.specs.Jar.{Add, JarState, Marked, Remove, after, name_cmp, view}
+use Rattle.cookie.specs.Moments.{date_of}
+use Rattle.cookie.specs.Record.{Record, plain}
+use Rattle.cookie.specs.Text.{cookie_text}
+use Rattle.cookie.specs.Walk.{Walks}
+use Rattle.cookie_client.specs.Originals.{with_originals}
+use Rattle.cookie_client.specs.Session.{set_cookie_lines}
+use Rattle.cookie_c.specs.Answers.{IsGiven, IsRefused}
+use Rattle.cookie_c.specs.Codes.{code_of}
+use Rattle.cookie_c.specs.declared.answer.Answer.{Answer}
+use Rattle.cookie_c.specs.declared.status.Status.{Status}
+use Rattle.cookie_c.specs.declared.status.Status.TheVariants as status
+
+-- this is the refusal, and the jar is as before
+abbrev pub IsKept : Status → Status → JarState → JarState → Type 0
+IsKept why answer old new = (answer ≡ why) × (new ≡ old)
+
+-- the change was made, or memory was wanting
+abbrev pub IsChanged : (JarState → JarState) → Status → JarState → JarState → Type 0
+IsChanged change answer old new =
+    ((answer ≡ status.Done) × (new ≡ change old)) ⊎ IsKept status.OutOfMemory answer old new
+
+-- the cookies of a header were added as originals
+pub record HasOriginals (header : List ℕ) (answer : Status) (old new : JarState) : Type 0 where
+  pub not_utf8 : ¬ (IsUtf8 header) → IsKept status.NotUtf8 answer old new
+  pub added : IsUtf8 header → IsChanged (with_originals (header_cookies true header)) answer old new
+
+-- the cookie that the text of a `Set-Cookie` header is was added
+pub record IsAdded (text : List ℕ) (answer : Status) (old new : JarState) : Type 0 where
+  pub not_utf8 : ¬ (IsUtf8 text) → IsKept status.NotUtf8 answer old new
+  pub refused : IsUtf8 text → cookie_of true text ≡ None
+      → IsKept status.BadCookie answer old new ⊎ IsKept status.OutOfMemory answer old new
+  pub added : (cookie : Record) → IsUtf8 text → cookie_of true text ≡ Some cookie
+      → IsChanged (after (Add cookie)) answer old new
+
+-- the cookie of the name was removed, at the date and time that a text stands for
+pub record IsRemoved (moment name : List ℕ) (answer : Status) (old new : JarState) : Type 0 where
+  pub not_utf8 : ¬ (IsUtf8 moment × IsUtf8 name) → IsKept status.NotUtf8 answer old new
+  pub no_date : IsUtf8 moment → IsUtf8 name → date_of moment ≡ None → IsKept status.NoDate answer old new
+  pub removed : (now : DateTime) → IsUtf8 moment → IsUtf8 name → date_of moment ≡ Some now
+      → IsChanged (after (Remove (plain name []) now)) answer old new
+
+-- the value is given that the jar shows under the name
+pub record IsShown (name : List ℕ) (jar : JarState) (answer : Answer) (old new : List ℕ) : Type 0 where
+  pub not_utf8 : ¬ (IsUtf8 name) → IsRefused status.NotUtf8 answer old new
+  pub not_found : IsUtf8 name → view jar name ≡ None → IsRefused status.NotFound answer old new
+  pub given : (cookie : Record) → IsUtf8 name → view jar name ≡ Some cookie → IsGiven cookie.value answer old new
+
+-- the text has a line `Set-Cookie: ..` for each cookie of the delta, each once, in any order
+pub record HasLines (delta : FinMap name_cmp Marked) (text : List ℕ) : Type 0 where
+  pub cookies : List Record
+  pub are : Walks (λ name. option_map (λ entry. entry.cookie) (get delta name)) cookies
+  pub lines : text ≡ set_cookie_lines (map (cookie_text true false) cookies)
+
+-- such a text is given, or memory was wanting
+abbrev pub IsDeltaGiven : JarState → Answer → List ℕ → List ℕ → Type 0
+IsDeltaGiven jar answer old new =
+    ((text : List ℕ) × HasLines jar.delta text × IsGiven text answer old new) ⊎ IsRefused status.OutOfMemory answer old new
+
+-- A handle's jar is as a call makes it, and the number is that of the call's answer. A handle without a jar stays so.
+abbrev pub AtJar : (Status → JarState → JarState → Type 0) → ℕ → Option JarState → Option JarState → Type 0
+AtJar Makes number None new = (number ≡ code_of status.NoJar) × (new ≡ None)
+AtJar Makes number (Some old) new =
+    (answer : Status) × (jar : JarState) × (number ≡ code_of answer) × (new ≡ Some jar) × Makes answer old jar
+
+-- the answer is a call's on a handle's jar; of a handle without one nothing is given
+abbrev pub OfJar : (JarState → Answer → List ℕ → List ℕ → Type 0) → Option JarState → Answer → List ℕ → List ℕ → Type 0
+OfJar Gives None answer old new = IsRefused status.NoJar answer old new
+OfJar Gives (Some jar) answer old new = Gives jar answer old new

@@ -1,0 +1,173 @@
+//! The calls that change a jar behind a handle.
+ghost use Rattle.std.specs.Prelude.{◌≡◌, ◌⊎◌, Some, None, IfOk, true, option_map};
+ghost use Rattle.cookie.specs.CookieOf.{cookie_of, header_cookies};
+ghost use Rattle.cookie.specs.Jar.{empty_jar};
+ghost use Rattle.cookie.specs.Memory.{Gives};
+ghost use Rattle.cookie_client.specs.Originals.{with_originals};
+ghost use Rattle.cookie_client.specs.declared.client_error.ClientError.TheVariants.{OutOfMemory};
+ghost use Rattle.cookie_c.specs.Codes.{code_of};
+ghost use Rattle.cookie_c.specs.Jars.{AtJar, HasOriginals, IsAdded, IsRemoved};
+ghost use Rattle.cookie_c.specs.declared.status.Status.TheVariants as status;
+
+use super::Jar;
+use crate::session::Seed;
+use crate::status::Status;
+use cookie::{Cookie, CookieJar, ParseError, read_date};
+use cookie_client::{ClientError, with_originals};
+use std::alloc::Global;
+use std::hash::RandomState;
+
+/// Puts a jar with no cookie into the handle, and frees the one that it had, if it had one. The two seeds are random;
+/// the jar hashes names with them.
+///
+/// It fails for want of memory alone, and then the handle's jar is as before.
+#[unsafe(no_mangle)]
+pub extern "C" fn cookie_jar_new(alloc: Global, seed: u64, other_seed: u64, jar: &mut Jar) -> u32
+    ensures { ((result ≡ code_of status.Done) × (jar.new.held.jar ≡ Some empty_jar))
+        ⊎ ((result ≡ code_of status.OutOfMemory) × (jar.new.held.jar ≡ jar.old.held.jar)) }
+{
+    let Ok(state) = RandomState::new(&Seed::of(seed, other_seed)) else {
+        return Status::OutOfMemory.code();
+    };
+    let Ok(made) = Box::new(alloc, CookieJar::with_hasher(alloc, state)) else {
+        return Status::OutOfMemory.code();
+    };
+    drop(jar.take(alloc));
+    jar.put(made);
+    Status::Done.code()
+}
+
+/// Adds the cookies of a `Cookie` header's value as originals, decoded (RFC 6265 5.4). A piece that is no cookie is
+/// passed over.
+///
+/// Refuses a handle without a jar, and then a header that isn't UTF-8; else it fails for want of memory alone. After a
+/// refusal the jar is as before.
+#[tactic(auto, using(crate::proofs::JarLemmas::at_none, crate::proofs::JarLemmas::at_some))]
+#[unsafe(no_mangle)]
+pub extern "C" fn cookie_jar_add_originals(alloc: Global, jar: &mut Jar, header: &[u8]) -> u32
+    ensures { AtJar (HasOriginals header.now) result jar.old.held.jar jar.new.held.jar }
+{
+    let Some(mut held) = jar.take(alloc) else {
+        return Status::NoJar.code();
+    };
+    let answer = add_originals(alloc, held.as_mut(), header);
+    jar.put(held);
+    answer.code()
+}
+
+/// Adds the cookie that the text of a `Set-Cookie` header is, decoded (RFC 6265 5.2), in the place of the one that the
+/// jar shows under its name.
+///
+/// Refuses a handle without a jar, then a text that isn't UTF-8, and then one that is no cookie; else it fails for want
+/// of memory alone. After a refusal the jar is as before.
+#[tactic(auto, using(crate::proofs::JarLemmas::at_none, crate::proofs::JarLemmas::at_some))]
+#[unsafe(no_mangle)]
+pub extern "C" fn cookie_jar_add(alloc: Global, jar: &mut Jar, text: &[u8]) -> u32
+    ensures { AtJar (IsAdded text.now) result jar.old.held.jar jar.new.held.jar }
+{
+    let Some(mut held) = jar.take(alloc) else {
+        return Status::NoJar.code();
+    };
+    let answer = add(alloc, held.as_mut(), text);
+    jar.put(held);
+    answer.code()
+}
+
+/// Removes the cookie of the name, at a moment that is a date in UTC by the four forms of `read_date`. Where there is an
+/// original of the name, the delta gets a cookie that tells the client to drop it, without path and domain.
+///
+/// Refuses a handle without a jar, then a moment or a name that isn't UTF-8, and then a moment that is no date; else it
+/// fails for want of memory alone. After a refusal the jar is as before.
+#[tactic(auto, using(crate::proofs::JarLemmas::at_none, crate::proofs::JarLemmas::at_some))]
+#[unsafe(no_mangle)]
+pub extern "C" fn cookie_jar_remove(alloc: Global, jar: &mut Jar, moment: &[u8], name: &[u8]) -> u32
+    ensures { AtJar (IsRemoved moment.now name.now) result jar.old.held.jar jar.new.held.jar }
+{
+    let Some(mut held) = jar.take(alloc) else {
+        return Status::NoJar.code();
+    };
+    let answer = remove(alloc, held.as_mut(), moment, name);
+    jar.put(held);
+    answer.code()
+}
+
+/// Frees the handle's jar, if it has one. The handle has none then.
+#[unsafe(no_mangle)]
+pub extern "C" fn cookie_jar_free(alloc: Global, jar: &mut Jar)
+    ensures { jar.new.held.jar ≡ None }
+{
+    drop(jar.take(alloc));
+}
+
+fn add_originals(alloc: Global, jar: &mut CookieJar, header: &[u8]) -> Status
+    ensures { HasOriginals header.now result jar.old jar.new }
+{
+    let Ok(header) = str::from_utf8(header) else {
+        return Status::NotUtf8;
+    };
+    match copy_with(alloc, jar, header) {
+        Ok(made) => {
+            *jar = made;
+            Status::Done
+        }
+        Err(_) => Status::OutOfMemory,
+    }
+}
+
+// A copy of the jar, with the header's cookies as originals.
+fn copy_with(alloc: Global, jar: &CookieJar, header: &str) -> Result<CookieJar, ClientError>
+    ensures { IfOk result (λ made.
+        made ≡ with_originals (header_cookies true header.now) jar.now) }
+{
+    match jar.clone() {
+        Ok(copy) => with_originals(alloc, copy, header),
+        Err(_) => Err(ClientError::OutOfMemory),
+    }
+}
+
+fn add(alloc: Global, jar: &mut CookieJar, text: &[u8]) -> Status
+    ensures { IsAdded text.now result jar.old jar.new }
+{
+    let Ok(text) = str::from_utf8(text) else {
+        return Status::NotUtf8;
+    };
+    let cookie = match read(alloc, text) {
+        Ok(Some(cookie)) => cookie,
+        Ok(None) => return Status::BadCookie,
+        Err(_) => return Status::OutOfMemory,
+    };
+    match jar.add(cookie) {
+        Ok(()) => Status::Done,
+        Err(_) => Status::OutOfMemory,
+    }
+}
+
+// The cookie that the text is, if it is one.
+fn read(alloc: Global, text: &str) -> Result<Option<Cookie<'static>>, ClientError>
+    ensures { Gives OutOfMemory result (λ cookie.
+        option_map (λ c. c.fields) cookie ≡ cookie_of true text.now) }
+{
+    match Cookie::parse_encoded(alloc, text) {
+        Ok(cookie) => Ok(Some(cookie.into_owned(alloc)?)),
+        Err(ParseError::OutOfMemory) => Err(ClientError::OutOfMemory),
+        Err(ParseError::MissingPair | ParseError::EmptyName | ParseError::Utf8Error(_)) => Ok(None),
+    }
+}
+
+fn remove(alloc: Global, jar: &mut CookieJar, moment: &[u8], name: &[u8]) -> Status
+    ensures { IsRemoved moment.now name.now result jar.old jar.new }
+{
+    let (Ok(moment), Ok(name)) = (str::from_utf8(moment), str::from_utf8(name)) else {
+        return Status::NotUtf8;
+    };
+    let Some(now) = read_date(moment) else {
+        return Status::NoDate;
+    };
+    let Ok(named) = Cookie::named(name).into_owned(alloc) else {
+        return Status::OutOfMemory;
+    };
+    match jar.remove(named, now) {
+        Ok(()) => Status::Done,
+        Err(_) => Status::OutOfMemory,
+    }
+}

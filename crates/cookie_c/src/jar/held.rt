@@ -1,0 +1,58 @@
+//! A jar as C holds it: by a pointer that C doesn't follow.
+ghost use Rattle.std.specs.Prelude.{◌≡◌, ◌≢◌, Some, None, Option};
+ghost use Rattle.cookie.specs.Jar.{JarState};
+ghost use Rattle.cookie_c.specs.Held.{held_coded, held_owns};
+
+use super::parts::Parts;
+use cookie::CookieJar;
+use std::alloc::Global;
+use std::marker::Model;
+use std::ptr::null_mut;
+
+/// A jar on the heap, or none. C keeps the pointer, and neither follows nor copies it.
+#[repr(C)]
+#[derive(Drop)]
+pub struct Held {
+    at: *mut (),
+    alloc: Global,
+    pub ghost jar: { Option JarState } by { held_coded },
+}
+
+impl Model for Held {
+    ghost also_owns = { λ h. held_owns h.alloc h.at h.jar };
+}
+
+impl Held {
+    // No jar.
+    pub(crate) fn none(alloc: Global) -> Held
+        ensures { result.jar ≡ None }
+    {
+        Held {
+            at: null_mut(),
+            alloc,
+        }
+    }
+
+    // The jar of a box's parts.
+    pub(crate) fn of_parts(parts: Parts<CookieJar, Global>) -> Held
+        ensures { result.jar ≡ Some parts.value }
+    {
+        let Parts { at, alloc } = parts;
+        Held {
+            at: at as *mut (),
+            alloc,
+        }
+    }
+
+    // The parts of the jar's box again.
+    pub(crate) fn into_parts(self) -> Parts<CookieJar, Global>
+        requires { self.jar ≢ None }
+        ensures { Some result.value ≡ self.jar }
+    {
+        let Held { at, alloc } = self;
+        Parts {
+            at: at as *mut CookieJar,
+            alloc,
+        }
+    }
+}

@@ -1,0 +1,93 @@
+//! The calls that give a text of a jar behind a handle.
+ghost use Rattle.std.specs.Prelude.{◌≡◌, ◌++◌, IfOk, OnOk, codes, true, false, string_bytes};
+ghost use Rattle.cookie.specs.Text.{cookie_text};
+ghost use Rattle.cookie_c.specs.Jars.{HasLines, IsDeltaGiven, IsShown, OfJar};
+
+use super::Jar;
+use crate::answer::Answer;
+use crate::status::Status;
+use cookie::{Cookie, CookieJar};
+use std::alloc::{AllocError, Global};
+
+/// The value of the cookie that the jar shows under the name, for the buffer. The jar is as before.
+///
+/// Refuses a handle without a jar, then a name that isn't UTF-8, and then one under which the jar shows no cookie. It
+/// takes no memory.
+#[tactic(auto, using(crate::proofs::JarLemmas::of_none, crate::proofs::JarLemmas::of_some))]
+#[unsafe(no_mangle)]
+pub extern "C" fn cookie_jar_get(
+    alloc: Global,
+    jar: &mut Jar,
+    name: &[u8],
+    out: &mut [u8],
+) -> Answer
+    ensures kept { jar.new.held.jar ≡ jar.old.held.jar }
+    ensures given { OfJar (IsShown name.now) jar.old.held.jar result out.old out.new }
+{
+    let Some(held) = jar.take(alloc) else {
+        return Answer::refusal(Status::NoJar);
+    };
+    let answer = show(held.as_ref(), name, out);
+    jar.put(held);
+    answer
+}
+
+/// A line `Set-Cookie: ..` for each cookie of the jar's delta, for the buffer: each cookie's encoded text (RFC 6265
+/// 4.1.1), in any order, with a line feed at its end. The jar is as before.
+///
+/// Refuses a handle without a jar; else it fails for want of memory alone.
+#[tactic(auto, using(crate::proofs::JarLemmas::of_none, crate::proofs::JarLemmas::of_some))]
+#[unsafe(no_mangle)]
+pub extern "C" fn cookie_jar_delta(alloc: Global, jar: &mut Jar, out: &mut [u8]) -> Answer
+    ensures kept { jar.new.held.jar ≡ jar.old.held.jar }
+    ensures given { OfJar IsDeltaGiven jar.old.held.jar result out.old out.new }
+{
+    let Some(held) = jar.take(alloc) else {
+        return Answer::refusal(Status::NoJar);
+    };
+    let answer = give_delta(alloc, held.as_ref(), out);
+    jar.put(held);
+    answer
+}
+
+fn show(jar: &CookieJar, name: &[u8], out: &mut [u8]) -> Answer
+    ensures { IsShown name.now jar.now result out.old out.new }
+{
+    let Ok(name) = str::from_utf8(name) else {
+        return Answer::refusal(Status::NotUtf8);
+    };
+    match jar.get(name) {
+        Some(cookie) => Answer::give(cookie.value().as_bytes(), out),
+        None => Answer::refusal(Status::NotFound),
+    }
+}
+
+fn give_delta(alloc: Global, jar: &CookieJar, out: &mut [u8]) -> Answer
+    ensures { IsDeltaGiven jar.now result out.old out.new }
+{
+    match lines(alloc, jar) {
+        Ok(text) => Answer::give(text.as_bytes(), out),
+        Err(_) => Answer::refusal(Status::OutOfMemory),
+    }
+}
+
+fn lines(alloc: Global, jar: &CookieJar) -> Result<String, AllocError>
+    ensures { IfOk result (λ text. HasLines jar.now.delta (string_bytes text)) }
+{
+    let mut text = String::new(alloc);
+    for cookie in jar.delta() {
+        push_line(alloc, &mut text, cookie)?;
+    }
+    Ok(text)
+}
+
+fn push_line(alloc: Global, text: &mut String, cookie: &Cookie<'_>) -> Result<(), AllocError>
+    ensures { OnOk result (string_bytes text.new ≡ string_bytes text.old
+        ++ (codes "Set-Cookie: " ++ (cookie_text true false cookie.now.fields ++ codes "\n"))) }
+{
+    let encoded = cookie.encoded().to_string(alloc)?;
+    text.push_str("Set-Cookie: ")?;
+    text.push_str(encoded.as_str())?;
+    text.push_str("\n")?;
+    Ok(())
+}
