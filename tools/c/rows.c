@@ -9,7 +9,7 @@
 #include <sys/mman.h>
 #include <unistd.h>
 
-enum { MOST_FIELDS = 16, PAGES = 4 };
+enum { MOST_FIELDS = 16 };
 
 typedef struct text {
     uint8_t *bytes;
@@ -285,7 +285,7 @@ int main(int count, char **arguments) {
         line[strcspn(line, "\n")] = '\0';
         while (n < MOST_FIELDS && (fields[n] = strsep(&rest, "\t")) != NULL)
             n++;
-        text wanted = unhex(fields[4]), in[MOST_FIELDS - 5] = {{NULL, 0}};
+        text wanted = unhex(fields[4]), in[MOST_FIELDS - 4] = {{NULL, 0}};
         for (int i = 5; i < n; i++)
             in[i - 5] = unhex(fields[i]);
         uint32_t status = status_named(fields[2]);

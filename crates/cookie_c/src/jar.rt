@@ -2,10 +2,10 @@
 ghost use Rattle.std.specs.Prelude.{◌≡◌, Some, None, option_map};
 ghost use Rattle.cookie_c.specs.Held.{TellsOfJar};
 
-mod calls;
+pub(crate) mod calls;
 pub mod held;
 mod parts;
-mod texts;
+pub(crate) mod texts;
 
 use cookie::CookieJar;
 use held::Held;
@@ -26,7 +26,7 @@ pub struct Jar {
 
 impl Jar {
     // A handle without a jar.
-    fn closed(alloc: Global) -> Jar
+    pub(crate) fn closed(alloc: Global) -> Jar
         ensures { result.held.jar ≡ None }
     {
         Jar {

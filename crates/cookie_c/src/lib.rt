@@ -10,3 +10,5 @@ mod sealing;
 mod session;
 mod signing;
 mod status;
+#[cfg(test)]
+mod tests;
