@@ -26,6 +26,7 @@ pub use Rattle.cookie_core.specs.Escapes
 pub use Rattle.cookie_core.specs.Expiration
 pub use Rattle.cookie_core.specs.Header
 pub use Rattle.cookie_core.specs.Laws
+pub use Rattle.cookie_core.specs.Layout
 pub use Rattle.cookie_core.specs.Lending
 pub use Rattle.cookie_core.specs.Memory
 pub use Rattle.cookie_core.specs.Normal
@@ -39,6 +40,7 @@ pub use Rattle.cookie_core.specs.RecordCode
 pub use Rattle.cookie_core.specs.Removal
 pub use Rattle.cookie_core.specs.Same
 pub use Rattle.cookie_core.specs.SameSite
+pub use Rattle.cookie_core.specs.Spans
 pub use Rattle.cookie_core.specs.SplitCookies
 pub use Rattle.cookie_core.specs.Text
 pub use Rattle.cookie_core.specs.Trim

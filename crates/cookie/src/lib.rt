@@ -15,8 +15,8 @@ mod secure;
 
 pub use child::{ChildJar, Storing};
 pub use cookie_core::{
-    Builder, Cookie, CookieBuilder, DateText, Display, EncodedText, Expiration, ParseError,
-    SameSite, SplitCookies, days_after, encode, read_date,
+    Attributes, Builder, Cookie, CookieBuilder, DateText, Display, EncodedText, Expiration, Layout,
+    ParseError, SameSite, Span, SplitCookies, days_after, encode, read_date,
 };
 pub use error::Error;
 pub use iter::{Delta, Iter};

@@ -3,7 +3,7 @@ use Rattle.std.proofs.Common.{◌≡◌, ℕ, List, Bor, Option, Some, None, opt
 use Rattle.std.specs.Option.{option_and_then}
 use Rattle.cookie_core.specs.Cookie.{cookie_view, HasFittingSpans}
 use Rattle.cookie_core.specs.CookieStr.{source_bytes, text_bytes, raw_bytes, Fits, lent_forms}
-use Rattle.cookie_core.specs.Settings.{layout_record, IsLayoutIn}
+use Rattle.cookie_core.specs.Layout.{layout_record, IsLayoutIn}
 use Rattle.cookie_core.specs.Spans.{StandsIn, span_text}
 use Rattle.cookie_core.specs.declared.cookie.Cookie.TheInside.{Inside}
 use Rattle.cookie_core.specs.declared.cookie_str.CookieStr.{CookieStr}

@@ -10,6 +10,7 @@ pub mod Escapes
 pub mod Expiration
 pub mod Header
 pub mod Laws
+pub mod Layout
 pub mod Lending
 pub mod Memory
 pub mod Normal

@@ -1,4 +1,4 @@
--- Mirrors private code: where a part of a text stands.
+-- Where a part of a text stands.
 use Rattle.std.specs.Prelude.{ℕ, ◌≤◌, List, slice_range, IsCharBoundary}
 use Rattle.cookie_core.specs.declared.span.Span.{Span}
 

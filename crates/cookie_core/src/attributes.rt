@@ -8,7 +8,8 @@ ghost use Rattle.cookie_core.specs.Parts.{part_text, IsOptionalPartOf};
 ghost use Rattle.cookie_core.specs.Record.{plain};
 ghost use Rattle.cookie_core.specs.Spans.{StandsIn, span_text};
 ghost use Rattle.cookie_core.specs.Walk.{HasRead};
-ghost use Rattle.cookie_core.specs.Settings.{no_attributes, attributes_of, either, AreIn, IsGiven};
+ghost use Rattle.cookie_core.specs.Layout.{attributes_of, AreIn};
+ghost use Rattle.cookie_core.specs.Settings.{no_attributes, either, IsGiven};
 ghost use Rattle.cookie_core.specs.Attributes.{IsAttribute, IsWord, word_of, SetsAttributes, GivesExpiry, seconds_of_digits, max_age_seconds, nanos_of_seconds, same_site_key};
 
 use crate::expiration::Expiration;
@@ -18,17 +19,25 @@ use crate::span::Span;
 use cookie_date::read_date;
 use jiff::SignedDuration;
 
-/// The attributes of a cookie, as the pieces behind its pair give them.
+/// The attributes of a cookie, as the pieces behind its pair give them, if they do (RFC 6265 5.2.1 to 5.2.6).
 #[derive(Clone, Copy)]
-pub(crate) struct Attributes {
-    pub(crate) http_only: Option<bool>,
-    pub(crate) secure: Option<bool>,
-    pub(crate) partitioned: Option<bool>,
-    pub(crate) same_site: Option<SameSite>,
-    pub(crate) path: Option<Span>,
-    pub(crate) domain: Option<Span>,
-    pub(crate) max_age: Option<SignedDuration>,
-    pub(crate) expires: Option<Expiration>,
+pub struct Attributes {
+    /// Whether scripts are kept from it.
+    pub http_only: Option<bool>,
+    /// Whether it is for secure connections alone.
+    pub secure: Option<bool>,
+    /// Whether it is kept apart for each top-level site.
+    pub partitioned: Option<bool>,
+    /// To which requests from other sites it is sent.
+    pub same_site: Option<SameSite>,
+    /// Where its path stands.
+    pub path: Option<Span>,
+    /// Where its domain stands, with its leading dot if it has one.
+    pub domain: Option<Span>,
+    /// The age after which it expires, in whole seconds from zero to `i64::MAX`.
+    pub max_age: Option<SignedDuration>,
+    /// The date and time in UTC at which it expires.
+    pub expires: Option<Expiration>,
 }
 
 // The key of a piece, and its value if there is a `=`.

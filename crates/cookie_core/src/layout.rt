@@ -1,27 +1,31 @@
 //! Where the parts of one cookie's text stand (RFC 6265 5.2).
-ghost use Rattle.std.specs.Prelude.{false, IfOk};
-ghost use Rattle.std.specs.Result.{result_map_both};
+ghost use Rattle.std.specs.Prelude.{◌≡◌, false, IfOk};
+ghost use Rattle.std.specs.Result.{result_ok};
+ghost use Rattle.cookie_core.specs.CookieOf.{cookie_of};
+ghost use Rattle.cookie_core.specs.Layout.{laid_out, IsLayoutIn};
 ghost use Rattle.cookie_core.specs.Reads.{Reads};
-ghost use Rattle.cookie_core.specs.Settings.{layout_record, IsLayoutIn};
 
 use crate::attributes::Attributes;
 use crate::parse_error::ParseError;
 use crate::part::Part;
 use crate::span::Span;
 
-/// Where the parts of a cookie's text stand.
+/// Where the parts of a cookie's text stand, as they are in the text, and what its attributes are (RFC 6265 5.2).
 #[derive(Clone, Copy)]
-pub(crate) struct Layout {
-    pub(crate) name: Span,
-    pub(crate) value: Span,
-    pub(crate) attributes: Attributes,
+pub struct Layout {
+    /// Where the name stands, which isn't empty.
+    pub name: Span,
+    /// Where the value stands.
+    pub value: Span,
+    /// The attributes.
+    pub attributes: Attributes,
 }
 
 impl Layout {
-    // The parts of the cookie that the text is.
-    pub(crate) fn of(text: &str) -> Result<Layout, ParseError>
-        ensures reads { Reads false text.now
-            (result_map_both (layout_record text.now) (λ e. e) result) }
+    /// Where the parts of the cookie stand that the text is. It takes no memory, and fails as `Cookie::parse` does.
+    pub fn of(text: &str) -> Result<Layout, ParseError>
+        ensures reads { Reads false text.now (laid_out text.now result) }
+        ensures value { result_ok (laid_out text.now result) ≡ cookie_of false text.now }
         ensures place { IfOk result (IsLayoutIn text.now) }
     {
         let (first, later) = Part::all(text).cut(';');

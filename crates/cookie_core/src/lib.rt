@@ -20,12 +20,15 @@ mod source;
 mod span;
 mod split;
 
+pub use attributes::Attributes;
 pub use builder::{Builder, CookieBuilder};
 pub use cookie::Cookie;
 pub use cookie_date::{DateText, days_after, read_date};
 pub use display::Display;
 pub use encoding::{EncodedText, encode};
 pub use expiration::Expiration;
+pub use layout::Layout;
 pub use parse_error::ParseError;
 pub use same_site::SameSite;
+pub use span::Span;
 pub use split::SplitCookies;

@@ -1,5 +1,5 @@
 //! Borrowed and own texts, and the raw forms that are left of them.
-use cookie::{Cookie, ParseError};
+use cookie::{Cookie, Layout, ParseError, Span};
 use std::test::Fail;
 
 const SUBDIR: &str = "bar=baz; Path=/subdir; HttpOnly; Domain=crates.io";
@@ -93,5 +93,29 @@ fn copies_are_equal(rt: HostRuntime) -> Result<(), Fail> {
     assert_eq!(rt; copy.to_string(rt.alloc())?.as_str(), wanted);
     assert_eq!(rt; own.to_string(rt.alloc())?.as_str(), wanted);
     assert_eq!(rt; Cookie::named("n").name_value(), ("n", ""));
+    Ok(())
+}
+
+fn is_at(span: Span, start: usize, end: usize) -> bool {
+    span.start == start && span.end == end
+}
+
+#[test]
+fn the_parts_of_a_text_have_their_places(rt: HostRuntime) -> Result<(), Fail> {
+    let text = " bar = baz ; Path=/subdir; HttpOnly; Domain=.crates.io";
+    let layout = Layout::of(text)?;
+    assert!(rt; is_at(layout.name, 1, 4));
+    assert!(rt; is_at(layout.value, 7, 10));
+    let path = layout.attributes.path.ok_or("a path")?;
+    assert!(rt; is_at(path, 18, 25));
+    let domain = layout.attributes.domain.ok_or("a domain")?;
+    assert!(rt; is_at(domain, 44, 54));
+    assert_eq!(rt; &text[layout.name.start..layout.name.end], "bar");
+    assert_eq!(rt; layout.attributes.http_only, Some(true));
+    assert_eq!(rt; layout.attributes.secure, None);
+    match Layout::of("bar") {
+        Ok(_) => assert!(rt; false, "it is read"),
+        Err(error) => assert!(rt; error == ParseError::MissingPair),
+    }
     Ok(())
 }

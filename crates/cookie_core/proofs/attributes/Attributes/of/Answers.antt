@@ -1,6 +1,7 @@
 use Rattle.std.proofs.Common.{Some, None, subst}
 use Rattle.cookie_core.specs.Parts.{part_text}
-use Rattle.cookie_core.specs.Settings.{attributes_of, AreIn, IsGiven}
+use Rattle.cookie_core.specs.Layout.{attributes_of, AreIn}
+use Rattle.cookie_core.specs.Settings.{IsGiven}
 use Rattle.cookie_core.proofs.ReadingLemmas.{SetsAttributes-no_key, SetsAttributes-given}
 use Rattle.cookie_core.proofs.attributes.Attributes.of.Goals as goal
 

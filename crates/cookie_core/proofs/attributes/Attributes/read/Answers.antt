@@ -1,7 +1,7 @@
 use Rattle.std.proofs.Common.{◌∷◌, [], subst, ◌∙◌}
 use Rattle.cookie_core.specs.Attributes.{SetsAttributes}
 use Rattle.cookie_core.specs.Parts.{part_text}
-use Rattle.cookie_core.specs.Settings.{attributes_of, AreIn}
+use Rattle.cookie_core.specs.Layout.{attributes_of, AreIn}
 use Rattle.cookie_core.proofs.ReadingLemmas.{HasRead-none, HasRead-or}
 use Rattle.cookie_core.proofs.SpanLemmas.{after-cut, left_length-cut}
 use Rattle.cookie_core.proofs.attributes.Attributes.read.Goals as goal

@@ -1,5 +1,5 @@
 use Rattle.std.proofs.Common.{option_map, IfSome}
-use Rattle.cookie_core.specs.Settings.{attributes_of, AreIn}
+use Rattle.cookie_core.specs.Layout.{attributes_of, AreIn}
 use Rattle.cookie_core.specs.Spans.{StandsIn, span_text}
 use Rattle.cookie_core.specs.Walk.{HasRead}
 use Rattle.cookie_core.proofs.SpanLemmas.{left_length}

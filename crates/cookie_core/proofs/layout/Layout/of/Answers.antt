@@ -1,8 +1,10 @@
-use Rattle.std.proofs.Common.{◌≡◌, ◌==◌, List, [], ℕ, false, length, refl, sym, ap, ◌∙◌, arith}
+use Rattle.std.proofs.Common.{◌≡◌, ◌==◌, List, [], ℕ, false, Ok, Err, length, refl, sym, ap, ◌∙◌, arith}
 use Rattle.std.proofs.lemmas.Bool.{false≢true}
 use Rattle.std.proofs.lemmas.Bool.Decides.{nat_tests}
 use Rattle.std.proofs.lemmas.List.{nil_from_length}
 use Rattle.cookie_core.specs.Parts.{part_text, IsPartOf}
+use Rattle.cookie_core.specs.declared.parse_error.ParseError.TheVariants.{MissingPair, EmptyName}
+use Rattle.cookie_core.proofs.CookieOfLemmas.{cookie_of-result}
 use Rattle.cookie_core.proofs.ReadingLemmas.{Reads-no_pair, Reads-empty_name, Reads-record, behind-cut}
 use Rattle.cookie_core.proofs.SpanLemmas.{after-cut, StandsIn-part, span_text-part}
 use Rattle.cookie_core.proofs.layout.Layout.of.Goals as goal
@@ -41,3 +43,13 @@ returns-clause-place c =
       value = StandsIn-part c.args.text.now c.trim.result (c.trim.ensures.place ∙ value_place);
       attributes = c.read.ensures.place;
     }
+
+pub returns-in_default-clause-value : goal.returns-in_default-clause-value
+returns-in_default-clause-value c = cookie_of-result false c.args.text.now (Err MissingPair) (returns-in_default-clause-reads c)
+
+pub returns-then-is_empty-clause-value : goal.returns-then-is_empty-clause-value
+returns-then-is_empty-clause-value c =
+    cookie_of-result false c.args.text.now (Err EmptyName) (returns-then-is_empty-clause-reads c)
+
+pub returns-clause-value : goal.returns-clause-value
+returns-clause-value c = cookie_of-result false c.args.text.now (Ok _) (returns-clause-reads c)
