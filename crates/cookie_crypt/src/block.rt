@@ -18,6 +18,16 @@ pub fn bytes_of(number: u128) -> [u8; 16]
     number.to_be_bytes()
 }
 
+/// The same block as lanes, made of two words at once and not of its bytes one by one.
+#[inline(always)]
+pub fn lanes_of(number: u128) -> u8x16
+    ensures { result ≡ bytes_of number }
+{
+    let low = (number % (1 << 64)) as u64;
+    let high = (number >> 64) as u64;
+    u64x2::from_array([low, high]).to_le_bytes().reverse()
+}
+
 /// The nonce and a counter.
 pub fn counter_block(nonce: &[u8; 12], counter: u32) -> [u8; 16]
     ensures { result ≡ counter_block nonce.now counter }

@@ -3,7 +3,7 @@ ghost use Rattle.std.specs.Prelude.{◌≡◌, ◌<◌, ◌^◌, ℕ};
 ghost use Rattle.cookie_crypt.specs.BlockField.{times_power, field_product};
 ghost use Rattle.cookie_crypt.specs.Code.{rows, columns};
 
-use crate::block::{bytes_of, number_of};
+use crate::block::{bytes_of, lanes_of, number_of};
 use crate::block_field::{product_below, times_x_to_the_fourth};
 use crate::lanes::{added, moved, two_looked_up};
 use std::marker::Model;
@@ -56,7 +56,7 @@ fn product(upper: &[[u8; 16]; 16], lower: &[[u8; 16]; 16], block: u128) -> u128
     ensures { (h : ℕ) → h < 2 ^ 128 → upper.now ≡ columns h → lower.now ≡ columns (times_power 4 h)
         → result ≡ field_product block h }
 {
-    let bytes = u8x16::from_array(bytes_of(block));
+    let bytes = lanes_of(block);
     let mut first = two_looked_up(upper[15], lower[15], bytes);
     let mut rest = u8x16::splat(0);
     for done in 1..16usize {

@@ -21,7 +21,7 @@ loop-done-init c =
       rest_ends = λ k h. no_lane 16 k;
       sum_is =
           ap (λ x. bit_xor (number_of first) (times_power 128 x)) no_number ∙ ap (bit_xor (number_of first)) (times_power-zero 128) ∙ xor_zero_r (number_of first)
-          ∙ ap number_of begun.value ∙ sym (summed-one (found c.args.upper.now c.args.lower.now c.bytes_of-bytes.result));
+          ∙ ap number_of begun.value ∙ sym (summed-one (found c.args.upper.now c.args.lower.now c.lanes_of-bytes.result));
     }
 
 pub loop-done-preserved : goal.loop-done-preserved
@@ -35,7 +35,7 @@ loop-done-preserved c =
       rest_lanes = c.moved-rest.ensures.lanes;
       rest_ends = λ k h. ap (λ l. slice_index l k) c.moved-rest.ensures.value ∙ ends_moved (slice_index first 15) rest done (omega arith) before.rest_ends k h;
       sum_is =
-          step_sum (found c.args.upper.now c.args.lower.now c.bytes_of-bytes.result) first rest c.two_looked_up-column.result _ _ done before.rest_lanes.1 (before.rest_ends 15 (omega arith))
+          step_sum (found c.args.upper.now c.args.lower.now c.lanes_of-bytes.result) first rest c.two_looked_up-column.result _ _ done before.rest_lanes.1 (before.rest_ends 15 (omega arith))
           (c.added-first.ensures.value
           ∙ ap (λ x. bit_xor x (number_of c.two_looked_up-column.result)) (ap number_of c.moved.ensures.value ∙ number_of-moved_zero first before.first_lanes.1 before.first_lanes.0))
           (ap number_of c.moved-rest.ensures.value ∙ number_of-moved first rest before.rest_lanes.0 (before.first_lanes.1 15) (before.rest_lanes.1 15))
@@ -52,6 +52,6 @@ returns c = λ h p q r.
     ap (λ x. bit_xor (bit_xor (bit_xor (bit_xor c.number_of.result x) (x / 2)) (x / 4)) (x / 128)) c.number_of-fallen.ensures
     ∙ ap (λ x. bit_xor (bit_xor (bit_xor (bit_xor x (number_of c.loop-done.rest)) (number_of c.loop-done.rest / 2)) (number_of c.loop-done.rest / 4)) (number_of c.loop-done.rest / 128)) c.number_of.ensures
     ∙ folded_sum (number_of c.loop-done.first) c.loop-done.rest last.rest_lanes.1 (last.rest_ends 15 (omega arith))
-    ∙ last.sum_is ∙ ap (summed (found upper lower c.bytes_of-bytes.result)) all
-    ∙ ap (λ bs. summed (found upper lower bs) 16) c.bytes_of-bytes.ensures
+    ∙ last.sum_is ∙ ap (summed (found upper lower c.lanes_of-bytes.result)) all
+    ∙ ap (λ bs. summed (found upper lower bs) 16) c.lanes_of-bytes.ensures
     ∙ product_by_columns upper lower c.args.block h c.ranges.block.fits p q r
