@@ -3,7 +3,7 @@ ghost use Rattle.std.specs.Prelude.{◌≡◌, ◌+◌, ◌<◌, ◌≤◌, List
 ghost use Rattle.cookie_crypt.specs.Aes.{sub_bytes, shift_rows, mix_columns, word, word_sum, sub_word, added_word, key_expansion, add_round_key, rounds, cipher, encrypt_block};
 ghost use Rattle.cookie_crypt.specs.ByteField.{IsInverse, inverse};
 
-use crate::lanes::{doubled, next_in_column, second_in_column, substituted, sum};
+use crate::lanes::{double, next_in_column, second_in_column, substitute, sum};
 use std::marker::Model;
 use std::simd::prelude::*;
 
@@ -13,7 +13,7 @@ const ROUND_CONSTANTS: [u8; 7] = [0x01, 0x02, 0x04, 0x08, 0x10, 0x20, 0x40];
 fn sub_bytes(state: u8x16) -> u8x16
     ensures { result ≡ sub_bytes state }
 {
-    substituted(state)
+    substitute(state)
 }
 
 #[inline(always)]
@@ -30,7 +30,7 @@ fn mix_columns(state: u8x16) -> u8x16
 {
     let next = next_in_column(state);
     let pair = sum(state, next);
-    sum(sum(doubled(pair), next), second_in_column(pair))
+    sum(sum(double(pair), next), second_in_column(pair))
 }
 
 #[inline(always)]
@@ -63,7 +63,7 @@ fn sub_word(x: [u8; 4]) -> [u8; 4]
     ensures { result ≡ sub_word x }
 {
     let [a, b, c, d] = x;
-    let bytes = substituted(u8x16::from_array([
+    let bytes = substitute(u8x16::from_array([
         a, b, c, d, 0, 0, 0, 0, 0, 0, 0, 0, 0, 0, 0, 0,
     ])).to_array();
     [bytes[0], bytes[1], bytes[2], bytes[3]]

@@ -34,7 +34,7 @@ const SECOND: [u8; 16] = [
 ];
 
 #[inline(always)]
-fn looked_up(table: [u8; 16], places: u8x16) -> u8x16
+fn look_up(table: [u8; 16], places: u8x16) -> u8x16
     requires { ArePlaces places }
     ensures { (f : ℕ → ℕ) (v : List ℕ) → places ≡ map f v
         → result ≡ map (λ b. entry table (f b)) v }
@@ -66,26 +66,26 @@ fn high(a: u8x16) -> u8x16
 
 /// S of each byte.
 #[inline(always)]
-pub fn substituted(bytes: u8x16) -> u8x16
+pub fn substitute(bytes: u8x16) -> u8x16
     ensures { result ≡ map s_box bytes }
 {
     let turned = sum(
-        looked_up(FROM_LOW, low(bytes)),
-        looked_up(FROM_HIGH, high(bytes)),
+        look_up(FROM_LOW, low(bytes)),
+        look_up(FROM_HIGH, high(bytes)),
     );
     let i = high(turned);
     let k = low(turned);
     let j = sum(i, k);
-    let over = looked_up(FIVE_OVER, k);
-    let first = sum(looked_up(INVERSES, sum(looked_up(INVERSES, i), over)), j);
-    let second = sum(looked_up(INVERSES, sum(looked_up(INVERSES, j), over)), i);
-    let linear = sum(looked_up(FIRST, first), looked_up(SECOND, second));
+    let over = look_up(FIVE_OVER, k);
+    let first = sum(look_up(INVERSES, sum(look_up(INVERSES, i), over)), j);
+    let second = sum(look_up(INVERSES, sum(look_up(INVERSES, j), over)), i);
+    let linear = sum(look_up(FIRST, first), look_up(SECOND, second));
     linear ^ u8x16::splat(0x63)
 }
 
 /// `x` times each byte.
 #[inline(always)]
-pub fn doubled(a: u8x16) -> u8x16
+pub fn double(a: u8x16) -> u8x16
     ensures { (f : ℕ → ℕ) (v : List ℕ) → a ≡ map f v → result ≡ map (λ i. byte_times_x (f i)) v }
 {
     let fallen = a
@@ -114,7 +114,7 @@ pub fn second_in_column(a: u8x16) -> u8x16
 
 /// The sum of two blocks.
 #[inline(always)]
-pub fn added(a: u8x16, b: u8x16) -> u8x16
+pub fn add(a: u8x16, b: u8x16) -> u8x16
     ensures lanes { IsLanes result }
     ensures each { result ≡ zip2 bit_xor a b }
     ensures value { number_of result ≡ bit_xor (number_of a) (number_of b) }
@@ -124,7 +124,7 @@ pub fn added(a: u8x16, b: u8x16) -> u8x16
 
 /// The bytes one lane on, with the last byte of `before` as the first.
 #[inline(always)]
-pub fn moved(before: u8x16, bytes: u8x16) -> u8x16
+pub fn move_on(before: u8x16, bytes: u8x16) -> u8x16
     ensures lanes { IsLanes result }
     ensures value { result ≡ take 16 (slice_index before 15 ∷ bytes) }
 {
@@ -138,9 +138,9 @@ pub fn moved(before: u8x16, bytes: u8x16) -> u8x16
 
 /// The sum of what the upper and the lower half of each byte look up, each in its table.
 #[inline(always)]
-pub fn two_looked_up(upper: [u8; 16], lower: [u8; 16], bytes: u8x16) -> u8x16
+pub fn look_up_both(upper: [u8; 16], lower: [u8; 16], bytes: u8x16) -> u8x16
     ensures lanes { IsLanes result }
     ensures value { result ≡ looked_up upper lower bytes }
 {
-    added(looked_up(upper, high(bytes)), looked_up(lower, low(bytes)))
+    add(look_up(upper, high(bytes)), look_up(lower, low(bytes)))
 }

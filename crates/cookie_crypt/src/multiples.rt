@@ -5,7 +5,7 @@ ghost use Rattle.cookie_crypt.specs.Code.{rows, columns};
 
 use crate::block::{bytes_of, lanes_of, number_of};
 use crate::block_field::{product_below, times_x_to_the_fourth};
-use crate::lanes::{added, moved, two_looked_up};
+use crate::lanes::{add, look_up_both, move_on};
 use std::marker::Model;
 use std::simd::prelude::*;
 
@@ -57,12 +57,12 @@ fn product(upper: &[[u8; 16]; 16], lower: &[[u8; 16]; 16], block: u128) -> u128
         → result ≡ field_product block h }
 {
     let bytes = lanes_of(block);
-    let mut first = two_looked_up(upper[15], lower[15], bytes);
+    let mut first = look_up_both(upper[15], lower[15], bytes);
     let mut rest = u8x16::splat(0);
     for done in 1..16usize {
-        rest = moved(first, rest);
-        let column = two_looked_up(upper[15 - done], lower[15 - done], bytes);
-        first = added(moved(u8x16::splat(0), first), column);
+        rest = move_on(first, rest);
+        let column = look_up_both(upper[15 - done], lower[15 - done], bytes);
+        first = add(move_on(u8x16::splat(0), first), column);
     }
     let fallen = number_of(rest.to_array());
     number_of(first.to_array()) ^ fallen ^ (fallen >> 1) ^ (fallen >> 2) ^ (fallen >> 7)

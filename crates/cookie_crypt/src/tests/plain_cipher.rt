@@ -83,7 +83,7 @@ fn mixed_columns(state: &[u8; 16]) -> [u8; 16] {
 }
 
 /// The block, encrypted (FIPS 197 5.1).
-pub fn encrypted(key: &[u8; 32], block: &[u8; 16]) -> [u8; 16] {
+pub fn encrypt(key: &[u8; 32], block: &[u8; 16]) -> [u8; 16] {
     let words = round_keys(key);
     let mut state = *block;
     'rounds: for round in 0..15usize {
@@ -114,7 +114,7 @@ fn product(x: u128, y: u128) -> u128 {
 }
 
 // The hash after the padded bytes (SP 800-38D 6.4).
-fn hashed(hash: u128, subkey: u128, bytes: &[u8]) -> u128 {
+fn hash_from(hash: u128, subkey: u128, bytes: &[u8]) -> u128 {
     let mut hash = hash;
     'chunks: for chunk in bytes.chunks(16) {
         let mut block = [0; 16];
@@ -138,14 +138,14 @@ pub fn seal(key: &[u8; 32], nonce: &[u8; 12], aad: &[u8], text: &mut [u8]) -> [u
     let mut counter = 1u32;
     'chunks: for chunk in text.chunks_mut(16) {
         counter = counter.wrapping_add(1);
-        let stream = encrypted(key, &counter_block(nonce, counter));
+        let stream = encrypt(key, &counter_block(nonce, counter));
         'bytes: for (i, byte) in chunk.iter_mut().enumerate().take(16) {
             *byte ^= stream[i];
         }
     }
-    let subkey = u128::from_be_bytes(encrypted(key, &[0; 16]));
-    let hash = hashed(hashed(0, subkey, aad), subkey, text);
+    let subkey = u128::from_be_bytes(encrypt(key, &[0; 16]));
+    let hash = hash_from(hash_from(0, subkey, aad), subkey, text);
     let lengths = ((8 * aad.len() as u128) << 64) + 8 * text.len() as u128;
-    let mask = u128::from_be_bytes(encrypted(key, &counter_block(nonce, 1)));
+    let mask = u128::from_be_bytes(encrypt(key, &counter_block(nonce, 1)));
     (product(hash ^ lengths, subkey) ^ mask).to_be_bytes()
 }

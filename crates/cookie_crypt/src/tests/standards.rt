@@ -1,6 +1,6 @@
 //! The examples of the standards, and the counts.
 use super::hex::{block_of, fill, key_of};
-use crate::lanes::substituted;
+use crate::lanes::substitute;
 use crate::{Aes256, Gcm, Steps, expand64, hmac};
 use std::simd::prelude::*;
 use std::test::Fail;
@@ -13,7 +13,7 @@ const ANSWER: &str = "5bdcc146bf60754e6a042426089575c75a003f089d2739839dec58b964
 #[test]
 fn s_of_three_bytes(rt: HostRuntime) {
     let bytes = [0x00, 0x01, 0x53, 0, 0, 0, 0, 0, 0, 0, 0, 0, 0, 0, 0, 0];
-    let values = substituted(u8x16::from_array(bytes)).to_array();
+    let values = substitute(u8x16::from_array(bytes)).to_array();
     assert_eq!(rt; (values[0], values[1], values[2]), (0x63, 0x7c, 0xed));
 }
 

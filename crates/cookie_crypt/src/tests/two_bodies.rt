@@ -21,7 +21,7 @@ fn blocks_are_encrypted_alike(rt: HostRuntime) {
     for i in 0..200 {
         draw(&mut state, &mut key);
         draw(&mut state, &mut block);
-        let plain = plain_cipher::encrypted(&key, &block);
+        let plain = plain_cipher::encrypt(&key, &block);
         assert_eq!(rt; Aes256::new(&key).encrypt_block(block), plain, "draw {i}");
     }
 }

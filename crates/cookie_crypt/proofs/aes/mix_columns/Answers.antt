@@ -29,7 +29,7 @@ returns c =
     let own = by_place s c.fits-state.0 in
     let next = c.next_in_column-next.ensures (at s) own in
     let pair = c.sum-pair.ensures (at s) (next_at s) places own next in
-    let twice = c.doubled.ensures (pair_at s) places pair in
+    let twice = c.double.ensures (pair_at s) places pair in
     let near = c.sum.ensures (λ i. byte_times_x (pair_at s i)) (next_at s) places twice next in
     let far = c.second_in_column.ensures (pair_at s) pair in
     c.sum-2.ensures (near_at s) (far_at s) places near far

@@ -10,4 +10,4 @@ pub returns : goal.returns
 unfolding sub_bytes
 returns c =
     let s = c.args.state in
-    c.substituted.ensures ∙ ap (map s_box) (by_place s c.fits-state.0) ∙ map-map s_box (λ i. get_or s i 0) (range_with_len 0 16)
+    c.substitute.ensures ∙ ap (map s_box) (by_place s c.fits-state.0) ∙ map-map s_box (λ i. get_or s i 0) (range_with_len 0 16)

@@ -13,8 +13,8 @@ found upper lower bytes b = number_of (looked_up (get_or upper b []) (get_or low
 
 pub loop-done-init : goal.loop-done-init
 loop-done-init c =
-    let begun = c.two_looked_up-first.ensures in
-    let first : List ℕ = c.two_looked_up-first.result in
+    let begun = c.look_up_both-first.ensures in
+    let first : List ℕ = c.look_up_both-first.result in
     record {
       first_lanes = begun.lanes;
       rest_lanes = (refl, no_lane-lt 16);
@@ -31,15 +31,15 @@ loop-done-preserved c =
     let rest : List ℕ = c.loop-done.rest in
     let done : ℕ = c.loop-done.done in
     record {
-      first_lanes = c.added-first.ensures.lanes;
-      rest_lanes = c.moved-rest.ensures.lanes;
-      rest_ends = λ k h. ap (λ l. slice_index l k) c.moved-rest.ensures.value ∙ ends_moved (slice_index first 15) rest done (omega arith) before.rest_ends k h;
+      first_lanes = c.add-first.ensures.lanes;
+      rest_lanes = c.move_on-rest.ensures.lanes;
+      rest_ends = λ k h. ap (λ l. slice_index l k) c.move_on-rest.ensures.value ∙ ends_moved (slice_index first 15) rest done (omega arith) before.rest_ends k h;
       sum_is =
-          step_sum (found c.args.upper.now c.args.lower.now c.lanes_of-bytes.result) first rest c.two_looked_up-column.result _ _ done before.rest_lanes.1 (before.rest_ends 15 (omega arith))
-          (c.added-first.ensures.value
-          ∙ ap (λ x. bit_xor x (number_of c.two_looked_up-column.result)) (ap number_of c.moved.ensures.value ∙ number_of-moved_zero first before.first_lanes.1 before.first_lanes.0))
-          (ap number_of c.moved-rest.ensures.value ∙ number_of-moved first rest before.rest_lanes.0 (before.first_lanes.1 15) (before.rest_lanes.1 15))
-          (ap number_of c.two_looked_up-column.ensures.value)
+          step_sum (found c.args.upper.now c.args.lower.now c.lanes_of-bytes.result) first rest c.look_up_both-column.result _ _ done before.rest_lanes.1 (before.rest_ends 15 (omega arith))
+          (c.add-first.ensures.value
+          ∙ ap (λ x. bit_xor x (number_of c.look_up_both-column.result)) (ap number_of c.move_on.ensures.value ∙ number_of-moved_zero first before.first_lanes.1 before.first_lanes.0))
+          (ap number_of c.move_on-rest.ensures.value ∙ number_of-moved first rest before.rest_lanes.0 (before.first_lanes.1 15) (before.rest_lanes.1 15))
+          (ap number_of c.look_up_both-column.ensures.value)
           before.sum_is;
     }
 

@@ -1,5 +1,5 @@
 use Rattle.cookie_crypt.proofs.LaneLemmas.{places_ok, looked_up}
-use Rattle.cookie_crypt.proofs.lanes.looked_up.Goals as goal
+use Rattle.cookie_crypt.proofs.lanes.look_up.Goals as goal
 
 pub swizzle : goal.swizzle
 swizzle c = places_ok c.args.places c.fits-places.0 c.requires

@@ -2,7 +2,7 @@ use Rattle.std.proofs.Common.{bit_xor, sym, ◌∙◌}
 use Rattle.std.proofs.lemmas.Simd.{length-zip2}
 use Rattle.cookie_crypt.proofs.LaneLemmas.{lanes_are_bytes}
 use Rattle.cookie_crypt.proofs.ColumnLemmas.{bytes_zipped, number_of-xor}
-use Rattle.cookie_crypt.proofs.lanes.added.Goals as goal
+use Rattle.cookie_crypt.proofs.lanes.add.Goals as goal
 
 pub returns-clause-lanes : goal.returns-clause-lanes
 returns-clause-lanes c = (

@@ -1,7 +1,7 @@
 use Rattle.std.proofs.Common.{◌<◌, length, slice_index, ap, sym, subst, ◌∙◌}
 use Rattle.cookie_crypt.proofs.LaneLemmas.{lanes_are_bytes}
 use Rattle.cookie_crypt.proofs.ColumnLemmas.{shuffled, length-moved, bytes_moved}
-use Rattle.cookie_crypt.proofs.lanes.moved.Goals as goal
+use Rattle.cookie_crypt.proofs.lanes.move_on.Goals as goal
 
 pub returns-clause-value : goal.returns-clause-value
 returns-clause-value c = shuffled c.args.before c.args.bytes c.fits-before.0 c.fits-bytes.0
