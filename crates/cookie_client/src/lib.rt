@@ -10,6 +10,7 @@ mod header;
 mod history;
 mod lines;
 mod live;
+mod order;
 mod originals;
 mod prefix_kind;
 mod request;

@@ -1,7 +1,8 @@
 //! The texts of a jar's changes, as a response sends them.
-ghost use Rattle.std.specs.Prelude.{◌≡◌, ◌<◌, map, IfOk, IsPermutation, string_bytes};
+ghost use Rattle.std.specs.Prelude.{map, IfOk, string_bytes};
 ghost use Rattle.cookie_client.specs.Agreement.{AreDeltaTexts};
 
+use crate::order::reorder;
 use cookie::CookieJar;
 use std::alloc::{AllocError, Global};
 
@@ -30,33 +31,4 @@ fn walked_texts(alloc: Global, jar: &CookieJar) -> Result<Vec<String>, AllocErro
         texts.push(text)?;
     }
     Ok(texts)
-}
-
-// The place, among so many texts that are left, of the one that a turn takes.
-fn place_of(pick: &[usize], turn: usize, left: usize) -> usize
-    requires { 0 < left }
-    ensures { result < left }
-{
-    match pick.get(turn) {
-        Some(number) => *number % left,
-        None => 0,
-    }
-}
-
-// The texts in the order that `pick` asks for.
-fn reorder(alloc: Global, mut texts: Vec<String>, pick: &[usize]) -> Result<Vec<String>, AllocError>
-    ensures { IfOk result (λ ordered. IsPermutation texts.items ordered.items) }
-{
-    let mut ordered = Vec::with_capacity(alloc, texts.len())?;
-    let mut turn = 0usize;
-    // The next text stands last, so that number 0 moves no other.
-    texts.reverse();
-    while texts.len() > 0 {
-        let last = texts.len() - 1;
-        let place = place_of(pick, turn, texts.len());
-        let text = texts.remove(last - place);
-        ordered.push(text)?;
-        turn = turn.saturating_add(1);
-    }
-    Ok(ordered)
 }
