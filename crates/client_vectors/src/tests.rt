@@ -5,6 +5,7 @@ mod comparison;
 mod devices;
 mod exchanges;
 mod flat_jar;
+mod orders;
 mod prefixed_calls;
 mod private_calls;
 mod rounds;

@@ -3,7 +3,7 @@ use std::alloc::Global;
 use std::io;
 use std::io::{Read, Write};
 
-fn broken() -> io::Error {
+fn fault() -> io::Error {
     io::Error::from(io::ErrorKind::BrokenPipe)
 }
 
@@ -23,7 +23,7 @@ impl<'t> FailingReader<'t> {
 impl<'t> Read for FailingReader<'t> {
     fn read(&mut self, buf: &mut [u8]) -> io::Result<usize> {
         if self.left == 0 || buf.is_empty() {
-            return Err(broken());
+            return Err(fault());
         }
         self.left -= 1;
         match self.text.split_first() {
@@ -63,7 +63,7 @@ impl ShortWriter {
 impl Write for ShortWriter {
     fn write(&mut self, buf: &[u8]) -> io::Result<usize> {
         if self.left == 0 || buf.is_empty() {
-            return Err(broken());
+            return Err(fault());
         }
         let part = buf.get(..self.most).unwrap_or(buf);
         self.taken.extend_from_slice(part)?;
