@@ -1,4 +1,4 @@
-"""Cookies for Python over the shared object of cookie_c: sign, seal, dates, and a jar's session.
+"""Cookies for Python over the shared object of cookie_c: sign, seal, dates, a jar, and a jar's session.
 
 Texts are `str` and keys are `bytes`. A call that is refused raises `CookieError`, whose `status` is one of the numbers
 below; what isn't signed or isn't sealed is `None`.

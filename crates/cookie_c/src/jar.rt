@@ -60,6 +60,7 @@ impl Jar {
 
     // Puts a jar into the handle, which has none.
     fn put(&mut self, jar: Box<CookieJar>)
+        requires { self.old.held.jar ≡ None }
         ensures { self.new.held.jar ≡ Some jar.value }
     {
         *self = Jar::open(jar);
