@@ -57,3 +57,6 @@ impl Held {
         }
     }
 }
+
+// A jar may go to another thread, and so may the right to free it.
+unsafe impl Send for Held {}
