@@ -16,6 +16,18 @@ typedef struct text {
     size_t length;
 } text;
 
+/* How often memory was asked for, and which request is refused, if one is. The linker puts these in the place of malloc
+ * and realloc. */
+static size_t asked = 0, refused_at = 0;
+
+void *__real_malloc(size_t size);
+void *__real_realloc(void *at, size_t size);
+void *__wrap_malloc(size_t size);
+void *__wrap_realloc(void *at, size_t size);
+
+void *__wrap_malloc(size_t size) { return ++asked == refused_at ? NULL : __real_malloc(size); }
+void *__wrap_realloc(void *at, size_t size) { return ++asked == refused_at ? NULL : __real_realloc(at, size); }
+
 static int faults = 0;
 static int row_number = 0;
 
@@ -269,6 +281,51 @@ static void overlap(void) {
         fault("an overlapping buffer has another answer");
 }
 
+/* What a handle's jar shows at three names, and its delta. */
+static size_t look(cookie_jar *jar, uint8_t *out, size_t length) {
+    static const char *const names[] = {"a", "n", "name"};
+    size_t used = 0;
+    for (size_t i = 0; i < 3; i++) {
+        const uint8_t *name = (const uint8_t *)names[i];
+        cookie_answer answer = cookie_jar_get(jar, name, strlen(names[i]), out + used + 1, length - used - 1);
+        out[used] = (uint8_t)answer.status;
+        used += 1 + answer.length;
+    }
+    cookie_answer answer = cookie_jar_delta(jar, out + used, length - used);
+    sort_lines(out + used, answer.length);
+    return used + answer.length;
+}
+
+/* Steps on a handle, of which each has each of its requests for memory refused in turn. Then it says so and leaves the jar
+ * as it was, and once none is refused it is done. */
+static void starve(void) {
+    static char steps[][60] = {"new", "originals name=val; n=x%20y", "add a=1; Path=/",
+                               "remove Wed, 21 Oct 2015 07:28:00 GMT\nname", "delta"};
+    cookie_jar jar = {0};
+    int refused = 0;
+    for (size_t i = 0; i < sizeof steps / sizeof *steps; i++)
+        for (size_t number = 1;; number++) {
+            uint8_t out[300] = {0}, before[300] = {0}, after[300] = {0};
+            size_t before_length = look(&jar, before, sizeof before);
+            asked = 0;
+            refused_at = number;
+            cookie_answer answer = play_step(&jar, (text){(uint8_t *)steps[i], strlen(steps[i])}, out, sizeof out);
+            refused_at = 0;
+            if (answer.status == COOKIE_DONE)
+                break;
+            refused++;
+            size_t after_length = look(&jar, after, sizeof after);
+            if (answer.status != COOKIE_OUT_OF_MEMORY || asked < number)
+                fault("a step without memory has another status");
+            if (after_length != before_length || memcmp(after, before, before_length) != 0)
+                fault("a step without memory has changed the jar");
+            if (number == 1000)
+                break;
+        }
+    cookie_jar_free(&jar);
+    printf("%d requests for memory refused, each told with the jar as it was\n", refused);
+}
+
 int main(int count, char **arguments) {
     FILE *rows = count == 2 ? fopen(arguments[1], "r") : NULL;
     if (rows == NULL)
@@ -301,6 +358,7 @@ int main(int count, char **arguments) {
     free(line);
     fclose(rows);
     overlap();
+    starve();
     printf("C: %d rows, %d faults\n", played, faults);
     return faults != 0;
 }
