@@ -1,11 +1,12 @@
 -- Texts whose bytes pass a test.
-use Rattle.std.proofs.Common.{◌≡◌, Bool, true, false, not, ◌==◌, ℕ, List, [], ◌∷◌, ◌++◌, refl, zero, suc, arith, nat_lt}
+use Rattle.std.proofs.Common.{◌≡◌, Bool, true, false, not, ◌==◌, ℕ, List, [], ◌∷◌, ◌++◌, refl, subst, zero, suc, arith, nat_lt}
 use Rattle.std.specs.List.{list_all}
 use Rattle.std.specs.Str.{IsAscii}
 use Rattle.std.proofs.lemmas.Bool.{and_parts, false≢true}
 use Rattle.std.proofs.lemmas.Bool.Decides.{nat_tests}
 use Rattle.std.proofs.lemmas.List.Folds.{list_all-append}
 use Rattle.cookie_core.specs.Pieces.{Lacks}
+use Rattle.cookie_core.specs.Trim.{IsTrimmed}
 use Rattle.cookie_core.proofs.ReadingLemmas.{Lacks-tail, Lacks-more}
 use mathlib.Core.Logic.{◌≢◌}
 
@@ -50,3 +51,18 @@ pub IsAscii-from_test : (t : List ℕ) → list_all is_low t ≡ true → IsAsci
 IsAscii-from_test [] h i = omega arith
 IsAscii-from_test (b ∷ t) h zero = let k = and_parts (is_low b) (list_all is_low t) h in grind (arith, nat_tests)
 IsAscii-from_test (b ∷ t) h (suc i) = IsAscii-from_test t (and_parts (is_low b) (list_all is_low t) h).1 i
+
+-- ---- a text within another
+
+Lacks-right : (c : ℕ) (xs ys : List ℕ) → Lacks c (xs ++ ys) → Lacks c ys
+Lacks-right c [] ys h = h
+Lacks-right c (x ∷ xs) ys h = Lacks-right c xs ys (Lacks-tail c x (xs ++ ys) h)
+
+Lacks-left : (c : ℕ) (xs ys : List ℕ) → Lacks c (xs ++ ys) → Lacks c xs
+Lacks-left c [] ys h = Lacks-nil c
+Lacks-left c (x ∷ xs) ys h =
+    Lacks-more c x xs (h 0 (omega arith)) (Lacks-left c xs ys (Lacks-tail c x (xs ++ ys) h))
+
+pub Lacks-trimmed : (c : ℕ) (text part : List ℕ) → IsTrimmed text part → Lacks c text → Lacks c part
+Lacks-trimmed c text part t h =
+    Lacks-left c part t.after (Lacks-right c t.before (part ++ t.after) (subst (Lacks c) t.whole h))

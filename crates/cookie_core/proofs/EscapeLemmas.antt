@@ -1,11 +1,16 @@
 -- Escapes: the crate's set of ASCII bytes is the one of the definition, and a text without an escape stands for itself.
-use Rattle.std.proofs.Common.{◌≡◌, ℕ, ◌<◌, ◌≤◌, Bool, true, false, ◌||◌, List, [], ◌∷◌, refl, sym, ap, arith, ⊎_elim}
-use Rattle.std.proofs.lemmas.Bool.{agree_below_at, cases_lt, false≢true}
+use Rattle.std.proofs.Common.{◌≡◌, ℕ, zero, suc, ◌+◌, ◌-◌, ◌<◌, ◌≤◌, Bool, true, false, ◌||◌, List, [], ◌∷◌, ◌++◌, length, get_or, take, drop, slice_range, length-drop, refl, sym, ap, subst, ◌∙◌, arith, ⊎_elim}
+use Rattle.std.proofs.Math.Seq.{drop-length}
+use Rattle.std.proofs.lemmas.Bool.{agree_below_at, cases_lt, cond-false, eq-eqb, false≢true}
 use Rattle.std.proofs.lemmas.Bool.Decides.{nat_tests}
+use Rattle.std.proofs.lemmas.List.{drop_more, get_or-drop, take_all}
+use mathlib.Core.Logic.{◌≢◌}
+use Rattle.memchr.specs.Find.{Nowhere, NoneBefore, Passes, is_byte}
+use Rattle.percent_encoding.proofs.PercentLemmas.{percent_decode_kept_more}
 use Rattle.percent_encoding.specs.AsciiSet.{should_percent_encode}
-use Rattle.percent_encoding.specs.Percent.{percent_encode, percent_decode, is_escape}
+use Rattle.percent_encoding.specs.Percent.{percent_encode, percent_decode, is_escape, KeepsFirst}
 use Rattle.cookie_core.specs.declared.encoding.TheConstants.{ESCAPED}
-use Rattle.cookie_core.specs.EscapeTest.{has_escape}
+use Rattle.cookie_core.specs.EscapeTest.{starts_with_escape, has_escape}
 use Rattle.cookie_core.specs.Escapes.{is_escaped, escape, unescape}
 
 low : (b : ℕ) → b < 128 → should_percent_encode ESCAPED b ≡ is_escaped b
@@ -37,3 +42,80 @@ unescape-same (b ∷ c ∷ []) e = refl
 unescape-same (b ∷ h ∷ l ∷ rest) e =
     let q = or_false (is_escape b h l) (has_escape (h ∷ l ∷ rest)) e in
     rw q.0 (ap (λ (s : List ℕ). b ∷ s) (unescape-same (h ∷ l ∷ rest) q.1))
+
+-- ---- the front of a text, before an escape
+
+keeps_first : (t : List ℕ) → starts_with_escape t ≡ false → KeepsFirst t
+unfolding percent_decode
+keeps_first [] e = tt
+keeps_first (b ∷ []) e = refl
+keeps_first (b ∷ c ∷ []) e = refl
+keeps_first (b ∷ h ∷ l ∷ rest) e = cond-false _ _ _ e
+
+has_escape-behind : (t : List ℕ) (b : ℕ) (rest : List ℕ) → t ≡ b ∷ rest → starts_with_escape t ≡ false → has_escape t ≡ has_escape rest
+has_escape-behind t b rest is e = ap has_escape is ∙ ap (λ x. x || has_escape rest) (sym (ap starts_with_escape is) ∙ e)
+
+has_escape-here : (t : List ℕ) → starts_with_escape t ≡ true → has_escape t ≡ true
+has_escape-here [] e = e
+has_escape-here (b ∷ rest) e = ap (λ x. x || has_escape rest) e
+
+no_percent : (t : List ℕ) → get_or t 0 0 ≢ 37 → starts_with_escape t ≡ false
+no_percent [] h = refl
+no_percent (b ∷ []) h = refl
+no_percent (b ∷ c ∷ []) h = refl
+no_percent (b ∷ high ∷ low ∷ rest) h = grind (arith, nat_tests)
+
+-- no escape begins in the first n bytes of t
+pub record IsPlainTo (t : List ℕ) (n : ℕ) : Type 0 where
+  pub kept : unescape t ≡ take n t ++ unescape (drop n t)
+  pub same : has_escape t ≡ has_escape (drop n t)
+
+pub IsPlainTo-none : (t : List ℕ) → IsPlainTo t 0
+IsPlainTo-none t = record { kept = refl; same = refl }
+
+-- nor at the next
+pub IsPlainTo-more : (t : List ℕ) (n : ℕ) → n < length t → starts_with_escape (drop n t) ≡ false → IsPlainTo t n → IsPlainTo t (n + 1)
+IsPlainTo-more t n inside e h =
+    record {
+      kept = percent_decode_kept_more t n inside (keeps_first (drop n t) e) h.kept;
+      same = h.same ∙ has_escape-behind (drop n t) (get_or t n 0) (drop (n + 1) t) (drop_more t n 0 inside) e;
+    }
+
+-- nor at bytes that aren't `%`
+pub IsPlainTo-past : (t : List ℕ) (n k : ℕ) → n + k ≤ length t → ((i : ℕ) → i < k → get_or (drop n t) i 0 ≢ 37) → IsPlainTo t n → IsPlainTo t (n + k)
+IsPlainTo-past t n zero inside other h = let same : n + 0 ≡ n = omega arith in subst (IsPlainTo t) (sym same) h
+IsPlainTo-past t n (suc k) inside other h =
+    let before = IsPlainTo-past t n k (omega arith) (λ i lt. other i (omega arith)) h in
+    let here : n + k + 0 ≡ n + k = omega arith in
+    let apart : get_or (drop (n + k) t) 0 0 ≢ 37 = λ e. other k (omega arith) (get_or-drop n t k 0 ∙ ap (λ j. get_or t j 0) (sym here) ∙ sym (get_or-drop (n + k) t 0 0) ∙ e) in
+    let next : n + k + 1 ≡ n + suc k = omega arith in
+    subst (IsPlainTo t) next (IsPlainTo-more t (n + k) (omega arith) (no_percent (drop (n + k) t) apart) before)
+
+-- nor before the first `%` behind them, nor anywhere if there is none
+not_percent : (hay : List ℕ) (i : ℕ) → ¬ (Passes (is_byte 37) hay i) → get_or hay i 0 ≢ 37
+not_percent hay i h e = h (eq-eqb (get_or hay i 0) 37 e)
+
+-- the rest of a text, as a slice of it
+pub rest_slice : (t : List ℕ) (n : ℕ) → slice_range t n (length t) ≡ drop n t
+rest_slice t n = take_all (length t - n) (drop n t) (omega (arith, length-drop n t))
+
+pub IsPlainTo-found : (t : List ℕ) (n k : ℕ) → n ≤ length t → NoneBefore (Passes (is_byte 37) (slice_range t n (length t))) 0 (length (slice_range t n (length t))) k → IsPlainTo t n → (n + k < length t) × IsPlainTo t (n + k)
+IsPlainTo-found t n k inside seen h =
+    let found = subst (λ s. NoneBefore (Passes (is_byte 37) s) 0 (length s) k) (rest_slice t n) seen in
+    let short : k < length (drop n t) = found.high in
+    let below : n + k < length t = omega (arith, length-drop n t) in
+    (below, IsPlainTo-past t n k (omega arith) (λ i lt. not_percent (drop n t) i (found.before i (omega arith) lt)) h)
+
+pub IsPlainTo-all : (t : List ℕ) (n : ℕ) → n ≤ length t → Nowhere (Passes (is_byte 37) (slice_range t n (length t))) 0 (length (slice_range t n (length t))) → IsPlainTo t n → IsPlainTo t (length t)
+IsPlainTo-all t n inside seen h =
+    let nowhere = subst (λ s. Nowhere (Passes (is_byte 37) s) 0 (length s)) (rest_slice t n) seen in
+    let size : length (drop n t) ≡ length t - n = length-drop n t in
+    let whole : n + length (drop n t) ≡ length t = omega arith in
+    subst (IsPlainTo t) whole (IsPlainTo-past t n (length (drop n t)) (omega arith) (λ i lt. not_percent (drop n t) i (nowhere i (omega arith) lt)) h)
+
+pub IsPlainTo-end : (t : List ℕ) → IsPlainTo t (length t) → has_escape t ≡ false
+IsPlainTo-end t h = h.same ∙ ap has_escape (drop-length t)
+
+-- an escape stands there
+pub IsPlainTo-escape : (t : List ℕ) (n : ℕ) → starts_with_escape (drop n t) ≡ true → IsPlainTo t n → has_escape t ≡ true
+IsPlainTo-escape t n e h = h.same ∙ has_escape-here (drop n t) e

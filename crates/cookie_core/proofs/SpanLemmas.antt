@@ -109,6 +109,11 @@ rest_stands : (s : List ℕ) (o : Option Part) → IsOptionalPartOf s o → IfSo
 rest_stands s None h = tt
 rest_stands s (Some p) h = StandsIn-part s p h
 
+-- what stands behind a part, where it is passed on as a span
+pub rest-part : (s : List ℕ) (o : Option Part) (rest : Option Span) → IsOptionalPartOf s o → rest ≡ option_map (λ (q : Part). q.span) o → (option_map part_text o ≡ option_map (span_text s) rest) × IfSome rest (StandsIn s)
+rest-part s o rest here is =
+    (sym (ap (option_map (span_text s)) is ∙ rest_text s o here), subst (λ r. IfSome r (StandsIn s)) (sym is) (rest_stands s o here))
+
 -- what a cut of a part leaves, where its rest is passed on as a span
 pub after-cut : (s : List ℕ) (p : Span) (all first : Part) (o : Option Part) (rest : Option Span) → IsPartOf s all → part_text all ≡ span_text s p → MatchOption o (part_text first ≡ part_text all) (λ after. part_text all ≡ part_text first ++ 59 ∷ part_text after) → IsOptionalPartOf all.whole.now o → rest ≡ option_map (λ (q : Part). q.span) o
     → (span_text s p ≡ part_text first ++ behind (option_map (span_text s) rest)) × IfSome rest (StandsIn s)

@@ -1,9 +1,9 @@
 -- What a loop over a splitter learns of an item.
-use Rattle.std.proofs.Common.{◌≡◌, ℕ, List, ◌∷◌, Bool, true, false, Some, Result, IfOk, subst}
-use Rattle.cookie_core.specs.Decoding.{ReadsInMemory, AgreesInMemory, LendsDecoded}
-use Rattle.cookie_core.specs.Reads.{Reads, fields_of}
-use Rattle.cookie_core.specs.Record.{Record, CookieView, all_lent}
-use Rattle.cookie_core.specs.SplitCookies.{SplitView, ReadsItem, LendsItem, NextCookie}
+use Rattle.std.proofs.Common.{◌≡◌, ℕ, List, ◌∷◌, Bool, true, false, Some, Result, subst}
+use Rattle.cookie_core.specs.Decoding.{ReadsInMemory, AgreesInMemory}
+use Rattle.cookie_core.specs.Reads.{fields_of}
+use Rattle.cookie_core.specs.Record.{Record, CookieView}
+use Rattle.cookie_core.specs.SplitCookies.{SplitView, ReadsItem, NextCookie}
 use Rattle.cookie_core.specs.declared.parse_error.ParseError.{ParseError}
 use Rattle.cookie_core.proofs.DecodeLemmas.{AgreesInMemory-reads, ReadsInMemory-reads}
 

@@ -1,6 +1,7 @@
 -- Mirrors private code: what a splitter's own types mean.
 use Rattle.std.specs.Prelude.{◌≡◌, ℕ, Bool, true, false, List, [], ◌∷◌, Option, Some, None, option_map, IfSome, string_bytes}
 use Rattle.cookie_core.specs.Header.{header_texts}
+use Rattle.cookie_core.specs.Pieces.{Lacks}
 use Rattle.cookie_core.specs.Spans.{StandsIn, span_text}
 use Rattle.cookie_core.specs.SplitCookies.{texts_left}
 use Rattle.cookie_core.specs.declared.split.Header.{Header}
@@ -32,9 +33,10 @@ is_owned (header.EncodedOwned a t) = true
 abbrev pub texts_in : List ℕ → Option Span → List (List ℕ)
 texts_in s o = texts_left (option_map (span_text s) o)
 
--- the first text of the rest, and what stands behind it
+-- the first text of the rest, which holds no `;`, and what stands behind it
 abbrev pub IsFirst : List ℕ → Span → Option (Span × Option Span) → Type 0
 IsFirst s rest None = header_texts (span_text s rest) ≡ []
 IsFirst s rest (Some f) =
     StandsIn s f.0 × IfSome f.1 (StandsIn s)
     × (header_texts (span_text s rest) ≡ span_text s f.0 ∷ texts_in s f.1)
+    × Lacks 59 (span_text s f.0)

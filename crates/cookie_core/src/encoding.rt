@@ -1,8 +1,9 @@
 //! The escapes of names and values (RFC 3986 2.1).
-ghost use Rattle.std.specs.Prelude.{◌≡◌, Some};
+ghost use Rattle.std.specs.Prelude.{◌≡◌, ◌≤◌, ◌++◌, Some, length, take, drop, nat_lt};
 ghost use Rattle.cookie_core.specs.EscapeTest.{starts_with_escape, has_escape};
-ghost use Rattle.cookie_core.specs.Escapes.{escape};
+ghost use Rattle.cookie_core.specs.Escapes.{escape, unescape};
 
+use memchr::memchr;
 use percent_encoding::{AsciiSet, CONTROLS, ascii_set, utf8_percent_encode};
 use std::fmt;
 use std::marker::Model;
@@ -71,14 +72,25 @@ impl<'a> fmt::Display for EncodedText<'a> {
 pub(crate) fn has_escape(text: &str) -> bool
     ensures { result ≡ has_escape text.now }
 {
-    let mut rest = text.as_bytes();
-    while let [_, after @ ..] = rest {
-        if starts_with_escape(rest) {
-            return true;
+    plain_length(text.as_bytes()) < text.len()
+}
+
+// How many bytes stand before the first `%` with two hexadecimal digits.
+pub(crate) fn plain_length(text: &[u8]) -> usize
+    ensures bound { result ≤ length text.now }
+    ensures kept { unescape text.now
+        ≡ take result text.now ++ unescape (drop result text.now) }
+    ensures escape { has_escape text.now ≡ nat_lt result (length text.now) }
+{
+    let mut at = 0;
+    while let Some(passed) = memchr(b'%', &text[at..]) {
+        at += passed;
+        if starts_with_escape(&text[at..]) {
+            return at;
         }
-        rest = after;
+        at += 1;
     }
-    false
+    text.len()
 }
 
 fn starts_with_escape(text: &[u8]) -> bool

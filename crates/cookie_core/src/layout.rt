@@ -1,9 +1,12 @@
 //! Where the parts of one cookie's text stand (RFC 6265 5.2).
-ghost use Rattle.std.specs.Prelude.{◌≡◌, false, IfOk};
+ghost use Rattle.std.specs.Prelude.{◌≡◌, ◌++◌, List, ℕ, false, IfOk, option_map};
 ghost use Rattle.std.specs.Result.{result_ok};
 ghost use Rattle.cookie_core.specs.CookieOf.{cookie_of};
 ghost use Rattle.cookie_core.specs.Layout.{laid_out, IsLayoutIn};
+ghost use Rattle.cookie_core.specs.Parts.{part_text, IsOptionalPartOf};
+ghost use Rattle.cookie_core.specs.Pieces.{Lacks};
 ghost use Rattle.cookie_core.specs.Reads.{Reads};
+ghost use Rattle.cookie_core.specs.Walk.{behind};
 
 use crate::attributes::Attributes;
 use crate::parse_error::ParseError;
@@ -29,6 +32,27 @@ impl Layout {
         ensures place { IfOk result (IsLayoutIn text.now) }
     {
         let (first, later) = Part::all(text).cut(';');
+        Layout::of_pieces(first, later)
+    }
+
+    // The same of a text without a `;`.
+    pub(crate) fn of_pair(text: &str) -> Result<Layout, ParseError>
+        requires { Lacks 59 text.now }
+        ensures reads { Reads false text.now (laid_out text.now result) }
+        ensures place { IfOk result (IsLayoutIn text.now) }
+    {
+        Layout::of_pieces(Part::all(text), None)
+    }
+
+    // The same of a first piece, and of what stands behind its `;`.
+    fn of_pieces(first: Part<'_>, later: Option<Part<'_>>) -> Result<Layout, ParseError>
+        requires apart { Lacks 59 (part_text first) }
+        requires place { IsOptionalPartOf first.whole.now later }
+        ensures reads { (t : List ℕ)
+            → t ≡ part_text first.entry ++ behind (option_map part_text later.entry)
+            → Reads false t (laid_out first.entry.whole.now result) }
+        ensures place { IfOk result (IsLayoutIn first.entry.whole.now) }
+    {
         let (name, value) = first.cut('=');
         let Some(value) = value else {
             return Err(ParseError::MissingPair);
@@ -40,7 +64,7 @@ impl Layout {
         Ok(Layout {
             name: name.span,
             value: value.trim().span,
-            attributes: Attributes::read(text, Part::span_of(later)),
+            attributes: Attributes::read(first.whole, Part::span_of(later)),
         })
     }
 }

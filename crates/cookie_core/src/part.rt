@@ -93,6 +93,7 @@ impl<'t> Part<'t> {
     // The part without white space at its ends.
     pub(crate) fn trim(self) -> Part<'t>
         ensures text { part_text result ≡ trim (part_text self.entry) }
+        ensures trimmed { IsTrimmed (part_text self.entry) (part_text result) }
         ensures place { IsPartOf self.entry.whole.now result }
     {
         self.inner(trim_span(self.text()))

@@ -1,6 +1,8 @@
-use Rattle.std.proofs.Common.{◌==◌, ℕ, List, ◌∷◌, length, sym, ap, ◌∙◌}
+use Rattle.std.proofs.Common.{◌==◌, ℕ, List, ◌∷◌, length, sym, ap, subst, ◌∙◌}
 use Rattle.cookie_core.specs.Parts.{part_text}
+use Rattle.cookie_core.specs.Pieces.{Lacks}
 use Rattle.cookie_core.specs.SplitCode.{texts_in}
+use Rattle.cookie_core.proofs.ByteLemmas.{Lacks-trimmed}
 use Rattle.cookie_core.proofs.PieceLemmas.{header_texts-blank, header_texts-filled}
 use Rattle.cookie_core.proofs.SpanLemmas.{after-cut, StandsIn-part, span_text-part, left_length-cut}
 use Rattle.cookie_core.proofs.split.first_piece.Goals as goal
@@ -20,6 +22,7 @@ returns-then-not-is_empty c =
           ∙ header_texts-filled _ (part_text c.cut.result.0) _ text c.cut.ensures.before
           (ap (λ (t : List ℕ). length t == 0) (sym c.trim-piece.ensures.text ∙ sym c.text.ensures) ∙ sym c.is_empty.ensures ∙ c.if-not-is_empty.true)
           ∙ ap (λ t. t ∷ texts_in c.args.text.now c.span_of-after.result) (sym piece),
+      subst (Lacks 59) (sym (span_text-part c.args.text.now c.trim-piece.result whole)) (Lacks-trimmed 59 (part_text c.cut.result.0) (part_text c.trim-piece.result) c.trim-piece.ensures.trimmed c.cut.ensures.before),
     )
 
 pub loop-left-preserved : goal.loop-left-preserved
