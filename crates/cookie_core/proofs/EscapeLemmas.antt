@@ -1,10 +1,11 @@
 -- Escapes: the crate's set of ASCII bytes is the one of the definition, and a text without an escape stands for itself.
-use Rattle.std.proofs.Common.{◌≡◌, ℕ, zero, suc, ◌+◌, ◌-◌, ◌<◌, ◌≤◌, Bool, true, false, ◌||◌, List, [], ◌∷◌, ◌++◌, length, get_or, take, drop, slice_range, length-drop, refl, sym, ap, subst, ◌∙◌, arith, ⊎_elim}
+use Rattle.std.proofs.Common.{◌≡◌, ℕ, zero, suc, ◌+◌, ◌-◌, ◌<◌, ◌≤◌, Bool, true, false, ◌||◌, List, [], ◌∷◌, ◌++◌, length, get_or, take, drop, slice_range, length-drop, nat_eq, refl, sym, ap, subst, ◌∙◌, arith, ⊎_elim}
 use Rattle.std.proofs.Math.Seq.{drop-length}
 use Rattle.std.proofs.lemmas.Bool.{agree_below_at, cases_lt, cond-false, eq-eqb, false≢true}
 use Rattle.std.proofs.lemmas.Bool.Decides.{nat_tests}
 use Rattle.std.proofs.lemmas.List.{drop_more, get_or-drop, take_all}
 use mathlib.Core.Logic.{◌≢◌}
+use Rattle.std.specs.List.{list_any}
 use Rattle.memchr.specs.Find.{Nowhere, NoneBefore, Passes, is_byte}
 use Rattle.percent_encoding.proofs.PercentLemmas.{percent_decode_kept_more}
 use Rattle.percent_encoding.specs.AsciiSet.{should_percent_encode}
@@ -42,6 +43,15 @@ unescape-same (b ∷ c ∷ []) e = refl
 unescape-same (b ∷ h ∷ l ∷ rest) e =
     let q = or_false (is_escape b h l) (has_escape (h ∷ l ∷ rest)) e in
     rw q.0 (ap (λ (s : List ℕ). b ∷ s) (unescape-same (h ∷ l ∷ rest) q.1))
+
+-- a text without `%` holds no escape
+pub no_percent_no_escape : (t : List ℕ) → list_any (λ b. nat_eq b 37) t ≡ false → has_escape t ≡ false
+no_percent_no_escape [] e = refl
+no_percent_no_escape (b ∷ []) e = refl
+no_percent_no_escape (b ∷ c ∷ []) e = refl
+no_percent_no_escape (b ∷ h ∷ l ∷ rest) e =
+    let q = or_false (nat_eq b 37) (list_any (λ c. nat_eq c 37) (h ∷ l ∷ rest)) e in
+    rw q.0 (no_percent_no_escape (h ∷ l ∷ rest) q.1)
 
 -- ---- the front of a text, before an escape
 

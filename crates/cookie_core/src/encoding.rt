@@ -72,7 +72,11 @@ impl<'a> fmt::Display for EncodedText<'a> {
 pub(crate) fn has_escape(text: &str) -> bool
     ensures { result ≡ has_escape text.now }
 {
-    plain_length(text.as_bytes()) < text.len()
+    let bytes = text.as_bytes();
+    if !bytes.contains(&b'%') {
+        return false;
+    }
+    plain_length(bytes) < bytes.len()
 }
 
 // How many bytes stand before the first `%` with two hexadecimal digits.

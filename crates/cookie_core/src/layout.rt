@@ -36,6 +36,7 @@ impl Layout {
     }
 
     // The same of a text without a `;`.
+    #[inline(always)]
     pub(crate) fn of_pair(text: &str) -> Result<Layout, ParseError>
         requires { Lacks 59 text.now }
         ensures reads { Reads false text.now (laid_out text.now result) }
@@ -45,6 +46,7 @@ impl Layout {
     }
 
     // The same of a first piece, and of what stands behind its `;`.
+    #[inline(always)]
     fn of_pieces(first: Part<'_>, later: Option<Part<'_>>) -> Result<Layout, ParseError>
         requires apart { Lacks 59 (part_text first) }
         requires place { IsOptionalPartOf first.whole.now later }
