@@ -1,5 +1,7 @@
 #!/usr/bin/env python3
-"""Prints 1,000 lines `NAME=value`, no two of one name: `names.py ordinary`, or `names.py chosen`, whose names have one hash in a jar of `CookieJar::new`.
+"""Prints lines `NAME=value`, no two of one name: `names.py ordinary`, or `names.py chosen`, whose names have one hash in a jar of `CookieJar::new`.
+
+There are 1,000 of them, or as many as a number behind says.
 
 Such a jar hashes with a state that is fixed: it multiplies two words of eight bytes, each joined by xor with one that is known, and folds the product.
 A name here has 16 bytes, then the eight that the state is after them, then any eight: the first factor of the last product is zero, and so is the hash.
@@ -32,7 +34,7 @@ def chosen_front():
 
 def main():
     front = {"ordinary": "a-name-of-twenty-four-by", "chosen": chosen_front()}[sys.argv[1]]
-    for number in range(NAMES):
+    for number in range(int(sys.argv[2]) if len(sys.argv) > 2 else NAMES):
         print(f"{front}{number:08}=value")
 
 
