@@ -13,6 +13,9 @@ use crate::original::Original;
 use indexmap::IndexMap;
 use std::alloc::{AllocError, Global};
 
+// For how many entries a table has room at first.
+const FIRST_ROOM: usize = 18;
+
 // What stands at a cookie's name.
 pub(crate) trait Entry: Drop {
     // What a jar's contracts see of it.
@@ -96,7 +99,19 @@ pub(crate) fn put<X: Entry>(
         → IsKeyedByName X.name_of (by_name X.shows table.new.entries) }
 {
     let key = String::from_str(*table.allocator(), entry.own_name())?;
+    make_room(table)?;
     set(table, key, entry)?;
+    Ok(())
+}
+
+// Makes room in a full table: for some entries at first, and then for four times as many as there are, since each step
+// moves them all.
+fn make_room<X: Entry>(table: &mut IndexMap<String, X, NameHash>) -> Result<(), AllocError>
+    ensures { by_name X.shows table.new.entries ≡ by_name X.shows table.old.entries }
+{
+    if table.len() == table.capacity() {
+        table.reserve(table.len().saturating_mul(3).max(FIRST_ROOM))?;
+    }
     Ok(())
 }
 
