@@ -1,5 +1,5 @@
 -- The lengths of HMAC and of the expansion, and the padded key byte by byte.
-use Rattle.std.proofs.Common.{◌≡◌, ℕ, ◌-◌, ◌<◌, ◌≤◌, List, [], ◌++◌, length, slice_index, replicate, ap, sym, refl, ◌∙◌, arith, bit_xor}
+use Rattle.std.proofs.Common.{◌≡◌, ℕ, ◌-◌, ◌<◌, ◌≤◌, List, ◌++◌, length, slice_index, replicate, ap, sym, refl, ◌∙◌, arith, bit_xor}
 use Rattle.std.proofs.lemmas.List.{length-append, length-map, length-replicate, get_or-map, get_or_append_left, get_or-append_right, get_or-replicate}
 use Rattle.std.specs.Int.Bits.{xor_comm, xor_zero_r}
 use Rattle.cookie_crypt.specs.Hmac.{masked, hmac_short, hmac}
