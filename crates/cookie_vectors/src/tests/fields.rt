@@ -137,13 +137,24 @@ fn a_builder_lends_copies_and_gives_its_cookie(rt: HostRuntime) -> Result<(), Fa
     Ok(())
 }
 
+// Whether the texts are read as equal cookies, and whether as unequal ones.
+fn comparison(one: &str, other: &str) -> Result<(bool, bool), Fail> {
+    let one = Cookie::parse(one)?;
+    let other = Cookie::parse(other)?;
+    Ok((one == other, one != other))
+}
+
 #[test]
 fn cookies_are_equal_without_same_site_and_case_of_the_path(rt: HostRuntime) -> Result<(), Fail> {
-    let cookie = Cookie::parse("a=1; Path=/A")?;
-    assert!(rt; cookie == Cookie::parse("a=1; path=/a; SameSite=Lax")?);
-    assert!(rt; cookie != Cookie::parse("A=1; path=/a")?);
+    for (one, other, are_equal) in [
+        ("a=1; Path=/A", "a=1; path=/a; SameSite=Lax", true),
+        ("a=1; Path=/A", "A=1; path=/a", false),
+        ("a=1; Path=", "a=1", false),
+        ("a=1; Domain=.B.c", "a=1; Domain=b.C", true),
+    ] {
+        assert_eq!(rt; comparison(one, other)?, (are_equal, !are_equal), "{other}");
+    }
     assert!(rt; Cookie::parse("a=1; Path=")? != Cookie::new("a", "1"));
-    assert!(rt; Cookie::parse("a=1; Domain=.B.c")? == Cookie::parse("a=1; Domain=b.C")?);
     Ok(())
 }
 
@@ -200,25 +211,46 @@ fn small_values_are_cloned_and_compared(rt: HostRuntime) -> Result<(), Fail> {
     Ok(())
 }
 
-#[test]
-fn own_texts_are_set(rt: HostRuntime) -> Result<(), Fail> {
-    let alloc = rt.alloc();
+// A cookie whose own name and value were handed in.
+fn of_own_texts(alloc: Global) -> Result<Cookie<'static>, Fail> {
     let name = String::from_str(alloc, "a")?;
-    let mut cookie = Cookie::new_owned(name, String::from_str(alloc, "1")?);
-    assert_eq!(rt; cookie.name_value(), ("a", "1"));
+    let value = String::from_str(alloc, "1")?;
+    Ok(Cookie::new_owned(name, value))
+}
+
+// Sets four own texts.
+fn set_own_texts(alloc: Global, cookie: &mut Cookie<'static>) -> Result<(), Fail> {
     cookie.set_name_owned(String::from_str(alloc, "b")?);
     cookie.set_value_owned(String::from_str(alloc, "2")?);
     cookie.set_path_owned(String::from_str(alloc, "/x")?);
     cookie.set_domain_owned(String::from_str(alloc, ".c.d")?);
-    assert_eq!(rt; cookie.domain(), Some("c.d"));
-    assert_eq!(rt; cookie.domain_raw(), None);
-    let text = cookie.to_string(alloc)?;
-    assert_eq!(rt; text.as_str(), "b=2; Path=/x; Domain=c.d");
-    let built = CookieBuilder::new("b", "2")
-        .path_owned(String::from_str(alloc, "/x")?)
-        .domain_owned(String::from_str(alloc, ".c.d")?)
-        .build();
-    assert_eq!(rt; built, cookie);
+    Ok(())
+}
+
+// The same cookie, by the builder.
+fn built_of_own_texts(alloc: Global) -> Result<Cookie<'static>, Fail> {
+    let path = String::from_str(alloc, "/x")?;
+    let domain = String::from_str(alloc, ".c.d")?;
+    Ok(
+        CookieBuilder::new("b", "2")
+            .path_owned(path)
+            .domain_owned(domain)
+            .build(),
+    )
+}
+
+#[test]
+fn own_texts_are_set(rt: HostRuntime) -> Result<(), Fail> {
+    let built = built_of_own_texts(rt.alloc())?;
+    let mut cookie = of_own_texts(rt.alloc())?;
+    assert_eq!(rt; cookie.name_value(), ("a", "1"));
+    set_own_texts(rt.alloc(), &mut cookie)?;
+    assert_eq!(rt; (cookie.domain(), cookie.domain_raw()), (Some("c.d"), None));
+    assert_eq!(rt;
+        cookie.to_string(rt.alloc())?.as_str(),
+        "b=2; Path=/x; Domain=c.d"
+    );
+    assert!(rt; built == cookie);
     Ok(())
 }
 

@@ -4,6 +4,24 @@ use std::test::Fail;
 
 const SUBDIR: &str = "bar=baz; Path=/subdir; HttpOnly; Domain=crates.io";
 
+// Whether the cookie lends these forms of its name, value, path and domain.
+fn lends(
+    cookie: &Cookie<'_>,
+    name: Option<&str>,
+    value: Option<&str>,
+    path: Option<&str>,
+    domain: Option<&str>,
+) -> bool {
+    cookie.name_raw() == name
+        && cookie.value_raw() == value
+        && cookie.path_raw() == path
+        && cookie.domain_raw() == domain
+}
+
+fn lends_nothing(cookie: &Cookie<'_>) -> bool {
+    lends(cookie, None, None, None, None)
+}
+
 #[test]
 fn cookie_string_long_lifetimes(rt: HostRuntime) -> Result<(), Fail> {
     let cookie = Cookie::parse(SUBDIR)?;
@@ -23,13 +41,12 @@ fn cookie_string_long_lifetimes(rt: HostRuntime) -> Result<(), Fail> {
 fn owned_cookie_string(rt: HostRuntime) -> Result<(), Fail> {
     let cookie = Cookie::parse_owned(String::from_str(rt.alloc(), SUBDIR)?)?;
     assert_eq!(rt; cookie.name_value(), ("bar", "baz"));
-    assert_eq!(rt; cookie.path(), Some("/subdir"));
-    assert_eq!(rt; cookie.domain(), Some("crates.io"));
+    assert_eq!(rt;
+        (cookie.path(), cookie.domain()),
+        (Some("/subdir"), Some("crates.io"))
+    );
     assert_eq!(rt; cookie.http_only(), Some(true));
-    assert_eq!(rt; cookie.name_raw(), None);
-    assert_eq!(rt; cookie.value_raw(), None);
-    assert_eq!(rt; cookie.path_raw(), None);
-    assert_eq!(rt; cookie.domain_raw(), None);
+    assert!(rt; lends_nothing(&cookie));
     Ok(())
 }
 
@@ -38,34 +55,43 @@ fn owned_cookie_struct(rt: HostRuntime) -> Result<(), Fail> {
     let cookie = Cookie::parse(SUBDIR)?;
     let copy = cookie.clone(rt.alloc())?;
     let own = cookie.into_owned(rt.alloc())?;
-    assert_eq!(rt; copy.name_raw(), Some("bar"));
-    assert_eq!(rt; copy.domain_raw(), Some("crates.io"));
+    assert!(rt;
+        lends(
+            &copy,
+            Some("bar"),
+            Some("baz"),
+            Some("/subdir"),
+            Some("crates.io")
+        )
+    );
     assert_eq!(rt; own.path(), Some("/subdir"));
-    assert_eq!(rt; own.name_raw(), None);
-    assert_eq!(rt; own.value_raw(), None);
-    assert_eq!(rt; own.path_raw(), None);
-    assert_eq!(rt; own.domain_raw(), None);
+    assert!(rt; lends_nothing(&own));
     Ok(())
+}
+
+// Whether the value is another one, and all but it is lent.
+fn lends_all_but_the_value(cookie: &Cookie<'_>) -> bool {
+    cookie.name_value() == ("bar", "x")
+        && lends(
+            cookie,
+            Some("bar"),
+            None,
+            Some("/subdir"),
+            Some("crates.io"),
+        )
 }
 
 #[test]
 fn the_raw_value_alone_is_gone_where_the_value_was_set(rt: HostRuntime) -> Result<(), Fail> {
     let text = " bar = baz ; Path=/subdir; HttpOnly; Domain=.crates.io";
+    let own = String::from_str(rt.alloc(), "x")?;
     let mut cookie = Cookie::parse(text)?;
     assert_eq!(rt; cookie.value_raw(), Some("baz"));
     cookie.set_value("x");
-    assert_eq!(rt; cookie.name_value(), ("bar", "x"));
-    assert_eq!(rt; cookie.name_raw(), Some("bar"));
-    assert_eq!(rt; cookie.value_raw(), None);
-    assert_eq!(rt; cookie.path_raw(), Some("/subdir"));
-    assert_eq!(rt; cookie.domain_raw(), Some("crates.io"));
+    assert!(rt; lends_all_but_the_value(&cookie));
     let mut cookie = Cookie::parse(text)?;
-    cookie.set_value_owned(String::from_str(rt.alloc(), "x")?);
-    assert_eq!(rt; cookie.name_value(), ("bar", "x"));
-    assert_eq!(rt; cookie.name_raw(), Some("bar"));
-    assert_eq!(rt; cookie.value_raw(), None);
-    assert_eq!(rt; cookie.path_raw(), Some("/subdir"));
-    assert_eq!(rt; cookie.domain_raw(), Some("crates.io"));
+    cookie.set_value_owned(own);
+    assert!(rt; lends_all_but_the_value(&cookie));
     Ok(())
 }
 
