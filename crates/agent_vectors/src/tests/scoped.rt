@@ -147,6 +147,19 @@ fn calls_through_child_jars_are_looked_at_as_they_are_stored(rt: HostRuntime) ->
     Ok(())
 }
 
+// Whether an addition for a domain is in the scope, at the place.
+fn is_scoped_at(
+    alloc: Global,
+    path: Option<&str>,
+    domain: Option<&str>,
+    place: Place,
+) -> Result<bool, Fail> {
+    let scope = scope(alloc, BELOW, path, domain)?;
+    let site = place.site(alloc)?;
+    let calls = [adds(n().domain("Example.com"))];
+    Ok(is_scoped(&calls[0], &site, &scope, at(0)?))
+}
+
 #[test]
 fn a_call_is_in_one_scope(rt: HostRuntime) -> Result<(), Fail> {
     let wide = Some("example.com");
@@ -160,10 +173,7 @@ fn a_call_is_in_one_scope(rt: HostRuntime) -> Result<(), Fail> {
         (Some("/"), wide, BELOW, false),
         (None, Some("www.example.com"), BELOW, false),
     ] {
-        let scope = scope(rt.alloc(), BELOW, path, domain)?;
-        let call = adds(n().domain("Example.com"));
-        let site = place.site(rt.alloc())?;
-        assert_eq!(rt; is_scoped(&call, &site, &scope, at(0)?), wanted);
+        assert_eq!(rt; is_scoped_at(rt.alloc(), path, domain, place)?, wanted);
     }
     Ok(())
 }
@@ -171,7 +181,8 @@ fn a_call_is_in_one_scope(rt: HostRuntime) -> Result<(), Fail> {
 #[test]
 fn an_address_is_a_scope(rt: HostRuntime) -> Result<(), Fail> {
     let number = Address("10.0.0.1", "/x/y");
-    let call = adds(root());
-    assert!(rt; is_whole(rt.alloc(), &call, number)?);
+    for call in &[adds(root())] {
+        assert!(rt; is_whole(rt.alloc(), call, number)?);
+    }
     Ok(())
 }

@@ -3,6 +3,7 @@ use super::at;
 use super::places::Place;
 use cookie_agent::Agent;
 use std::alloc::Global;
+use std::process::Abort;
 use std::test::Fail;
 
 /// What happens to a user agent, or what it has to send then.
@@ -60,6 +61,12 @@ pub(super) fn first_wrong(alloc: Global, steps: &[Step]) -> Result<Option<usize>
         }
     }
     Ok(None)
+}
+
+/// Fails unless a new agent does what each step says.
+pub(super) fn plays(rt: &impl Abort, alloc: Global, steps: &[Step]) -> Result<(), Fail> {
+    assert_eq!(rt; first_wrong(alloc, steps)?, None);
+    Ok(())
 }
 
 #[test]
