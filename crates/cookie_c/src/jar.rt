@@ -4,12 +4,12 @@ ghost use Rattle.cookie_c.specs.Held.{TellsOfJar};
 
 pub(crate) mod calls;
 pub mod held;
-mod parts;
+mod raw_box;
 pub(crate) mod texts;
 
 use cookie::CookieJar;
 use held::Held;
-use parts::Parts;
+use raw_box::RawBox;
 use std::alloc::Global;
 use std::mem::replace;
 
@@ -41,7 +41,7 @@ impl Jar {
     {
         Jar {
             is_open: true,
-            held: Held::of_parts(Parts::of(jar)),
+            held: Held::from_raw(RawBox::from_box(jar)),
         }
     }
 
@@ -52,7 +52,7 @@ impl Jar {
     {
         let Jar { is_open, held } = replace(self, Jar::closed(alloc));
         if is_open {
-            Some(held.into_parts().into_box())
+            Some(held.into_raw().into_box())
         } else {
             None
         }

@@ -3,7 +3,7 @@ ghost use Rattle.std.specs.Prelude.{◌≡◌, ◌≢◌, Some, None, Option};
 ghost use Rattle.cookie.specs.Jar.{JarState};
 ghost use Rattle.cookie_c.specs.Held.{held_coded, held_owns};
 
-use super::parts::Parts;
+use super::raw_box::RawBox;
 use cookie::CookieJar;
 use std::alloc::Global;
 use std::marker::Model;
@@ -34,24 +34,24 @@ impl Held {
         }
     }
 
-    // The jar of a box's parts.
-    pub(crate) fn of_parts(parts: Parts<CookieJar, Global>) -> Held
-        ensures { result.jar ≡ Some parts.value }
+    // The jar that a box's pointer owns.
+    pub(crate) fn from_raw(raw: RawBox<CookieJar, Global>) -> Held
+        ensures { result.jar ≡ Some raw.value }
     {
-        let Parts { at, alloc } = parts;
+        let RawBox { at, alloc } = raw;
         Held {
             at: at as *mut (),
             alloc,
         }
     }
 
-    // The parts of the jar's box again.
-    pub(crate) fn into_parts(self) -> Parts<CookieJar, Global>
+    // The pointer of the jar's box again.
+    pub(crate) fn into_raw(self) -> RawBox<CookieJar, Global>
         requires { self.jar ≢ None }
         ensures { Some result.value ≡ self.jar }
     {
         let Held { at, alloc } = self;
-        Parts {
+        RawBox {
             at: at as *mut CookieJar,
             alloc,
         }

@@ -1,37 +1,37 @@
-//! A box as its pointer and its allocator.
+//! A box taken apart, so that C can hold its pointer.
 ghost use Rattle.std.specs.Prelude.{◌≡◌};
 ghost use Rattle.std.specs.Box.Ownership.{box_owns};
 
 use std::alloc::Allocator;
 use std::marker::Model;
 
-/// A box as its pointer and its allocator.
-pub(crate) struct Parts<T, A: Allocator> {
+/// The pointer of a box, with who gave its memory. It owns what the box owned.
+pub(crate) struct RawBox<T, A: Allocator> {
     pub(crate) at: *mut T,
     pub(crate) alloc: A,
     pub(crate) ghost value: { T },
 }
 
-impl<T, A: Allocator> Model for Parts<T, A> {
+impl<T, A: Allocator> Model for RawBox<T, A> {
     ghost also_owns = { λ p. box_owns (A.dealloc_token p.alloc) T.row p.at p.value };
 }
 
-impl<T, A: Allocator> Parts<T, A> {
-    // The parts of a box.
-    pub(crate) fn of(whole: Box<T, A>) -> Parts<T, A>
+impl<T, A: Allocator> RawBox<T, A> {
+    // The box's pointer, taken out of it.
+    pub(crate) fn from_box(whole: Box<T, A>) -> RawBox<T, A>
     where
         T: Drop,
         ensures { result.value ≡ whole.value }
     {
         let (at, alloc) = Box::into_raw_with_allocator(whole);
-        Parts { at, alloc }
+        RawBox { at, alloc }
     }
 
-    // The box again.
+    // The box that the pointer was taken out of.
     pub(crate) fn into_box(self) -> Box<T, A>
         ensures { result.value ≡ self.value }
     {
-        let Parts { at, alloc } = self;
+        let RawBox { at, alloc } = self;
         unsafe { Box::from_raw(alloc, at) }
     }
 }

@@ -1,4 +1,4 @@
--- `into_box` hands what the parts own to `Box::from_raw`: a walk of its MIR.
+-- `into_box` hands what the raw box owns to `Box::from_raw`: a walk of its MIR.
 use Rattle.std.proofs.Common.{◌≡◌, List, [], ◌∷◌, ◌++◌, refl, sym, ap, subst}
 use lib.Dec.{T}
 use mir.Syntax.{Body, Fn, assign, copy, place, return, rv_opd, seq}
@@ -31,11 +31,11 @@ use Rattle.std_alloc.proofs.BoxSteps.Form.{B, Bx, D, P, R, args, box_ty, box_typ
 use Rattle.std_alloc.proofs.BoxSteps.Steps.{box_in, box_out}
 use Rattle.std_alloc.specs.contracts.boxed.Box.from_raw as callee
 use Rattle.std_alloc.proofs.boxed.Box.from_raw.Met.{met}
-use Rattle.cookie_c.specs.contracts.jar.parts.Parts.{the_row}
-use Rattle.cookie_c.specs.contracts.jar.parts.Parts.into_box.{ended, clauses}
-use Rattle.cookie_c.specs.contracts.jar.parts.Parts.into_box.Key.{name as #self}
-use Rattle.cookie_c.proofs.jar.parts.Parts.into_box.Statement.{statement}
-use Rattle.cookie_c.proofs.jar.parts.Parts.into_box.Code as code
+use Rattle.cookie_c.specs.contracts.jar.raw_box.RawBox.{the_row}
+use Rattle.cookie_c.specs.contracts.jar.raw_box.RawBox.into_box.{ended, clauses}
+use Rattle.cookie_c.specs.contracts.jar.raw_box.RawBox.into_box.Key.{name as #self}
+use Rattle.cookie_c.proofs.jar.raw_box.RawBox.into_box.Statement.{statement}
+use Rattle.cookie_c.proofs.jar.raw_box.RawBox.into_box.Code as code
 
 -- what the body does behind the call
 abbrev rest : Body
@@ -50,9 +50,9 @@ into_box_spec 𝓤 𝓛 𝓜 𝓡 wired X A LX LA g d dd allocator glue =
     let hs : Stays En.signature.params En.kept = (stay_dropped (plain (λ _. From)) no, tt) in
     let called = triple_of 𝓛 (callee.signature X A g d dd) (callee.spec X A g d dd 𝓛 𝓜.mem 𝓡.returns) in
     proved_at 𝓛 En hs c 𝓜 𝓡 (Goes-blank 𝓛 2 (plain (λ _. From)) no (λ κs x f. tt), tt) (#self (args E)) fn (code.unfolded 𝓤 H 𝓜 𝓡 wired (X, (A, tt)) d dd) (λ z are.
-    let κs = z.0.0 in let qs = z.0.1 in let parts = z.0.3.0 in let alloc = parts.alloc in let x = parts.value in
+    let κs = z.0.0 in let qs = z.0.1 in let given = z.0.3.0 in let alloc = given.alloc in let x = given.value in
     let Post = (walk_of 𝓛 En hs c).post z in let Run : List Val → SProp 𝓤 = λ ws. WpFn 𝓤 H 𝓣.C 𝓣.Λ fn (ws ++ []) Post in
-    let v : D E = record { ptr = parts.at; alloc = alloc; value = x } in
+    let v : D E = record { ptr = given.at; alloc = alloc; value = x } in
     let tokens = ‵ (flft κs.0 qs.0) ⊛ ‵ (flft κs.1.0 qs.1.0) ⊛ ‵ ftrue in
     let live = raw (fact 𝓤 (κs.0 ⊑ X.lives)) ⊛ raw (fact 𝓤 (κs.1.0 ⊑ A.lives)) ⊛ ‵ ftrue in
     qed 𝓛 ((tokens ⊛ ‵ (fsep ((B E).own_val v z.0.4.0) ftrue)) ∷ live ∷ []) ∵ split ! $ move ! (1 ∷ []) $ fsplit ! $
@@ -61,7 +61,7 @@ into_box_spec 𝓤 𝓛 𝓜 𝓡 wired X A LX LA g d dd allocator glue =
     let w = word E h b o in let Γ = ‵ (box_owns (token E.al alloc) (R E) (block_ptr b o) x) ∷ ‵ ((P E).own_val alloc (h ∷ [])) ∷ tokens ∷ live ∷ [] in
     by ! (subst (λ (us : List Val). ent 𝓤 (⋆ 𝓛 Γ) (Run us)) (sym ws)
     (qed 𝓛 Γ ∵ enter ! 𝓣.C 𝓣.Λ fn (w ∷ []) _ $ alloc_all ! (λ l. pass_all ! refl (box_typed E h b o fits, tt) $ let Ev = env fn.locals l in
-    -- let Parts { at, alloc } = self;
+    -- let RawBox { at, alloc } = self;
     sets ! (of_opd ! (get_in ! (fld ! refl (stop !)) (sub ! 0 refl (whole !)))) refl (tt, tt) $ sets ! (of_opd ! (get_in ! (fld ! refl (stop !)) (sub ! 1 refl (whole !)))) refl fits $
     first ! $ blocks ! $ sets ! (of_opd ! (get ! refl)) refl fits $
     -- what the call asks for: its tokens with its two arguments, that the types live, and the memory

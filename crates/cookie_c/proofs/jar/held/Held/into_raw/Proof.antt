@@ -1,4 +1,4 @@
--- `into_parts` moves the two fields back, and what they own goes with them: a walk of its MIR.
+-- `into_raw` moves the two fields back, and what they own goes with them: a walk of its MIR.
 use Rattle.std.proofs.Common.{◌≡◌, ◌≢◌, Option, Some, None, List, [], ◌∷◌, ◌++◌, refl, sym, subst}
 use mir.Val.{Val}
 use base.Logic.{SProp, ent, emp, id⊢}
@@ -20,17 +20,17 @@ use Rattle.std.proofs.raw_atomic.Walks.{proved_at, leaves}
 use Rattle.cookie_c.proofs.HeldBox.{boxed}
 use Rattle.cookie_c.specs.Held.{held_owns}
 use Rattle.cookie_c.specs.contracts.jar.held.Held.{the_row}
-use Rattle.cookie_c.specs.contracts.jar.held.Held.into_parts.{ended, clauses, signature}
-use Rattle.cookie_c.specs.contracts.jar.held.Held.into_parts.Key.{name as #self}
-use Rattle.cookie_c.proofs.jar.held.Held.into_parts.Statement.{statement}
-use Rattle.cookie_c.proofs.jar.held.Held.into_parts.Code as code
+use Rattle.cookie_c.specs.contracts.jar.held.Held.into_raw.{ended, clauses, signature}
+use Rattle.cookie_c.specs.contracts.jar.held.Held.into_raw.Key.{name as #self}
+use Rattle.cookie_c.proofs.jar.held.Held.into_raw.Statement.{statement}
+use Rattle.cookie_c.proofs.jar.held.Held.into_raw.Code as code
 
 some_of : {X : Type 0} (o : Option X) → o ≢ None → (x : X) × (o ≡ Some x)
 some_of None none = absurd (none refl)
 some_of (Some x) none = (x, refl)
 
-pub into_parts_spec : {M : Type 1} → statement M
-into_parts_spec 𝓤 𝓛 𝓜 𝓡 wired =
+pub into_raw_spec : {M : Type 1} → statement M
+into_raw_spec 𝓤 𝓛 𝓜 𝓡 wired =
     let H = 𝓛.H in let 𝓣 = tables 𝓤 H 𝓜 𝓡 𝓡.env in let c = clauses 𝓛 𝓜.mem 𝓡.returns in
     let hs : Stays signature.params ended.kept = (stay_dropped (plain (λ _. the_row)) yes, tt) in
     proved_at 𝓛 ended hs c 𝓜 𝓡 (Goes-dropped 𝓛 0 (plain (λ _. the_row)) yes (λ κs x f. refl), tt) #self code.function (code.unfolded 𝓤 H 𝓜 𝓡 wired) (λ z are.
@@ -49,7 +49,7 @@ into_parts_spec 𝓤 𝓛 𝓜 𝓡 wired =
     (qed 𝓛 (‵ (To.own_val made (w ∷ [])) ∷ []) ∵ enter ! 𝓣.C 𝓣.Λ code.function (w ∷ []) _ $ alloc_all ! (λ l. pass_all ! refl (typed, tt) $
     -- let Held { at, alloc } = self;
     sets ! (of_opd ! (get_in ! (fld ! refl (stop !)) (sub ! 0 refl (whole !)))) refl (tt, tt) $ sets ! (of_opd ! (get_in ! (fld ! refl (stop !)) (sub ! 1 refl (whole !)))) refl fits $
-    -- Parts { at: at as *mut CookieJar, alloc }
+    -- RawBox { at: at as *mut CookieJar, alloc }
     sets ! (of_opd ! (get ! refl)) refl (tt, tt) $ sets ! (agg ! (and_then ! (get ! refl) (and_then ! (get ! refl) (no_more !)))) refl typed $
     returns ! (look_at ! 0 refl) $ free_all ! refl $
     use0 𝓛 (raw (fact 𝓤 (Some x ≡ held.jar))) (fact_i 𝓤 (Some x ≡ held.jar) (emp 𝓤) (sym found.1)) $ move ! (1 ∷ 0 ∷ []) $ nothing ! $ nothing ! $ fjoin ! $ nothing ! $

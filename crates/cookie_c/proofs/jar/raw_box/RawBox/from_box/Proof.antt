@@ -1,4 +1,5 @@
--- `of` has `Box::into_raw_with_allocator` take the box apart, and the parts own what it owned: a walk of its MIR.
+-- `from_box` has `Box::into_raw_with_allocator` take the box apart, and what that gives owns what the box owned: a walk of
+-- its MIR.
 use Rattle.std.proofs.Common.{◌≡◌, List, [], ◌∷◌, ◌++◌, ◌∙◌, refl, sym, ap, subst}
 use mir.Syntax.{Args, Fn, a_type, dcons, dnil}
 use mir.MapTy.{inst_fn}
@@ -33,15 +34,15 @@ use Rattle.std_alloc.proofs.BoxSteps.Form.{B, Bx, D, P, R, box_typed, word, τ}
 use Rattle.std_alloc.proofs.BoxSteps.Steps.{box_in, box_out}
 use Rattle.std_alloc.specs.contracts.boxed.Box.into_raw_with_allocator as callee
 use Rattle.std_alloc.proofs.boxed.Box.into_raw_with_allocator.Met.{met}
-use Rattle.cookie_c.specs.contracts.jar.parts.Parts.{the_row}
-use Rattle.cookie_c.specs.contracts.jar.parts.Parts.of.{ended, clauses}
-use Rattle.cookie_c.specs.contracts.jar.parts.Parts.of.Key.{name as #self}
-use Rattle.cookie_c.proofs.jar.parts.Parts.of.Statement.{statement}
-use Rattle.cookie_c.proofs.jar.parts.Parts.of.Code as code
+use Rattle.cookie_c.specs.contracts.jar.raw_box.RawBox.{the_row}
+use Rattle.cookie_c.specs.contracts.jar.raw_box.RawBox.from_box.{ended, clauses}
+use Rattle.cookie_c.specs.contracts.jar.raw_box.RawBox.from_box.Key.{name as #self}
+use Rattle.cookie_c.proofs.jar.raw_box.RawBox.from_box.Statement.{statement}
+use Rattle.cookie_c.proofs.jar.raw_box.RawBox.from_box.Code as code
 
-pub of_spec : {M : Type 1} → statement M
+pub from_box_spec : {M : Type 1} → statement M
 unfolding tables_of
-of_spec 𝓤 𝓛 𝓜 𝓡 wired X A LX LA g d dd dx allocator glue glued =
+from_box_spec 𝓤 𝓛 𝓜 𝓡 wired X A LX LA g d dd dx allocator glue glued =
     let H = 𝓛.H in let 𝓣 = tables 𝓤 H 𝓜 𝓡 𝓡.env in let En = ended X A g d dd dx in let c = clauses X A g d dd dx 𝓛 𝓜.mem 𝓡.returns in
     let E : Bx = record { row = X; laws = LX; al = record { row = A; laws = LA; g = g; d = d; drops = dd } } in
     let types : Args = bounded (a_type ∷ a_type ∷ []) (X, (A, tt)) (dcons d (dcons dd (dcons dx dnil))) in
@@ -73,7 +74,7 @@ of_spec 𝓤 𝓛 𝓜 𝓡 wired X A LX LA g d dd dx allocator glue glued =
     let whole' : D E = record { ptr = block_ptr b' o'; alloc = alloc; value = v.value } in let made : To.Denot = record { at = block_ptr b' o'; alloc = alloc; value = v.value } in
     lands_as ! (ap only (eu ∙ (λ j. vstruct (of_list ((ep ∙ ap (λ (p : Ptr). ptr_val p ∷ []) e') j ++ (eh j ++ []))) ∷ []))) refl typed $
     sets ! (of_opd ! (get_in ! (fld ! refl (stop !)) (sub ! 0 refl (whole !)))) refl (tt, tt) $ sets ! (of_opd ! (get_in ! (fld ! refl (stop !)) (sub ! 1 refl (whole !)))) refl fits' $
-    -- Parts { at, alloc }
+    -- RawBox { at, alloc }
     sets ! (of_opd ! (get ! refl)) refl fits' $ sets ! (agg ! (and_then ! (get ! refl) (and_then ! (get ! refl) (no_more !)))) refl typed $ returns ! (look_at ! 0 refl) $ free_all ! refl $
     move ! (3 ∷ []) $ fsplit ! $ move ! (0 ∷ 1 ∷ 2 ∷ 4 ∷ []) $ box_in E ! whole' b' o' v.value refl refl $ use1 𝓛 (‵ (To.own_val made (w' ∷ []))) (id⊢ 𝓤 _) $
     use0 𝓛 (raw (fact 𝓤 (v.value ≡ v.value))) (fact_i 𝓤 (v.value ≡ v.value) (emp 𝓤) refl) $ move ! (3 ∷ []) $ nothing ! $ fjoin ! $ move ! (3 ∷ 0 ∷ 2 ∷ 1 ∷ []) $
