@@ -292,7 +292,9 @@ impl Attributes {
         self.expires = later.expires.or(self.expires);
     }
 
-    // The attributes that the pieces of `later` in the text set.
+    // The attributes that the pieces of `later` in the text set. Always inlined, so that where there are none nothing is
+    // left of it.
+    #[inline(always)]
     pub(crate) fn read(text: &str, later: Option<Span>) -> Attributes
         requires { IfSome later (StandsIn text.now) }
         ensures read { HasRead (option_map (span_text text.now) later)
