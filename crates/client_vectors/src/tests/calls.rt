@@ -6,6 +6,7 @@ use jar_steps::{Step, after, first_wrong, moment};
 use jiff::SignedDuration;
 use jiff::civil::DateTime;
 use std::alloc::Global;
+use std::process::Abort;
 use std::test::Fail;
 
 fn a() -> CookieBuilder<'static> {
@@ -131,9 +132,21 @@ fn jar_after(alloc: Global, steps: &[Step]) -> Result<(CookieJar, Vec<bool>), Fa
     Ok((jar, outcomes))
 }
 
+// Fails unless each call is accepted on that jar, and the jar then shows what it has to.
+fn plays(rt: &impl Abort, alloc: Global, steps: &[Step], shown: &[Step]) -> Result<(), Fail> {
+    let (mut jar, outcomes) = jar_after(alloc, steps)?;
+    assert_eq!(rt; outcomes.len(), steps.len());
+    for outcome in &outcomes {
+        assert!(rt; *outcome);
+    }
+    assert_eq!(rt; first_wrong(&mut jar, shown)?, None);
+    Ok(())
+}
+
 #[test]
 fn calls_are_made_in_order_on_the_jar_handed_in(rt: HostRuntime) -> Result<(), Fail> {
-    let (mut jar, outcomes) = jar_after(
+    plays(
+        &rt,
         rt.alloc(),
         &[
             Step::Add("gone", "2"),
@@ -146,25 +159,23 @@ fn calls_are_made_in_order_on_the_jar_handed_in(rt: HostRuntime) -> Result<(), F
             Step::Remove("absent"),
             Step::ForceRemove("f"),
         ],
-    )?;
-    assert!(rt; outcomes.as_slice() == [true; 9].as_slice());
-    let shown = [
-        Step::Counts(2, 2),
-        Step::Shows("n", "2"),
-        Step::Shows("p", "1"),
-        Step::Lacks("o"),
-        Step::Lacks("f"),
-        Step::Lacks("gone"),
-        Step::Lacks("absent"),
-    ];
-    assert_eq!(rt; first_wrong(&mut jar, &shown)?, None);
-    Ok(())
+        &[
+            Step::Counts(2, 2),
+            Step::Shows("n", "2"),
+            Step::Shows("p", "1"),
+            Step::Lacks("o"),
+            Step::Lacks("f"),
+            Step::Lacks("gone"),
+            Step::Lacks("absent"),
+        ],
+    )
 }
 
 // An original that is held already, and removals of names that the jar lacks.
 #[test]
 fn calls_that_bring_nothing_new_are_accepted(rt: HostRuntime) -> Result<(), Fail> {
-    let (mut jar, outcomes) = jar_after(
+    plays(
+        &rt,
         rt.alloc(),
         &[
             Step::AddOriginal("o", "1"),
@@ -172,22 +183,16 @@ fn calls_that_bring_nothing_new_are_accepted(rt: HostRuntime) -> Result<(), Fail
             Step::Remove("absent"),
             Step::ForceRemove("absent"),
         ],
-    )?;
-    assert!(rt; outcomes.as_slice() == [true; 4].as_slice());
-    let shown = [
-        Step::Counts(1, 2),
-        Step::Shows("o", "1"),
-        Step::Shows("gone", "1"),
-        Step::Lacks("absent"),
-    ];
-    assert_eq!(rt; first_wrong(&mut jar, &shown)?, None);
-    Ok(())
+        &[
+            Step::Counts(1, 2),
+            Step::Shows("o", "1"),
+            Step::Shows("gone", "1"),
+            Step::Lacks("absent"),
+        ],
+    )
 }
 
 #[test]
 fn no_calls_have_no_outcomes(rt: HostRuntime) -> Result<(), Fail> {
-    let (mut jar, outcomes) = jar_after(rt.alloc(), &[])?;
-    assert!(rt; outcomes.is_empty());
-    assert_eq!(rt; first_wrong(&mut jar, &[Step::Counts(1, 2)])?, None);
-    Ok(())
+    plays(&rt, rt.alloc(), &[], &[Step::Counts(1, 2)])
 }
