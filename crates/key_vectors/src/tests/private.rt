@@ -221,13 +221,14 @@ const DAMAGED: [&str; 9] = [
 
 // Whether one of the values is decrypted under the name.
 fn is_any_decrypted(
-    jar: &CookieJar,
+    alloc: Global,
+    key: &Key,
     name: &'static str,
     values: &[&'static str],
 ) -> Result<bool, Fail> {
-    let key = test_key();
+    let jar = CookieJar::new(alloc);
     for value in values {
-        if is_decrypted(jar, &key, name, value)? {
+        if is_decrypted(&jar, key, name, value)? {
             return Ok(true);
         }
     }
@@ -236,19 +237,18 @@ fn is_any_decrypted(
 
 #[test]
 fn a_damaged_value_is_not_decrypted(rt: HostRuntime) -> Result<(), Fail> {
-    let jar = CookieJar::new(rt.alloc());
-    assert!(rt; !is_any_decrypted(&jar, "encrypted_with_ring014", &DAMAGED)?);
-    assert!(rt; is_any_decrypted(&jar, "encrypted_with_ring014", &["", SEALED])?);
+    let name = "encrypted_with_ring014";
+    assert!(rt; !is_any_decrypted(rt.alloc(), &test_key(), name, &DAMAGED)?);
+    assert!(rt; is_any_decrypted(rt.alloc(), &test_key(), name, &["", SEALED])?);
     Ok(())
 }
 
 #[test]
 fn a_value_is_sealed_for_its_name_and_its_key(rt: HostRuntime) -> Result<(), Fail> {
-    let jar = CookieJar::new(rt.alloc());
-    assert!(rt; !is_any_decrypted(&jar, "x", &[SEALED, SEALED_TOO])?);
-    assert!(rt; !is_any_decrypted(&jar, "encrypted_with_ring014", &[SEALED_TOO])?);
-    let other = Key::from(&[0; 64]);
-    assert!(rt; !is_decrypted(&jar, &other, "encrypted_with_ring014", SEALED)?);
+    let name = "encrypted_with_ring014";
+    assert!(rt; !is_any_decrypted(rt.alloc(), &test_key(), "x", &[SEALED, SEALED_TOO])?);
+    assert!(rt; !is_any_decrypted(rt.alloc(), &test_key(), name, &[SEALED_TOO])?);
+    assert!(rt; !is_any_decrypted(rt.alloc(), &Key::from(&[0; 64]), name, &[SEALED])?);
     Ok(())
 }
 

@@ -247,13 +247,14 @@ const UNSIGNED: [&str; 10] = [
 
 // Whether one of the values is verified.
 fn is_any_verified(
-    jar: &CookieJar,
+    alloc: Global,
     key: &Key,
     name: &'static str,
     values: &[&'static str],
 ) -> Result<bool, Fail> {
+    let jar = CookieJar::new(alloc);
     for value in values {
-        if is_verified(jar, key, name, value)? {
+        if is_verified(&jar, key, name, value)? {
             return Ok(true);
         }
     }
@@ -262,11 +263,10 @@ fn is_any_verified(
 
 #[test]
 fn a_value_without_its_signature_is_not_verified(rt: HostRuntime) -> Result<(), Fail> {
-    let jar = CookieJar::new(rt.alloc());
-    assert!(rt; !is_any_verified(&jar, &test_key(), "id", &UNSIGNED)?);
-    assert!(rt; is_any_verified(&jar, &test_key(), "id", &["", SIGNED])?);
-    assert!(rt; !is_any_verified(&jar, &test_key(), "ie", &[SIGNED, SHORT])?);
-    assert!(rt; !is_any_verified(&jar, &Key::from(&[0; 64]), "id", &[SIGNED])?);
+    assert!(rt; !is_any_verified(rt.alloc(), &test_key(), "id", &UNSIGNED)?);
+    assert!(rt; is_any_verified(rt.alloc(), &test_key(), "id", &["", SIGNED])?);
+    assert!(rt; !is_any_verified(rt.alloc(), &test_key(), "ie", &[SIGNED, SHORT])?);
+    assert!(rt; !is_any_verified(rt.alloc(), &Key::from(&[0; 64]), "id", &[SIGNED])?);
     Ok(())
 }
 
