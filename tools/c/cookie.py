@@ -1,4 +1,4 @@
-"""Cookies for Python over the shared object of cookie_c: sign, seal, dates, a jar, and a jar's session.
+"""Cookies for Python over the shared object of cookie_c: sign, seal, dates, cookies that are read, a jar, and a jar's session.
 
 Texts are `str` and keys are `bytes`. A call that is refused raises `CookieError`, whose `status` is one of the numbers
 below; what isn't signed or isn't sealed is `None`.
@@ -10,10 +10,9 @@ import pathlib
 
 STATUSES = (
     "DONE BUFFER_TOO_SHORT OUT_OF_MEMORY NOT_UTF8 KEY_TOO_SHORT MASTER_TOO_SHORT BAD_NONCE NOT_SIGNED NOT_SEALED TOO_LONG "
-    "NO_DATE BAD_MOMENT BAD_LINE"
+    "NO_DATE BAD_MOMENT BAD_LINE MISSING_PAIR EMPTY_NAME BAD_ESCAPE NO_PAIR NO_JAR NOT_FOUND BAD_COOKIE"
 ).split()
-STATUSES += [""] * (23 - len(STATUSES)) + "NO_JAR NOT_FOUND BAD_COOKIE".split()
-globals().update({name: number for number, name in enumerate(STATUSES) if name})
+globals().update({name: number for number, name in enumerate(STATUSES)})
 
 
 class Answer(ctypes.Structure):
@@ -24,6 +23,29 @@ class Moment(ctypes.Structure):
     _fields_ = [("status", ctypes.c_uint32), ("year", ctypes.c_int16)] + [
         (name, ctypes.c_int8) for name in ("month", "day", "hour", "minute", "second")
     ]
+
+
+class Place(ctypes.Structure):
+    _fields_ = [("start", ctypes.c_size_t), ("length", ctypes.c_size_t)]
+
+
+class Pair(ctypes.Structure):
+    _fields_ = [("status", ctypes.c_uint32), ("name", Place), ("value", Place), ("next", ctypes.c_size_t)]
+
+
+class Attributes(ctypes.Structure):
+    _fields_ = [
+        (name, ctypes.c_uint32)
+        for name in "http_only secure partitioned same_site has_path has_domain has_max_age has_expires".split()
+    ] + [("max_age", ctypes.c_int64), ("expires", Moment)]
+
+
+class Reading(ctypes.Structure):
+    _fields_ = (
+        [("status", ctypes.c_uint32)]
+        + [(name, Place) for name in ("name", "value", "path", "domain")]
+        + [("attributes", Attributes)]
+    )
 
 
 class Held(ctypes.Structure):
@@ -61,6 +83,8 @@ SEAL = declare("seal", TEXT * 5, Answer)
 OPEN = declare("open", TEXT * 4, Answer)
 READ_DATE = declare("read_date", TEXT, Moment)
 PRINT_DATE = declare("print_date", [ctypes.c_int16] + [ctypes.c_int8] * 5 + TEXT, Answer)
+NEXT_PAIR = declare("next_pair", TEXT + [ctypes.c_size_t], Pair)
+READ = declare("read", TEXT, Reading)
 RUN = declare("run", [ctypes.c_uint64] * 2 + TEXT * 3, Answer)
 HANDLE = [ctypes.POINTER(Handle)]
 JAR_NEW = declare("jar_new", [ctypes.c_uint64] * 2 + HANDLE, ctypes.c_uint32)
@@ -134,10 +158,8 @@ def open_sealed(key, name, text):
     return read(OPEN, NOT_SEALED, key, name, text)
 
 
-def read_date(text):
-    """The date and time, with `datetime`'s UTC; years below 1 have none there."""
-    text = text.encode() if isinstance(text, str) else text
-    moment = READ_DATE(text, len(text))
+def date_of(moment):
+    """The date and time of a moment, if it has one, with `datetime`'s UTC; years below 1 have none there."""
     if moment.status == NO_DATE:
         return None
     if moment.status != DONE:
@@ -146,12 +168,51 @@ def read_date(text):
     return datetime.datetime(*numbers, tzinfo=datetime.timezone.utc)
 
 
+def read_date(text):
+    text = text.encode() if isinstance(text, str) else text
+    return date_of(READ_DATE(text, len(text)))
+
+
 def print_date(moment):
     """The text of a date and time, which is taken to UTC if it has a zone."""
     if moment.tzinfo is not None:
         moment = moment.astimezone(datetime.timezone.utc)
     numbers = moment.year, moment.month, moment.day, moment.hour, moment.minute, moment.second
     return given(PRINT_DATE, *numbers).decode()
+
+
+def text_at(text, place):
+    return text[place.start : place.start + place.length].decode()
+
+
+def pairs(header):
+    """The names and values of a `Cookie` header, without the pieces that are refused."""
+    header = header.encode() if isinstance(header, str) else header
+    start = 0
+    while (pair := NEXT_PAIR(header, len(header), start)).status != NO_PAIR:
+        if pair.status == DONE:
+            yield text_at(header, pair.name), text_at(header, pair.value)
+        start = pair.next
+
+
+def read_cookie(text):
+    """The name, the value and the attributes that are set, of a `Set-Cookie` text."""
+    text = text.encode() if isinstance(text, str) else text
+    reading = READ(text, len(text))
+    if reading.status != DONE:
+        raise CookieError(reading.status)
+    found = reading.attributes
+    attributes = {name: True for name in ("http_only", "secure", "partitioned") if getattr(found, name) == 1}
+    if found.same_site:
+        attributes["same_site"] = ("Strict", "Lax", "None")[found.same_site - 1]
+    for name in ("path", "domain"):
+        if getattr(found, "has_" + name):
+            attributes[name] = text_at(text, getattr(reading, name))
+    if found.has_max_age:
+        attributes["max_age"] = found.max_age
+    if found.has_expires:
+        attributes["expires"] = date_of(found.expires)
+    return text_at(text, reading.name), text_at(text, reading.value), attributes
 
 
 def run(moment, text):

@@ -71,16 +71,28 @@ static text unhex(const char *hex) {
 
 static const char *const NAMES[] = {
     "DONE",      "BUFFER_TOO_SHORT", "OUT_OF_MEMORY", "NOT_UTF8", "KEY_TOO_SHORT", "MASTER_TOO_SHORT", "BAD_NONCE",
-    "NOT_SIGNED", "NOT_SEALED",      "TOO_LONG",      "NO_DATE",  "BAD_MOMENT",    "BAD_LINE",
-    [COOKIE_NO_JAR] = "NO_JAR", [COOKIE_NOT_FOUND] = "NOT_FOUND", [COOKIE_BAD_COOKIE] = "BAD_COOKIE",
+    "NOT_SIGNED", "NOT_SEALED", "TOO_LONG", "NO_DATE", "BAD_MOMENT", "BAD_LINE", "MISSING_PAIR", "EMPTY_NAME", "BAD_ESCAPE",
+    "NO_PAIR", "NO_JAR", "NOT_FOUND", "BAD_COOKIE",
 };
 
 static uint32_t status_named(const char *name) {
     for (uint32_t i = 0; i < sizeof NAMES / sizeof *NAMES; i++)
-        if (NAMES[i] != NULL && strcmp(NAMES[i], name) == 0)
+        if (strcmp(NAMES[i], name) == 0)
             return i;
     fprintf(stderr, "no status %s\n", name);
     exit(2);
+}
+
+/* The numbers of a row's text; zeros where it has none. */
+static void numbers_in(text list, int count, long long *numbers) {
+    char copy[400] = {0}, *rest = copy;
+    memcpy(copy, list.bytes == NULL ? (const uint8_t *)"" : list.bytes, list.length < 399 ? list.length : 399);
+    for (int i = 0; i < count; i++)
+        numbers[i] = strtoll(rest, &rest, 10);
+}
+
+static int is_at(cookie_place place, const long long numbers[2]) {
+    return place.start == (size_t)numbers[0] && place.length == (size_t)numbers[1];
 }
 
 /* The six numbers of a date, as a row has them. */
@@ -238,6 +250,31 @@ static void play_date(text in, uint32_t status, text wanted) {
         fault("another date");
 }
 
+static void play_pair(text header, text from, uint32_t status, size_t next, text wanted) {
+    char copy[24] = {0};
+    memcpy(copy, from.bytes, from.length < 23 ? from.length : 23);
+    cookie_pair pair = cookie_next_pair(header.bytes, header.length, strtoull(copy, NULL, 10));
+    long long n[4];
+    numbers_in(wanted, 4, n);
+    if (pair.status != status || pair.next != next || !is_at(pair.name, n) || !is_at(pair.value, n + 2))
+        fault("another pair");
+}
+
+static void play_reading(text in, uint32_t status, text wanted) {
+    cookie_reading reading = cookie_read(in.bytes, in.length);
+    cookie_attributes found = reading.attributes;
+    long long n[23];
+    numbers_in(wanted, 23, n);
+    long long read[] = {
+        found.http_only,   found.secure,      found.partitioned,   found.same_site,     found.has_path,
+        found.has_domain,  found.has_max_age, found.has_expires,   found.max_age,       found.expires.year,
+        found.expires.month, found.expires.day, found.expires.hour, found.expires.minute, found.expires.second,
+    };
+    if (reading.status != status || !is_at(reading.name, n) || !is_at(reading.value, n + 2) || !is_at(reading.path, n + 4)
+        || !is_at(reading.domain, n + 6) || memcmp(read, n + 8, sizeof read) != 0)
+        fault("another cookie");
+}
+
 /* A text signed, verified, sealed and opened in a buffer that the inputs lie in too. The header forbids it; the answer is
  * counted, and nothing beyond the buffer may change. */
 static void overlap(void) {
@@ -348,6 +385,10 @@ int main(int count, char **arguments) {
         uint32_t status = status_named(fields[2]);
         if (strcmp(fields[0], "read_date") == 0)
             play_date(in[0], status, wanted);
+        else if (strcmp(fields[0], "read") == 0)
+            play_reading(in[0], status, wanted);
+        else if (strcmp(fields[0], "next_pair") == 0)
+            play_pair(in[0], in[1], status, strtoul(fields[3], NULL, 10), wanted);
         else
             play_text(fields[0], in, status, strtoul(fields[3], NULL, 10), wanted);
         for (int i = 5; i < n; i++)

@@ -13,6 +13,20 @@ FIELDS = ("year", "month", "day", "hour", "minute", "second")
 faults = []
 
 
+def numbers_in(text, count):
+    """The numbers of a row's text; so many zeros where it has none."""
+    return [int(number) for number in text.split()] or [0] * count
+
+
+def numbers_of(reading):
+    """The places of a cookie that was read, and its attributes."""
+    places = (reading.name, reading.value, reading.path, reading.domain)
+    found = reading.attributes
+    numbers = [number for place in places for number in (place.start, place.length)]
+    numbers += [getattr(found, name) for name, _ in cookie.Attributes._fields_[:9]]
+    return numbers + [getattr(found.expires, name) for name in FIELDS]
+
+
 def step(handle, text, out, length):
     """Plays a step of a jar's row: its word, a blank and its text, which is null where it is empty."""
     word, _, rest = text.partition(b" ")
@@ -80,6 +94,15 @@ def play(number, line):
         numbers = " ".join(str(getattr(moment, name)) for name in FIELDS).encode() if moment.status == 0 else b""
         if (moment.status, numbers) != (STATUSES.index(status), text):
             faults.append(f"row {number}: another date")
+    elif call == "next_pair":
+        pair = cookie.NEXT_PAIR(inputs[0] or None, len(inputs[0]), int(inputs[1]))
+        places = [number for place in (pair.name, pair.value) for number in (place.start, place.length)]
+        if (pair.status, pair.next, places) != (STATUSES.index(status), count, numbers_in(text, 4)):
+            faults.append(f"row {number}: another pair")
+    elif call == "read":
+        reading = cookie.READ(inputs[0] or None, len(inputs[0]))
+        if (reading.status, numbers_of(reading)) != (STATUSES.index(status), numbers_in(text, 23)):
+            faults.append(f"row {number}: another cookie")
     elif status != "DONE":
         for length in (0, 100):
             check(number, call, inputs, length, status, count, b"")
@@ -104,6 +127,12 @@ def use():
     assert cookie.read_date("Wed, 21 Oct 2015 07:28:00 GMT") == moment
     assert cookie.read_date("yesterday") is None
     assert cookie.run(moment, "name=val\nadd a=1\n") == "Set-Cookie: a=1\nCookie: a=1; name=val\n"
+    assert list(cookie.pairs("name=value; caf\u00e9 = 1;; x")) == [("name", "value"), ("caf\u00e9", "1")]
+    name, value, attributes = cookie.read_cookie("a = 1; Path=/; Secure; Max-Age=90; SameSite=lax; Domain=.b.c")
+    assert (name, value) == ("a", "1")
+    assert attributes == {"secure": True, "same_site": "Lax", "path": "/", "domain": "b.c", "max_age": 90}
+    text = "a=1; Expires=Wed, 21 Oct 2015 07:28:00 GMT"
+    assert cookie.read_cookie(text) == ("a", "1", {"expires": moment})
     with cookie.Jar("name=val; n=x%20y") as jar:
         jar.add("a=1; Path=/")
         assert jar.get("a") == "1" and jar.get("n") == "x y" and jar.get("b") is None

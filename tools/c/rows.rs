@@ -22,6 +22,48 @@ struct Moment {
 }
 
 #[repr(C)]
+#[derive(Clone, Copy)]
+struct Place {
+    start: usize,
+    length: usize,
+}
+
+#[repr(C)]
+#[derive(Clone, Copy)]
+struct Pair {
+    status: u32,
+    name: Place,
+    value: Place,
+    next: usize,
+}
+
+#[repr(C)]
+#[derive(Clone, Copy)]
+struct Attributes {
+    http_only: u32,
+    secure: u32,
+    partitioned: u32,
+    same_site: u32,
+    has_path: u32,
+    has_domain: u32,
+    has_max_age: u32,
+    has_expires: u32,
+    max_age: i64,
+    expires: Moment,
+}
+
+#[repr(C)]
+#[derive(Clone, Copy)]
+struct Reading {
+    status: u32,
+    name: Place,
+    value: Place,
+    path: Place,
+    domain: Place,
+    attributes: Attributes,
+}
+
+#[repr(C)]
 struct Held {
     at: *mut (),
 }
@@ -43,6 +85,8 @@ unsafe extern "C" {
     fn cookie_open(key: Text, key_length: usize, name: Text, name_length: usize, text: Text, text_length: usize, out: *mut u8, out_length: usize) -> Answer;
     fn cookie_read_date(text: Text, text_length: usize) -> Moment;
     fn cookie_print_date(year: i16, month: i8, day: i8, hour: i8, minute: i8, second: i8, out: *mut u8, out_length: usize) -> Answer;
+    fn cookie_next_pair(header: Text, header_length: usize, from: usize) -> Pair;
+    fn cookie_read(text: Text, text_length: usize) -> Reading;
     fn cookie_run(seed: u64, other_seed: u64, moment: Text, moment_length: usize, input: Text, input_length: usize, out: *mut u8, out_length: usize) -> Answer;
     fn cookie_jar_new(seed: u64, other_seed: u64, jar: &mut Jar) -> u32;
     fn cookie_jar_add_originals(jar: &mut Jar, header: Text, header_length: usize) -> u32;
@@ -53,19 +97,14 @@ unsafe extern "C" {
     fn cookie_jar_free(jar: &mut Jar);
 }
 
-const STATUSES: [&str; 13] = [
+const STATUSES: [&str; 20] = [
     "DONE", "BUFFER_TOO_SHORT", "OUT_OF_MEMORY", "NOT_UTF8", "KEY_TOO_SHORT", "MASTER_TOO_SHORT", "BAD_NONCE",
-    "NOT_SIGNED", "NOT_SEALED", "TOO_LONG", "NO_DATE", "BAD_MOMENT", "BAD_LINE",
+    "NOT_SIGNED", "NOT_SEALED", "TOO_LONG", "NO_DATE", "BAD_MOMENT", "BAD_LINE", "MISSING_PAIR", "EMPTY_NAME", "BAD_ESCAPE",
+    "NO_PAIR", "NO_JAR", "NOT_FOUND", "BAD_COOKIE",
 ];
 
 fn number_of(status: &str) -> u32 {
-    let place = STATUSES.iter().position(|name| *name == status);
-    match (status, place) {
-        ("NO_JAR", _) => 23,
-        ("NOT_FOUND", _) => 24,
-        ("BAD_COOKIE", _) => 25,
-        (_, place) => place.expect("a status") as u32,
-    }
+    STATUSES.iter().position(|name| *name == status).expect("a status") as u32
 }
 
 fn numbers(date: &[u8]) -> Vec<i32> {
@@ -158,11 +197,50 @@ fn is_right(name: &str, inputs: &[Vec<u8>], length: usize, wanted: Answer, text:
     answer == wanted && buffer[..given] == text[..given] && buffer[given..].iter().all(|byte| *byte == 0xa5)
 }
 
+fn date_of(m: Moment) -> [i32; 6] {
+    [m.year.into(), m.month.into(), m.day.into(), m.hour.into(), m.minute.into(), m.second.into()]
+}
+
 fn is_date(text: &[u8], status: u32, wanted: &[u8]) -> bool {
-    let m = unsafe { cookie_read_date(place(text), text.len()) };
-    let read: [i32; 6] = [m.year.into(), m.month.into(), m.day.into(), m.hour.into(), m.minute.into(), m.second.into()];
+    let at = if text.is_empty() { ptr::null() } else { text.as_ptr() };
+    let m = unsafe { cookie_read_date(at, text.len()) };
+    let read = date_of(m);
     let wanted = if status == 0 { numbers(wanted) } else { vec![0; 6] };
     m.status == status && read[..] == wanted[..]
+}
+
+fn start_of(text: &[u8]) -> Text {
+    if text.is_empty() { ptr::null() } else { text.as_ptr() }
+}
+
+/// The numbers of a row's text; so many zeros where it has none.
+fn numbers_in(text: &[u8], count: usize) -> Vec<i64> {
+    if text.is_empty() {
+        return vec![0; count];
+    }
+    let text = std::str::from_utf8(text).expect("numbers");
+    text.split(' ').map(|number| number.parse().expect("a number")).collect()
+}
+
+fn is_pair(header: &[u8], from: &[u8], wanted: Answer, places: &[u8]) -> bool {
+    let from = std::str::from_utf8(from).expect("a number").parse().expect("a number");
+    let pair = unsafe { cookie_next_pair(start_of(header), header.len(), from) };
+    let read = [pair.name.start, pair.name.length, pair.value.start, pair.value.length].map(|number| number as i64);
+    pair.status == wanted.status && pair.next == wanted.length && read[..] == numbers_in(places, 4)[..]
+}
+
+fn is_reading(text: &[u8], status: u32, wanted: &[u8]) -> bool {
+    let reading = unsafe { cookie_read(start_of(text), text.len()) };
+    let found = reading.attributes;
+    let mut read = Vec::new();
+    for place in [reading.name, reading.value, reading.path, reading.domain] {
+        read.extend([place.start as i64, place.length as i64]);
+    }
+    read.extend([found.http_only, found.secure, found.partitioned, found.same_site].map(i64::from));
+    read.extend([found.has_path, found.has_domain, found.has_max_age, found.has_expires].map(i64::from));
+    read.push(found.max_age);
+    read.extend(date_of(found.expires).map(i64::from));
+    reading.status == status && read == numbers_in(wanted, 23)
 }
 
 fn unhex(field: &str) -> Vec<u8> {
@@ -185,6 +263,8 @@ fn main() {
         let answer = Answer { status, length };
         let right = match (fields[0], status) {
             ("read_date", _) => is_date(&inputs[0], status, &wanted),
+            ("read", _) => is_reading(&inputs[0], status, &wanted),
+            ("next_pair", _) => is_pair(&inputs[0], &inputs[1], answer, &wanted),
             (name, 0) => {
                 let short = Answer { status: 1, length };
                 is_right(name, &inputs, length, answer, &wanted)

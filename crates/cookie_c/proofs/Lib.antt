@@ -2,5 +2,7 @@ mod DateLemmas
 mod HeldBox
 mod JarLemmas
 mod KeyedLemmas
+mod PairLemmas
 mod ReadBackLemmas
+mod ReadingLemmas
 mod StoredLemmas

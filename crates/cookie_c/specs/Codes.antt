@@ -1,5 +1,7 @@
 -- The numbers of the statuses, which callers in C know.
 use Rattle.std.specs.Prelude.{ℕ}
+use Rattle.cookie.specs.declared.ParseError.{ParseError}
+use Rattle.cookie.specs.declared.ParseError.TheVariants as errors
 use Rattle.cookie_c.specs.declared.status.Status.{Status}
 use Rattle.cookie_c.specs.declared.status.Status.TheVariants as status
 
@@ -18,6 +20,17 @@ code_of status.TooLong = 9
 code_of status.NoDate = 10
 code_of status.BadMoment = 11
 code_of status.BadLine = 12
-code_of status.NoJar = 23
-code_of status.NotFound = 24
-code_of status.BadCookie = 25
+code_of status.MissingPair = 13
+code_of status.EmptyName = 14
+code_of status.BadEscape = 15
+code_of status.NoPair = 16
+code_of status.NoJar = 17
+code_of status.NotFound = 18
+code_of status.BadCookie = 19
+
+-- the status of a text that is refused as no cookie
+abbrev pub refusal_status : ParseError → Status
+refusal_status errors.MissingPair = status.MissingPair
+refusal_status errors.EmptyName = status.EmptyName
+refusal_status (errors.Utf8Error e) = status.BadEscape
+refusal_status errors.OutOfMemory = status.OutOfMemory

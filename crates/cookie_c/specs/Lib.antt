@@ -4,4 +4,8 @@ pub mod Dates
 pub mod Held
 pub mod Jars
 pub mod Keyed
+pub mod Numbers
+pub mod Pairs
+pub mod Places
 pub mod Played
+pub mod Readings

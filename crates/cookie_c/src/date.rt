@@ -34,7 +34,7 @@ pub struct Moment {
 }
 
 impl Moment {
-    fn refusal(why: Status) -> Moment
+    pub(crate) fn refusal(why: Status) -> Moment
         ensures { result ≡ refused_moment why }
     {
         Moment {
@@ -48,7 +48,7 @@ impl Moment {
         }
     }
 
-    fn of(moment: DateTime) -> Moment
+    pub(crate) fn of(moment: DateTime) -> Moment
         ensures { result ≡ told_moment moment }
     {
         Moment {

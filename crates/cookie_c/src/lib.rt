@@ -2,10 +2,14 @@
 #![tactic(auto)]
 
 mod answer;
+mod attributes;
 mod date;
 mod jar;
 mod key;
 mod keyed;
+mod pair;
+mod place;
+mod reading;
 mod sealing;
 mod session;
 mod signing;

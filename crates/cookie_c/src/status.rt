@@ -1,5 +1,7 @@
 //! What a call came to.
 
+use cookie::ParseError;
+
 /// What a call came to, by a number that no later version gives another meaning.
 #[derive(Clone, Copy)]
 pub enum Status {
@@ -29,22 +31,42 @@ pub enum Status {
     BadMoment = 11,
     /// A line asks for no call; its number, from 1, stands in the length.
     BadLine = 12,
+    /// The text has no `=` in its first piece, up to a `;`.
+    MissingPair = 13,
+    /// The name is empty.
+    EmptyName = 14,
+    /// The decoded name, or the decoded value, isn't UTF-8.
+    BadEscape = 15,
+    /// The header has no further pair.
+    NoPair = 16,
     /// The handle has no jar.
-    NoJar = 23,
+    NoJar = 17,
     /// The jar shows no cookie of the name.
-    NotFound = 24,
+    NotFound = 18,
     /// The text is no cookie.
-    BadCookie = 25,
+    BadCookie = 19,
 }
 
 impl Status {
     ghost use Rattle.std.specs.Prelude.{◌≡◌};
-    ghost use Rattle.cookie_c.specs.Codes.{code_of};
+    ghost use Rattle.cookie_c.specs.Codes.{code_of, refusal_status};
 
     // Its number.
     pub(crate) fn code(self) -> u32
         ensures { result ≡ code_of self }
     {
         self as u32
+    }
+
+    // What a text is refused for that is no cookie.
+    pub(crate) fn of(error: ParseError) -> Status
+        ensures { result ≡ refusal_status error }
+    {
+        match error {
+            ParseError::MissingPair => Status::MissingPair,
+            ParseError::EmptyName => Status::EmptyName,
+            ParseError::Utf8Error(_) => Status::BadEscape,
+            ParseError::OutOfMemory => Status::OutOfMemory,
+        }
     }
 }

@@ -3,7 +3,7 @@ ghost use Rattle.std.specs.Prelude.{◌≡◌, ◌<◌, ◌≤◌, ◌++◌, ◌
 ghost use Rattle.std.specs.Str.{trim};
 ghost use Rattle.cookie_core.specs.Pieces.{Lacks};
 ghost use Rattle.cookie_core.specs.Spans.{StandsIn, span_text};
-ghost use Rattle.cookie_core.specs.Trim.{IsTrimmed, IsBarePart};
+ghost use Rattle.cookie_core.specs.Trim.{IsTrimmed};
 
 use crate::span::Span;
 
@@ -96,23 +96,6 @@ impl<'t> Part<'t> {
         ensures trimmed { IsTrimmed (part_text self.entry) (part_text result) }
         ensures place { IsPartOf self.entry.whole.now result }
     {
-        self.inner(trim_span(self.text()))
-    }
-}
-
-// What is left of the text without the white space at its ends (RFC 6265 5.2).
-fn trim_span(text: &str) -> Span
-    ensures stands { StandsIn text.now result }
-    ensures text { span_text text.now result ≡ trim text.now }
-    ensures trimmed { IsTrimmed text.now (span_text text.now result) }
-    ensures only { (part : List ℕ) → IsTrimmed text.now part → part ≡ span_text text.now result }
-    ensures longest { (part : List ℕ) → IsBarePart text.now part
-        → length part ≤ length (span_text text.now result) }
-{
-    let kept = text.trim_start();
-    let start = text.len() - kept.len();
-    Span {
-        start,
-        end: start + kept.trim_end().len(),
+        self.inner(Span::trimmed(self.text()))
     }
 }

@@ -1,4 +1,8 @@
 //! Where a part of a text stands.
+ghost use Rattle.std.specs.Prelude.{◌≡◌, ◌≤◌, List, ℕ, length};
+ghost use Rattle.std.specs.Str.{trim};
+ghost use Rattle.cookie_core.specs.Spans.{StandsIn, span_text};
+ghost use Rattle.cookie_core.specs.Trim.{IsTrimmed, IsBarePart};
 
 /// Where a part of a text begins and ends, in bytes.
 #[derive(Clone, Copy)]
@@ -7,4 +11,23 @@ pub struct Span {
     pub start: usize,
     /// The byte behind its last.
     pub end: usize,
+}
+
+impl Span {
+    /// Where the text stands without the white space at its ends (RFC 6265 5.2, and here Unicode White_Space).
+    pub fn trimmed(text: &str) -> Span
+        ensures stands { StandsIn text.now result }
+        ensures text { span_text text.now result ≡ trim text.now }
+        ensures trimmed { IsTrimmed text.now (span_text text.now result) }
+        ensures only { (part : List ℕ) → IsTrimmed text.now part → part ≡ span_text text.now result }
+        ensures longest { (part : List ℕ) → IsBarePart text.now part
+            → length part ≤ length (span_text text.now result) }
+    {
+        let kept = text.trim_start();
+        let start = text.len() - kept.len();
+        Span {
+            start,
+            end: start + kept.trim_end().len(),
+        }
+    }
 }

@@ -1,0 +1,39 @@
+-- A cookie that was read for C: the places of its texts, and its attributes as numbers.
+use Rattle.std.specs.Prelude.{◌≡◌, ℕ, ◌⊎◌, List, Some, Err, false}
+use Rattle.cookie.specs.CookieOf.{cookie_of}
+use Rattle.cookie.specs.Reads.{Reads}
+use Rattle.cookie.specs.Record.{Record}
+use Rattle.cookie.specs.declared.ParseError.{ParseError}
+use Rattle.cookie_c.specs.Codes.{code_of, refusal_status}
+use Rattle.cookie_c.specs.Numbers.{numbers_of, no_numbers}
+use Rattle.cookie_c.specs.Places.{IsAt, IsOptionalAt, no_place}
+use Rattle.cookie_c.specs.declared.reading.Reading.{Reading}
+use Rattle.cookie_c.specs.declared.status.Status.{Status}
+use Rattle.cookie_c.specs.declared.status.Status.TheVariants as status
+
+-- the answer of a call that has no cookie
+abbrev pub refused_reading : Status → Reading
+refused_reading why =
+    record {
+      status = code_of why;
+      name = no_place;
+      value = no_place;
+      path = no_place;
+      domain = no_place;
+      attributes = no_numbers;
+    }
+
+-- the record's texts stand at the answer's places in the text, and its attributes have the answer's numbers
+pub record ShowsCookie (text : List ℕ) (r : Record) (answer : Reading) : Type 0 where
+  pub status : answer.status ≡ code_of status.Done
+  pub name : IsAt text answer.name r.name
+  pub value : IsAt text answer.value r.value
+  pub path : IsOptionalAt text answer.path r.path
+  pub domain : IsOptionalAt text answer.domain r.domain
+  pub attributes : answer.attributes ≡ numbers_of r
+
+-- the answer is what the text is read as, or tells why it is refused
+abbrev pub IsReadingOf : List ℕ → Reading → Type 0
+IsReadingOf text answer =
+    ((r : Record) × (cookie_of false text ≡ Some r) × ShowsCookie text r answer)
+    ⊎ ((why : ParseError) × Reads false text (Err why) × (answer ≡ refused_reading (refusal_status why)))

@@ -1,0 +1,92 @@
+//! The pairs of a `Cookie` header for C (RFC 6265 4.2.1, 5.4).
+ghost use Rattle.std.specs.Prelude.{◌≡◌, ◌≢◌, ◌+◌, ◌^◌, ◌≤◌, ◌<◌, ℕ, List, length, take, drop, get_or};
+ghost use Rattle.cookie_c.specs.Pairs.{refused_pair, IsPairOf, IsNextPair};
+
+use crate::place::Place;
+use crate::status::Status;
+use cookie::{Layout, Span};
+
+/// A name and its value in a header.
+#[repr(C)]
+#[derive(Clone, Copy)]
+pub struct Pair {
+    /// The number of a `Status`. Where that isn't `Status::Done` the places are 0.
+    pub status: u32,
+    /// Where the name stands.
+    pub name: Place,
+    /// Where the value stands.
+    pub value: Place,
+    /// Where the rest of the header begins; 0 at `Status::NoPair`.
+    pub next: usize,
+}
+
+impl Pair {
+    fn refusal(why: Status, next: usize) -> Pair
+        ensures { result ≡ refused_pair why next }
+    {
+        Pair {
+            status: why.code(),
+            name: Place::none(),
+            value: Place::none(),
+            next,
+        }
+    }
+
+    // The pair of this text, which stands behind so many bytes of a header.
+    fn of(text: &str, start: usize, next: usize) -> Pair
+        requires { start + length text.now < 2 ^ 64 }
+        ensures { (header : List ℕ) → start + length text.now ≤ length header
+            → take (length text.now) (drop start header) ≡ text.now
+            → IsPairOf header text.now next result }
+    {
+        match Layout::of(text) {
+            Ok(layout) => Pair {
+                status: Status::Done.code(),
+                name: Place::behind(start, layout.name),
+                value: Place::behind(start, layout.value),
+                next,
+            },
+            Err(error) => Pair::refusal(Status::of(error), next),
+        }
+    }
+}
+
+/// The next pair of a header that begins at `from` or behind it, read as `Cookie::split_parse` does: pieces that are
+/// white space alone are passed over. It takes no memory.
+///
+/// Refuses a piece that isn't UTF-8, one with no `=`, and one with an empty name, each with the place behind it, from
+/// which one goes on. Where there is no further piece it answers `Status::NoPair`.
+#[unsafe(no_mangle)]
+pub extern "C" fn cookie_next_pair(header: &[u8], from: usize) -> Pair
+    ensures { IsNextPair header.now from result }
+{
+    let mut start = from;
+    while start <= header.len() {
+        let end = piece_end(header, start);
+        let Ok(piece) = str::from_utf8(&header[start..end]) else {
+            return Pair::refusal(Status::NotUtf8, end + 1);
+        };
+        let span = Span::trimmed(piece);
+        if span.start < span.end {
+            let text = &piece[span.start..span.end];
+            return Pair::of(text, start + span.start, end + 1);
+        }
+        start = end + 1;
+    }
+    Pair::refusal(Status::NoPair, 0)
+}
+
+// Where the piece ends that begins here: at a `;`, or with the header.
+fn piece_end(header: &[u8], start: usize) -> usize
+    requires { start ≤ length header.now }
+    ensures forward { start ≤ result }
+    ensures within { result ≤ length header.now }
+    ensures apart { (i : ℕ) → start ≤ i → i < result → get_or header.now i 0 ≢ 59 }
+    ensures mark { result < length header.now → get_or header.now result 0 ≡ 59 }
+{
+    let mut end = start;
+    while end < header.len() && header[end] != b';' {
+        end += 1;
+    }
+    end
+}

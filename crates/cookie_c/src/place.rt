@@ -1,0 +1,39 @@
+//! Places in a text of the caller's.
+ghost use Rattle.std.specs.Prelude.{◌≡◌, ◌≤◌, ◌<◌, ◌+◌, ◌^◌};
+ghost use Rattle.cookie_c.specs.Places.{no_place, place_behind};
+
+use cookie::Span;
+
+/// Where a text stands in another one.
+#[repr(C)]
+#[derive(Clone, Copy)]
+pub struct Place {
+    /// How many bytes stand before it.
+    pub start: usize,
+    /// How many bytes it has.
+    pub length: usize,
+}
+
+impl Place {
+    // That of no text.
+    pub(crate) fn none() -> Place
+        ensures { result ≡ no_place }
+    {
+        Place {
+            start: 0,
+            length: 0,
+        }
+    }
+
+    // That of a span of a text that stands behind so many bytes.
+    pub(crate) fn behind(start: usize, span: Span) -> Place
+        requires forward { span.start ≤ span.end }
+        requires fits { start + span.end < 2 ^ 64 }
+        ensures { result ≡ place_behind start span }
+    {
+        Place {
+            start: start + span.start,
+            length: span.end - span.start,
+        }
+    }
+}
