@@ -61,7 +61,8 @@ pub record HasLines (delta : FinMap name_cmp Marked) (text : List ℕ) : Type 0 
 -- such a text is given, or memory was wanting
 abbrev pub IsDeltaGiven : JarState → Answer → List ℕ → List ℕ → Type 0
 IsDeltaGiven jar answer old new =
-    ((text : List ℕ) × HasLines jar.delta text × IsGiven text answer old new) ⊎ IsRefused status.OutOfMemory answer old new
+    ((text : List ℕ) × HasLines jar.delta text × IsGiven text answer old new)
+    ⊎ IsRefused status.OutOfMemory answer old new
 
 -- A handle's jar is as a call makes it, and the number is that of the call's answer. A handle without a jar stays so.
 abbrev pub AtJar : (Status → JarState → JarState → Type 0) → ℕ → Option JarState → Option JarState → Type 0

@@ -19,7 +19,8 @@ impl Span {
         ensures stands { StandsIn text.now result }
         ensures text { span_text text.now result ≡ trim text.now }
         ensures trimmed { IsTrimmed text.now (span_text text.now result) }
-        ensures only { (part : List ℕ) → IsTrimmed text.now part → part ≡ span_text text.now result }
+        ensures only { (part : List ℕ) → IsTrimmed text.now part
+            → part ≡ span_text text.now result }
         ensures longest { (part : List ℕ) → IsBarePart text.now part
             → length part ≤ length (span_text text.now result) }
     {
