@@ -1,7 +1,7 @@
-"""Cookies for Python over the shared object of cookie_c: sign, seal, dates, cookies that are read, a jar, and a jar's session.
+"""Cookies for Python, over the shared object of cookie_c: signed and sealed values, dates, reading, and jars.
 
 Texts are `str` and keys are `bytes`. A call that is refused raises `CookieError`, whose `status` is one of the numbers
-below; what isn't signed or isn't sealed is `None`.
+below, such as `KEY_TOO_SHORT`. A value that isn't signed or sealed under the key and the name is `None`.
 """
 import ctypes
 import datetime
@@ -57,7 +57,7 @@ class Handle(ctypes.Structure):
 
 
 class CookieError(ValueError):
-    """A refusal: its status, and the number that came with it (that of a bad line)."""
+    """A refusal: its status, and the number of the bad line where that is the reason."""
 
     def __init__(self, status, number=0):
         super().__init__(STATUSES[status] + (f" {number}" if number else ""))
@@ -97,7 +97,7 @@ JAR_FREE = declare("jar_free", HANDLE, None)
 
 
 def arguments_of(inputs):
-    """What a call is handed: a text as its bytes and their count."""
+    """The arguments for C: each text as its bytes and their count."""
     arguments = []
     for value in inputs:
         if isinstance(value, (int, Handle)):
@@ -109,14 +109,14 @@ def arguments_of(inputs):
 
 
 def done(function, *inputs):
-    """Makes the call, which has no text to give."""
+    """Makes a call that gives no text."""
     status = function(*arguments_of(inputs))
     if status != DONE:
         raise CookieError(status)
 
 
 def given(function, *inputs, room=256):
-    """The bytes that the call gives, in a buffer that has as many."""
+    """The bytes that a call gives; where the first buffer is too short, it is called again with one that fits."""
     arguments = arguments_of(inputs)
     while True:
         buffer = ctypes.create_string_buffer(room)
@@ -129,7 +129,7 @@ def given(function, *inputs, room=256):
 
 
 def read(function, none, *inputs):
-    """The text that the call gives, or None at the one refusal that says there is none."""
+    """The text that a call gives, or None where it is refused with the status `none`."""
     try:
         return given(function, *inputs).decode()
     except CookieError as error:
@@ -139,27 +139,32 @@ def read(function, none, *inputs):
 
 
 def derive_key(master):
+    """A key of 64 bytes, derived from a master key of at least 32 random bytes."""
     return given(DERIVE_KEY, master)
 
 
 def sign(key, name, value):
+    """The signature of the value under the cookie's name, and then the value. The key has at least 64 random bytes."""
     return given(SIGN, key, name, value).decode()
 
 
 def verify(key, name, text):
+    """The value of a text that `sign` made under the same key and name, or None."""
     return read(VERIFY, NOT_SIGNED, key, name, text)
 
 
 def seal(key, name, value, nonce=None):
+    """The value, encrypted under the cookie's name. Twelve random bytes are drawn, unless a nonce is handed in."""
     return given(SEAL, key, os.urandom(12) if nonce is None else nonce, name, value).decode()
 
 
 def open_sealed(key, name, text):
+    """The value of a text that `seal` made under the same key and name, or None."""
     return read(OPEN, NOT_SEALED, key, name, text)
 
 
 def date_of(moment):
-    """The date and time of a moment, if it has one, with `datetime`'s UTC; years below 1 have none there."""
+    """The date and time in UTC, or None. `datetime` has no year below 1: such a date raises `ValueError`."""
     if moment.status == NO_DATE:
         return None
     if moment.status != DONE:
@@ -169,12 +174,13 @@ def date_of(moment):
 
 
 def read_date(text):
+    """The date and time in UTC that the text stands for, or None."""
     text = text.encode() if isinstance(text, str) else text
     return date_of(READ_DATE(text, len(text)))
 
 
 def print_date(moment):
-    """The text of a date and time, which is taken to UTC if it has a zone."""
+    """The text of a date and time, such as `Wed, 21 Oct 2015 07:28:00 GMT`. One without a time zone counts as UTC."""
     if moment.tzinfo is not None:
         moment = moment.astimezone(datetime.timezone.utc)
     numbers = moment.year, moment.month, moment.day, moment.hour, moment.minute, moment.second
@@ -182,11 +188,12 @@ def print_date(moment):
 
 
 def text_at(text, place):
+    """What stands at the place."""
     return text[place.start : place.start + place.length].decode()
 
 
 def pairs(header):
-    """The names and values of a `Cookie` header, without the pieces that are refused."""
+    """The names and values in a `Cookie` header, with their escapes. Pieces that are refused are left out."""
     header = header.encode() if isinstance(header, str) else header
     start = 0
     while (pair := NEXT_PAIR(header, len(header), start)).status != NO_PAIR:
@@ -196,7 +203,7 @@ def pairs(header):
 
 
 def read_cookie(text):
-    """The name, the value and the attributes that are set, of a `Set-Cookie` text."""
+    """The name and the value in a `Set-Cookie` header, with their escapes, and a dict of its attributes."""
     text = text.encode() if isinstance(text, str) else text
     reading = READ(text, len(text))
     if reading.status != DONE:
@@ -216,19 +223,19 @@ def read_cookie(text):
 
 
 def run(moment, text):
-    """What the program `cookiejar` writes for the moment and the input."""
+    """What the program `cookiejar` writes at the moment, a text or a `datetime`, for the input."""
     if isinstance(moment, datetime.datetime):
         moment = print_date(moment)
     return given(RUN, *seeds(), moment, text).decode()
 
 
 def seeds():
-    """Two random numbers, for the hash of a jar's names."""
+    """Two random numbers, which a jar hashes names with."""
     return [int.from_bytes(os.urandom(8), "little") for _ in range(2)]
 
 
 class Jar:
-    """A jar whose originals are the cookies of a `Cookie` header. `with Jar(header) as jar` frees it at the end."""
+    """A jar whose originals are the cookies in a `Cookie` header. `with Jar(header) as jar` frees it at the end."""
 
     def __init__(self, header=""):
         self.handle = Handle()
@@ -245,22 +252,22 @@ class Jar:
         self.close()
 
     def add(self, text):
-        """Adds the cookie that the text of a `Set-Cookie` header is."""
+        """Adds the cookie in a `Set-Cookie` header's value."""
         done(JAR_ADD, self.handle, text)
 
     def remove(self, name, moment=None):
-        """Removes the cookie of the name, now or at a moment."""
+        """Removes the cookie of that name, now or at the moment. The client is told without a path or a domain."""
         moment = moment or datetime.datetime.now(datetime.timezone.utc)
         done(JAR_REMOVE, self.handle, print_date(moment), name)
 
     def get(self, name):
-        """The value that the jar shows under the name, or None."""
+        """The value of the cookie of that name, or None."""
         return read(JAR_GET, NOT_FOUND, self.handle, name)
 
     def delta(self):
-        """The lines `Set-Cookie: ..` of the jar's changes, in any order."""
+        """The lines `Set-Cookie: ..` for the jar's changes, in any order."""
         return given(JAR_DELTA, self.handle).decode().split("\n")[:-1]
 
     def close(self):
-        """Frees the jar. Each other call is refused from then on."""
+        """Frees the jar. All other calls are refused from then on, with `NO_JAR`."""
         JAR_FREE(self.handle)
