@@ -4,7 +4,7 @@ ghost use Rattle.cookie.specs.CookieOf.{cookie_of, header_cookies};
 ghost use Rattle.cookie.specs.Jar.{empty_jar};
 ghost use Rattle.cookie.specs.Memory.{Gives};
 ghost use Rattle.cookie_client.specs.Originals.{with_originals};
-ghost use Rattle.cookie_client.specs.declared.client_error.ClientError.TheVariants.{OutOfMemory};
+ghost use Rattle.cookie_client.specs.declared.client_error.ClientError.TheVariants as refusal;
 ghost use Rattle.cookie_c.specs.Codes.{code_of};
 ghost use Rattle.cookie_c.specs.Jars.{AtJar, HasOriginals, IsAdded, IsRemoved};
 ghost use Rattle.cookie_c.specs.declared.status.Status.TheVariants as status;
@@ -144,7 +144,7 @@ fn add(alloc: Global, jar: &mut CookieJar, text: &[u8]) -> Status
 
 // The cookie that the text is, if it is one.
 fn read(alloc: Global, text: &str) -> Result<Option<Cookie<'static>>, ClientError>
-    ensures { Gives OutOfMemory result (λ cookie.
+    ensures { Gives refusal.OutOfMemory result (λ cookie.
         option_map (λ c. c.fields) cookie ≡ cookie_of true text.now) }
 {
     match Cookie::parse_encoded(alloc, text) {
