@@ -66,7 +66,7 @@ pub extern "C" fn cookie_next_pair(header: &[u8], from: usize) -> Pair
         let Ok(piece) = str::from_utf8(&header[start..end]) else {
             return Pair::refusal(Status::NotUtf8, end + 1);
         };
-        let span = Span::trimmed(piece);
+        let span = Span::trim(piece);
         if span.start < span.end {
             let text = &piece[span.start..span.end];
             return Pair::of(text, start + span.start, end + 1);

@@ -96,6 +96,6 @@ impl<'t> Part<'t> {
         ensures trimmed { IsTrimmed (part_text self.entry) (part_text result) }
         ensures place { IsPartOf self.entry.whole.now result }
     {
-        self.inner(Span::trimmed(self.text()))
+        self.inner(Span::trim(self.text()))
     }
 }

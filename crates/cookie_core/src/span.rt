@@ -15,7 +15,7 @@ pub struct Span {
 
 impl Span {
     /// Where the text stands without the white space at its ends (RFC 6265 5.2, and here Unicode White_Space).
-    pub fn trimmed(text: &str) -> Span
+    pub fn trim(text: &str) -> Span
         ensures stands { StandsIn text.now result }
         ensures text { span_text text.now result ≡ trim text.now }
         ensures trimmed { IsTrimmed text.now (span_text text.now result) }

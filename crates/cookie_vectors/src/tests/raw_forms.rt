@@ -148,8 +148,8 @@ fn the_parts_of_a_text_have_their_places(rt: HostRuntime) -> Result<(), Fail> {
 
 #[test]
 fn white_space_at_the_ends_is_left_out(rt: HostRuntime) {
-    assert!(rt; is_at(Span::trimmed("\u{2003} a = 1 \u{85}"), 4, 9));
-    assert!(rt; is_at(Span::trimmed("a"), 0, 1));
-    let blank = Span::trimmed(" \t\u{3000}");
+    assert!(rt; is_at(Span::trim("\u{2003} a = 1 \u{85}"), 4, 9));
+    assert!(rt; is_at(Span::trim("a"), 0, 1));
+    let blank = Span::trim(" \t\u{3000}");
     assert_eq!(rt; blank.start, blank.end);
 }

@@ -4,8 +4,8 @@ use Rattle.cookie_core.specs.Spans.{span_text}
 use Rattle.cookie_core.specs.Trim.{IsTrimmed}
 use Rattle.cookie_core.proofs.SpanLemmas.{span, StandsIn-trimmed, span_text-trimmed}
 use Rattle.cookie_core.proofs.TrimLemmas.{exactly, trims, longest}
-use Rattle.cookie_core.proofs.span.Span.trimmed.Goals as goal
-use Rattle.cookie_core.proofs.span.Span.trimmed.Goals.{After-trim_end}
+use Rattle.cookie_core.proofs.span.Span.trim.Goals as goal
+use Rattle.cookie_core.proofs.span.Span.trim.Goals.{After-trim_end}
 use Rattle.std.proofs.Common.{◌+◌, ◌-◌, length}
 
 is_trim : (c : After-trim_end) → span_text c.args.text.now (span (length c.args.text.now - length c.trim_start-kept.result.now) (length c.args.text.now - length c.trim_start-kept.result.now + length c.trim_end.result.now)) ≡ trim c.args.text.now
