@@ -8,7 +8,7 @@ use mathlib.Core.Logic.{◌≢◌}
 use Rattle.cookie_core.specs.Attributes.{IsPair, SetsAttributes}
 use Rattle.cookie_core.specs.CookieOf.{cookie_of}
 use Rattle.cookie_core.specs.Decoding.{HasPair, ReadsInMemory, AgreesInMemory, are_decoded, decoded_forms, LendsDecoded, NamesFault, IsCertain, blamed_text}
-use Rattle.cookie_core.specs.DecodingCode.{IsRefusedFor, IsRefusedForPair, Decodes}
+use Rattle.cookie_core.specs.DecodingCode.{IsRefusedFor, IsRefusedForPair, Decodes, IsDecoded}
 use Rattle.cookie_core.specs.EscapeTest.{has_escape}
 use Rattle.cookie_core.specs.Escapes.{unescape}
 use Rattle.cookie_core.specs.OwnedCode.{IsMadeOwn}
@@ -114,6 +114,17 @@ NamesFault-refused t e h = tt
 
 pub IsCertain-refused : {C : Type 0} (t : List ℕ) (e : ParseError) (o : Result C ParseError) → Reads false t (Err e) → IsCertain t o
 IsCertain-refused t e o h r s d = absurd (none-some r (sym (cookie_of-refused false t e h) ∙ s))
+
+-- so what was read is decoded, whether it is a cookie or refused
+pub ReadsInMemory-outcome : (t : List ℕ) (o o' : Result CookieView ParseError) → Reads false t (fields_of o) → IsDecoded o o' → ReadsInMemory true t (fields_of o') × IfErr o' (NamesFault t) × IsCertain t o'
+ReadsInMemory-outcome t (Ok c) o' h k =
+    (ReadsInMemory-decoded t c o' h k, NamesFault-decoded t c o' h k, IsCertain-decoded t c o' h k)
+ReadsInMemory-outcome t (Err e) o' h k =
+    rw k (ReadsInMemory-refused t e h, NamesFault-refused t e h, IsCertain-refused {C = CookieView} t e (Err e) h)
+
+pub raw-outcome : (t : List ℕ) (raw : Record → RawForms) (o o' : Result CookieView ParseError) → Reads false t (fields_of o) → IfOk o (λ c. c.raw ≡ raw c.fields) → IsDecoded o o' → IfOk o' (λ d. (r : Record) × (cookie_of false t ≡ Some r) × (d.raw ≡ decoded_forms r (raw r)))
+raw-outcome t raw (Ok c) o' h e k = raw-decoded t c raw o' h e k
+raw-outcome t raw (Err x) o' h e k = rw k tt
 
 -- what is said of `cookie_of`
 pub AgreesInMemory-reads : (decode : Bool) (t : List ℕ) (o : Result Record ParseError) → ReadsInMemory decode t o → AgreesInMemory decode t o

@@ -29,3 +29,8 @@ abbrev pub Decodes : CookieView → Result CookieView ParseError → Type 0
 Decodes c (Ok d) = (d.fields ≡ decoded_record c.fields) × (d.raw ≡ decoded_forms c.fields c.raw)
     × IsUtf8 (unescape c.fields.name) × IsUtf8 (unescape c.fields.value)
 Decodes c (Err e) = (are_decoded c.fields ≡ true) × IsRefusedForPair c.fields.name c.fields.value e
+
+-- the same refusal, or the cookie with its name and value decoded
+abbrev pub IsDecoded : Result CookieView ParseError → Result CookieView ParseError → Type 0
+IsDecoded (Err e) o = o ≡ Err e
+IsDecoded (Ok c) o = Decodes c o
