@@ -1,8 +1,9 @@
 -- What an expiry says (RFC 6265 4.1.2.1).
-use Rattle.std.specs.Prelude.{pos, int_lt, Option, Some, None, if◌then◌else◌}
-use Rattle.std.proofs.Common.{lit<, lit≤}
+use Rattle.std.specs.Prelude.{int_lt, Option, Some, None, if◌then◌else◌}
+use Rattle.std.proofs.Common.{lit<}
 use Rattle.jiff.specs.Types.{DateTime}
 use Rattle.jiff.specs.Words.{civil_nanos}
+use Rattle.cookie_date.specs.Moments.{last_moment}
 use Rattle.cookie_core.specs.declared.expiration.Expiration.{Expiration}
 use Rattle.cookie_core.specs.declared.expiration.Expiration.TheVariants as expiration
 
@@ -18,26 +19,10 @@ expiration_of None = expiration.Session
 
 -- the last expiry that a cookie keeps, 9999-12-31 23:59:59.999999
 unfoldable pub last_expiry : DateTime
-last_expiry = record {
-  date = record {
-    year = pos 9999;
-    month = 12;
-    day = 31;
-    year_in = (record { le = tt }, record { le = tt });
-    month_in = (lit≤ tt, lit≤ tt);
-    day_in = (lit≤ tt, lit≤ tt);
-  };
-  time = record {
-    hour = 23;
-    minute = 59;
-    second = 59;
-    subsec_nanosecond = 999_999_000;
-    hour_in = lit< tt;
-    minute_in = lit< tt;
-    second_in = lit< tt;
-    subsec_in = lit< tt;
-  };
-}
+last_expiry =
+    record last_moment {
+      time = record last_moment.time { subsec_nanosecond = 999_999_000; subsec_in = lit< tt };
+    }
 
 -- the date-time, or the last expiry if it is later
 abbrev pub capped_moment : DateTime → DateTime
