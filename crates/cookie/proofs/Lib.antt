@@ -34,7 +34,6 @@ pub use Rattle.cookie_core.proofs.OutcomeLemmas
 pub use Rattle.cookie_core.proofs.PartLemmas
 pub use Rattle.cookie_core.proofs.PieceLemmas
 pub use Rattle.cookie_core.proofs.PieceWalkLemmas
-pub use Rattle.cookie_core.proofs.LayoutLemmas
 pub use Rattle.cookie_core.proofs.ReadingLemmas
 pub use Rattle.cookie_core.proofs.SpanLemmas
 pub use Rattle.cookie_core.proofs.SplitLemmas

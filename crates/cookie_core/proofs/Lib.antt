@@ -18,7 +18,6 @@ pub mod NormalFormLemmas
 pub mod NormalLemmas
 pub mod OutcomeLemmas
 pub mod PartLemmas
-pub mod LayoutLemmas
 pub mod PieceLemmas
 pub mod PieceWalkLemmas
 pub mod ReadingLemmas
