@@ -1,4 +1,4 @@
--- Where the parts of a cookie's text stand, and what they are.
+-- Where the parts of a cookie's text stand, and what they are (RFC 6265 5.2).
 use Rattle.std.specs.Prelude.{ℕ, List, [], Result, option_map, IfSome}
 use Rattle.std.specs.Result.{result_map_both}
 use Rattle.jiff.specs.Words.{signed_nanos}

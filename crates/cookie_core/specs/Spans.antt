@@ -1,4 +1,4 @@
--- Where a part of a text stands.
+-- Where a part of a UTF-8 text stands (RFC 3629 3).
 use Rattle.std.specs.Prelude.{ℕ, ◌≤◌, List, slice_range, IsCharBoundary}
 use Rattle.cookie_core.specs.declared.span.Span.{Span}
 

@@ -25,7 +25,7 @@ pub struct Layout {
 }
 
 impl Layout {
-    /// Where the parts of the cookie stand that the text is. It takes no memory, and fails as `Cookie::parse` does.
+    /// Where the parts of a cookie's text stand (RFC 6265 5.2). It takes no memory, and fails as `Cookie::parse` does.
     pub fn of(text: &str) -> Result<Layout, ParseError>
         ensures reads { Reads false text.now (laid_out text.now result) }
         ensures value { result_ok (laid_out text.now result) ≡ cookie_of false text.now }
