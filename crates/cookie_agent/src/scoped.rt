@@ -106,8 +106,8 @@ fn is_asked(
     path: Option<&str>,
     is_secure: bool,
 ) -> bool
-    ensures { result
-        ≡ is_asked site.now scope.now (option_copied domain.entry) (option_copied path.entry) is_secure }
+    ensures { result ≡ is_asked site.now scope.now (option_copied domain.entry)
+        (option_copied path.entry) is_secure }
 {
     is_plain_path(path)
         && is_plain_domain(domain)

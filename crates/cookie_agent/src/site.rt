@@ -196,8 +196,8 @@ impl Site {
         domain: Option<&str>,
         path: Option<&str>,
     ) -> bool
-        ensures { result
-            ≡ gives_scope self.now scope.now (option_copied domain.entry) (option_copied path.entry) }
+        ensures { result ≡ gives_scope self.now scope.now (option_copied domain.entry)
+            (option_copied path.entry) }
     {
         let Some(domain) = domain else {
             return self.gives_own(scope, path);
