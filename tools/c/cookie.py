@@ -1,4 +1,4 @@
-"""Cookies for Python, over the shared object of cookie_c: signed and sealed values, dates, reading, and jars.
+"""Cookies for Python, over the shared object of cookie_c: signed and sealed values, dates, reading, printing, and jars.
 
 Texts are `str` and keys are `bytes`. A call that is refused raises `CookieError`, whose `status` is one of the numbers
 below, such as `KEY_TOO_SHORT`. A value that isn't signed or sealed under the key and the name is `None`.
@@ -10,7 +10,7 @@ import pathlib
 
 STATUSES = (
     "DONE BUFFER_TOO_SHORT OUT_OF_MEMORY NOT_UTF8 KEY_TOO_SHORT MASTER_TOO_SHORT BAD_NONCE NOT_SIGNED NOT_SEALED TOO_LONG "
-    "NO_DATE BAD_MOMENT BAD_LINE MISSING_PAIR EMPTY_NAME BAD_ESCAPE NO_PAIR NO_JAR NOT_FOUND BAD_COOKIE"
+    "NO_DATE BAD_MOMENT BAD_LINE MISSING_PAIR EMPTY_NAME BAD_ESCAPE NO_PAIR NO_JAR NOT_FOUND BAD_COOKIE BAD_ATTRIBUTE"
 ).split()
 globals().update({name: number for number, name in enumerate(STATUSES)})
 
@@ -85,6 +85,7 @@ READ_DATE = declare("read_date", TEXT, Moment)
 PRINT_DATE = declare("print_date", [ctypes.c_int16] + [ctypes.c_int8] * 5 + TEXT, Answer)
 NEXT_PAIR = declare("next_pair", TEXT + [ctypes.c_size_t], Pair)
 READ = declare("read", TEXT, Reading)
+PRINT = declare("print", TEXT * 4 + [ctypes.POINTER(Attributes), ctypes.c_bool] + TEXT, Answer)
 RUN = declare("run", [ctypes.c_uint64] * 2 + TEXT * 3, Answer)
 HANDLE = [ctypes.POINTER(Handle)]
 JAR_NEW = declare("jar_new", [ctypes.c_uint64] * 2 + HANDLE, ctypes.c_uint32)
@@ -100,7 +101,7 @@ def arguments_of(inputs):
     """The arguments for C: each text as its bytes and their count."""
     arguments = []
     for value in inputs:
-        if isinstance(value, (int, Handle)):
+        if isinstance(value, (int, Handle, Attributes)):
             arguments.append(value)
         else:
             value = value.encode() if isinstance(value, str) else bytes(value)
@@ -179,12 +180,16 @@ def read_date(text):
     return date_of(READ_DATE(text, len(text)))
 
 
-def print_date(moment):
-    """The text of a date and time, such as `Wed, 21 Oct 2015 07:28:00 GMT`. One without a time zone counts as UTC."""
+def numbers_of(moment):
+    """The six numbers of a date and time in UTC. One without a time zone counts as UTC."""
     if moment.tzinfo is not None:
         moment = moment.astimezone(datetime.timezone.utc)
-    numbers = moment.year, moment.month, moment.day, moment.hour, moment.minute, moment.second
-    return given(PRINT_DATE, *numbers).decode()
+    return moment.year, moment.month, moment.day, moment.hour, moment.minute, moment.second
+
+
+def print_date(moment):
+    """The text of a date and time, such as `Wed, 21 Oct 2015 07:28:00 GMT`. One without a time zone counts as UTC."""
+    return given(PRINT_DATE, *numbers_of(moment)).decode()
 
 
 def text_at(text, place):
@@ -220,6 +225,22 @@ def read_cookie(text):
     if found.has_expires:
         attributes["expires"] = date_of(found.expires)
     return text_at(text, reading.name), text_at(text, reading.value), attributes
+
+
+def print_cookie(name, value, *, is_escaped=True, http_only=None, secure=None, partitioned=None, same_site=None, path=None,
+                 domain=None, max_age=None, expires=None):
+    """The value of a `Set-Cookie` header, with name and value escaped unless asked otherwise.
+
+    `same_site` is a text, `max_age` is in seconds, and `expires` is a `datetime`. What is None is left out, so that a
+    dict of `read_cookie` can be handed in."""
+    if not -(2**63) <= (max_age or 0) < 2**63:
+        raise OverflowError("max_age")
+    flags = [0 if flag is None else 1 if flag else 2 for flag in (http_only, secure, partitioned)]
+    rule = (None, "Strict", "Lax", "None").index(same_site)
+    has = [part is not None for part in (path, domain, max_age, expires)]
+    moment = Moment() if expires is None else Moment(DONE, *numbers_of(expires))
+    attributes = Attributes(*flags, rule, *has, max_age or 0, moment)
+    return given(PRINT, name, value, path or "", domain or "", attributes, is_escaped).decode()
 
 
 def run(moment, text):

@@ -72,7 +72,7 @@ static text unhex(const char *hex) {
 static const char *const NAMES[] = {
     "DONE",      "BUFFER_TOO_SHORT", "OUT_OF_MEMORY", "NOT_UTF8", "KEY_TOO_SHORT", "MASTER_TOO_SHORT", "BAD_NONCE",
     "NOT_SIGNED", "NOT_SEALED", "TOO_LONG", "NO_DATE", "BAD_MOMENT", "BAD_LINE", "MISSING_PAIR", "EMPTY_NAME", "BAD_ESCAPE",
-    "NO_PAIR", "NO_JAR", "NOT_FOUND", "BAD_COOKIE",
+    "NO_PAIR", "NO_JAR", "NOT_FOUND", "BAD_COOKIE", "BAD_ATTRIBUTE",
 };
 
 static uint32_t status_named(const char *name) {
@@ -179,8 +179,29 @@ static cookie_answer play_jar(const text *steps, uint8_t *out, size_t length) {
     return answer;
 }
 
-static cookie_answer call(const char *name, const text *in, uint8_t *out, size_t length) {
 #define IN(i) in[i].bytes, in[i].length
+
+/* The cookie of a row's name, value, path and domain, its attributes as numbers, and whether it is escaped. */
+static cookie_answer print_cookie(const text *in, uint8_t *out, size_t length) {
+    long long n[15];
+    numbers_in(in[4], 15, n);
+    cookie_attributes attributes = {
+        .http_only = (uint32_t)n[0],
+        .secure = (uint32_t)n[1],
+        .partitioned = (uint32_t)n[2],
+        .same_site = (uint32_t)n[3],
+        .has_path = (uint32_t)n[4],
+        .has_domain = (uint32_t)n[5],
+        .has_max_age = (uint32_t)n[6],
+        .has_expires = (uint32_t)n[7],
+        .max_age = n[8],
+        .expires = {COOKIE_NO_DATE, (int16_t)n[9], (int8_t)n[10], (int8_t)n[11], (int8_t)n[12], (int8_t)n[13],
+                    (int8_t)n[14]},
+    };
+    return cookie_print(IN(0), IN(1), IN(2), IN(3), &attributes, in[5].bytes[0] == '1', out, length);
+}
+
+static cookie_answer call(const char *name, const text *in, uint8_t *out, size_t length) {
     if (strcmp(name, "derive_key") == 0)
         return cookie_derive_key(IN(0), out, length);
     if (strcmp(name, "sign") == 0)
@@ -195,6 +216,8 @@ static cookie_answer call(const char *name, const text *in, uint8_t *out, size_t
         return cookie_run(1, 2, IN(0), IN(1), out, length);
     if (strcmp(name, "jar") == 0)
         return play_jar(in, out, length);
+    if (strcmp(name, "print") == 0)
+        return print_cookie(in, out, length);
     if (strcmp(name, "print_date") == 0) {
         int n[6];
         numbers_of(in[0], n);

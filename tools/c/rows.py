@@ -8,7 +8,7 @@ import cookie
 from cookie import STATUSES
 
 CALLS = {"derive_key": cookie.DERIVE_KEY, "sign": cookie.SIGN, "verify": cookie.VERIFY, "seal": cookie.SEAL,
-         "open": cookie.OPEN, "print_date": cookie.PRINT_DATE, "run": cookie.RUN}
+         "open": cookie.OPEN, "print": cookie.PRINT, "print_date": cookie.PRINT_DATE, "run": cookie.RUN}
 FIELDS = ("year", "month", "day", "hour", "minute", "second")
 faults = []
 
@@ -25,6 +25,12 @@ def numbers_of(reading):
     numbers = [number for place in places for number in (place.start, place.length)]
     numbers += [getattr(found, name) for name, _ in cookie.Attributes._fields_[:9]]
     return numbers + [getattr(found.expires, name) for name in FIELDS]
+
+
+def attributes_in(text):
+    """The attributes of a row that prints a cookie."""
+    numbers = [int(number) for number in text.split()]
+    return cookie.Attributes(*numbers[:9], cookie.Moment(cookie.NO_DATE, *numbers[9:]))
 
 
 def step(handle, text, out, length):
@@ -73,8 +79,10 @@ def played(call, inputs, length):
     if call == "print_date":
         arguments = [int(number) for number in inputs[0].split()]
     else:
-        for value in inputs:
+        for value in inputs[:4] if call == "print" else inputs:
             arguments += [value or None, len(value)]
+    if call == "print":
+        arguments += [attributes_in(inputs[4]), inputs[5] == b"1"]
     answer = CALLS[call](*arguments, out, length)
     return answer.status, answer.length, buffer.raw
 
@@ -133,6 +141,9 @@ def use():
     assert attributes == {"secure": True, "same_site": "Lax", "path": "/", "domain": "b.c", "max_age": 90}
     text = "a=1; Expires=Wed, 21 Oct 2015 07:28:00 GMT"
     assert cookie.read_cookie(text) == ("a", "1", {"expires": moment})
+    assert cookie.print_cookie("a", "1", expires=moment) == text
+    assert cookie.print_cookie(name, value, **attributes) == "a=1; SameSite=Lax; Secure; Path=/; Domain=b.c; Max-Age=90"
+    assert cookie.print_cookie("n", "x y", is_escaped=False, secure=False, same_site="None") == "n=x y; SameSite=None"
     with cookie.Jar("name=val; n=x%20y") as jar:
         jar.add("a=1; Path=/")
         assert jar.get("a") == "1" and jar.get("n") == "x y" and jar.get("b") is None
@@ -145,6 +156,7 @@ def use():
     for wrong, status in ((lambda: cookie.sign(b"short", "a", "b"), cookie.KEY_TOO_SHORT),
                           (lambda: cookie.sign(key, "a", b"\xff"), cookie.NOT_UTF8),
                           (lambda: cookie.run(moment, "\nnonsense"), cookie.BAD_LINE),
+                          (lambda: cookie.print_cookie("a", "1", path=b"\xff"), cookie.NOT_UTF8),
                           (lambda: jar.get("a"), cookie.NO_JAR), (lambda: cookie.Jar().add("a"), cookie.BAD_COOKIE)):
         try:
             wrong()

@@ -87,6 +87,7 @@ unsafe extern "C" {
     fn cookie_print_date(year: i16, month: i8, day: i8, hour: i8, minute: i8, second: i8, out: *mut u8, out_length: usize) -> Answer;
     fn cookie_next_pair(header: Text, header_length: usize, from: usize) -> Pair;
     fn cookie_read(text: Text, text_length: usize) -> Reading;
+    fn cookie_print(name: Text, name_length: usize, value: Text, value_length: usize, path: Text, path_length: usize, domain: Text, domain_length: usize, attributes: &Attributes, is_escaped: bool, out: *mut u8, out_length: usize) -> Answer;
     fn cookie_run(seed: u64, other_seed: u64, moment: Text, moment_length: usize, input: Text, input_length: usize, out: *mut u8, out_length: usize) -> Answer;
     fn cookie_jar_new(seed: u64, other_seed: u64, jar: &mut Jar) -> u32;
     fn cookie_jar_add_originals(jar: &mut Jar, header: Text, header_length: usize) -> u32;
@@ -97,10 +98,10 @@ unsafe extern "C" {
     fn cookie_jar_free(jar: &mut Jar);
 }
 
-const STATUSES: [&str; 20] = [
+const STATUSES: [&str; 21] = [
     "DONE", "BUFFER_TOO_SHORT", "OUT_OF_MEMORY", "NOT_UTF8", "KEY_TOO_SHORT", "MASTER_TOO_SHORT", "BAD_NONCE",
     "NOT_SIGNED", "NOT_SEALED", "TOO_LONG", "NO_DATE", "BAD_MOMENT", "BAD_LINE", "MISSING_PAIR", "EMPTY_NAME", "BAD_ESCAPE",
-    "NO_PAIR", "NO_JAR", "NOT_FOUND", "BAD_COOKIE",
+    "NO_PAIR", "NO_JAR", "NOT_FOUND", "BAD_COOKIE", "BAD_ATTRIBUTE",
 ];
 
 fn number_of(status: &str) -> u32 {
@@ -161,6 +162,31 @@ fn in_order(text: &[u8]) -> Vec<u8> {
     lines.concat()
 }
 
+/// The attributes of a row that prints a cookie.
+fn attributes_in(text: &[u8]) -> Attributes {
+    let n = numbers_in(text, 15);
+    Attributes {
+        http_only: n[0] as u32,
+        secure: n[1] as u32,
+        partitioned: n[2] as u32,
+        same_site: n[3] as u32,
+        has_path: n[4] as u32,
+        has_domain: n[5] as u32,
+        has_max_age: n[6] as u32,
+        has_expires: n[7] as u32,
+        max_age: n[8],
+        expires: Moment {
+            status: 10,
+            year: n[9] as i16,
+            month: n[10] as i8,
+            day: n[11] as i8,
+            hour: n[12] as i8,
+            minute: n[13] as i8,
+            second: n[14] as i8,
+        },
+    }
+}
+
 fn call(name: &str, inputs: &[Vec<u8>], out: *mut u8, length: usize) -> Answer {
     if name == "jar" {
         return play_jar(inputs, out, length);
@@ -175,6 +201,10 @@ fn call(name: &str, inputs: &[Vec<u8>], out: *mut u8, length: usize) -> Answer {
             "seal" => cookie_seal(at(0), size(0), at(1), size(1), at(2), size(2), at(3), size(3), out, length),
             "open" => cookie_open(at(0), size(0), at(1), size(1), at(2), size(2), out, length),
             "run" => cookie_run(1, 2, at(0), size(0), at(1), size(1), out, length),
+            "print" => {
+                let attributes = attributes_in(&inputs[4]);
+                cookie_print(at(0), size(0), at(1), size(1), at(2), size(2), at(3), size(3), &attributes, inputs[5] == b"1", out, length)
+            }
             "print_date" => {
                 let n = numbers(&inputs[0]);
                 cookie_print_date(n[0] as i16, n[1] as i8, n[2] as i8, n[3] as i8, n[4] as i8, n[5] as i8, out, length)

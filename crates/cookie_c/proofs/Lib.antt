@@ -3,6 +3,7 @@ mod HeldBox
 mod JarLemmas
 mod KeyedLemmas
 mod PairLemmas
+mod PrintLemmas
 mod ReadBackLemmas
 mod ReadingLemmas
 mod StoredLemmas

@@ -8,4 +8,5 @@ pub mod Numbers
 pub mod Pairs
 pub mod Places
 pub mod Played
+pub mod Prints
 pub mod Readings

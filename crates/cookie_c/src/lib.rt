@@ -9,6 +9,7 @@ mod key;
 mod keyed;
 mod pair;
 mod place;
+mod print;
 mod reading;
 mod sealing;
 mod session;

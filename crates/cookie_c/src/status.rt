@@ -45,6 +45,8 @@ pub enum Status {
     NotFound = 18,
     /// The text is no cookie.
     BadCookie = 19,
+    /// A number of the attributes says nothing.
+    BadAttribute = 20,
 }
 
 impl Status {
