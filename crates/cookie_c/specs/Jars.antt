@@ -42,15 +42,18 @@ pub record IsAdded (text : List ℕ) (answer : Status) (old new : JarState) : Ty
 -- the cookie of the name was removed, at the date and time that a text stands for
 pub record IsRemoved (moment name : List ℕ) (answer : Status) (old new : JarState) : Type 0 where
   pub not_utf8 : ¬ (IsUtf8 moment × IsUtf8 name) → IsKept status.NotUtf8 answer old new
-  pub no_date : IsUtf8 moment → IsUtf8 name → date_of moment ≡ None → IsKept status.NoDate answer old new
+  pub no_date : IsUtf8 moment → IsUtf8 name → date_of moment ≡ None
+      → IsKept status.NoDate answer old new
   pub removed : (now : DateTime) → IsUtf8 moment → IsUtf8 name → date_of moment ≡ Some now
       → IsChanged (after (Remove (plain name []) now)) answer old new
 
 -- the value is given that the jar shows under the name
-pub record IsShown (name : List ℕ) (jar : JarState) (answer : Answer) (old new : List ℕ) : Type 0 where
+pub record IsShown (name : List ℕ) (jar : JarState) (answer : Answer) (old new : List ℕ)
+    : Type 0 where
   pub not_utf8 : ¬ (IsUtf8 name) → IsRefused status.NotUtf8 answer old new
   pub not_found : IsUtf8 name → view jar name ≡ None → IsRefused status.NotFound answer old new
-  pub given : (cookie : Record) → IsUtf8 name → view jar name ≡ Some cookie → IsGiven cookie.value answer old new
+  pub given : (cookie : Record) → IsUtf8 name → view jar name ≡ Some cookie
+      → IsGiven cookie.value answer old new
 
 -- the text has a line `Set-Cookie: ..` for each cookie of the delta, each once, in any order
 pub record HasLines (delta : FinMap name_cmp Marked) (text : List ℕ) : Type 0 where
@@ -65,12 +68,15 @@ IsDeltaGiven jar answer old new =
     ⊎ IsRefused status.OutOfMemory answer old new
 
 -- A handle's jar is as a call makes it, and the number is that of the call's answer. A handle without a jar stays so.
-abbrev pub AtJar : (Status → JarState → JarState → Type 0) → ℕ → Option JarState → Option JarState → Type 0
+abbrev pub AtJar : (Status → JarState → JarState → Type 0) → ℕ → Option JarState → Option JarState
+    → Type 0
 AtJar Makes number None new = (number ≡ code_of status.NoJar) × (new ≡ None)
 AtJar Makes number (Some old) new =
-    (answer : Status) × (jar : JarState) × (number ≡ code_of answer) × (new ≡ Some jar) × Makes answer old jar
+    (answer : Status) × (jar : JarState) × (number ≡ code_of answer) × (new ≡ Some jar)
+    × Makes answer old jar
 
 -- the answer is a call's on a handle's jar; of a handle without one nothing is given
-abbrev pub OfJar : (JarState → Answer → List ℕ → List ℕ → Type 0) → Option JarState → Answer → List ℕ → List ℕ → Type 0
+abbrev pub OfJar : (JarState → Answer → List ℕ → List ℕ → Type 0) → Option JarState → Answer
+    → List ℕ → List ℕ → Type 0
 OfJar Gives None answer old new = IsRefused status.NoJar answer old new
 OfJar Gives (Some jar) answer old new = Gives jar answer old new

@@ -1,4 +1,4 @@
--- A cookie's attributes as numbers.
+-- A cookie's attributes as numbers (RFC 6265 5.2.1 to 5.2.6).
 use Rattle.std.specs.Prelude.{ℕ, ℤ, pos, int_div, Bool, true, false, Option, Some, None, is_some, if◌then◌else◌}
 use Rattle.std.specs.Option.{option_and_then}
 use Rattle.cookie.specs.Expiration.{datetime_of}

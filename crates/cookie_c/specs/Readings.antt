@@ -1,4 +1,4 @@
--- A cookie that was read for C: the places of its texts, and its attributes as numbers.
+-- A cookie that was read for C: the places of its texts, and its attributes as numbers (RFC 6265 5.2).
 use Rattle.std.specs.Prelude.{◌≡◌, ℕ, ◌⊎◌, List, Some, Err, false}
 use Rattle.cookie.specs.CookieOf.{cookie_of}
 use Rattle.cookie.specs.Reads.{Reads}
@@ -36,4 +36,5 @@ pub record ShowsCookie (text : List ℕ) (r : Record) (answer : Reading) : Type 
 abbrev pub IsReadingOf : List ℕ → Reading → Type 0
 IsReadingOf text answer =
     ((r : Record) × (cookie_of false text ≡ Some r) × ShowsCookie text r answer)
-    ⊎ ((why : ParseError) × Reads false text (Err why) × (answer ≡ refused_reading (refusal_status why)))
+    ⊎ ((why : ParseError) × Reads false text (Err why)
+    × (answer ≡ refused_reading (refusal_status why)))

@@ -12,7 +12,7 @@ use crate::status::Status;
 use cookie::{Expiration, SameSite};
 use jiff::SignedDuration;
 
-/// The attributes of a cookie, of which none is set where all are 0.
+/// The attributes of a cookie. One that isn't set is 0, but for the expiry, whose status is then `Status::NoDate`.
 #[repr(C)]
 #[derive(Clone, Copy)]
 pub struct Attributes {

@@ -60,7 +60,7 @@ impl Status {
         self as u32
     }
 
-    // What a text is refused for that is no cookie.
+    // Why a text that isn't a cookie is refused.
     pub(crate) fn of(error: ParseError) -> Status
         ensures { result ≡ refusal_status error }
     {
