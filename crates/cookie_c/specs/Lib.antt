@@ -4,6 +4,7 @@ pub mod Dates
 pub mod Held
 pub mod Jars
 pub mod Keyed
+pub mod NextPiece
 pub mod Numbers
 pub mod Pairs
 pub mod Places

@@ -1,4 +1,4 @@
--- The pairs of a header for C, and how far they were read.
+-- The pairs of a header for C, and how far they were read (RFC 6265 4.2.1).
 use Rattle.std.specs.Prelude.{◌≡◌, ℕ, ◌+◌, ◌≤◌, ◌⊎◌, IsUtf8, List, [], ◌∷◌, length, drop, Some, Err, false}
 use Rattle.cookie.specs.CookieOf.{cookie_of}
 use Rattle.cookie.specs.Header.{header_texts}
@@ -14,7 +14,8 @@ use Rattle.cookie_c.specs.declared.status.Status.TheVariants as status
 
 -- the answer of a call that has no pair, with the place where the rest begins
 abbrev pub refused_pair : Status → ℕ → Pair
-refused_pair why next = record { status = code_of why; name = no_place; value = no_place; next = next }
+refused_pair why next =
+    record { status = code_of why; name = no_place; value = no_place; next = next }
 
 -- the name and the value of the record stand at the pair's places in the header
 pub record ShowsPair (header : List ℕ) (r : Record) (rest : ℕ) (answer : Pair) : Type 0 where
@@ -27,27 +28,36 @@ pub record ShowsPair (header : List ℕ) (r : Record) (rest : ℕ) (answer : Pai
 abbrev pub IsPairOf : List ℕ → List ℕ → ℕ → Pair → Type 0
 IsPairOf header text next answer =
     ((r : Record) × (cookie_of false text ≡ Some r) × ShowsPair header r next answer)
-    ⊎ ((why : ParseError) × Reads false text (Err why) × (answer ≡ refused_pair (refusal_status why) next))
+    ⊎ ((why : ParseError) × Reads false text (Err why)
+    × (answer ≡ refused_pair (refusal_status why) next))
 
 -- there is no text from the place on
-abbrev pub IsAtEnd : List ℕ → ℕ → Pair → Type 0
-IsAtEnd header from answer = (header_texts (drop from header) ≡ []) × (answer ≡ refused_pair status.NoPair 0)
+abbrev pub IsAtEnd : List ℕ → ℕ → Type 0
+IsAtEnd header from = header_texts (drop from header) ≡ []
 
--- the first text from the place on has this pair, and the rest begins behind it
-abbrev pub IsAtText : List ℕ → ℕ → Pair → Type 0
-IsAtText header from answer =
-    (text : List ℕ) × (next : ℕ) × (header_texts (drop from header) ≡ text ∷ header_texts (drop next header))
-    × IsPairOf header text next answer
+-- the first text from the place on is this one, and the rest begins there
+abbrev pub IsAtText : List ℕ → ℕ → List ℕ → ℕ → Type 0
+IsAtText header from text next =
+    header_texts (drop from header) ≡ text ∷ header_texts (drop next header)
 
--- the first piece from the place on, but for blank ones, isn't UTF-8, and the rest begins behind it
-abbrev pub IsAtOther : List ℕ → ℕ → Pair → Type 0
-IsAtOther header from answer =
-    (start : ℕ) × (piece : List ℕ) × (later : List (List ℕ))
-    × (from ≤ start) × (header_texts (drop from header) ≡ header_texts (drop start header))
+-- the first piece from the place on, but for blank ones, isn't UTF-8, and the rest begins there
+abbrev pub IsAtOther : List ℕ → ℕ → ℕ → Type 0
+IsAtOther header from next =
+    (start : ℕ) × (piece : List ℕ) × (later : List (List ℕ)) × (from ≤ start)
+    × (header_texts (drop from header) ≡ header_texts (drop start header))
     × (pieces (drop start header) ≡ piece ∷ later) × (¬ (IsUtf8 piece))
-    × (answer ≡ refused_pair status.NotUtf8 (start + length piece + 1))
+    × (next ≡ start + length piece + 1)
+
+-- What comes next in the header from the place on: nothing, the first text, of which this holds, or a piece that isn't
+-- UTF-8. Without a text the call refuses with this status and this place of the rest.
+abbrev pub IsNext : (Status → ℕ → Type 0) → (List ℕ → ℕ → Type 0) → List ℕ → ℕ → Type 0
+IsNext Refuses Holds header from =
+    (IsAtEnd header from × Refuses status.NoPair 0)
+    ⊎ (((text : List ℕ) × (next : ℕ) × IsAtText header from text next × Holds text next)
+    ⊎ ((next : ℕ) × IsAtOther header from next × Refuses status.NotUtf8 next))
 
 -- what comes next in the header from the place on
 abbrev pub IsNextPair : List ℕ → ℕ → Pair → Type 0
 IsNextPair header from answer =
-    IsAtEnd header from answer ⊎ (IsAtText header from answer ⊎ IsAtOther header from answer)
+    IsNext (λ why next. answer ≡ refused_pair why next)
+    (λ text next. IsPairOf header text next answer) header from

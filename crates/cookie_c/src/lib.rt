@@ -7,6 +7,7 @@ mod date;
 mod jar;
 mod key;
 mod keyed;
+mod next_piece;
 mod pair;
 mod place;
 mod print;

@@ -1,10 +1,11 @@
 //! The pairs of a `Cookie` header for C (RFC 6265 4.2.1, 5.4).
-ghost use Rattle.std.specs.Prelude.{◌≡◌, ◌≢◌, ◌+◌, ◌^◌, ◌≤◌, ◌<◌, ℕ, List, length, take, drop, get_or};
+ghost use Rattle.std.specs.Prelude.{◌≡◌, ◌+◌, ◌^◌, ◌≤◌, ◌<◌, ℕ, List, length, take, drop};
 ghost use Rattle.cookie_c.specs.Pairs.{refused_pair, IsPairOf, IsNextPair};
 
+use crate::next_piece::NextPiece;
 use crate::place::Place;
 use crate::status::Status;
-use cookie::{Layout, Span};
+use cookie::Layout;
 
 /// A name and its value in a header.
 #[repr(C)]
@@ -60,33 +61,9 @@ impl Pair {
 pub extern "C" fn cookie_next_pair(header: &[u8], from: usize) -> Pair
     ensures { IsNextPair header.now from result }
 {
-    let mut start = from;
-    while start <= header.len() {
-        let end = piece_end(header, start);
-        let Ok(piece) = str::from_utf8(&header[start..end]) else {
-            return Pair::refusal(Status::NotUtf8, end + 1);
-        };
-        let span = Span::trim(piece);
-        if span.start < span.end {
-            let text = &piece[span.start..span.end];
-            return Pair::of(text, start + span.start, end + 1);
-        }
-        start = end + 1;
+    match NextPiece::of(header, from) {
+        NextPiece::End => Pair::refusal(Status::NoPair, 0),
+        NextPiece::Other { next } => Pair::refusal(Status::NotUtf8, next),
+        NextPiece::Text { text, start, next } => Pair::of(text, start, next),
     }
-    Pair::refusal(Status::NoPair, 0)
-}
-
-// Where the piece ends that begins here: at a `;`, or with the header.
-fn piece_end(header: &[u8], start: usize) -> usize
-    requires { start ≤ length header.now }
-    ensures forward { start ≤ result }
-    ensures within { result ≤ length header.now }
-    ensures apart { (i : ℕ) → start ≤ i → i < result → get_or header.now i 0 ≢ 59 }
-    ensures mark { result < length header.now → get_or header.now result 0 ≡ 59 }
-{
-    let mut end = start;
-    while end < header.len() && header[end] != b';' {
-        end += 1;
-    }
-    end
 }

@@ -1,8 +1,6 @@
-use Rattle.std.proofs.Common.{◌≡◌, ◌≤◌, ◌+◌, length, slice_range, ap, inl, inr, ◌∙◌, arith}
-use Rattle.cookie_c.specs.Pairs.{refused_pair}
-use Rattle.cookie_c.specs.declared.status.Status.TheVariants as status
+use Rattle.std.proofs.Common.{◌≡◌, ◌≤◌, ◌+◌, length, slice_range, ◌∙◌, arith}
 use Rattle.cookie_c.proofs.PairLemmas.{length-piece, first_piece, next_text, none_behind, passed_piece}
-use Rattle.cookie_c.proofs.pair.cookie_next_pair.Goals as goal
+use Rattle.cookie_c.proofs.next_piece.NextPiece.of.Goals as goal
 
 pub returns-in_default : goal.returns-in_default
 returns-in_default c =
@@ -10,8 +8,7 @@ returns-in_default c =
     let first = first_piece c.args.header.now c.loop-start.start c.piece_end-end.result piece.forward piece.within piece.apart piece.mark in
     let forward : c.loop-start.start ≤ c.piece_end-end.result = piece.forward in
     let size = length-piece c.args.header.now c.loop-start.start c.piece_end-end.result forward piece.within in
-    let next : c.piece_end-end.result + 1 ≡ c.loop-start.start + length (slice_range c.args.header.now c.loop-start.start c.piece_end-end.result) + 1 = omega (arith, size) in
-    inr (inr (
+    let next : c.piece_end-end.result + 1 ≡ c.loop-start.start + length (slice_range c.args.header.now c.loop-start.start c.piece_end-end.result) + 1 = omega (arith, size) in (
       c.loop-start.start,
       slice_range c.args.header.now c.loop-start.start c.piece_end-end.result,
       first.0,
@@ -19,14 +16,14 @@ returns-in_default c =
       c.loop-start.invariant.passed,
       first.1,
       c.in_default.ensures.cases.0,
-      c.refusal.ensures ∙ ap (refused_pair status.NotUtf8) next,
-    ))
+      next,
+    )
 
 pub returns-then-span : goal.returns-then-span
 returns-then-span c =
     let piece = c.piece_end-end.ensures in
     let next = next_text c.args.header.now c.loop-start.start c.piece_end-end.result piece.forward piece.within piece.apart piece.mark c.in-Ok.piece.now c.trimmed-span.result.start c.trimmed-span.result.end c.in-Ok.ensures.cases.0 c.trimmed-span.ensures.text c.trimmed-span.ensures.stands.2.0 c.range-text.result.now c.range-text.ensures.value c.if-span.true in
-    inr (inl (c.range-text.result.now, c.piece_end-end.result + 1, c.loop-start.invariant.passed ∙ next.0, c.of.ensures c.args.header.now next.1 next.2))
+    (c.loop-start.invariant.passed ∙ next.0, (next.1, next.2))
 
 pub loop-start-preserved : goal.loop-start-preserved
 loop-start-preserved c =
@@ -38,4 +35,4 @@ loop-start-preserved c =
 
 pub returns : goal.returns
 returns c =
-    inl (c.loop-start.invariant.passed ∙ none_behind c.args.header.now c.loop-start.start c.loop-start-test.false, c.refusal-2.ensures)
+    c.loop-start.invariant.passed ∙ none_behind c.args.header.now c.loop-start.start c.loop-start-test.false

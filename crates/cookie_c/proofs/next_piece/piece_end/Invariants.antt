@@ -1,6 +1,6 @@
 use Rattle.std.proofs.Common.{length, ◌-◌, ◌≤◌, ◌<◌, ℕ, get_or}
 use mathlib.Core.Logic.{◌≢◌}
-use Rattle.cookie_c.proofs.pair.piece_end.Given as goal
+use Rattle.cookie_c.proofs.next_piece.piece_end.Given as goal
 
 abbrev pub invariant-loop-end : goal.invariant-loop-end
 invariant-loop-end l = record {

@@ -1,6 +1,6 @@
 use Rattle.std.proofs.Common.{◌≡◌, ◌≤◌, ◌+◌, ◌-◌, drop, length}
 use Rattle.cookie.specs.Header.{header_texts}
-use Rattle.cookie_c.proofs.pair.cookie_next_pair.Given as goal
+use Rattle.cookie_c.proofs.next_piece.NextPiece.of.Given as goal
 
 abbrev pub invariant-loop-start : goal.invariant-loop-start
 invariant-loop-start l = record {
