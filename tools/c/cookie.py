@@ -9,8 +9,9 @@ import os
 import pathlib
 
 STATUSES = (
-    "DONE BUFFER_TOO_SHORT OUT_OF_MEMORY NOT_UTF8 KEY_TOO_SHORT MASTER_TOO_SHORT BAD_NONCE NOT_SIGNED NOT_SEALED TOO_LONG "
-    "NO_DATE BAD_MOMENT BAD_LINE MISSING_PAIR EMPTY_NAME BAD_ESCAPE NO_PAIR NO_JAR NOT_FOUND BAD_COOKIE BAD_ATTRIBUTE"
+    "DONE BUFFER_TOO_SHORT OUT_OF_MEMORY NOT_UTF8 KEY_TOO_SHORT MASTER_TOO_SHORT BAD_NONCE NOT_SIGNED NOT_SEALED "
+    "TOO_LONG NO_DATE BAD_MOMENT BAD_LINE MISSING_PAIR EMPTY_NAME BAD_ESCAPE NO_PAIR NO_JAR NOT_FOUND BAD_COOKIE "
+    "BAD_ATTRIBUTE"
 ).split()
 globals().update({name: number for number, name in enumerate(STATUSES)})
 
@@ -85,6 +86,8 @@ READ_DATE = declare("read_date", TEXT, Moment)
 PRINT_DATE = declare("print_date", [ctypes.c_int16] + [ctypes.c_int8] * 5 + TEXT, Answer)
 NEXT_PAIR = declare("next_pair", TEXT + [ctypes.c_size_t], Pair)
 READ = declare("read", TEXT, Reading)
+NEXT_PAIR_DECODED = declare("next_pair_decoded", TEXT + [ctypes.c_size_t] + TEXT, Pair)
+READ_DECODED = declare("read_decoded", TEXT * 2, Reading)
 PRINT = declare("print", TEXT * 4 + [ctypes.POINTER(Attributes), ctypes.c_bool] + TEXT, Answer)
 RUN = declare("run", [ctypes.c_uint64] * 2 + TEXT * 3, Answer)
 HANDLE = [ctypes.POINTER(Handle)]
@@ -127,6 +130,17 @@ def given(function, *inputs, room=256):
         if answer.status != BUFFER_TOO_SHORT:
             raise CookieError(answer.status, answer.length)
         room = answer.length
+
+
+def decoded(function, *inputs, room=256):
+    """The answer of a call that decodes, and its buffer; where the first is too short, it is called again."""
+    arguments = arguments_of(inputs)
+    while True:
+        buffer = ctypes.create_string_buffer(room)
+        answer = function(*arguments, buffer, room)
+        if answer.status != BUFFER_TOO_SHORT:
+            return answer, buffer.raw
+        room = answer.value.start + answer.value.length
 
 
 def read(function, none, *inputs):
@@ -207,12 +221,38 @@ def pairs(header):
         start = pair.next
 
 
+def decoded_pairs(header):
+    """The names and values in a `Cookie` header, decoded. Pieces that are refused are left out."""
+    start = 0
+    while (answer := decoded(NEXT_PAIR_DECODED, header, start))[0].status != NO_PAIR:
+        pair, text = answer
+        if pair.status == OUT_OF_MEMORY:
+            raise CookieError(pair.status)
+        if pair.status == DONE:
+            yield text_at(text, pair.name), text_at(text, pair.value)
+        start = pair.next
+
+
 def read_cookie(text):
     """The name and the value in a `Set-Cookie` header, with their escapes, and a dict of its attributes."""
     text = text.encode() if isinstance(text, str) else text
     reading = READ(text, len(text))
     if reading.status != DONE:
         raise CookieError(reading.status)
+    return text_at(text, reading.name), text_at(text, reading.value), attributes_of(text, reading)
+
+
+def read_decoded_cookie(text):
+    """The name and the value in a `Set-Cookie` header, decoded, and a dict of its attributes."""
+    text = text.encode() if isinstance(text, str) else text
+    reading, held = decoded(READ_DECODED, text)
+    if reading.status != DONE:
+        raise CookieError(reading.status)
+    return text_at(held, reading.name), text_at(held, reading.value), attributes_of(text, reading)
+
+
+def attributes_of(text, reading):
+    """The attributes of a cookie that was read from the text."""
     found = reading.attributes
     attributes = {name: True for name in ("http_only", "secure", "partitioned") if getattr(found, name) == 1}
     if found.same_site:
@@ -224,7 +264,7 @@ def read_cookie(text):
         attributes["max_age"] = found.max_age
     if found.has_expires:
         attributes["expires"] = date_of(found.expires)
-    return text_at(text, reading.name), text_at(text, reading.value), attributes
+    return attributes
 
 
 def print_cookie(name, value, *, is_escaped=True, http_only=None, secure=None, partitioned=None, same_site=None, path=None,

@@ -9,12 +9,14 @@
 #include <sys/mman.h>
 #include <unistd.h>
 
-enum { MOST_FIELDS = 16 };
+enum { MOST_FIELDS = 16, COUNT = 23 };
 
 typedef struct text {
     uint8_t *bytes;
     size_t length;
 } text;
+
+static const text NONE = {NULL, 0};
 
 /* How often memory was asked for, and which request is refused, if one is. The linker puts these in the place of malloc
  * and realloc. */
@@ -91,8 +93,10 @@ static void numbers_in(text list, int count, long long *numbers) {
         numbers[i] = strtoll(rest, &rest, 10);
 }
 
-static int is_at(cookie_place place, const long long numbers[2]) {
-    return place.start == (size_t)numbers[0] && place.length == (size_t)numbers[1];
+static size_t number_in(text number) {
+    char copy[24] = {0};
+    memcpy(copy, number.bytes, number.length < 23 ? number.length : 23);
+    return strtoull(copy, NULL, 10);
 }
 
 /* The six numbers of a date, as a row has them. */
@@ -228,6 +232,17 @@ static cookie_answer call(const char *name, const text *in, uint8_t *out, size_t
     exit(2);
 }
 
+/* Whether the buffer begins with the text, and no other byte has changed. */
+static void look_at(const uint8_t *out, size_t length, text wanted) {
+    if (wanted.length > 0 && memcmp(out, wanted.bytes, wanted.length) != 0)
+        fault("another text");
+    for (size_t i = wanted.length; i < length; i++)
+        if (out[i] != 0xa5) {
+            fault("a byte behind the text has changed");
+            break;
+        }
+}
+
 /* The call with a buffer of that length: its answer, the bytes given, and no other byte changed. */
 static void play(const char *name, const text *in, size_t length, uint32_t status, size_t number, text wanted) {
     uint8_t *out = at_edge(length);
@@ -238,14 +253,7 @@ static void play(const char *name, const text *in, size_t length, uint32_t statu
         fault(name);
         fprintf(stderr, "  status %u, number %zu, with a buffer of %zu\n", answer.status, answer.length, length);
     }
-    size_t given = status == COOKIE_DONE ? wanted.length : 0;
-    if (given > 0 && memcmp(out, wanted.bytes, given) != 0)
-        fault("another text");
-    for (size_t i = given; i < length; i++)
-        if (out[i] != 0xa5) {
-            fault("a byte behind the text has changed");
-            break;
-        }
+    look_at(out, length, status == COOKIE_DONE ? wanted : NONE);
     free_at_edge(out, length);
 }
 
@@ -273,29 +281,80 @@ static void play_date(text in, uint32_t status, text wanted) {
         fault("another date");
 }
 
-static void play_pair(text header, text from, uint32_t status, size_t next, text wanted) {
-    char copy[24] = {0};
-    memcpy(copy, from.bytes, from.length < 23 ? from.length : 23);
-    cookie_pair pair = cookie_next_pair(header.bytes, header.length, strtoull(copy, NULL, 10));
-    long long n[4];
-    numbers_in(wanted, 4, n);
-    if (pair.status != status || pair.next != next || !is_at(pair.name, n) || !is_at(pair.value, n + 2))
-        fault("another pair");
+/* The places of a pair, and where the rest begins. */
+static void numbers_of_pair(cookie_pair pair, long long numbers[COUNT]) {
+    size_t read[] = {pair.name.start, pair.name.length, pair.value.start, pair.value.length, pair.next};
+    for (size_t i = 0; i < COUNT; i++)
+        numbers[i] = i < sizeof read / sizeof *read ? (long long)read[i] : 0;
 }
 
-static void play_reading(text in, uint32_t status, text wanted) {
-    cookie_reading reading = cookie_read(in.bytes, in.length);
+/* The places of a cookie that was read, its attributes and its date. */
+static void numbers_of_reading(cookie_reading reading, long long numbers[COUNT]) {
+    cookie_place places[] = {reading.name, reading.value, reading.path, reading.domain};
     cookie_attributes found = reading.attributes;
-    long long n[23];
-    numbers_in(wanted, 23, n);
     long long read[] = {
         found.http_only,   found.secure,      found.partitioned,   found.same_site,     found.has_path,
         found.has_domain,  found.has_max_age, found.has_expires,   found.max_age,       found.expires.year,
         found.expires.month, found.expires.day, found.expires.hour, found.expires.minute, found.expires.second,
     };
-    if (reading.status != status || !is_at(reading.name, n) || !is_at(reading.value, n + 2) || !is_at(reading.path, n + 4)
-        || !is_at(reading.domain, n + 6) || memcmp(read, n + 8, sizeof read) != 0)
+    for (size_t i = 0; i < 4; i++) {
+        numbers[2 * i] = (long long)places[i].start;
+        numbers[2 * i + 1] = (long long)places[i].length;
+    }
+    memcpy(numbers + 8, read, sizeof read);
+}
+
+static void play_pair(text header, text from, uint32_t status, size_t next, text wanted) {
+    cookie_pair pair = cookie_next_pair(header.bytes, header.length, number_in(from));
+    long long n[COUNT], read[COUNT];
+    numbers_in(wanted, COUNT, n);
+    n[4] = (long long)next;
+    numbers_of_pair(pair, read);
+    if (pair.status != status || memcmp(read, n, sizeof n) != 0)
+        fault("another pair");
+}
+
+static void play_reading(text in, uint32_t status, text wanted) {
+    cookie_reading reading = cookie_read(in.bytes, in.length);
+    long long n[COUNT], read[COUNT];
+    numbers_in(wanted, COUNT, n);
+    numbers_of_reading(reading, read);
+    if (reading.status != status || memcmp(read, n, sizeof n) != 0)
         fault("another cookie");
+}
+
+/* A call that decodes, with a buffer of that length: its status and its numbers, the text in the buffer, and no other
+ * byte changed. */
+static void play_decoded_in(const char *name, const text *in, size_t length, uint32_t status, text numbers,
+                            text wanted) {
+    uint8_t *out = at_edge(length);
+    long long n[COUNT], read[COUNT];
+    uint32_t found;
+    if (length > 0)
+        memset(out, 0xa5, length);
+    if (strcmp(name, "read_decoded") == 0) {
+        cookie_reading reading = cookie_read_decoded(in[0].bytes, in[0].length, out, length);
+        numbers_of_reading(reading, read);
+        found = reading.status;
+    } else {
+        cookie_pair pair = cookie_next_pair_decoded(in[0].bytes, in[0].length, number_in(in[1]), out, length);
+        numbers_of_pair(pair, read);
+        found = pair.status;
+    }
+    numbers_in(numbers, COUNT, n);
+    if (found != status || memcmp(read, n, sizeof n) != 0)
+        fault(name);
+    look_at(out, length, status == COOKIE_DONE ? wanted : NONE);
+    free_at_edge(out, length);
+}
+
+static void play_decoded(const char *name, const text *in, uint32_t status, text numbers, text wanted) {
+    play_decoded_in(name, in, wanted.length, status, numbers, wanted);
+    play_decoded_in(name, in, wanted.length + 7, status, numbers, wanted);
+    if (wanted.length > 0) {
+        play_decoded_in(name, in, wanted.length - 1, COOKIE_BUFFER_TOO_SHORT, numbers, wanted);
+        play_decoded_in(name, in, 0, COOKIE_BUFFER_TOO_SHORT, numbers, wanted);
+    }
 }
 
 /* A text signed, verified, sealed and opened in a buffer that the inputs lie in too. The header forbids it; the answer is
@@ -386,6 +445,39 @@ static void starve(void) {
     printf("%d requests for memory refused, each told with the jar as it was\n", refused);
 }
 
+/* The calls that decode, with each of their requests for memory refused in turn: then they say so and write nothing.
+ * Where there is no escape they make none. */
+static void starve_decoding(void) {
+    static const uint8_t escaped[] = "a%20b=c%3D; Path=/", plain[] = "a=b; Path=/%20";
+    int refused = 0;
+    for (int is_pair = 0; is_pair < 2; is_pair++) {
+        for (size_t number = 1;; number++) {
+            uint8_t out[8];
+            memset(out, 0xa5, sizeof out);
+            asked = 0;
+            refused_at = number;
+            uint32_t status = is_pair ? cookie_next_pair_decoded(escaped, 10, 0, out, sizeof out).status
+                                      : cookie_read_decoded(escaped, 18, out, sizeof out).status;
+            refused_at = 0;
+            if (status == COOKIE_DONE)
+                break;
+            refused++;
+            if (status != COOKIE_OUT_OF_MEMORY || asked < number)
+                fault("decoding without memory has another status");
+            look_at(out, sizeof out, NONE);
+            if (number == 1000)
+                break;
+        }
+        uint8_t out[8];
+        asked = 0;
+        uint32_t status = is_pair ? cookie_next_pair_decoded(plain, 3, 0, out, sizeof out).status
+                                  : cookie_read_decoded(plain, 14, out, sizeof out).status;
+        if (status != COOKIE_DONE || asked != 0)
+            fault("decoding asks for memory where there is no escape");
+    }
+    printf("%d requests for memory of decoding refused, each told with the buffer as it was\n", refused);
+}
+
 int main(int count, char **arguments) {
     FILE *rows = count == 2 ? fopen(arguments[1], "r") : NULL;
     if (rows == NULL)
@@ -412,6 +504,8 @@ int main(int count, char **arguments) {
             play_reading(in[0], status, wanted);
         else if (strcmp(fields[0], "next_pair") == 0)
             play_pair(in[0], in[1], status, strtoul(fields[3], NULL, 10), wanted);
+        else if (strstr(fields[0], "_decoded") != NULL)
+            play_decoded(fields[0], in, status, in[n - 6], wanted);
         else
             play_text(fields[0], in, status, strtoul(fields[3], NULL, 10), wanted);
         for (int i = 5; i < n; i++)
@@ -423,6 +517,7 @@ int main(int count, char **arguments) {
     fclose(rows);
     overlap();
     starve();
+    starve_decoding();
     printf("C: %d rows, %d faults\n", played, faults);
     return faults != 0;
 }

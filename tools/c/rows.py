@@ -19,7 +19,7 @@ def numbers_in(text, count):
 
 
 def numbers_of(reading):
-    """The places of a cookie that was read, and its attributes."""
+    """The places of a cookie that was read, its attributes and its date."""
     places = (reading.name, reading.value, reading.path, reading.domain)
     found = reading.attributes
     numbers = [number for place in places for number in (place.start, place.length)]
@@ -31,6 +31,11 @@ def attributes_in(text):
     """The attributes of a row that prints a cookie."""
     numbers = [int(number) for number in text.split()]
     return cookie.Attributes(*numbers[:9], cookie.Moment(cookie.NO_DATE, *numbers[9:]))
+
+
+def numbers_of_pair(pair):
+    """The places of a pair, and where the rest begins."""
+    return [number for place in (pair.name, pair.value) for number in (place.start, place.length)] + [pair.next]
 
 
 def step(handle, text, out, length):
@@ -93,6 +98,29 @@ def check(number, call, inputs, length, status, count, text):
         faults.append(f"row {number}: {call} with a buffer of {length}")
 
 
+def decoded(call, inputs, length):
+    """Status, numbers and buffer of a call that decodes, where the buffer is null where its length is 0."""
+    buffer = ctypes.create_string_buffer(b"\xa5" * (length + 1), length + 1)
+    out = ctypes.cast(buffer, ctypes.c_char_p) if length else None
+    text = inputs[0] or None, len(inputs[0])
+    if call == "read_decoded":
+        answer = cookie.READ_DECODED(*text, out, length)
+        return answer.status, numbers_of(answer), buffer.raw
+    answer = cookie.NEXT_PAIR_DECODED(*text, int(inputs[1]), out, length)
+    return answer.status, numbers_of_pair(answer), buffer.raw
+
+
+def play_decoded(number, call, inputs, status, text):
+    numbers = numbers_in(inputs[-1], 23)
+    short = {0, len(text) - 1} if text else ()
+    for length, status, text in [(len(text), status, text), (len(text) + 7, status, text)] + [
+        (length, "BUFFER_TOO_SHORT", b"") for length in short
+    ]:
+        wanted = (STATUSES.index(status), numbers, text + b"\xa5" * (length + 1 - len(text)))
+        if decoded(call, inputs, length) != wanted:
+            faults.append(f"row {number}: {call} with a buffer of {length}")
+
+
 def play(number, line):
     call, _source, status, count, *fields = line.split("\t")
     text, *inputs = (b"" if field == "-" else bytes.fromhex(field) for field in fields)
@@ -104,13 +132,14 @@ def play(number, line):
             faults.append(f"row {number}: another date")
     elif call == "next_pair":
         pair = cookie.NEXT_PAIR(inputs[0] or None, len(inputs[0]), int(inputs[1]))
-        places = [number for place in (pair.name, pair.value) for number in (place.start, place.length)]
-        if (pair.status, pair.next, places) != (STATUSES.index(status), count, numbers_in(text, 4)):
+        if (pair.status, numbers_of_pair(pair)) != (STATUSES.index(status), numbers_in(text, 4) + [count]):
             faults.append(f"row {number}: another pair")
     elif call == "read":
         reading = cookie.READ(inputs[0] or None, len(inputs[0]))
         if (reading.status, numbers_of(reading)) != (STATUSES.index(status), numbers_in(text, 23)):
             faults.append(f"row {number}: another cookie")
+    elif call in ("read_decoded", "next_pair_decoded"):
+        play_decoded(number, call, inputs, status, text)
     elif status != "DONE":
         for length in (0, 100):
             check(number, call, inputs, length, status, count, b"")
@@ -144,6 +173,9 @@ def use():
     assert cookie.print_cookie("a", "1", expires=moment) == text
     assert cookie.print_cookie(name, value, **attributes) == "a=1; SameSite=Lax; Secure; Path=/; Domain=b.c; Max-Age=90"
     assert cookie.print_cookie("n", "x y", is_escaped=False, secure=False, same_site="None") == "n=x y; SameSite=None"
+    assert list(cookie.decoded_pairs("a%20b=c%3D; x; y=%ff; z=1")) == [("a b", "c="), ("z", "1")]
+    assert list(cookie.decoded_pairs("a=" + "%C3%A9" * 400)) == [("a", "\u00e9" * 400)]
+    assert cookie.read_decoded_cookie("a=%20; Path=/%20") == ("a", " ", {"path": "/%20"})
     with cookie.Jar("name=val; n=x%20y") as jar:
         jar.add("a=1; Path=/")
         assert jar.get("a") == "1" and jar.get("n") == "x y" and jar.get("b") is None
@@ -157,6 +189,7 @@ def use():
                           (lambda: cookie.sign(key, "a", b"\xff"), cookie.NOT_UTF8),
                           (lambda: cookie.run(moment, "\nnonsense"), cookie.BAD_LINE),
                           (lambda: cookie.print_cookie("a", "1", path=b"\xff"), cookie.NOT_UTF8),
+                          (lambda: cookie.read_decoded_cookie("a=%ff"), cookie.BAD_ESCAPE),
                           (lambda: jar.get("a"), cookie.NO_JAR), (lambda: cookie.Jar().add("a"), cookie.BAD_COOKIE)):
         try:
             wrong()

@@ -87,6 +87,8 @@ unsafe extern "C" {
     fn cookie_print_date(year: i16, month: i8, day: i8, hour: i8, minute: i8, second: i8, out: *mut u8, out_length: usize) -> Answer;
     fn cookie_next_pair(header: Text, header_length: usize, from: usize) -> Pair;
     fn cookie_read(text: Text, text_length: usize) -> Reading;
+    fn cookie_next_pair_decoded(header: Text, header_length: usize, from: usize, out: *mut u8, out_length: usize) -> Pair;
+    fn cookie_read_decoded(text: Text, text_length: usize, out: *mut u8, out_length: usize) -> Reading;
     fn cookie_print(name: Text, name_length: usize, value: Text, value_length: usize, path: Text, path_length: usize, domain: Text, domain_length: usize, attributes: &Attributes, is_escaped: bool, out: *mut u8, out_length: usize) -> Answer;
     fn cookie_run(seed: u64, other_seed: u64, moment: Text, moment_length: usize, input: Text, input_length: usize, out: *mut u8, out_length: usize) -> Answer;
     fn cookie_jar_new(seed: u64, other_seed: u64, jar: &mut Jar) -> u32;
@@ -252,15 +254,18 @@ fn numbers_in(text: &[u8], count: usize) -> Vec<i64> {
     text.split(' ').map(|number| number.parse().expect("a number")).collect()
 }
 
-fn is_pair(header: &[u8], from: &[u8], wanted: Answer, places: &[u8]) -> bool {
-    let from = std::str::from_utf8(from).expect("a number").parse().expect("a number");
-    let pair = unsafe { cookie_next_pair(start_of(header), header.len(), from) };
-    let read = [pair.name.start, pair.name.length, pair.value.start, pair.value.length].map(|number| number as i64);
-    pair.status == wanted.status && pair.next == wanted.length && read[..] == numbers_in(places, 4)[..]
+fn number_in(text: &[u8]) -> usize {
+    std::str::from_utf8(text).expect("a number").parse().expect("a number")
 }
 
-fn is_reading(text: &[u8], status: u32, wanted: &[u8]) -> bool {
-    let reading = unsafe { cookie_read(start_of(text), text.len()) };
+/// The places of a pair, and where the rest begins.
+fn numbers_of_pair(pair: Pair) -> Vec<i64> {
+    let read = [pair.name.start, pair.name.length, pair.value.start, pair.value.length, pair.next];
+    read.map(|number| number as i64).to_vec()
+}
+
+/// The places of a cookie that was read, its attributes and its date.
+fn numbers_of_reading(reading: Reading) -> Vec<i64> {
     let found = reading.attributes;
     let mut read = Vec::new();
     for place in [reading.name, reading.value, reading.path, reading.domain] {
@@ -270,7 +275,38 @@ fn is_reading(text: &[u8], status: u32, wanted: &[u8]) -> bool {
     read.extend([found.has_path, found.has_domain, found.has_max_age, found.has_expires].map(i64::from));
     read.push(found.max_age);
     read.extend(date_of(found.expires).map(i64::from));
-    reading.status == status && read == numbers_in(wanted, 23)
+    read
+}
+
+fn is_pair(header: &[u8], from: &[u8], wanted: Answer, places: &[u8]) -> bool {
+    let pair = unsafe { cookie_next_pair(start_of(header), header.len(), number_in(from)) };
+    let mut numbers = numbers_in(places, 4);
+    numbers.push(wanted.length as i64);
+    pair.status == wanted.status && numbers_of_pair(pair) == numbers
+}
+
+fn is_reading(text: &[u8], status: u32, wanted: &[u8]) -> bool {
+    let reading = unsafe { cookie_read(start_of(text), text.len()) };
+    reading.status == status && numbers_of_reading(reading) == numbers_in(wanted, 23)
+}
+
+/// Whether the call that decodes, with a buffer of that length, has this status and these numbers, gives the text and
+/// changes nothing behind it.
+fn is_decoded(name: &str, inputs: &[Vec<u8>], length: usize, status: u32, text: &[u8]) -> bool {
+    let mut buffer = vec![0xa5; length];
+    let out = if length == 0 { ptr::null_mut() } else { buffer.as_mut_ptr() };
+    let input = &inputs[0];
+    let (found, read) = if name == "read_decoded" {
+        let reading = unsafe { cookie_read_decoded(start_of(input), input.len(), out, length) };
+        (reading.status, numbers_of_reading(reading))
+    } else {
+        let from = number_in(&inputs[1]);
+        let pair = unsafe { cookie_next_pair_decoded(start_of(input), input.len(), from, out, length) };
+        (pair.status, numbers_of_pair(pair))
+    };
+    let numbers = numbers_in(inputs.last().expect("numbers"), 23);
+    let (given, rest) = buffer.split_at(text.len());
+    found == status && read == numbers && given == text && rest.iter().all(|byte| *byte == 0xa5)
 }
 
 fn unhex(field: &str) -> Vec<u8> {
@@ -295,6 +331,12 @@ fn main() {
             ("read_date", _) => is_date(&inputs[0], status, &wanted),
             ("read", _) => is_reading(&inputs[0], status, &wanted),
             ("next_pair", _) => is_pair(&inputs[0], &inputs[1], answer, &wanted),
+            (name @ ("read_decoded" | "next_pair_decoded"), _) => {
+                is_decoded(name, &inputs, length, status, &wanted)
+                    && is_decoded(name, &inputs, length + 7, status, &wanted)
+                    && (length == 0 || is_decoded(name, &inputs, length - 1, 1, b""))
+                    && (length == 0 || is_decoded(name, &inputs, 0, 1, b""))
+            }
             (name, 0) => {
                 let short = Answer { status: 1, length };
                 is_right(name, &inputs, length, answer, &wanted)

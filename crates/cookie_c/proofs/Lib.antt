@@ -1,4 +1,5 @@
 mod DateLemmas
+mod DecodedLemmas
 mod HeldBox
 mod JarLemmas
 mod KeyedLemmas

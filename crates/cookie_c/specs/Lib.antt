@@ -1,6 +1,7 @@
 pub mod Answers
 pub mod Codes
 pub mod Dates
+pub mod Decoded
 pub mod Held
 pub mod Jars
 pub mod Keyed

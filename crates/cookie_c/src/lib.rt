@@ -4,6 +4,7 @@
 mod answer;
 mod attributes;
 mod date;
+mod decoded;
 mod jar;
 mod key;
 mod keyed;

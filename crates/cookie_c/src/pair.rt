@@ -7,11 +7,11 @@ use crate::place::Place;
 use crate::status::Status;
 use cookie::Layout;
 
-/// A name and its value in a header.
+/// A name and its value in a header or, decoded, in a buffer.
 #[repr(C)]
 #[derive(Clone, Copy)]
 pub struct Pair {
-    /// The number of a `Status`. Where that isn't `Status::Done` the places are 0.
+    /// The number of a `Status`. Where that is neither `Status::Done` nor `Status::BufferTooShort` the places are 0.
     pub status: u32,
     /// Where the name stands.
     pub name: Place,
@@ -22,7 +22,7 @@ pub struct Pair {
 }
 
 impl Pair {
-    fn refusal(why: Status, next: usize) -> Pair
+    pub(crate) fn refusal(why: Status, next: usize) -> Pair
         ensures { result ≡ refused_pair why next }
     {
         Pair {

@@ -1,4 +1,4 @@
-//! Places in a text of the caller's.
+//! Places in a text or in a buffer of the caller's.
 ghost use Rattle.std.specs.Prelude.{◌≡◌, ◌≤◌, ◌<◌, ◌+◌, ◌^◌};
 ghost use Rattle.cookie_c.specs.Places.{no_place, place_behind};
 

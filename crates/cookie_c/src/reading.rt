@@ -12,11 +12,12 @@ use crate::place::Place;
 use crate::status::Status;
 use cookie::{Layout, Span};
 
-/// A cookie that was read from a text.
+/// A cookie that was read from a text, whose name and value, decoded, may stand in a buffer.
 #[repr(C)]
 #[derive(Clone, Copy)]
 pub struct Reading {
-    /// The number of a `Status`. Where that isn't `Status::Done` the places are 0, and no attribute is set.
+    /// The number of a `Status`. Where that is neither `Status::Done` nor `Status::BufferTooShort` the places are 0,
+    /// and no attribute is set.
     pub status: u32,
     /// Where the name stands.
     pub name: Place,
@@ -31,7 +32,7 @@ pub struct Reading {
 }
 
 impl Reading {
-    fn refusal(why: Status) -> Reading
+    pub(crate) fn refusal(why: Status) -> Reading
         ensures { result ≡ refused_reading why }
     {
         Reading {
@@ -45,7 +46,7 @@ impl Reading {
     }
 
     #[tactic(auto, using(crate::proofs::ReadingLemmas::span_is_at))]
-    fn of(text: &str, layout: Layout) -> Reading
+    pub(crate) fn of(text: &str, layout: Layout) -> Reading
         requires { IsLayoutIn text.now layout }
         ensures { ShowsCookie text.now (layout_record text.now layout) result }
     {

@@ -22,7 +22,7 @@ returns-in_default c =
 pub returns-then-span : goal.returns-then-span
 returns-then-span c =
     let piece = c.piece_end-end.ensures in
-    let next = next_text c.args.header.now c.loop-start.start c.piece_end-end.result piece.forward piece.within piece.apart piece.mark c.in-Ok.piece.now c.trimmed-span.result.start c.trimmed-span.result.end c.in-Ok.ensures.cases.0 c.trimmed-span.ensures.text c.trimmed-span.ensures.stands.2.0 c.range-text.result.now c.range-text.ensures.value c.if-span.true in
+    let next = next_text c.args.header.now c.loop-start.start c.piece_end-end.result piece.forward piece.within piece.apart piece.mark c.in-Ok.piece.now c.trim-span.result.start c.trim-span.result.end c.in-Ok.ensures.cases.0 c.trim-span.ensures.text c.trim-span.ensures.stands.2.0 c.range-text.result.now c.range-text.ensures.value c.if-span.true in
     (c.loop-start.invariant.passed ∙ next.0, (next.1, next.2))
 
 pub loop-start-preserved : goal.loop-start-preserved
@@ -30,7 +30,7 @@ loop-start-preserved c =
     let piece = c.piece_end-end.ensures in
     record {
       forward = omega (arith, c.loop-start.invariant.forward, piece.forward);
-      passed = c.loop-start.invariant.passed ∙ passed_piece c.args.header.now c.loop-start.start c.piece_end-end.result piece.forward piece.within piece.apart piece.mark c.in-Ok.piece.now c.trimmed-span.result.start c.trimmed-span.result.end c.in-Ok.ensures.cases.0 c.trimmed-span.ensures.text c.trimmed-span.ensures.stands.2.0 c.trimmed-span.ensures.stands.0 c.if-span.false;
+      passed = c.loop-start.invariant.passed ∙ passed_piece c.args.header.now c.loop-start.start c.piece_end-end.result piece.forward piece.within piece.apart piece.mark c.in-Ok.piece.now c.trim-span.result.start c.trim-span.result.end c.in-Ok.ensures.cases.0 c.trim-span.ensures.text c.trim-span.ensures.stands.2.0 c.trim-span.ensures.stands.0 c.if-span.false;
     }
 
 pub returns : goal.returns

@@ -1,0 +1,125 @@
+//! Reading with decoding for C: names and values without their escapes (RFC 6265 5.2, RFC 3986 2.1).
+ghost use Rattle.std.specs.Prelude.{◌≡◌, ◌++◌, Some, false, IsUtf8};
+ghost use Rattle.cookie.specs.CookieOf.{cookie_of};
+ghost use Rattle.cookie.specs.Layout.{layout_record, IsLayoutIn};
+ghost use Rattle.cookie_c.specs.Answers.{IsGiven};
+ghost use Rattle.cookie_c.specs.Decoded.{AreGiven, IsRefusedReading, IsDecodedReadingOf, IsDecodedPairOf, IsNextDecodedPair};
+ghost use Rattle.cookie_c.specs.declared.status.Status.TheVariants as status;
+
+use crate::answer::Answer;
+use crate::next_piece::NextPiece;
+use crate::pair::Pair;
+use crate::place::Place;
+use crate::reading::Reading;
+use crate::status::Status;
+use cookie::{Cookie, Layout};
+use std::alloc::Global;
+
+/// The cookie that the text is read as, as `Cookie::parse_encoded` reads it. The name and the value, decoded, are for
+/// the buffer, the value right behind the name, and their places are those there; the path and the domain stand in the
+/// text. Where the buffer is too short for both, nothing is written, and all but the status, which is
+/// `Status::BufferTooShort`, is as it would be.
+///
+/// Refuses as `cookie_read` does, and then a name or a value whose bytes, decoded, aren't UTF-8. It takes memory, and
+/// may fail for want of it, only where the name or the value has an escape.
+#[unsafe(no_mangle)]
+pub extern "C" fn cookie_read_decoded(alloc: Global, text: &[u8], out: &mut [u8]) -> Reading
+    ensures not_utf8 { ¬ IsUtf8 text.now
+        → IsRefusedReading status.NotUtf8 result out.old out.new }
+    ensures read { IsUtf8 text.now → IsDecodedReadingOf text.now result out.old out.new }
+{
+    let Ok(text) = str::from_utf8(text) else {
+        return Reading::refusal(Status::NotUtf8);
+    };
+    match Layout::of(text) {
+        Ok(layout) => give_cookie(alloc, text, layout, out),
+        Err(error) => Reading::refusal(Status::of(error)),
+    }
+}
+
+/// The next pair of a header that begins at `from` or behind it, as `Cookie::split_parse_encoded` reads it: pieces that
+/// are white space alone are passed over. The name and the value, decoded, are for the buffer, the value right behind
+/// the name, and their places are those there. Where the buffer is too short for both, nothing is written, and all but
+/// the status, which is `Status::BufferTooShort`, is as it would be.
+///
+/// Refuses as `cookie_next_pair` does, and then a name or a value whose bytes, decoded, aren't UTF-8. It takes memory,
+/// and may fail for want of it, only where the name or the value has an escape.
+#[unsafe(no_mangle)]
+pub extern "C" fn cookie_next_pair_decoded(
+    alloc: Global,
+    header: &[u8],
+    from: usize,
+    out: &mut [u8],
+) -> Pair
+    ensures { IsNextDecodedPair header.now from result out.old out.new }
+{
+    match NextPiece::of(header, from) {
+        NextPiece::End => Pair::refusal(Status::NoPair, 0),
+        NextPiece::Other { next } => Pair::refusal(Status::NotUtf8, next),
+        NextPiece::Text { text, next, .. } => give_next(alloc, text, next, out),
+    }
+}
+
+// The cookie that the text of this layout is, decoded.
+fn give_cookie(alloc: Global, text: &str, layout: Layout, out: &mut [u8]) -> Reading
+    requires place { IsLayoutIn text.now layout }
+    requires value { cookie_of false text.now ≡ Some (layout_record text.now layout) }
+    ensures { IsDecodedReadingOf text.now result out.old out.new }
+{
+    match Cookie::parse_encoded(alloc, text) {
+        Ok(cookie) => {
+            let pair = give_pair(cookie.name(), cookie.value(), 0, out);
+            Reading {
+                status: pair.status,
+                name: pair.name,
+                value: pair.value,
+                ..Reading::of(text, layout)
+            }
+        }
+        Err(error) => Reading::refusal(Status::of(error)),
+    }
+}
+
+// The pair that the text is, decoded.
+fn give_next(alloc: Global, text: &str, next: usize, out: &mut [u8]) -> Pair
+    ensures { IsDecodedPairOf text.now next result out.old out.new }
+{
+    match Cookie::parse_encoded(alloc, text) {
+        Ok(cookie) => give_pair(cookie.name(), cookie.value(), next, out),
+        Err(error) => Pair::refusal(Status::of(error), next),
+    }
+}
+
+// A name and a value for the buffer, with their places there.
+fn give_pair(name: &str, value: &str, next: usize, out: &mut [u8]) -> Pair
+    ensures texts { AreGiven name.now value.now result.status result.name result.value
+        out.old out.new }
+    ensures next { result.next ≡ next }
+{
+    let answer = give_both(name.as_bytes(), value.as_bytes(), out);
+    Pair {
+        status: answer.status,
+        name: Place {
+            start: 0,
+            length: name.len(),
+        },
+        value: Place {
+            start: name.len(),
+            length: value.len(),
+        },
+        next,
+    }
+}
+
+// The first text and right behind it the second, for the buffer.
+fn give_both(first: &[u8], second: &[u8], out: &mut [u8]) -> Answer
+    ensures { IsGiven (first.now ++ second.now) result out.old out.new }
+{
+    let length = first.len() + second.len();
+    if out.len() < length {
+        return Answer::of(Status::BufferTooShort, length);
+    }
+    out[..first.len()].copy_from_slice(first);
+    out[first.len()..length].copy_from_slice(second);
+    Answer::of(Status::Done, length)
+}
