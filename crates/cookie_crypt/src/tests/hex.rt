@@ -1,5 +1,10 @@
-//! Bytes that a row writes in hexadecimal.
+//! Rows of words that write bytes in hexadecimal, `-` where there is none.
 ghost use Rattle.std.specs.Prelude.{◌<◌};
+
+/// A row's first word, and the words behind it.
+pub fn cut(row: &str) -> (&str, &str) {
+    row.split_once(' ').unwrap_or((row, ""))
+}
 
 fn digit(byte: u8) -> u8
     ensures { result < 16 }
