@@ -9,6 +9,7 @@ mod reading;
 mod splitting;
 
 use cookie::{Cookie, CookieBuilder};
+use std::alloc::Global;
 
 // The cookie that most rows begin with.
 fn foo() -> CookieBuilder<'static> {
@@ -18,6 +19,14 @@ fn foo() -> CookieBuilder<'static> {
 fn is_read_as<'c>(text: &'c str, wanted: &Cookie<'c>) -> bool {
     match Cookie::parse(text) {
         Ok(cookie) => cookie == *wanted,
+        Err(_) => false,
+    }
+}
+
+// Whether the cookie is printed as this text.
+fn shows_text(alloc: Global, cookie: &Cookie<'_>, text: &str) -> bool {
+    match cookie.to_string(alloc) {
+        Ok(printed) => printed.as_str() == text,
         Err(_) => false,
     }
 }
