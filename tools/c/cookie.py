@@ -267,8 +267,8 @@ def attributes_of(text, reading):
     return attributes
 
 
-def print_cookie(name, value, *, is_escaped=True, http_only=None, secure=None, partitioned=None, same_site=None, path=None,
-                 domain=None, max_age=None, expires=None):
+def print_cookie(name, value, *, is_escaped=True, http_only=None, secure=None, partitioned=None, same_site=None,
+                 path=None, domain=None, max_age=None, expires=None):
     """The value of a `Set-Cookie` header, with name and value escaped unless asked otherwise.
 
     `same_site` is a text, `max_age` is in seconds, and `expires` is a `datetime`. What is None is left out, so that a

@@ -42,7 +42,7 @@ fn is_hashed_as(row: &str) -> bool {
     let (message, expected) = cut(row);
     let (mut keys, mut messages, mut bytes) = ([0; LONGEST], [0; LONGEST], [0; LONGEST]);
     let answer = hmac(fill(key, &mut keys), &[fill(message, &mut messages)]);
-    answer.starts_with(fill(expected, &mut bytes))
+    !expected.is_empty() && answer.starts_with(fill(expected, &mut bytes))
 }
 
 #[test]
@@ -58,7 +58,7 @@ fn is_expanded_as(row: &str) -> bool {
     let (info, expected) = cut(row);
     let (mut keys, mut infos, mut bytes) = ([0; LONGEST], [0; LONGEST], [0; LONGEST]);
     let answer = expand64(fill(prk, &mut keys), fill(info, &mut infos));
-    answer.starts_with(fill(expected, &mut bytes))
+    !expected.is_empty() && answer.starts_with(fill(expected, &mut bytes))
 }
 
 #[test]

@@ -133,12 +133,13 @@ fn is_another(row: &str) -> bool {
         tag: block_of(tag),
     };
     let text = fill(sealed, &mut text);
-    is_refused(
+    let is_refused = is_refused(
         &Gcm::new(&key_of(key)),
         &data,
         text,
         fill(sealed, &mut expected),
-    )
+    );
+    tag.len() == 32 && is_refused
 }
 
 #[test]
