@@ -17,7 +17,7 @@ fn a_wrong_step_is_found(rt: HostRuntime) -> Result<(), Fail> {
     ] {
         let mut jar = CookieJar::new(rt.alloc());
         let found = first_wrong(&mut jar, &[Step::Add("a", "1"), step])?;
-        assert_eq!(rt; found, place);
+        assert!(rt; found == place);
     }
     Ok(())
 }

@@ -6,7 +6,7 @@ mod private;
 mod refusals;
 mod signed;
 
-use cookie::{Cookie, CookieBuilder, CookieJar, Expiration, SameSite};
+use cookie::{Cookie, CookieBuilder, CookieJar, Expiration, Key, SameSite};
 use jar_steps::shown_value;
 use jiff::SignedDuration;
 use std::alloc::Global;
@@ -44,6 +44,17 @@ fn has_all_fields(cookie: &Cookie<'_>) -> bool {
         && cookie.domain() == Some("b.c")
         && cookie.max_age() == Some(SignedDuration::from_secs(5))
         && cookie.expires() == Some(Expiration::Session)
+}
+
+// Whether the cookie has the name, the value that all these rows store, and every attribute.
+fn is_whole(cookie: &Cookie<'_>, name: &str) -> bool {
+    cookie.name() == name && cookie.value() == "Tamper-proof" && has_all_fields(cookie)
+}
+
+// The call stands in a function of its own, so that a test's proof needn't know what it says of the jar.
+fn add_signed(jar: &mut CookieJar, key: &Key, cookie: Cookie<'static>) -> Result<(), Fail> {
+    jar.signed_mut(key).add(cookie)?;
+    Ok(())
 }
 
 // Puts one more character behind the value that the jar shows.

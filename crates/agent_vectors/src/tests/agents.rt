@@ -9,7 +9,7 @@ use std::test::Fail;
 fn a_new_agent_sends_nothing(rt: HostRuntime) -> Result<(), Fail> {
     let site = Place::Https("example.com", "/").site(rt.alloc())?;
     let agent = Agent::new(rt.alloc());
-    assert_eq!(rt; agent.header(&site, at(0)?)?.as_str(), "");
+    assert!(rt; agent.header(&site, at(0)?)?.as_str() == "");
     Ok(())
 }
 
@@ -49,6 +49,6 @@ fn a_copy_goes_its_own_way(rt: HostRuntime) -> Result<(), Fail> {
 #[test]
 fn an_error_tells_of_memory(rt: HostRuntime) -> Result<(), Fail> {
     let text = format!(in rt.alloc(); "{}", AgentError::OutOfMemory)?;
-    assert_eq!(rt; text.as_str(), "out of memory");
+    assert!(rt; text.as_str() == "out of memory");
     Ok(())
 }

@@ -149,7 +149,7 @@ fn first_wrong(alloc: Global, rows: &[Row], pick: &[usize]) -> Result<Option<usi
 
 // Fails unless each request leaves its agent with the header of its row.
 fn plays(rt: &impl Abort, alloc: Global, rows: &[Row]) -> Result<(), Fail> {
-    assert_eq!(rt; first_wrong(alloc, rows, &[])?, None);
+    assert!(rt; first_wrong(alloc, rows, &[])?.is_none());
     Ok(())
 }
 
@@ -165,7 +165,7 @@ fn a_wrong_row_is_found(rt: HostRuntime) -> Result<(), Fail> {
         request_to(LOGIN, 0, one(Move::Add("n", "1")), "n=1"),
         request_to(MAIL, 0, NO_MOVES, "n=2"),
     ];
-    assert_eq!(rt; first_wrong(rt.alloc(), &rows, &[])?, Some(1));
+    assert!(rt; first_wrong(rt.alloc(), &rows, &[])? == Some(1));
     Ok(())
 }
 
@@ -277,7 +277,7 @@ fn escapes_go_through_the_requests(rt: HostRuntime) -> Result<(), Fail> {
 
 #[test]
 fn no_request_at_all_comes_to_nothing(rt: HostRuntime) -> Result<(), Fail> {
-    assert_eq!(rt; first_wrong(rt.alloc(), &[], &[3])?, None);
+    assert!(rt; first_wrong(rt.alloc(), &[], &[3])?.is_none());
     Ok(())
 }
 
@@ -309,7 +309,7 @@ fn a_jar_begins_with_the_header(rt: HostRuntime) -> Result<(), Fail> {
         ),
     ];
     let last = last_of(rt.alloc(), &rows)?;
-    assert_eq!(rt; last.header.as_str(), "n=1; m=2");
+    assert!(rt; last.header.as_str() == "n=1; m=2");
     assert!(rt; shows_the_other_original(&last));
     Ok(())
 }

@@ -109,7 +109,7 @@ fn secure_cookies_need_a_secure_connection(rt: HostRuntime) -> Result<(), Fail> 
         (adds(root().same_site(SameSite::None)), false),
         (adds(root().partitioned(true)), false),
     ] {
-        assert_eq!(rt; is_whole(rt.alloc(), call, PLAIN)?, *wanted);
+        assert!(rt; is_whole(rt.alloc(), call, PLAIN)? == *wanted);
     }
     Ok(())
 }
@@ -142,7 +142,7 @@ fn calls_through_child_jars_are_looked_at_as_they_are_stored(rt: HostRuntime) ->
             true,
         ),
     ] {
-        assert_eq!(rt; is_whole(rt.alloc(), call, BELOW)?, *wanted);
+        assert!(rt; is_whole(rt.alloc(), call, BELOW)? == *wanted);
     }
     Ok(())
 }
@@ -173,7 +173,7 @@ fn a_call_is_in_one_scope(rt: HostRuntime) -> Result<(), Fail> {
         (Some("/"), wide, BELOW, false),
         (None, Some("www.example.com"), BELOW, false),
     ] {
-        assert_eq!(rt; is_scoped_at(rt.alloc(), path, domain, place)?, wanted);
+        assert!(rt; is_scoped_at(rt.alloc(), path, domain, place)? == wanted);
     }
     Ok(())
 }

@@ -65,7 +65,7 @@ pub(super) fn first_wrong(alloc: Global, steps: &[Step]) -> Result<Option<usize>
 
 /// Fails unless a new agent does what each step says.
 pub(super) fn plays(rt: &impl Abort, alloc: Global, steps: &[Step]) -> Result<(), Fail> {
-    assert_eq!(rt; first_wrong(alloc, steps)?, None);
+    assert!(rt; first_wrong(alloc, steps)?.is_none());
     Ok(())
 }
 
@@ -81,7 +81,7 @@ fn a_wrong_step_is_found(rt: HostRuntime) -> Result<(), Fail> {
         (Step::Sends(top, "n=1"), None),
     ] {
         let found = first_wrong(rt.alloc(), &[Step::Sets(top, "n=1"), step])?;
-        assert_eq!(rt; found, wanted);
+        assert!(rt; found == wanted);
     }
     Ok(())
 }

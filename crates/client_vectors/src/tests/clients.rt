@@ -70,7 +70,7 @@ fn a_client_undoes_and_writes_escapes(rt: HostRuntime) -> Result<(), Fail> {
     let mut client = Client::new(rt.alloc());
     let text = "foo%20!%25%3F%3D=bar%3B%3B%2C%20a; Path=/";
     assert!(rt; reads(&mut client, text)?);
-    assert_eq!(rt; client.get("foo !%?="), Some("bar;;, a"));
+    assert!(rt; client.get("foo !%?=") == Some("bar;;, a"));
     assert!(rt; has_header(&client, "foo%20!%25%3F%3D=bar%3B%3B%2C%20a")?);
     Ok(())
 }
@@ -95,12 +95,12 @@ fn count(client: &Client) -> usize {
 #[test]
 fn a_client_lists_what_it_holds(rt: HostRuntime) -> Result<(), Fail> {
     let mut client = Client::new(rt.alloc());
-    assert_eq!(rt; count(&client), 0);
+    assert!(rt; count(&client) == 0);
     for (name, value) in [("b", "1"), ("ab", ";"), ("B", "3"), ("a", ""), ("b", "4")] {
         holds(&mut client, name, value)?;
     }
-    assert_eq!(rt; list(rt.alloc(), &client)?.as_str(), "B:3,a:,ab:;,b:4,");
-    assert_eq!(rt; count(&client), 4);
+    assert!(rt; list(rt.alloc(), &client)?.as_str() == "B:3,a:,ab:;,b:4,");
+    assert!(rt; count(&client) == 4);
     Ok(())
 }
 
@@ -126,7 +126,7 @@ fn a_copy_of_a_client_goes_its_own_way(rt: HostRuntime) -> Result<(), Fail> {
 #[test]
 fn a_refusal_has_its_text(rt: HostRuntime) -> Result<(), Fail> {
     let text = ClientError::OutOfMemory.to_string(rt.alloc())?;
-    assert_eq!(rt; text.as_str(), "out of memory");
+    assert!(rt; text.as_str() == "out of memory");
     assert!(rt; ClientError::OutOfMemory.clone()? == ClientError::OutOfMemory);
     Ok(())
 }

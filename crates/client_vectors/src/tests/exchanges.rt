@@ -64,12 +64,12 @@ fn every_order_gives_one_header(rt: HostRuntime) -> Result<(), Fail> {
     for first in 0..3 {
         for second in 0..2 {
             let header = header_of(rt.alloc(), &CHANGES, &[first, second, 0], 3)?;
-            assert_eq!(rt; header.as_str(), "a=3; c=4");
+            assert!(rt; header.as_str() == "a=3; c=4");
         }
     }
     for pick in [[usize::MAX, 5], [7, usize::MAX]] {
         let header = header_of(rt.alloc(), &CHANGES, &pick, 3)?;
-        assert_eq!(rt; header.as_str(), "a=3; c=4");
+        assert!(rt; header.as_str() == "a=3; c=4");
     }
     Ok(())
 }
@@ -104,7 +104,7 @@ fn up_to_four_changes_give_one_client_in_every_order(rt: HostRuntime) -> Result<
         for number in 0..24 {
             let pick = [number / 6, number / 2 % 3, number % 2];
             let text = header_of(rt.alloc(), steps, &pick, changes)?;
-            assert_eq!(rt; text.as_str(), header, "order {number} of {changes}");
+            assert!(rt; text.as_str() == header, "order {number} of {changes}");
         }
     }
     Ok(())

@@ -37,7 +37,7 @@ fn a_client_follows_signed_calls(rt: HostRuntime) -> Result<(), Fail> {
             "b=RrPVwIC%2FToJbtele03OAHOkhBYGWJdkMwzDG16KO6Aw%3DTamper-proof",
         ),
     ] {
-        assert_eq!(rt; header_after(rt.alloc(), count)?.as_str(), header);
+        assert!(rt; header_after(rt.alloc(), count)?.as_str() == header);
     }
     Ok(())
 }
@@ -57,7 +57,7 @@ fn a_call_with_a_key_is_looked_at_as_it_was_handed_in(rt: HostRuntime) -> Result
         (signed_call(&key, original), true, false),
         (JarCall::Private(&key, [0; 12], nameless), false, true),
     ] {
-        assert_eq!(rt; (call.is_fit(now), call.is_change()), (*is_fit, *is_change));
+        assert!(rt; (call.is_fit(now), call.is_change()) == (*is_fit, *is_change));
     }
     Ok(())
 }

@@ -14,7 +14,7 @@ const ANSWER: &str = "5bdcc146bf60754e6a042426089575c75a003f089d2739839dec58b964
 fn s_of_three_bytes(rt: HostRuntime) {
     let bytes = [0x00, 0x01, 0x53, 0, 0, 0, 0, 0, 0, 0, 0, 0, 0, 0, 0, 0];
     let values = substitute(u8x16::from_array(bytes)).to_array();
-    assert_eq!(rt; (values[0], values[1], values[2]), (0x63, 0x7c, 0xed));
+    assert!(rt; (values[0], values[1], values[2]) == (0x63, 0x7c, 0xed));
 }
 
 // FIPS 197 C.3.
@@ -23,14 +23,14 @@ fn block_of_the_standard(rt: HostRuntime) {
     let key = key_of("000102030405060708090a0b0c0d0e0f101112131415161718191a1b1c1d1e1f");
     let block = block_of("00112233445566778899aabbccddeeff");
     let encrypted = block_of("8ea2b7ca516745bfeafc49904b496089");
-    assert_eq!(rt; Aes256::new(&key).encrypt_block(block), encrypted);
+    assert!(rt; Aes256::new(&key).encrypt_block(block) == encrypted);
 }
 
 // The hash subkey of GCM's test cases 13 and 14.
 #[test]
 fn block_of_zeros_under_the_zero_key(rt: HostRuntime) {
     let encrypted = block_of("dc95c078a2408989ad48a21492842087");
-    assert_eq!(rt; Aes256::new(&[0; 32]).encrypt_block([0; 16]), encrypted);
+    assert!(rt; Aes256::new(&[0; 32]).encrypt_block([0; 16]) == encrypted);
 }
 
 // GCM's test case 13.
@@ -42,7 +42,7 @@ fn empty_text_is_sealed(rt: HostRuntime) -> Result<(), Fail> {
     let tag = gcm
         .seal_in_place(&[0; 12], &[], &mut text, &mut steps)
         .ok_or("limits")?;
-    assert_eq!(rt; tag, block_of("530f8afbc74536b9a963b4f1c4cb738b"));
+    assert!(rt; tag == block_of("530f8afbc74536b9a963b4f1c4cb738b"));
     Ok(())
 }
 
@@ -56,14 +56,14 @@ fn zeros_are_sealed_and_opened(rt: HostRuntime) -> Result<(), Fail> {
         .seal_in_place(&[0; 12], &[], &mut text, &mut steps)
         .ok_or("limits")?;
     let sealed = block_of("cea7403d4d606b6e074ec5d3baf39d18");
-    assert_eq!(rt; text, sealed);
-    assert_eq!(rt; tag, block_of("d0d1c8a799996bf0265b98b5d48ab919"));
+    assert!(rt; text == sealed);
+    assert!(rt; tag == block_of("d0d1c8a799996bf0265b98b5d48ab919"));
     let mut wrong = tag;
     wrong[3] ^= 1;
     assert!(rt; !gcm.open_in_place(&[0; 12], &[], &mut text, &wrong, &mut steps));
-    assert_eq!(rt; text, sealed);
+    assert!(rt; text == sealed);
     assert!(rt; gcm.open_in_place(&[0; 12], &[], &mut text, &tag, &mut steps));
-    assert_eq!(rt; text, [0; 16]);
+    assert!(rt; text == [0; 16]);
     Ok(())
 }
 
@@ -76,15 +76,15 @@ fn steps_of(aad: &[u8], text: &mut [u8]) -> (u64, u64, u64) {
 // Blocks, products and look-ups by SP 800-38D 7.1: a block each for H and J0, and four bits a look-up.
 #[test]
 fn steps_are_counted(rt: HostRuntime) {
-    assert_eq!(rt; steps_of(&[0; 22], &mut [0; 12]), (3, 4, 128));
-    assert_eq!(rt; steps_of(&[], &mut []), (2, 1, 32));
-    assert_eq!(rt; steps_of(&[0; 16], &mut [0; 16]), (3, 3, 96));
-    assert_eq!(rt; steps_of(&[], &mut [0; 17]), (4, 3, 96));
+    assert!(rt; steps_of(&[0; 22], &mut [0; 12]) == (3, 4, 128));
+    assert!(rt; steps_of(&[], &mut []) == (2, 1, 32));
+    assert!(rt; steps_of(&[0; 16], &mut [0; 16]) == (3, 3, 96));
+    assert!(rt; steps_of(&[], &mut [0; 17]) == (4, 3, 96));
 }
 
 #[test]
 fn message_is_hashed_whole(rt: HostRuntime) {
-    assert_eq!(rt; hmac(b"Jefe", &[QUESTION]), key_of(ANSWER));
+    assert!(rt; hmac(b"Jefe", &[QUESTION]) == key_of(ANSWER));
 }
 
 #[test]
@@ -96,9 +96,9 @@ fn message_is_hashed_in_pieces(rt: HostRuntime) -> Result<(), Fail> {
         with_empty_ones.push(byte)?;
         with_empty_ones.push(b"".as_slice())?;
     }
-    assert_eq!(rt; pieces.len(), 28);
-    assert_eq!(rt; hmac(b"Jefe", pieces.as_slice()), key_of(ANSWER));
-    assert_eq!(rt; hmac(b"Jefe", with_empty_ones.as_slice()), key_of(ANSWER));
+    assert!(rt; pieces.len() == 28);
+    assert!(rt; hmac(b"Jefe", pieces.as_slice()) == key_of(ANSWER));
+    assert!(rt; hmac(b"Jefe", with_empty_ones.as_slice()) == key_of(ANSWER));
     Ok(())
 }
 

@@ -46,12 +46,12 @@ fn the_last_valid_attribute_counts(rt: HostRuntime) -> Result<(), Fail> {
     let text =
         "a=1; Path=/x; path=; Path; Domain=b.c; Domain=; SameSite=Lax; SameSite=odd; Secure=no";
     let cookie = Cookie::parse(text)?;
-    assert_eq!(rt; cookie.path(), Some(""));
-    assert_eq!(rt; cookie.domain(), Some("b.c"));
+    assert!(rt; cookie.path() == Some(""));
+    assert!(rt; cookie.domain() == Some("b.c"));
     assert!(rt; cookie.same_site() == Some(SameSite::Lax));
-    assert_eq!(rt; cookie.secure(), Some(true));
-    assert_eq!(rt; cookie.http_only(), None);
-    assert_eq!(rt; cookie.partitioned(), None);
+    assert!(rt; cookie.secure() == Some(true));
+    assert!(rt; cookie.http_only().is_none());
+    assert!(rt; cookie.partitioned().is_none());
     Ok(())
 }
 
@@ -61,7 +61,7 @@ fn an_expiry_is_read(rt: HostRuntime) -> Result<(), Fail> {
     let cookie = Cookie::parse("a=1; Expires=Wed, 21 Oct 2015 07:28:00 GMT; Expires=soon")?;
     assert!(rt; cookie.expires_datetime() == Some(date));
     assert!(rt; cookie.expires() == Some(Expiration::DateTime(date)));
-    assert!(rt; Cookie::new("a", "1").expires() == None);
+    assert!(rt; Cookie::new("a", "1").expires().is_none());
     Ok(())
 }
 

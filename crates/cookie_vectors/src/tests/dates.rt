@@ -19,7 +19,10 @@ fn each_form_is_read(rt: HostRuntime) {
         "Nov  6 08:49:37 1994",
         "06-Nov-1994 08:49:37 GMT",
     ] {
-        assert_eq!(rt; read_date(text), at(1994, 11, 6, [8, 49, 37]), "at {text}");
+        assert!(rt;
+            read_date(text) == at(1994, 11, 6, [8, 49, 37]),
+            "at {text}"
+        );
     }
 }
 
@@ -35,7 +38,7 @@ fn years_of_two_digits_are_completed(rt: HostRuntime) {
         ("Thu, 10-Sep-0 20:00:00 GMT", 2000),
         ("Thu, 10-Sep-2069 20:00:00 GMT", 2069),
     ] {
-        assert_eq!(rt; read_date(text), at(year, 9, 10, [20, 0, 0]), "at {text}");
+        assert!(rt; read_date(text) == at(year, 9, 10, [20, 0, 0]), "at {text}");
     }
 }
 
@@ -47,10 +50,10 @@ fn years_may_have_a_sign(rt: HostRuntime) {
         ("21 Oct -0 00:00:00 GMT", 2000),
         ("21 Oct +15 00:00:00 GMT", 2015),
     ] {
-        assert_eq!(rt; read_date(text), at(year, 10, 21, [0, 0, 0]), "at {text}");
+        assert!(rt; read_date(text) == at(year, 10, 21, [0, 0, 0]), "at {text}");
     }
     let date = at(-94, 11, 6, [8, 49, 37]);
-    assert_eq!(rt; read_date("06-Nov--94 08:49:37 GMT"), date);
+    assert!(rt; read_date("06-Nov--94 08:49:37 GMT") == date);
 }
 
 #[test]
@@ -61,7 +64,7 @@ fn leap_days_are_read_in_leap_years(rt: HostRuntime) {
         ("29 Feb 1900 00:00:00 GMT", None),
         ("29 Feb 2015 00:00:00 GMT", None),
     ] {
-        assert_eq!(rt; read_date(text), date, "at {text}");
+        assert!(rt; read_date(text) == date, "at {text}");
     }
 }
 
@@ -106,7 +109,7 @@ fn dates_are_printed(rt: HostRuntime) -> Result<(), Fail> {
     ] {
         let date = DateTime::new(year, month, day, hour, 0, 0, 0)?;
         let printed = DateText(date).to_string(rt.alloc())?;
-        assert_eq!(rt; printed.as_str(), text, "at {text}");
+        assert!(rt; printed.as_str() == text, "at {text}");
     }
     Ok(())
 }
@@ -116,7 +119,7 @@ fn printed_dates_are_read_by_the_year_rule(rt: HostRuntime) -> Result<(), Fail> 
     for (year, read) in [(-44, -44), (99, 1999), (2015, 2015), (69, 2069), (100, 100)] {
         let date = DateTime::new(year, 1, 1, 12, 0, 0, 0)?;
         let text = DateText(date).to_string(rt.alloc())?;
-        assert_eq!(rt; read_date(&text), at(read, 1, 1, [12, 0, 0]), "at {text}");
+        assert!(rt; read_date(&text) == at(read, 1, 1, [12, 0, 0]), "at {text}");
     }
     Ok(())
 }
@@ -124,23 +127,23 @@ fn printed_dates_are_read_by_the_year_rule(rt: HostRuntime) -> Result<(), Fail> 
 #[test]
 fn weekdays_are_not_compared(rt: HostRuntime) -> Result<(), Fail> {
     let date = read_date("Wed, 21 Oct 2017 07:28:00 GMT");
-    assert_eq!(rt; date, at(2017, 10, 21, [7, 28, 0]));
+    assert!(rt; date == at(2017, 10, 21, [7, 28, 0]));
     let text = DateText(date.unwrap_or(DateTime::MIN)).to_string(rt.alloc())?;
-    assert_eq!(rt; text.as_str(), "Sat, 21 Oct 2017 07:28:00 GMT");
+    assert!(rt; text.as_str() == "Sat, 21 Oct 2017 07:28:00 GMT");
     Ok(())
 }
 
 #[test]
 fn days_are_added(rt: HostRuntime) -> Result<(), Fail> {
     let start = DateTime::new(2015, 10, 21, 7, 28, 0, 0)?;
-    assert_eq!(rt; Some(days_after(start, -365)), at(2014, 10, 21, [7, 28, 0]));
+    assert!(rt; Some(days_after(start, -365)) == at(2014, 10, 21, [7, 28, 0]));
     for (days, text) in [
         (-365, "Tue, 21 Oct 2014 07:28:00 GMT"),
         (0, "Wed, 21 Oct 2015 07:28:00 GMT"),
         (7300, "Tue, 16 Oct 2035 07:28:00 GMT"),
     ] {
         let printed = DateText(days_after(start, days)).to_string(rt.alloc())?;
-        assert_eq!(rt; printed.as_str(), text, "at {days} for {text}");
+        assert!(rt; printed.as_str() == text, "at {days} for {text}");
     }
     Ok(())
 }
@@ -148,15 +151,15 @@ fn days_are_added(rt: HostRuntime) -> Result<(), Fail> {
 #[test]
 fn days_end_at_the_first_and_last_moment(rt: HostRuntime) -> Result<(), Fail> {
     let near = DateTime::new(9999, 12, 30, 5, 0, 0, 0)?;
-    assert_eq!(rt; Some(days_after(near, 1)), at(9999, 12, 31, [5, 0, 0]));
+    assert!(rt; Some(days_after(near, 1)) == at(9999, 12, 31, [5, 0, 0]));
     let midnight = DateTime::new(9999, 12, 31, 0, 0, 0, 0)?;
     let last = DateTime::new(9999, 12, 31, 23, 59, 59, 999_999_999)?;
-    assert_eq!(rt; days_after(midnight, 1), last);
-    assert_eq!(rt; days_after(midnight, i32::MAX), last);
+    assert!(rt; days_after(midnight, 1) == last);
+    assert!(rt; days_after(midnight, i32::MAX) == last);
     let noon = DateTime::new(-9999, 1, 1, 12, 0, 0, 0)?;
     let first = DateTime::new(-9999, 1, 1, 0, 0, 0, 0)?;
-    assert_eq!(rt; days_after(noon, -1), first);
-    assert_eq!(rt; days_after(noon, i32::MIN), first);
+    assert!(rt; days_after(noon, -1) == first);
+    assert!(rt; days_after(noon, i32::MIN) == first);
     Ok(())
 }
 
@@ -181,7 +184,7 @@ fn parse_abbreviated_years(rt: HostRuntime) {
         ("foo=bar; expires=Thu, 10-Sep-70 20:00:00 GMT", 1970),
     ] {
         let wanted = DateTime::new(year, 9, 10, 20, 0, 0, 0).ok();
-        assert_eq!(rt; expiry_of(text), wanted, "{text}");
+        assert!(rt; expiry_of(text) == wanted, "{text}");
     }
 }
 
@@ -194,7 +197,7 @@ fn long_weekday_requires_two_digit_year(rt: HostRuntime) {
         "foo=bar; expires=Sunday, 06-Nov-+94 08:49:37 GMT",
         "foo=bar; expires=Sunday, 06-Nov--94 08:49:37 GMT",
     ] {
-        assert_eq!(rt; expiry_of(text), None, "{text}");
+        assert!(rt; expiry_of(text).is_none(), "{text}");
     }
 }
 
@@ -210,6 +213,6 @@ fn parse_variant_date_fmts(rt: HostRuntime) {
         "foo=bar; expires=Nov  6 08:49:37 1994",
         "foo=bar; expires=06-Nov-1994 08:49:37 GMT",
     ] {
-        assert_eq!(rt; expiry_of(text), wanted, "{text}");
+        assert!(rt; expiry_of(text) == wanted, "{text}");
     }
 }

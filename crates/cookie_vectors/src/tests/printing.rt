@@ -138,7 +138,7 @@ fn cookies_are_printed(rt: HostRuntime) -> Result<(), Fail> {
     ];
     for (text, wanted) in rows {
         let printed = Cookie::parse(text)?.to_string(rt.alloc())?;
-        assert_eq!(rt; printed.as_str(), wanted);
+        assert!(rt; printed.as_str() == wanted);
     }
     Ok(())
 }
@@ -177,10 +177,7 @@ fn a_removal_is_printed(rt: HostRuntime) -> Result<(), Fail> {
     let mut cookie = Cookie::new("name", "val");
     cookie.make_removal(now);
     let text = cookie.to_string(rt.alloc())?;
-    assert_eq!(rt;
-        text.as_str(),
-        "name=; Max-Age=0; Expires=Tue, 21 Oct 2014 07:28:00 GMT"
-    );
+    assert!(rt; text.as_str() == "name=; Max-Age=0; Expires=Tue, 21 Oct 2014 07:28:00 GMT");
     Ok(())
 }
 
@@ -193,7 +190,7 @@ fn texts_are_escaped(rt: HostRuntime) -> Result<(), Fail> {
     ];
     for (text, wanted) in rows {
         let encoded = encode(text).to_string(rt.alloc())?;
-        assert_eq!(rt; encoded.as_str(), wanted);
+        assert!(rt; encoded.as_str() == wanted);
     }
     Ok(())
 }

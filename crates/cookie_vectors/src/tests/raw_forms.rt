@@ -32,22 +32,19 @@ fn cookie_string_long_lifetimes(rt: HostRuntime) -> Result<(), Fail> {
     let path = cookie.path_raw();
     let domain = cookie.domain_raw();
     drop(cookie);
-    assert_eq!(rt; name, Some("bar"));
-    assert_eq!(rt; value, Some("baz"));
-    assert_eq!(rt; path, Some("/subdir"));
-    assert_eq!(rt; domain, Some("crates.io"));
+    assert!(rt; name == Some("bar"));
+    assert!(rt; value == Some("baz"));
+    assert!(rt; path == Some("/subdir"));
+    assert!(rt; domain == Some("crates.io"));
     Ok(())
 }
 
 #[test]
 fn owned_cookie_string(rt: HostRuntime) -> Result<(), Fail> {
     let cookie = Cookie::parse_owned(String::from_str(rt.alloc(), SUBDIR)?)?;
-    assert_eq!(rt; cookie.name_value(), ("bar", "baz"));
-    assert_eq!(rt;
-        (cookie.path(), cookie.domain()),
-        (Some("/subdir"), Some("crates.io"))
-    );
-    assert_eq!(rt; cookie.http_only(), Some(true));
+    assert!(rt; cookie.name_value() == ("bar", "baz"));
+    assert!(rt; (cookie.path(), cookie.domain()) == (Some("/subdir"), Some("crates.io")));
+    assert!(rt; cookie.http_only() == Some(true));
     assert!(rt; lends_nothing(&cookie));
     Ok(())
 }
@@ -66,7 +63,7 @@ fn owned_cookie_struct(rt: HostRuntime) -> Result<(), Fail> {
             Some("crates.io")
         )
     );
-    assert_eq!(rt; own.path(), Some("/subdir"));
+    assert!(rt; own.path() == Some("/subdir"));
     assert!(rt; lends_nothing(&own));
     Ok(())
 }
@@ -88,7 +85,7 @@ fn the_raw_value_alone_is_gone_where_the_value_was_set(rt: HostRuntime) -> Resul
     let text = " bar = baz ; Path=/subdir; HttpOnly; Domain=.crates.io";
     let own = String::from_str(rt.alloc(), "x")?;
     let mut cookie = Cookie::parse(text)?;
-    assert_eq!(rt; cookie.value_raw(), Some("baz"));
+    assert!(rt; cookie.value_raw() == Some("baz"));
     cookie.set_value("x");
     assert!(rt; lends_all_but_the_value(&cookie));
     let mut cookie = Cookie::parse(text)?;
@@ -100,9 +97,9 @@ fn the_raw_value_alone_is_gone_where_the_value_was_set(rt: HostRuntime) -> Resul
 #[test]
 fn a_text_is_copied(rt: HostRuntime) -> Result<(), Fail> {
     let cookie = Cookie::from_str(rt.alloc(), "a=%41; Secure")?;
-    assert_eq!(rt; cookie.name_value(), ("a", "%41"));
-    assert_eq!(rt; cookie.secure(), Some(true));
-    assert_eq!(rt; cookie.name_raw(), None);
+    assert!(rt; cookie.name_value() == ("a", "%41"));
+    assert!(rt; cookie.secure() == Some(true));
+    assert!(rt; cookie.name_raw().is_none());
     match Cookie::from_str(rt.alloc(), "=1") {
         Ok(_) => assert!(rt; false, "it is read"),
         Err(error) => assert!(rt; error == ParseError::EmptyName),
@@ -124,7 +121,7 @@ fn copies_are_equal(rt: HostRuntime) -> Result<(), Fail> {
     let cookie = Cookie::parse(text)?;
     cookie.known();
     assert!(rt; are_copied(rt.alloc(), cookie, text)?);
-    assert_eq!(rt; Cookie::named("n").name_value(), ("n", ""));
+    assert!(rt; Cookie::named("n").name_value() == ("n", ""));
     Ok(())
 }
 
@@ -142,9 +139,9 @@ fn the_parts_of_a_text_have_their_places(rt: HostRuntime) -> Result<(), Fail> {
     assert!(rt; is_at(path, 18, 25));
     let domain = layout.attributes.domain.ok_or("a domain")?;
     assert!(rt; is_at(domain, 44, 54));
-    assert_eq!(rt; &text[layout.name.start..layout.name.end], "bar");
-    assert_eq!(rt; layout.attributes.http_only, Some(true));
-    assert_eq!(rt; layout.attributes.secure, None);
+    assert!(rt; &text[layout.name.start..layout.name.end] == "bar");
+    assert!(rt; layout.attributes.http_only == Some(true));
+    assert!(rt; layout.attributes.secure.is_none());
     match Layout::of("bar") {
         Ok(_) => assert!(rt; false, "it is read"),
         Err(error) => assert!(rt; error == ParseError::MissingPair),
@@ -157,5 +154,5 @@ fn white_space_at_the_ends_is_left_out(rt: HostRuntime) {
     assert!(rt; is_at(Span::trim("\u{2003} a = 1 \u{85}"), 4, 9));
     assert!(rt; is_at(Span::trim("a"), 0, 1));
     let blank = Span::trim(" \t\u{3000}");
-    assert_eq!(rt; blank.start, blank.end);
+    assert!(rt; blank.start == blank.end);
 }

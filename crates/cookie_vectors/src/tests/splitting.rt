@@ -17,7 +17,7 @@ fn a_header_gives_its_pieces_in_order(rt: HostRuntime) {
                 assert!(rt; wanted == Some(Ok(cookie.name_value())), "another cookie");
             }
             Some(Err(error)) => assert!(rt; wanted == Some(Err(error)), "another refusal"),
-            None => assert!(rt; wanted == None, "an item is missing"),
+            None => assert!(rt; wanted.is_none(), "an item is missing"),
         }
     }
 }
@@ -25,7 +25,7 @@ fn a_header_gives_its_pieces_in_order(rt: HostRuntime) {
 #[test]
 fn a_blank_header_gives_no_items(rt: HostRuntime) {
     for text in ["", ";;"] {
-        assert_eq!(rt; Cookie::split_parse(text).count(), 0, "{text}");
+        assert!(rt; Cookie::split_parse(text).count() == 0, "{text}");
     }
 }
 
@@ -55,7 +55,7 @@ fn split_parse(rt: HostRuntime) {
 #[test]
 fn escapes_are_not_undone(rt: HostRuntime) -> Result<(), Fail> {
     for (text, value) in [("a=d#$%^&*()_", "d#$%^&*()_"), ("a=%20", "%20")] {
-        assert_eq!(rt; Cookie::parse(text)?.value(), value);
+        assert!(rt; Cookie::parse(text)?.value() == value);
     }
     Ok(())
 }

@@ -289,7 +289,7 @@ fn a_cut_text_is_read_as_what_is_left(rt: HostRuntime) -> Result<(), Fail> {
         (Reading::ParseEncoded, DECODED),
         (Reading::ParseEncodedOwned, DECODED),
     ] {
-        assert_eq!(rt; answers(rt.alloc(), reading)?.as_str(), wanted);
+        assert!(rt; answers(rt.alloc(), reading)?.as_str() == wanted);
     }
     Ok(())
 }
@@ -302,7 +302,7 @@ fn a_cut_text_is_split_into_what_is_left(rt: HostRuntime) -> Result<(), Fail> {
         (Reading::SplitEncoded, SPLIT_DECODED),
         (Reading::SplitEncodedOwned, SPLIT_DECODED),
     ] {
-        assert_eq!(rt; answers(rt.alloc(), reading)?.as_str(), wanted);
+        assert!(rt; answers(rt.alloc(), reading)?.as_str() == wanted);
     }
     Ok(())
 }

@@ -434,7 +434,7 @@ fn a_changed_character_is_read_or_refused(rt: HostRuntime) -> Result<(), Fail> {
         (WITH_YEAR_LAST, WITH_YEAR_LAST_CHANGED),
         (WITH_LONG_YEAR, WITH_LONG_YEAR_CHANGED),
     ] {
-        assert_eq!(rt; changes(rt.alloc(), text)?.as_str(), wanted);
+        assert!(rt; changes(rt.alloc(), text)?.as_str() == wanted);
     }
     Ok(())
 }
@@ -457,7 +457,7 @@ fn a_character_left_out_is_read_or_refused(rt: HostRuntime) -> Result<(), Fail> 
         (WITH_YEAR_LAST, LAST_YEAR_SHORTENED),
         (WITH_LONG_YEAR, YEAR_SHORTENED),
     ] {
-        assert_eq!(rt; omissions(rt.alloc(), text)?.as_str(), wanted);
+        assert!(rt; omissions(rt.alloc(), text)?.as_str() == wanted);
     }
     Ok(())
 }
@@ -480,7 +480,7 @@ fn a_cut_date_is_read_or_refused(rt: HostRuntime) -> Result<(), Fail> {
         (WITH_YEAR_LAST, BEGINNINGS),
         (WITH_LONG_YEAR, ""),
     ] {
-        assert_eq!(rt; beginnings(rt.alloc(), text)?.as_str(), wanted);
+        assert!(rt; beginnings(rt.alloc(), text)?.as_str() == wanted);
     }
     Ok(())
 }

@@ -107,7 +107,7 @@ fn no_beginning_of_a_value_is_opened(rt: HostRuntime) -> Result<(), Fail> {
 fn no_value_with_a_changed_character_is_opened(rt: HostRuntime) -> Result<(), Fail> {
     for other in ["A", "!", "_", " ", "=", "\n", "\u{e9}"] {
         for is_sealed in [true, false] {
-            assert_eq!(rt; opening_count(rt.alloc(), is_sealed, 1, other)?, 0);
+            assert!(rt; opening_count(rt.alloc(), is_sealed, 1, other)? == 0);
         }
     }
     Ok(())
@@ -117,9 +117,9 @@ fn no_value_with_a_changed_character_is_opened(rt: HostRuntime) -> Result<(), Fa
 fn no_value_with_a_character_more_or_less_is_opened(rt: HostRuntime) -> Result<(), Fail> {
     for is_sealed in [true, false] {
         for other in ["\n", " ", "=", "A"] {
-            assert_eq!(rt; opening_count(rt.alloc(), is_sealed, 0, other)?, 0);
+            assert!(rt; opening_count(rt.alloc(), is_sealed, 0, other)? == 0);
         }
-        assert_eq!(rt; opening_count(rt.alloc(), is_sealed, 1, "")?, 0);
+        assert!(rt; opening_count(rt.alloc(), is_sealed, 1, "")? == 0);
     }
     Ok(())
 }

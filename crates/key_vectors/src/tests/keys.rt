@@ -64,9 +64,9 @@ fn try_from_works(rt: HostRuntime) -> Result<(), Fail> {
     match Key::try_from(bytes.get(..63).ok_or("63 bytes")?) {
         Err(error) => {
             assert!(rt; error == KeyError::TooShort(63));
-            assert_eq!(rt;
-                format!(in rt.alloc(); "{error}")?.as_str(),
-                "key material is too short: expected >= 64 bytes, got 63 bytes"
+            assert!(rt;
+                format!(in rt.alloc(); "{error}")?.as_str()
+                    == "key material is too short: expected >= 64 bytes, got 63 bytes"
             );
         }
         Ok(_) => return Err(Fail::new("a short key is taken")),
@@ -125,9 +125,9 @@ fn a_short_master_key_is_refused(rt: HostRuntime) -> Result<(), Fail> {
     match Key::try_derive_from(&count_up::<31>()) {
         Err(error) => {
             assert!(rt; error == KeyError::MasterTooShort(31));
-            assert_eq!(rt;
-                format!(in rt.alloc(); "{error}")?.as_str(),
-                "master key is too short: expected >= 32 bytes, got 31 bytes"
+            assert!(rt;
+                format!(in rt.alloc(); "{error}")?.as_str()
+                    == "master key is too short: expected >= 32 bytes, got 31 bytes"
             );
         }
         Ok(_) => return Err(Fail::new("a short master key is taken")),
@@ -177,7 +177,7 @@ fn a_clone_is_the_same_key(rt: HostRuntime) -> Result<(), Fail> {
 #[test]
 fn debug_does_not_leak_key(rt: HostRuntime) -> Result<(), Fail> {
     let key = Key::generate(&mut Counting(0));
-    assert_eq!(rt; format!(in rt.alloc(); "{key:?}")?.as_str(), "Key");
+    assert!(rt; format!(in rt.alloc(); "{key:?}")?.as_str() == "Key");
     Ok(())
 }
 
@@ -200,8 +200,8 @@ fn one_error_tells_of_each(rt: HostRuntime) -> Result<(), Fail> {
         (Error::from(ParseError::OutOfMemory), "out of memory"),
         (Error::from(JarError::OutOfMemory), "out of memory"),
     ] {
-        assert_eq!(rt; error.to_string(rt.alloc())?.as_str(), wanted);
-        assert_eq!(rt; error == Error::OutOfMemory, wanted == "out of memory");
+        assert!(rt; error.to_string(rt.alloc())?.as_str() == wanted);
+        assert!(rt; (error == Error::OutOfMemory) == (wanted == "out of memory"));
     }
     Ok(())
 }

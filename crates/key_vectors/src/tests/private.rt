@@ -1,7 +1,7 @@
 //! Private jars: sealed values.
 use super::generators::{Counting, Failing};
 use super::keyed_step::KeyedStep;
-use super::{has_all_fields, is_hidden, lengthen, with_all_fields};
+use super::{add_signed, is_hidden, is_whole, lengthen, with_all_fields};
 use cookie::{Cookie, CookieJar, JarError, Key};
 use jar_steps::{Step, after, counts, first_wrong, moment, shown_value, test_key};
 use std::alloc::Global;
@@ -14,7 +14,7 @@ const SEALED: &str = "lObeZJorGVyeSWUA8khTO/8UCzFVBY9g0MGU6/J3NN1R5x11dn2JIA==";
 const SEALED_TOO: &str = "SU1ujceILyMBg3fReqRmA9HUtAIoSPZceOM/CUpObROHEujXIjonkA==";
 
 // Each call stands in a function of its own, so that a test's proof needn't know what the call says of the jar.
-fn add(
+pub(super) fn add(
     jar: &mut CookieJar,
     key: &Key,
     cookie: Cookie<'static>,
@@ -24,7 +24,7 @@ fn add(
     Ok(())
 }
 
-fn add_original(
+pub(super) fn add_original(
     jar: &mut CookieJar,
     key: &Key,
     cookie: Cookie<'static>,
@@ -132,13 +132,13 @@ fn a_wrong_step_is_found(rt: HostRuntime) -> Result<(), Fail> {
         (KeyedStep::Jar(Step::Lacks("a")), Some(1)),
     ] {
         let found = wrong(rt.alloc(), 1, &[KeyedStep::Add("a", "1"), step])?;
-        assert_eq!(rt; found, place);
+        assert!(rt; found == place);
     }
     let bare = [
         KeyedStep::Jar(Step::Add("a", "1")),
         KeyedStep::Hides("a", "1"),
     ];
-    assert_eq!(rt; wrong(rt.alloc(), 1, &bare)?, Some(1));
+    assert!(rt; wrong(rt.alloc(), 1, &bare)? == Some(1));
     Ok(())
 }
 
@@ -157,7 +157,7 @@ fn simple(rt: HostRuntime) -> Result<(), Fail> {
         KeyedStep::Remove("name"),
         KeyedStep::Jar(Step::Counts(0, 0)),
     ];
-    assert_eq!(rt; wrong(rt.alloc(), 1, &steps)?, None);
+    assert!(rt; wrong(rt.alloc(), 1, &steps)?.is_none());
     Ok(())
 }
 
@@ -172,7 +172,7 @@ fn secure(rt: HostRuntime) -> Result<(), Fail> {
         KeyedStep::Jar(Step::Add("secure", "foobar")),
         KeyedStep::AnswersNothing("secure"),
     ];
-    assert_eq!(rt; wrong(rt.alloc(), 2, &steps)?, None);
+    assert!(rt; wrong(rt.alloc(), 2, &steps)?.is_none());
     Ok(())
 }
 
@@ -252,16 +252,18 @@ fn a_value_is_sealed_for_its_name_and_its_key(rt: HostRuntime) -> Result<(), Fai
     Ok(())
 }
 
+// Whether a sealed cookie with every attribute is decrypted with all of them.
+fn keeps_all_fields(jar: &CookieJar, key: &Key) -> Result<bool, Fail> {
+    let name = "encrypted_with_ring014";
+    match decrypt(jar, key, with_all_fields(name, SEALED))? {
+        Some(cookie) => Ok(is_whole(&cookie, name)),
+        None => Ok(false),
+    }
+}
+
 #[test]
 fn a_decrypted_cookie_keeps_all_but_its_value(rt: HostRuntime) -> Result<(), Fail> {
-    let key = test_key();
-    let jar = CookieJar::new(rt.alloc());
-    let cookie = with_all_fields("encrypted_with_ring014", SEALED);
-    let Some(cookie) = decrypt(&jar, &key, cookie)? else {
-        return Err(Fail::new("it isn't decrypted"));
-    };
-    assert!(rt; cookie.name() == "encrypted_with_ring014" && cookie.value() == "Tamper-proof");
-    assert!(rt; has_all_fields(&cookie));
+    assert!(rt; keeps_all_fields(&CookieJar::new(rt.alloc()), &test_key())?);
     Ok(())
 }
 
@@ -292,7 +294,7 @@ fn is_held(
 fn a_nonce_is_handed_in(rt: HostRuntime) -> Result<(), Fail> {
     let key = Key::from(&[0; 64]);
     let jar = with_nonces(rt.alloc(), &key)?;
-    assert_eq!(rt; counts(&jar), (2, 3));
+    assert!(rt; counts(&jar) == (2, 3));
     assert!(rt; shown_value(&jar, "") == Some("AAAAAAAAAAAAAAAAUw+K+8dFNrmpY7TxxMtziw=="));
     for (name, length, value) in [("", 40, ""), ("a", 40, ""), ("b", 56, "Tamper-proof")] {
         assert!(rt; is_held(&jar, &key, name, length, value)?);
@@ -351,36 +353,46 @@ fn is_alike(jar: &CookieJar, other: &CookieJar, name: &str) -> bool {
     shown_value(jar, name).is_some() && shown_value(jar, name) == shown_value(other, name)
 }
 
-// A jar with the value added under the nonce of the first bytes of that generator.
-fn with_drawn(alloc: Global) -> Result<CookieJar, Fail> {
-    let mut jar = CookieJar::new(alloc);
-    add_with_nonce(&mut jar, &test_key(), Cookie::new("a", "1"), DRAWN)?;
-    Ok(jar)
+// Whether the jar shows what the value is sealed as under the nonce.
+fn has_nonce(
+    alloc: Global,
+    jar: &CookieJar,
+    value: &'static str,
+    nonce: [u8; 12],
+) -> Result<bool, Fail> {
+    let mut other = CookieJar::new(alloc);
+    add_with_nonce(&mut other, &test_key(), Cookie::new("a", value), nonce)?;
+    Ok(is_alike(jar, &other, "a"))
+}
+
+// Adds a cookie under a nonce of that generator, and says where the generator stands then.
+fn draw(jar: &mut CookieJar) -> Result<u32, Fail> {
+    let mut rng = Counting(5);
+    add(jar, &test_key(), Cookie::new("a", "1"), &mut rng)?;
+    Ok(rng.0)
 }
 
 #[test]
 fn the_nonce_is_the_one_that_was_drawn(rt: HostRuntime) -> Result<(), Fail> {
-    let other = with_drawn(rt.alloc())?;
     let mut jar = CookieJar::new(rt.alloc());
-    let mut rng = Counting(5);
-    add(&mut jar, &test_key(), Cookie::new("a", "1"), &mut rng)?;
-    assert!(rt; is_alike(&jar, &other, "a"));
-    assert_eq!(rt; rng.0, 8);
+    assert!(rt; draw(&mut jar)? == 8);
+    assert!(rt; has_nonce(rt.alloc(), &jar, "1", DRAWN)?);
     Ok(())
+}
+
+// The same of an original.
+fn draw_original(jar: &mut CookieJar) -> Result<u32, Fail> {
+    let mut rng = Counting(5);
+    add_original(jar, &test_key(), Cookie::new("a", "1"), &mut rng)?;
+    Ok(rng.0)
 }
 
 #[test]
 fn the_nonce_of_an_original_is_the_one_that_was_drawn(rt: HostRuntime) -> Result<(), Fail> {
-    let other = with_drawn(rt.alloc())?;
     let mut jar = CookieJar::new(rt.alloc());
-    add_original(
-        &mut jar,
-        &test_key(),
-        Cookie::new("a", "1"),
-        &mut Counting(5),
-    )?;
-    assert!(rt; is_alike(&jar, &other, "a"));
-    assert_eq!(rt; counts(&jar), (0, 1));
+    assert!(rt; draw_original(&mut jar)? == 8);
+    assert!(rt; has_nonce(rt.alloc(), &jar, "1", DRAWN)?);
+    assert!(rt; counts(&jar) == (0, 1));
     Ok(())
 }
 
@@ -402,31 +414,30 @@ fn refusal_of_original(jar: &mut CookieJar, key: &Key, left: usize) -> Option<Ja
 
 #[test]
 fn the_nonce_of_a_generator_that_states_nothing_is_its_own(rt: HostRuntime) -> Result<(), Fail> {
-    let key = test_key();
     let mut jar = CookieJar::new(rt.alloc());
-    let mut other = CookieJar::new(rt.alloc());
-    assert!(rt; refusal(&mut jar, &key, 12).is_none());
-    add_with_nonce(&mut other, &key, Cookie::new("a", "2"), [7; 12])?;
-    assert!(rt; is_alike(&jar, &other, "a"));
+    assert!(rt; refusal(&mut jar, &test_key(), 12).is_none());
+    assert!(rt; has_nonce(rt.alloc(), &jar, "2", [7; 12])?);
     Ok(())
+}
+
+// Whether the jar tells of the generator, of a cookie and of an original.
+fn are_refused(jar: &mut CookieJar, key: &Key, left: usize) -> bool {
+    refusal(jar, key, left) == Some(JarError::Generator)
+        && refusal_of_original(jar, key, left) == Some(JarError::Generator)
+}
+
+fn holds_its_original_alone(jar: &CookieJar) -> bool {
+    counts(jar) == (0, 1) && shown_value(jar, "a") == Some("1")
 }
 
 #[test]
 fn a_generator_that_fails_adds_nothing(rt: HostRuntime) -> Result<(), Fail> {
     let key = test_key();
-    let mut jar = CookieJar::new(rt.alloc());
-    jar.add_original(Cookie::new("a", "1"))?;
+    let mut jar = after(rt.alloc(), &[Step::AddOriginal("a", "1")])?;
     for left in 0..12usize {
-        assert!(rt; refusal(&mut jar, &key, left) == Some(JarError::Generator));
-        assert!(rt; refusal_of_original(&mut jar, &key, left) == Some(JarError::Generator));
-        assert_eq!(rt; counts(&jar), (0, 1));
-        assert_eq!(rt; shown_value(&jar, "a"), Some("1"));
+        assert!(rt; are_refused(&mut jar, &key, left), "after {left}");
+        assert!(rt; holds_its_original_alone(&jar), "after {left}");
     }
-    Ok(())
-}
-
-fn add_signed(jar: &mut CookieJar, key: &Key, cookie: Cookie<'static>) -> Result<(), Fail> {
-    jar.signed_mut(key).add(cookie)?;
     Ok(())
 }
 
@@ -462,6 +473,6 @@ fn iter(rt: HostRuntime) -> Result<(), Fail> {
         Step::Remove("test2"),
         Step::Counts(2, 3),
     ];
-    assert_eq!(rt; first_wrong(&mut jar, &steps)?, None);
+    assert!(rt; first_wrong(&mut jar, &steps)?.is_none());
     Ok(())
 }

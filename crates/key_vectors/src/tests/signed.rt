@@ -1,7 +1,7 @@
 //! Signed jars: values with their signatures.
 use super::generators::Counting;
 use super::keyed_step::KeyedStep;
-use super::{has_all_fields, is_hidden, lengthen, with_all_fields};
+use super::{add_signed, is_hidden, is_whole, lengthen, with_all_fields};
 use cookie::{Cookie, CookieJar, Key};
 use jar_steps::{Step, after, counts, first_wrong, moment, shown_value, test_key};
 use std::alloc::Global;
@@ -18,16 +18,6 @@ const NAMELESS: &str = "3tdHXEQ2kf6fxC7dWzBGmpSLMtJenXLKrZ9cHkSsl1w=Tamper-proof
 const SHORT: &str = "YEX0azEv230lTf/SrQUdkf+tvRE7YD+JDqy5wEnxhus=v";
 
 // Each call stands in a function of its own, so that a test's proof needn't know what the call says of the jar.
-fn add(
-    jar: &mut CookieJar,
-    key: &Key,
-    name: &'static str,
-    value: &'static str,
-) -> Result<(), Fail> {
-    jar.signed_mut(key).add(Cookie::new(name, value))?;
-    Ok(())
-}
-
 fn add_original(jar: &mut CookieJar, key: &Key, cookie: Cookie<'static>) -> Result<(), Fail> {
     jar.signed_mut(key).add_original(cookie)?;
     Ok(())
@@ -77,7 +67,7 @@ fn is_verified(
 
 fn is_right(alloc: Global, jar: &mut CookieJar, key: &Key, step: KeyedStep) -> Result<bool, Fail> {
     match step {
-        KeyedStep::Add(name, value) => add(jar, key, name, value)?,
+        KeyedStep::Add(name, value) => add_signed(jar, key, Cookie::new(name, value))?,
         KeyedStep::Remove(name) => remove(jar, key, name)?,
         KeyedStep::Lengthen(name) => lengthen(alloc, jar, name)?,
         KeyedStep::Answers(name, value) => return answers(jar, key, name, value),
@@ -115,13 +105,13 @@ fn a_wrong_step_is_found(rt: HostRuntime) -> Result<(), Fail> {
         (KeyedStep::Jar(Step::Lacks("a")), Some(1)),
     ] {
         let found = wrong(rt.alloc(), &draw(1), &[KeyedStep::Add("a", "1"), step])?;
-        assert_eq!(rt; found, place);
+        assert!(rt; found == place);
     }
     let bare = [
         KeyedStep::Jar(Step::Add("a", "1")),
         KeyedStep::Hides("a", "1"),
     ];
-    assert_eq!(rt; wrong(rt.alloc(), &draw(1), &bare)?, Some(1));
+    assert!(rt; wrong(rt.alloc(), &draw(1), &bare)? == Some(1));
     Ok(())
 }
 
@@ -140,7 +130,7 @@ fn simple(rt: HostRuntime) -> Result<(), Fail> {
         KeyedStep::Remove("name"),
         KeyedStep::Jar(Step::Counts(0, 0)),
     ];
-    assert_eq!(rt; wrong(rt.alloc(), &draw(1), &steps)?, None);
+    assert!(rt; wrong(rt.alloc(), &draw(1), &steps)?.is_none());
     Ok(())
 }
 
@@ -155,7 +145,7 @@ fn private(rt: HostRuntime) -> Result<(), Fail> {
         KeyedStep::Jar(Step::Add("secure", "foobar")),
         KeyedStep::AnswersNothing("secure"),
     ];
-    assert_eq!(rt; wrong(rt.alloc(), &draw(2), &steps)?, None);
+    assert!(rt; wrong(rt.alloc(), &draw(2), &steps)?.is_none());
     Ok(())
 }
 
@@ -177,7 +167,7 @@ const NAMED: [KeyedStep; 12] = [
 
 #[test]
 fn a_signed_value_stays_with_its_name(rt: HostRuntime) -> Result<(), Fail> {
-    assert_eq!(rt; wrong(rt.alloc(), &test_key(), &NAMED)?, None);
+    assert!(rt; wrong(rt.alloc(), &test_key(), &NAMED)?.is_none());
     Ok(())
 }
 
@@ -193,7 +183,7 @@ const OLD: [KeyedStep; 6] = [
 
 #[test]
 fn a_value_signed_without_its_name_is_refused(rt: HostRuntime) -> Result<(), Fail> {
-    assert_eq!(rt; wrong(rt.alloc(), &test_key(), &OLD)?, None);
+    assert!(rt; wrong(rt.alloc(), &test_key(), &OLD)?.is_none());
     Ok(())
 }
 
@@ -270,34 +260,33 @@ fn a_value_without_its_signature_is_not_verified(rt: HostRuntime) -> Result<(), 
     Ok(())
 }
 
+// Whether a signed cookie with every attribute is verified with all of them.
+fn keeps_all_fields(jar: &CookieJar, key: &Key) -> Result<bool, Fail> {
+    match verify(jar, key, with_all_fields("id", SIGNED))? {
+        Some(cookie) => Ok(is_whole(&cookie, "id")),
+        None => Ok(false),
+    }
+}
+
 #[test]
 fn a_verified_cookie_keeps_all_but_its_value(rt: HostRuntime) -> Result<(), Fail> {
-    let key = test_key();
-    let jar = CookieJar::new(rt.alloc());
-    let Some(cookie) = verify(&jar, &key, with_all_fields("id", SIGNED))? else {
-        return Err(Fail::new("it isn't verified"));
-    };
-    assert!(rt; cookie.name() == "id" && cookie.value() == "Tamper-proof");
-    assert!(rt; has_all_fields(&cookie));
+    assert!(rt; keeps_all_fields(&CookieJar::new(rt.alloc()), &test_key())?);
     Ok(())
 }
 
-// The encoded text of the cookie that the jar shows.
-fn encoded_text(alloc: Global, jar: &CookieJar, name: &str) -> Result<String, Fail> {
-    let cookie = jar.get(name).ok_or("a cookie")?;
-    Ok(cookie.encoded().to_string(alloc)?)
+// Whether the jar shows the stored value, and prints its cookie as the text.
+fn is_printed(alloc: Global, jar: &CookieJar, stored: &str, text: &str) -> Result<bool, Fail> {
+    let cookie = jar.get("id").ok_or("a cookie")?;
+    let encoded = cookie.encoded().to_string(alloc)?;
+    Ok(cookie.value() == stored && encoded.as_str() == text)
 }
 
 #[test]
 fn a_signed_cookie_is_printed_with_its_signature(rt: HostRuntime) -> Result<(), Fail> {
+    let text = "id=cMcV8FaG%2Fz%2FJS4bYk1VWqDagQ9aCoYD675qpIOI2XKU%3DTamper-proof";
     let mut jar = CookieJar::new(rt.alloc());
-    add(&mut jar, &test_key(), "id", "Tamper-proof")?;
-    assert!(rt; shown_value(&jar, "id") == Some(SIGNED));
-    let text = encoded_text(rt.alloc(), &jar, "id")?;
-    assert_eq!(rt;
-        text.as_str(),
-        "id=cMcV8FaG%2Fz%2FJS4bYk1VWqDagQ9aCoYD675qpIOI2XKU%3DTamper-proof"
-    );
+    add_signed(&mut jar, &test_key(), Cookie::new("id", "Tamper-proof"))?;
+    assert!(rt; is_printed(rt.alloc(), &jar, SIGNED, text)?);
     Ok(())
 }
 
@@ -310,7 +299,7 @@ fn is_signed_as(
 ) -> Result<bool, Fail> {
     let key = test_key();
     let mut jar = CookieJar::new(alloc);
-    add(&mut jar, &key, name, value)?;
+    add_signed(&mut jar, &key, Cookie::new(name, value))?;
     Ok(shown_value(&jar, name) == Some(text) && answers(&jar, &key, name, value)?)
 }
 
@@ -349,8 +338,8 @@ fn a_signed_original_is_no_change(rt: HostRuntime) -> Result<(), Fail> {
     let mut jar = CookieJar::new(rt.alloc());
     add_original(&mut jar, &key, Cookie::new("id", "Tamper-proof"))?;
     let steps = [Step::Counts(0, 1), Step::Shows("id", SIGNED)];
-    assert_eq!(rt; first_wrong(&mut jar, &steps)?, None);
+    assert!(rt; first_wrong(&mut jar, &steps)?.is_none());
     remove(&mut jar, &key, "id")?;
-    assert_eq!(rt; counts(&jar), (1, 0));
+    assert!(rt; counts(&jar) == (1, 0));
     Ok(())
 }

@@ -91,7 +91,7 @@ fn a_wrong_row_is_found(rt: HostRuntime) -> Result<(), Fail> {
         (other, true),
     ] {
         let found = is_right(rt.alloc(), RandomState::new(&rt)?, &row)?;
-        assert_eq!(rt; found, !is_wrong);
+        assert!(rt; found == !is_wrong);
     }
     Ok(())
 }
