@@ -1,6 +1,7 @@
 //! Dates whose answers are known from elsewhere.
 use cookie::{Cookie, DateText, days_after, read_date};
 use jiff::civil::DateTime;
+use std::alloc::Global;
 use std::test::Fail;
 
 // A whole second, if the calendar and a clock have it.
@@ -99,6 +100,11 @@ fn other_texts_are_not_read(rt: HostRuntime) {
     }
 }
 
+// Whether the date is printed as this text.
+fn is_printed(alloc: Global, date: DateTime, text: &str) -> Result<bool, Fail> {
+    Ok(DateText(date).to_string(alloc)?.as_str() == text)
+}
+
 #[test]
 fn dates_are_printed(rt: HostRuntime) -> Result<(), Fail> {
     for (year, month, day, hour, text) in [
@@ -108,8 +114,7 @@ fn dates_are_printed(rt: HostRuntime) -> Result<(), Fail> {
         (9999, 12, 31, 23, "Fri, 31 Dec 9999 23:00:00 GMT"),
     ] {
         let date = DateTime::new(year, month, day, hour, 0, 0, 0)?;
-        let printed = DateText(date).to_string(rt.alloc())?;
-        assert!(rt; printed.as_str() == text, "at {text}");
+        assert!(rt; is_printed(rt.alloc(), date, text)?, "at {text}");
     }
     Ok(())
 }
@@ -128,8 +133,8 @@ fn printed_dates_are_read_by_the_year_rule(rt: HostRuntime) -> Result<(), Fail> 
 fn weekdays_are_not_compared(rt: HostRuntime) -> Result<(), Fail> {
     let date = read_date("Wed, 21 Oct 2017 07:28:00 GMT");
     assert!(rt; date == at(2017, 10, 21, [7, 28, 0]));
-    let text = DateText(date.unwrap_or(DateTime::MIN)).to_string(rt.alloc())?;
-    assert!(rt; text.as_str() == "Sat, 21 Oct 2017 07:28:00 GMT");
+    let date = date.unwrap_or(DateTime::MIN);
+    assert!(rt; is_printed(rt.alloc(), date, "Sat, 21 Oct 2017 07:28:00 GMT")?);
     Ok(())
 }
 
@@ -142,8 +147,8 @@ fn days_are_added(rt: HostRuntime) -> Result<(), Fail> {
         (0, "Wed, 21 Oct 2015 07:28:00 GMT"),
         (7300, "Tue, 16 Oct 2035 07:28:00 GMT"),
     ] {
-        let printed = DateText(days_after(start, days)).to_string(rt.alloc())?;
-        assert!(rt; printed.as_str() == text, "at {days} for {text}");
+        let date = days_after(start, days);
+        assert!(rt; is_printed(rt.alloc(), date, text)?, "at {days} for {text}");
     }
     Ok(())
 }
