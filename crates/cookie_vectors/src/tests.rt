@@ -1,14 +1,14 @@
 //! Rows whose answers come from the crate `cookie` and from the standards.
 mod attributes;
-mod dates;
 mod decoding;
+mod expiries;
 mod fields;
 mod printing;
 mod raw_forms;
 mod reading;
 mod splitting;
 
-use cookie::{Cookie, CookieBuilder};
+use cookie_core::{Cookie, CookieBuilder};
 use std::alloc::Global;
 
 // The cookie that most rows begin with.

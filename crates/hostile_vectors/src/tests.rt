@@ -1,5 +1,3 @@
 //! Texts that a stranger may send.
 mod cuts;
-mod dates;
-mod secrets;
 mod texts;

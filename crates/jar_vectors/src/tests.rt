@@ -1,3 +1,4 @@
 //! Rows whose answers come from the crate `cookie` and from the standards.
 mod jars;
 mod prefixes;
+mod refusals;

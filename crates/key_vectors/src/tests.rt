@@ -4,10 +4,11 @@ mod keyed_step;
 mod keys;
 mod private;
 mod refusals;
+mod secrets;
 mod signed;
 
 use cookie::{Cookie, CookieBuilder, CookieJar, Expiration, Key, SameSite};
-use jar_steps::shown_value;
+use jar_steps::{Step, shown_value};
 use jiff::SignedDuration;
 use std::alloc::Global;
 use std::test::Fail;
@@ -18,6 +19,25 @@ fn is_hidden(jar: &CookieJar, name: &str, value: &str) -> bool {
         Some(text) => text != value,
         None => false,
     }
+}
+
+// Whether the answer is a cookie with the name and this value, or none where no value is wanted.
+fn is_answer(answer: &Option<Cookie<'static>>, name: &str, wanted: Option<&str>) -> bool {
+    match answer {
+        Some(cookie) => cookie.name() == name && Some(cookie.value()) == wanted,
+        None => wanted.is_none(),
+    }
+}
+
+// Makes the calls of the steps on the jar, as in `add a 1; counts 1 1`, and answers whether it shows what it has to.
+fn are_right(jar: &mut CookieJar, steps: &'static str) -> Result<bool, Fail> {
+    for words in steps.split("; ") {
+        let step = Step::parse(words).ok_or("words that are no step")?;
+        if !step.is_right(jar)? {
+            return Ok(false);
+        }
+    }
+    Ok(true)
 }
 
 // A cookie with every attribute.

@@ -1,5 +1,5 @@
 //! Texts that are read with their escapes undone.
-use cookie::{Cookie, ParseError};
+use cookie_core::{Cookie, ParseError};
 use std::test::Fail;
 
 #[test]

@@ -1,9 +1,6 @@
 //! The calls that show and change a cookie's fields, and those of its builder.
-use super::shows_text;
-use cookie::{
-    Cookie, CookieBuilder, Expiration, JarError, KeyError, ParseError, SameSite, days_after,
-    read_date,
-};
+use super::{is_read_as, shows_text};
+use cookie_core::{Cookie, CookieBuilder, Expiration, ParseError, SameSite, days_after, read_date};
 use jiff::SignedDuration;
 use jiff::civil::DateTime;
 use std::alloc::{AllocError, Global};
@@ -14,6 +11,10 @@ fn hash_of(value: SameSite) -> u64 {
     let mut hasher = FoldHasher::default();
     value.hash(&mut hasher);
     hasher.finish()
+}
+
+fn is_trimmed(cookie: &Cookie<'_>, value: &str) -> bool {
+    cookie.value_trimmed() == value && cookie.name_value_trimmed() == ("name", value)
 }
 
 #[test]
@@ -28,9 +29,7 @@ fn a_value_is_trimmed_of_its_quotes(rt: HostRuntime) {
         ("value", "value"),
         ("", ""),
     ] {
-        let cookie = Cookie::new("name", value);
-        assert!(rt; cookie.value_trimmed() == trimmed);
-        assert!(rt; cookie.name_value_trimmed() == ("name", trimmed));
+        assert!(rt; is_trimmed(&Cookie::new("name", value), trimmed));
     }
 }
 
@@ -79,6 +78,12 @@ fn an_age_is_printed_in_whole_seconds(rt: HostRuntime) -> Result<(), Fail> {
     Ok(())
 }
 
+fn with_expiry(expiry: Expiration) -> Cookie<'static> {
+    let mut cookie = Cookie::new("a", "1");
+    cookie.set_expires(expiry);
+    cookie
+}
+
 #[test]
 fn an_expiry_has_a_greatest_value(rt: HostRuntime) -> Result<(), Fail> {
     let midnight = DateTime::new(9999, 12, 31, 0, 0, 0, 0)?;
@@ -89,14 +94,13 @@ fn an_expiry_has_a_greatest_value(rt: HostRuntime) -> Result<(), Fail> {
         (days_after(midnight, 1), greatest),
         (DateTime::MIN, DateTime::MIN),
     ] {
-        let mut cookie = Cookie::new("a", "1");
-        cookie.set_expires(Expiration::DateTime(moment));
+        let cookie = with_expiry(Expiration::DateTime(moment));
         assert!(rt; cookie.expires() == Some(Expiration::DateTime(kept)));
     }
-    let mut cookie = Cookie::new("a", "1");
-    cookie.set_expires(Expiration::Session);
-    assert!(rt; cookie.expires() == Some(Expiration::Session));
-    assert!(rt; cookie.to_string(rt.alloc())?.as_str() == "a=1");
+    let cookie = with_expiry(Expiration::Session);
+    assert!(rt;
+        cookie.expires() == Some(Expiration::Session) && shows_text(rt.alloc(), &cookie, "a=1")
+    );
     Ok(())
 }
 
@@ -135,13 +139,8 @@ fn a_builder_lends_copies_and_gives_its_cookie(rt: HostRuntime) -> Result<(), Fa
     builder.inner_mut().set_path("/y");
     assert!(rt; builder.inner().path() == Some("/y"));
     assert!(rt; is_builder_copied(rt.alloc(), &builder)?);
-    assert!(rt;
-        shows_text(
-            rt.alloc(),
-            &builder.removal(now).build(),
-            "a=; Path=/y; Max-Age=0; Expires=Tue, 21 Oct 2014 07:28:00 GMT"
-        )
-    );
+    let text = "a=; Path=/y; Max-Age=0; Expires=Tue, 21 Oct 2014 07:28:00 GMT";
+    assert!(rt; shows_text(rt.alloc(), &builder.removal(now).build(), text));
     Ok(())
 }
 
@@ -165,7 +164,7 @@ fn cookies_are_equal_without_same_site_and_case_of_the_path(rt: HostRuntime) -> 
             "{other}"
         );
     }
-    assert!(rt; Cookie::parse("a=1; Path=")? != Cookie::new("a", "1"));
+    assert!(rt; !is_read_as("a=1; Path=", &Cookie::new("a", "1")));
     Ok(())
 }
 
@@ -211,8 +210,6 @@ fn small_values_are_cloned_and_compared(rt: HostRuntime) -> Result<(), Fail> {
     assert!(rt; is_cloned(&SameSite::Lax, &SameSite::None)?);
     assert!(rt; is_cloned(&at, &Expiration::Session)?);
     assert!(rt; is_cloned(&ParseError::EmptyName, &ParseError::MissingPair)?);
-    assert!(rt; is_cloned(&JarError::TooLong, &JarError::Generator)?);
-    assert!(rt; is_cloned(&KeyError::TooShort(6), &KeyError::TooShort(7))?);
     Ok(())
 }
 
@@ -279,9 +276,15 @@ fn read_own(alloc: Global, text: &str) -> Result<Cookie<'static>, ParseError> {
     Ok(Cookie::parse_encoded(alloc, text)?.into_owned(alloc)?)
 }
 
+fn is_read_own(alloc: Global, text: &str, wanted: &Cookie<'_>) -> bool {
+    match read_own(alloc, text) {
+        Ok(cookie) => cookie == *wanted,
+        Err(_) => false,
+    }
+}
+
 #[test]
-fn a_text_is_read_and_copied_with_one_error(rt: HostRuntime) -> Result<(), Fail> {
-    assert!(rt; read_own(rt.alloc(), "a=%31")? == Cookie::new("a", "1"));
+fn a_text_is_read_and_copied_with_one_error(rt: HostRuntime) {
+    assert!(rt; is_read_own(rt.alloc(), "a=%31", &Cookie::new("a", "1")));
     assert!(rt; read_own(rt.alloc(), "a").err() == Some(ParseError::MissingPair));
-    Ok(())
 }

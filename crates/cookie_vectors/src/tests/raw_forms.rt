@@ -1,6 +1,6 @@
 //! Borrowed and own texts, and the raw forms that are left of them.
 use super::shows_text;
-use cookie::{Cookie, Layout, ParseError, Span};
+use cookie_core::{Cookie, Layout, ParseError, Span};
 use std::alloc::{AllocError, Global};
 use std::test::Fail;
 
@@ -39,32 +39,36 @@ fn cookie_string_long_lifetimes(rt: HostRuntime) -> Result<(), Fail> {
     Ok(())
 }
 
+// Whether the cookie has all that the text sets.
+fn is_whole(cookie: &Cookie<'_>) -> bool {
+    cookie.name_value() == ("bar", "baz")
+        && (cookie.path(), cookie.domain()) == (Some("/subdir"), Some("crates.io"))
+        && cookie.http_only() == Some(true)
+}
+
 #[test]
 fn owned_cookie_string(rt: HostRuntime) -> Result<(), Fail> {
     let cookie = Cookie::parse_owned(String::from_str(rt.alloc(), SUBDIR)?)?;
-    assert!(rt; cookie.name_value() == ("bar", "baz"));
-    assert!(rt; (cookie.path(), cookie.domain()) == (Some("/subdir"), Some("crates.io")));
-    assert!(rt; cookie.http_only() == Some(true));
-    assert!(rt; lends_nothing(&cookie));
+    assert!(rt; is_whole(&cookie) && lends_nothing(&cookie));
     Ok(())
+}
+
+fn lends_all(cookie: &Cookie<'_>) -> bool {
+    lends(
+        cookie,
+        Some("bar"),
+        Some("baz"),
+        Some("/subdir"),
+        Some("crates.io"),
+    )
 }
 
 #[test]
 fn owned_cookie_struct(rt: HostRuntime) -> Result<(), Fail> {
     let cookie = Cookie::parse(SUBDIR)?;
-    let copy = cookie.clone(rt.alloc())?;
+    assert!(rt; lends_all(&cookie.clone(rt.alloc())?));
     let own = cookie.into_owned(rt.alloc())?;
-    assert!(rt;
-        lends(
-            &copy,
-            Some("bar"),
-            Some("baz"),
-            Some("/subdir"),
-            Some("crates.io")
-        )
-    );
-    assert!(rt; own.path() == Some("/subdir"));
-    assert!(rt; lends_nothing(&own));
+    assert!(rt; is_whole(&own) && lends_nothing(&own));
     Ok(())
 }
 
@@ -80,17 +84,28 @@ fn lends_all_but_the_value(cookie: &Cookie<'_>) -> bool {
         )
 }
 
+const SPACED: &str = " bar = baz ; Path=/subdir; HttpOnly; Domain=.crates.io";
+
+// The cookie of that text with another value.
+fn with_value() -> Result<Cookie<'static>, Fail> {
+    let mut cookie = Cookie::parse(SPACED)?;
+    cookie.set_value("x");
+    Ok(cookie)
+}
+
+// The same, with a value of its own.
+fn with_own_value(alloc: Global) -> Result<Cookie<'static>, Fail> {
+    let value = String::from_str(alloc, "x")?;
+    let mut cookie = Cookie::parse(SPACED)?;
+    cookie.set_value_owned(value);
+    Ok(cookie)
+}
+
 #[test]
 fn the_raw_value_alone_is_gone_where_the_value_was_set(rt: HostRuntime) -> Result<(), Fail> {
-    let text = " bar = baz ; Path=/subdir; HttpOnly; Domain=.crates.io";
-    let own = String::from_str(rt.alloc(), "x")?;
-    let mut cookie = Cookie::parse(text)?;
-    assert!(rt; cookie.value_raw() == Some("baz"));
-    cookie.set_value("x");
-    assert!(rt; lends_all_but_the_value(&cookie));
-    let mut cookie = Cookie::parse(text)?;
-    cookie.set_value_owned(own);
-    assert!(rt; lends_all_but_the_value(&cookie));
+    assert!(rt; Cookie::parse(SPACED)?.value_raw() == Some("baz"));
+    assert!(rt; lends_all_but_the_value(&with_value()?));
+    assert!(rt; lends_all_but_the_value(&with_own_value(rt.alloc())?));
     Ok(())
 }
 
@@ -131,17 +146,14 @@ fn is_at(span: Span, start: usize, end: usize) -> bool {
 
 #[test]
 fn the_parts_of_a_text_have_their_places(rt: HostRuntime) -> Result<(), Fail> {
-    let text = " bar = baz ; Path=/subdir; HttpOnly; Domain=.crates.io";
-    let layout = Layout::of(text)?;
-    assert!(rt; is_at(layout.name, 1, 4));
-    assert!(rt; is_at(layout.value, 7, 10));
+    let layout = Layout::of(SPACED)?;
+    assert!(rt; is_at(layout.name, 1, 4) && is_at(layout.value, 7, 10));
     let path = layout.attributes.path.ok_or("a path")?;
-    assert!(rt; is_at(path, 18, 25));
     let domain = layout.attributes.domain.ok_or("a domain")?;
-    assert!(rt; is_at(domain, 44, 54));
-    assert!(rt; &text[layout.name.start..layout.name.end] == "bar");
-    assert!(rt; layout.attributes.http_only == Some(true));
-    assert!(rt; layout.attributes.secure.is_none());
+    assert!(rt; is_at(path, 18, 25) && is_at(domain, 44, 54));
+    assert!(rt; &SPACED[layout.name.start..layout.name.end] == "bar");
+    assert!(rt; (layout.attributes.http_only, layout.attributes.secure) == (Some(true), None));
+    assert!(rt; layout.attributes.expires.is_none());
     match Layout::of("bar") {
         Ok(_) => assert!(rt; false, "it is read"),
         Err(error) => assert!(rt; error == ParseError::MissingPair),

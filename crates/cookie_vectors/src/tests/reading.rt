@@ -1,6 +1,6 @@
 //! Texts that are read as one cookie, and those that are refused.
 use super::{foo, is_read_as};
-use cookie::{Cookie, CookieBuilder, Expiration, ParseError, read_date};
+use cookie_core::{Cookie, CookieBuilder, Expiration, ParseError, read_date};
 use jiff::SignedDuration;
 use std::test::Fail;
 

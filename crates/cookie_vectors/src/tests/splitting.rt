@@ -1,5 +1,5 @@
 //! The cookies of a header.
-use cookie::{Cookie, ParseError, SplitCookies};
+use cookie_core::{Cookie, ParseError, SplitCookies};
 use std::test::Fail;
 
 #[test]

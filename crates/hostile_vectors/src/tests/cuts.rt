@@ -1,5 +1,5 @@
 //! A long cookie, cut at every place.
-use cookie::{Cookie, ParseError, SplitCookies};
+use cookie_core::{Cookie, ParseError, SplitCookies};
 use std::alloc::Global;
 use std::test::Fail;
 
@@ -217,21 +217,27 @@ fn name_of(error: ParseError) -> &'static str {
     }
 }
 
+// Puts the item's pair behind the text, and a bar between them.
+fn push_pair(text: &mut String, item: &Result<Cookie<'_>, ParseError>) -> Result<(), Fail> {
+    if !text.is_empty() {
+        text.push_str("|")?;
+    }
+    match item {
+        Ok(cookie) => {
+            text.push_str(cookie.name())?;
+            text.push_str("=")?;
+            text.push_str(cookie.value())?;
+        }
+        Err(error) => text.push_str(name_of(*error))?,
+    }
+    Ok(())
+}
+
 // The pairs of the items, with a bar between them.
 fn pairs(alloc: Global, items: SplitCookies<'_>) -> Result<String, Fail> {
     let mut text = String::new(alloc);
     for item in items {
-        if !text.is_empty() {
-            text.push_str("|")?;
-        }
-        match item {
-            Ok(cookie) => {
-                text.push_str(cookie.name())?;
-                text.push_str("=")?;
-                text.push_str(cookie.value())?;
-            }
-            Err(error) => text.push_str(name_of(error))?,
-        }
+        push_pair(&mut text, &item)?;
     }
     Ok(text)
 }
@@ -251,18 +257,30 @@ enum Reading {
 }
 
 fn answer(alloc: Global, reading: Reading, text: &str) -> Result<String, Fail> {
-    let own = String::from_str(alloc, text)?;
     match reading {
         Reading::Parse => outcome(alloc, &Cookie::parse(text)),
-        Reading::ParseOwned => outcome(alloc, &Cookie::parse_owned(own)),
         Reading::ParseEncoded => outcome(alloc, &Cookie::parse_encoded(alloc, text)),
-        Reading::ParseEncodedOwned => outcome(alloc, &Cookie::parse_encoded_owned(alloc, own)),
         Reading::FromStr => outcome(alloc, &Cookie::from_str(alloc, text)),
         Reading::Split => pairs(alloc, Cookie::split_parse(text)),
-        Reading::SplitOwned => pairs(alloc, Cookie::split_parse_owned(alloc, own)),
         Reading::SplitEncoded => pairs(alloc, Cookie::split_parse_encoded(alloc, text)),
-        Reading::SplitEncodedOwned => pairs(alloc, Cookie::split_parse_encoded_owned(alloc, own)),
+        _ => answer_to_own(alloc, reading, String::from_str(alloc, text)?),
     }
+}
+
+// The same of the readings that take the text.
+fn answer_to_own(alloc: Global, reading: Reading, text: String) -> Result<String, Fail> {
+    match reading {
+        Reading::ParseOwned => outcome(alloc, &Cookie::parse_owned(text)),
+        Reading::ParseEncodedOwned => outcome(alloc, &Cookie::parse_encoded_owned(alloc, text)),
+        Reading::SplitOwned => pairs(alloc, Cookie::split_parse_owned(alloc, text)),
+        Reading::SplitEncodedOwned => pairs(alloc, Cookie::split_parse_encoded_owned(alloc, text)),
+        _ => Err(Fail::new("a reading that lends its text")),
+    }
+}
+
+fn push_answer(alloc: Global, all: &mut String, length: usize, answer: &str) -> Result<(), Fail> {
+    all.push_str(format!(in alloc; "{length} {answer}\n")?.as_str())?;
+    Ok(())
 }
 
 // The answers to the text of each length, each with the first length that has it.
@@ -273,7 +291,7 @@ fn answers(alloc: Global, reading: Reading) -> Result<String, Fail> {
         let text = LONG.get(..length).ok_or("a cut")?;
         let answer = answer(alloc, reading, text)?;
         if length == 0 || answer.as_str() != last.as_str() {
-            all.push_str(format!(in alloc; "{length} {answer}\n")?.as_str())?;
+            push_answer(alloc, &mut all, length, answer.as_str())?;
         }
         last = answer;
     }

@@ -1,5 +1,5 @@
 //! A text of each form of date, cut at every place and with one character changed.
-use cookie::read_date;
+use cookie_date::read_date;
 use std::alloc::{AllocError, Global};
 use std::test::Fail;
 

@@ -1,0 +1,3 @@
+//! Dates that are read, printed and counted on, and texts that a stranger may send.
+mod dates;
+mod hostile;
