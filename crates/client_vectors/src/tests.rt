@@ -9,9 +9,9 @@ mod orders;
 mod prefixed_calls;
 mod private_calls;
 mod rounds;
+mod rows;
 mod sessions;
 mod signed_calls;
-mod step_calls;
 mod streams;
 
 // The moment of most rows, as the argument of the program.

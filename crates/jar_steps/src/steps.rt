@@ -20,7 +20,29 @@ pub enum Step {
     Lacks(&'static str),
 }
 
+fn number(word: &str) -> Option<usize> {
+    word.parse().ok()
+}
+
 impl Step {
+    /// The step that the words say, such as `add a 1`, `lacks a` or `counts 1 2`.
+    pub fn parse(words: &'static str) -> Option<Step> {
+        let (verb, rest) = words.split_once(' ').unwrap_or((words, ""));
+        let (name, value) = rest.split_once(' ').unwrap_or((rest, ""));
+        match verb {
+            "original" => Some(Step::AddOriginal(name, value)),
+            "add" => Some(Step::Add(name, value)),
+            "remove" => Some(Step::Remove(name)),
+            "force" => Some(Step::ForceRemove(name)),
+            "reset" => Some(Step::ResetDelta),
+            "counts" => Some(Step::Counts(number(name)?, number(value)?)),
+            "delta" => Some(Step::DeltaCounts(number(name)?, number(value)?)),
+            "shows" => Some(Step::Shows(name, value)),
+            "lacks" => Some(Step::Lacks(name)),
+            _ => None,
+        }
+    }
+
     /// Makes the call, or answers whether the jar shows what it has to.
     pub fn is_right(self, jar: &mut CookieJar) -> Result<bool, Fail> {
         match self {
@@ -66,5 +88,41 @@ pub fn after(alloc: Global, steps: &[Step]) -> Result<CookieJar, Fail> {
     match first_wrong(&mut jar, steps)? {
         Some(_) => Err(Fail::new("another thing is shown")),
         None => Ok(jar),
+    }
+}
+
+// Plays the row on the jar, and answers whether each of its steps is right. Words that are no step aren't.
+fn is_right(jar: &mut CookieJar, row: &'static str) -> Result<bool, Fail> {
+    let Some((_, steps)) = row.split_once(": ") else {
+        return Ok(false);
+    };
+    for words in steps.split("; ") {
+        match Step::parse(words) {
+            Some(step) => {
+                if !step.is_right(jar)? {
+                    return Ok(false);
+                }
+            }
+            None => return Ok(false),
+        }
+    }
+    Ok(true)
+}
+
+/// The first line that is wrong on a new jar: a title and steps, as in `one: add a 1; shows a 1`.
+pub fn first_wrong_row(alloc: Global, rows: &'static str) -> Result<Option<&'static str>, Fail> {
+    for row in rows.lines() {
+        if !is_right(&mut CookieJar::new(alloc), row)? {
+            return Ok(Some(row));
+        }
+    }
+    Ok(None)
+}
+
+/// Plays each line on a new jar, and fails with the first that is wrong.
+pub fn play_rows(alloc: Global, rows: &'static str) -> Result<(), Fail> {
+    match first_wrong_row(alloc, rows)? {
+        Some(row) => Err(Fail::new(row)),
+        None => Ok(()),
     }
 }

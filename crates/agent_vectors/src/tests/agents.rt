@@ -1,17 +1,9 @@
-//! A new user agent, its copies, and the text of its error.
+//! The copies of a user agent, and the text of its error.
 use super::at;
 use super::places::Place;
 use cookie_agent::{Agent, AgentError};
 use std::alloc::Global;
 use std::test::Fail;
-
-#[test]
-fn a_new_agent_sends_nothing(rt: HostRuntime) -> Result<(), Fail> {
-    let site = Place::Https("example.com", "/").site(rt.alloc())?;
-    let agent = Agent::new(rt.alloc());
-    assert!(rt; agent.header(&site, at(0)?)?.as_str() == "");
-    Ok(())
-}
 
 const SITE: Place = Place::Https("example.com", "/a/b");
 
@@ -21,29 +13,48 @@ fn read(agent: &mut Agent, alloc: Global, text: &str) -> Result<(), Fail> {
     Ok(())
 }
 
-// A copy of an agent with two cookies, once that agent has dropped one of them.
-fn copy_before_change(agent: &mut Agent, alloc: Global) -> Result<Agent, Fail> {
+// Whether the agent sends the line's header to the site at its second.
+fn is_sent(agent: &Agent, alloc: Global, line: &'static str) -> Result<bool, Fail> {
+    let (second, header) = line.split_once(' ').ok_or(line)?;
+    let moment = at(second.parse()?)?;
+    let sent = agent.header(&SITE.site(alloc)?, moment)?;
+    Ok(sent.as_str() == header)
+}
+
+// Fails with the first line whose header isn't sent.
+fn sends(agent: &Agent, alloc: Global, lines: &'static str) -> Result<(), Fail> {
+    for line in lines.lines() {
+        if !is_sent(agent, alloc, line)? {
+            return Err(Fail::new(line));
+        }
+    }
+    Ok(())
+}
+
+#[test]
+fn a_wrong_line_is_found(rt: HostRuntime) -> Result<(), Fail> {
+    assert!(rt; !is_sent(&Agent::new(rt.alloc()), rt.alloc(), "0 b=2")?);
+    Ok(())
+}
+
+// Fails unless a copy keeps its two cookies, once the agent has dropped one of them.
+fn are_apart(agent: &mut Agent, copy: &Agent, alloc: Global) -> Result<(), Fail> {
+    read(agent, alloc, "a=; Max-Age=0")?;
+    sends(agent, alloc, "0 b=2")?;
+    sends(copy, alloc, "4 a=1; b=2\n5 b=2")
+}
+
+// The same of a copy of an agent that stores nothing yet.
+fn copy_is_apart(agent: &mut Agent, alloc: Global) -> Result<(), Fail> {
     read(agent, alloc, "a=1; Max-Age=5")?;
     read(agent, alloc, "b=2; Path=/; Secure")?;
     let copy = agent.clone()?;
-    read(agent, alloc, "a=; Max-Age=0")?;
-    Ok(copy)
-}
-
-// Whether the agent sends the header to the site at the second.
-fn sends(agent: &Agent, alloc: Global, second: i8, header: &str) -> Result<bool, Fail> {
-    let sent = agent.header(&SITE.site(alloc)?, at(second)?)?;
-    Ok(sent.as_str() == header)
+    are_apart(agent, &copy, alloc)
 }
 
 #[test]
 fn a_copy_goes_its_own_way(rt: HostRuntime) -> Result<(), Fail> {
-    let mut agent = Agent::new(rt.alloc());
-    let copy = copy_before_change(&mut agent, rt.alloc())?;
-    assert!(rt; sends(&agent, rt.alloc(), 0, "b=2")?);
-    assert!(rt; sends(&copy, rt.alloc(), 4, "a=1; b=2")?);
-    assert!(rt; sends(&copy, rt.alloc(), 5, "b=2")?);
-    Ok(())
+    copy_is_apart(&mut Agent::new(rt.alloc()), rt.alloc())
 }
 
 #[test]

@@ -1,6 +1,6 @@
 //! The user agent against a second body of it, over requests that are drawn.
 use super::at;
-use super::draws::{Drawing, Draws, NAMES, SPOTS};
+use super::draws::{Drawing, Draws, NAMES, SPOTS, Spot};
 use super::owned_request::{OwnedRequest, visit_each};
 use super::plain_agent::PlainAgent;
 use super::plain_jar::PlainJar;
@@ -32,21 +32,23 @@ fn play(alloc: Global, drawings: &[Drawing], pick: Pick) -> Result<Vec<Visited>,
     visit_each(alloc, &requests, &pick)
 }
 
+// Puts the name that the number chooses of those from the place on in that place.
+fn choose(names: &mut [&str], place: usize, number: usize) {
+    if place < names.len() {
+        let left = &mut names[place..];
+        let chosen = number % left.len();
+        left[..=chosen].rotate_right(1);
+    }
+}
+
 // The names of the jar's delta, in the order in which their texts are read.
 fn names_in_order(alloc: Global, jar: &CookieJar, pick: Pick) -> Result<Vec<&str>, AllocError> {
-    let mut left = Vec::new(alloc);
-    for cookie in jar.delta() {
-        left.push(cookie.name())?;
-    }
     let mut names = Vec::new(alloc);
-    for number in pick {
-        if !left.is_empty() {
-            let place = number % left.len();
-            names.push(left.remove(place))?;
-        }
+    for cookie in jar.delta() {
+        names.push(cookie.name())?;
     }
-    for name in &left {
-        names.push(*name)?;
+    for place in 0..2 {
+        choose(&mut names, place, pick[place]);
     }
     Ok(names)
 }
@@ -81,18 +83,57 @@ fn is_shown_alike(jar: &CookieJar, plain: &PlainJar) -> bool {
     true
 }
 
+// Whether the two agents send the same to the site at the second.
+fn is_header_alike(
+    alloc: Global,
+    agent: &Agent,
+    plain: &PlainAgent,
+    spot: Spot,
+    second: i8,
+) -> Result<bool, Fail> {
+    let moment = at(second)?;
+    let plain_header = plain.header(spot, second)?;
+    let header = agent.header(&spot.place.site(alloc)?, moment)?;
+    Ok(header.as_str() == plain_header.as_str())
+}
+
 // Whether the two agents send the same to each site, at three moments.
 fn is_sent_alike(alloc: Global, agent: &Agent, plain: &PlainAgent) -> Result<bool, Fail> {
     for spot in SPOTS {
-        let site = spot.place.site(alloc)?;
         for second in [0i8, 8, 16] {
-            let header = agent.header(&site, at(second)?)?;
-            if header.as_str() != plain.header(spot, second)?.as_str() {
+            if !is_header_alike(alloc, agent, plain, spot, second)? {
                 return Ok(false);
             }
         }
     }
     Ok(true)
+}
+
+fn is_header(plain: &PlainAgent, drawing: &Drawing, header: &str) -> Result<bool, Fail> {
+    Ok(plain.header(drawing.spot, drawing.second)?.as_str() == header)
+}
+
+// The plain jar of a request after its calls.
+fn plain_jar(plain: &PlainAgent, drawing: &Drawing) -> Result<PlainJar, AllocError> {
+    let mut jar = plain.jar(drawing.spot, drawing.second)?;
+    for one in &drawing.moves {
+        jar.play(*one)?;
+    }
+    Ok(jar)
+}
+
+// Has the plain agent read the response of a request, and answers whether its jar shows and changes the same.
+fn is_read_alike(
+    alloc: Global,
+    plain: &mut PlainAgent,
+    drawing: &Drawing,
+    one: &Visited,
+    pick: Pick,
+) -> Result<bool, Fail> {
+    let jar = plain_jar(plain, drawing)?;
+    let names = names_in_order(alloc, &one.jar, pick)?;
+    let is_read = is_read(plain, drawing, &jar, &names)?;
+    Ok(is_read && is_shown_alike(&one.jar, &jar))
 }
 
 // Makes the calls of a request on a plain jar, and answers whether the same came of them.
@@ -103,32 +144,35 @@ fn is_visited_alike(
     one: &Visited,
     pick: Pick,
 ) -> Result<bool, Fail> {
-    let header = plain.header(drawing.spot, drawing.second)?;
-    let mut jar = plain.jar(drawing.spot, drawing.second)?;
-    for one in &drawing.moves {
-        jar.play(*one)?;
-    }
-    let names = names_in_order(alloc, &one.jar, pick)?;
-    let is_read = is_read(plain, drawing, &jar, &names)?;
-    let is_alike = is_read && is_shown_alike(&one.jar, &jar);
+    let is_header = is_header(plain, drawing, one.header.as_str())?;
+    let is_alike = is_read_alike(alloc, plain, drawing, one, pick)?;
     let are_accepted = one.outcomes.iter().all(|outcome| *outcome);
     let is_sent_alike = is_sent_alike(alloc, &one.agent, plain)?;
-    Ok(is_alike && are_accepted && is_sent_alike && header.as_str() == one.header.as_str())
+    Ok(is_header && is_alike && are_accepted && is_sent_alike)
+}
+
+// Whether a plain agent makes the same of the requests.
+fn are_made_alike(
+    alloc: Global,
+    drawings: &[Drawing],
+    visited: &[Visited],
+    pick: Pick,
+) -> Result<bool, Fail> {
+    let mut plain = PlainAgent::new(alloc);
+    for index in 0..drawings.len() {
+        let Some(one) = visited.get(index) else {
+            return Ok(false);
+        };
+        if !is_visited_alike(alloc, &mut plain, &drawings[index], one, pick)? {
+            return Ok(false);
+        }
+    }
+    Ok(visited.len() == drawings.len())
 }
 
 // Whether the requests come to the same with both bodies.
 fn are_visited_alike(alloc: Global, drawings: &[Drawing], pick: Pick) -> Result<bool, Fail> {
-    let visited = play(alloc, drawings, pick)?;
-    if visited.len() != drawings.len() {
-        return Ok(false);
-    }
-    let mut plain = PlainAgent::new(alloc);
-    for index in 0..drawings.len() {
-        if !is_visited_alike(alloc, &mut plain, &drawings[index], &visited[index], pick)? {
-            return Ok(false);
-        }
-    }
-    Ok(true)
+    are_made_alike(alloc, drawings, &play(alloc, drawings, pick)?, pick)
 }
 
 #[test]

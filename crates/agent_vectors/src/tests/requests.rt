@@ -1,20 +1,13 @@
 //! Many requests of one user agent, and the trap of removals.
 use super::at;
 use super::owned_request::{OwnedRequest, visit_each};
-use super::places::Place::{self, Http, Https};
+use super::places::Place;
 use cookie::{Cookie, CookieBuilder};
 use cookie_agent::Visited;
 use cookie_client::{ChildCall, JarCall, PrefixKind};
 use jiff::SignedDuration;
 use std::alloc::Global;
-use std::process::Abort;
 use std::test::Fail;
-
-const LOGIN: Place = Https("example.com", "/login");
-
-const MAIL: Place = Https("example.com", "/account/mail");
-
-const WWW: Place = Http("www.example.com", "/a/b");
 
 fn root(name: &'static str, value: &'static str) -> CookieBuilder<'static> {
     CookieBuilder::new(name, value).path("/")
@@ -43,17 +36,35 @@ enum Move {
     Nothing,
 }
 
-const NO_MOVES: [Move; 3] = [Move::Nothing, Move::Nothing, Move::Nothing];
-
-fn one(first: Move) -> [Move; 3] {
-    [first, Move::Nothing, Move::Nothing]
-}
-
-fn two(first: Move, second: Move) -> [Move; 3] {
-    [first, second, Move::Nothing]
-}
-
 impl Move {
+    // The move that the words say, such as `add n=1`, `add_for 5 n=1`, `remove_wide example.com n` or `nothing`.
+    fn parse(words: &'static str) -> Option<Move> {
+        let (verb, rest) = words.split_once(' ').unwrap_or((words, ""));
+        let (name, value) = rest.split_once('=').unwrap_or((rest, ""));
+        match verb {
+            "add" => Some(Move::Add(name, value)),
+            "remove_bare" => Some(Move::RemoveBare(rest)),
+            "remove" => Some(Move::Remove(rest)),
+            "add_host" => Some(Move::AddHost(name, value)),
+            "remove_host" => Some(Move::RemoveHost(rest)),
+            "reset" => Some(Move::ResetDelta),
+            "nothing" => Some(Move::Nothing),
+            _ => Move::parse_with(verb, rest),
+        }
+    }
+
+    // The move of a verb whose first word isn't the name.
+    fn parse_with(verb: &str, rest: &'static str) -> Option<Move> {
+        let (first, rest) = rest.split_once(' ')?;
+        let (name, value) = rest.split_once('=').unwrap_or((rest, ""));
+        match verb {
+            "add_for" => Some(Move::AddFor(name, value, first.parse().ok()?)),
+            "add_wide" => Some(Move::AddWide(name, value, first)),
+            "remove_wide" => Some(Move::RemoveWide(rest, first)),
+            _ => None,
+        }
+    }
+
     // The call, unless there is none.
     fn call(self) -> Result<Option<JarCall<'static>>, Fail> {
         let now = at(0)?;
@@ -85,205 +96,219 @@ impl Move {
     }
 }
 
-// A request of the rows: where and when it is made, its calls, and the header that the agent sends there after it.
+// A request of the rows: where and when it is made, its moves, and the header that the agent sends there after it.
 #[derive(Clone, Copy)]
-struct Row {
+struct Line {
     place: Place,
     second: i8,
-    moves: [Move; 3],
+    moves: &'static str,
     header: &'static str,
 }
 
-fn request_to(place: Place, second: i8, moves: [Move; 3], header: &'static str) -> Row {
-    Row {
-        place,
-        second,
-        moves,
-        header,
+impl Line {
+    // The request that the line says, such as `https://example.com/login 0 | add n=1, add m=2 | n=1; m=2`.
+    fn parse(line: &'static str) -> Option<Line> {
+        let (spot, rest) = line.split_once(" | ")?;
+        let (moves, header) = rest.split_once(" | ")?;
+        let (url, second) = spot.split_once(' ')?;
+        Some(Line {
+            place: Place::parse(url)?,
+            second: second.parse().ok()?,
+            moves,
+            header,
+        })
     }
 }
 
-fn request_of(alloc: Global, row: Row) -> Result<OwnedRequest, Fail> {
-    let mut calls = Vec::new(alloc);
-    for one in &row.moves {
-        if let Some(call) = one.call()? {
-            calls.push(call)?;
-        }
+// Puts the call that the words say at the end, unless there is none.
+fn push_call(calls: &mut Vec<JarCall<'static>>, words: &'static str) -> Result<(), Fail> {
+    if let Some(call) = Move::parse(words).ok_or(words)?.call()? {
+        calls.push(call)?;
     }
+    Ok(())
+}
+
+fn calls_of(alloc: Global, moves: &'static str) -> Result<Vec<JarCall<'static>>, Fail> {
+    let mut calls = Vec::new(alloc);
+    for words in moves.split(", ") {
+        push_call(&mut calls, words)?;
+    }
+    Ok(calls)
+}
+
+fn request_of(alloc: Global, line: Line) -> Result<OwnedRequest, Fail> {
     Ok(OwnedRequest {
-        site: row.place.site(alloc)?,
-        calls,
-        moment: at(row.second)?,
+        site: line.place.site(alloc)?,
+        calls: calls_of(alloc, line.moves)?,
+        moment: at(line.second)?,
     })
 }
 
-// What comes of the requests.
-fn play(alloc: Global, rows: &[Row], pick: &[usize]) -> Result<Vec<Visited>, Fail> {
+// What comes of the requests of the lines.
+fn play(alloc: Global, lines: &'static str, pick: &[usize]) -> Result<Vec<Visited>, Fail> {
     let mut requests = Vec::new(alloc);
-    for row in rows {
-        requests.push(request_of(alloc, *row)?)?;
+    for line in lines.lines() {
+        let line = Line::parse(line).ok_or(line)?;
+        requests.push(request_of(alloc, line)?)?;
     }
     visit_each(alloc, &requests, pick)
 }
 
-// Whether the request's agent then sends the header to its place.
-fn is_right(alloc: Global, row: Row, visited: &Visited) -> Result<bool, Fail> {
-    let site = row.place.site(alloc)?;
-    let header = visited.agent.header(&site, at(row.second)?)?;
-    Ok(header.as_str() == row.header)
+// Whether the agent of the line's request then sends the header to its place.
+fn is_sent(alloc: Global, line: &'static str, visited: &Visited) -> Result<bool, Fail> {
+    let line = Line::parse(line).ok_or(line)?;
+    let site = line.place.site(alloc)?;
+    let header = visited.agent.header(&site, at(line.second)?)?;
+    Ok(header.as_str() == line.header)
 }
 
-// The place of the first request after which another header is sent.
-fn first_wrong(alloc: Global, rows: &[Row], pick: &[usize]) -> Result<Option<usize>, Fail> {
-    let visited = play(alloc, rows, pick)?;
-    if visited.len() != rows.len() {
-        return Err(Fail::new("another count"));
-    }
-    for index in 0..rows.len() {
-        if !is_right(alloc, rows[index], &visited[index])? {
-            return Ok(Some(index));
+// Whether each line's request leaves its agent with its header.
+fn are_sent(alloc: Global, lines: &'static str, visited: &[Visited]) -> Result<bool, Fail> {
+    let mut count = 0usize;
+    for line in lines.lines() {
+        let Some(one) = visited.get(count) else {
+            return Ok(false);
+        };
+        if !is_sent(alloc, line, one)? {
+            return Ok(false);
         }
+        count = count.saturating_add(1);
     }
-    Ok(None)
+    Ok(count == visited.len())
 }
 
-// Fails unless each request leaves its agent with the header of its row.
-fn plays(rt: &impl Abort, alloc: Global, rows: &[Row]) -> Result<(), Fail> {
-    assert!(rt; first_wrong(alloc, rows, &[])?.is_none());
-    Ok(())
+// Whether the lines' requests, once they are made, leave their agents with their headers.
+fn plays(alloc: Global, lines: &'static str, pick: &[usize]) -> Result<bool, Fail> {
+    are_sent(alloc, lines, &play(alloc, lines, pick)?)
 }
 
-// What the last of the requests came to.
-fn last_of(alloc: Global, rows: &[Row]) -> Result<Visited, Fail> {
-    let mut visited = play(alloc, rows, &[])?;
-    Ok(visited.pop().ok_or("no request")?)
+// Whether the requests below the row's title do.
+fn is_right(alloc: Global, row: &'static str) -> Result<bool, Fail> {
+    let (_, lines) = row.split_once(":\n").ok_or(row)?;
+    plays(alloc, lines, &[])
 }
 
 #[test]
 fn a_wrong_row_is_found(rt: HostRuntime) -> Result<(), Fail> {
-    let rows = [
-        request_to(LOGIN, 0, one(Move::Add("n", "1")), "n=1"),
-        request_to(MAIL, 0, NO_MOVES, "n=2"),
-    ];
-    assert!(rt; first_wrong(rt.alloc(), &rows, &[])? == Some(1));
+    for row in WRONG.split("\n\n") {
+        assert!(rt; !is_right(rt.alloc(), row)?, "{row}");
+    }
     Ok(())
 }
 
-// The trap: a removal without the path asks for `/account`.
-#[test]
-fn a_removal_without_the_path_removes_nothing(rt: HostRuntime) -> Result<(), Fail> {
-    plays(
-        &rt,
-        rt.alloc(),
-        &[
-            request_to(LOGIN, 0, one(Move::Add("n", "1")), "n=1"),
-            request_to(MAIL, 1, one(Move::RemoveBare("n")), "n=1"),
-            request_to(MAIL, 2, one(Move::Remove("n")), ""),
-        ],
-    )
-}
+// The last request of each has another header.
+const WRONG: &str = "\
+it is added:
+https://example.com/login 0 | add n=1 | n=1
+https://example.com/account/mail 0 | nothing | n=2
 
-// At `/login` it asks for `/`.
-#[test]
-fn a_removal_without_the_path_removes_at_the_top(rt: HostRuntime) -> Result<(), Fail> {
-    plays(
-        &rt,
-        rt.alloc(),
-        &[
-            request_to(LOGIN, 0, one(Move::Add("n", "1")), "n=1"),
-            request_to(LOGIN, 1, one(Move::RemoveBare("n")), ""),
-        ],
-    )
-}
+its age has ended:
+https://example.com/login 0 | add_for 5 n=1 | n=1
+https://example.com/account/mail 5 | nothing | n=1
 
-#[test]
-fn a_removal_without_the_domain_removes_nothing(rt: HostRuntime) -> Result<(), Fail> {
-    plays(
-        &rt,
-        rt.alloc(),
-        &[
-            request_to(WWW, 0, one(Move::AddWide("n", "1", "example.com")), "n=1"),
-            request_to(LOGIN, 0, NO_MOVES, "n=1"),
-            request_to(WWW, 1, one(Move::Remove("n")), "n=1"),
-            request_to(WWW, 2, one(Move::RemoveWide("n", "example.com")), ""),
-        ],
-    )
-}
+it is one host's:
+http://www.example.com/a/b 0 | add_wide example.com n=1 | n=1
+https://example.com/login 0 | nothing | 
 
-#[test]
-fn a_jar_of_the_host_prefix_always_removes(rt: HostRuntime) -> Result<(), Fail> {
-    plays(
-        &rt,
-        rt.alloc(),
-        &[
-            request_to(LOGIN, 0, one(Move::AddHost("n", "1")), "__Host-n=1"),
-            request_to(MAIL, 1, one(Move::RemoveHost("n")), ""),
-        ],
-    )
-}
+it stays without the path:
+https://example.com/login 0 | add n=1 | n=1
+https://example.com/account/mail 1 | remove_bare n | 
+
+it goes with the path:
+https://example.com/login 0 | add n=1 | n=1
+https://example.com/account/mail 1 | remove n | n=1
+
+it goes with the domain:
+http://www.example.com/a/b 0 | add_wide example.com n=1 | n=1
+http://www.example.com/a/b 1 | remove_wide example.com n | n=1
+
+it has the prefix:
+https://example.com/login 0 | add_host n=1 | n=1
+
+it goes with the prefix:
+https://example.com/login 0 | add_host n=1 | __Host-n=1
+https://example.com/account/mail 1 | remove_host n | __Host-n=1
+
+it is reset:
+https://example.com/login 0 | add n=1, reset | n=1";
+
+const NO_LINES: &str = "\
+https://example.com/login 0 | add n=1
+https://example.com/login | add n=1 | n=1
+https://example.com/login soon | add n=1 | n=1
+example.com/login 0 | add n=1 | n=1";
+
+const NO_MOVES: &str = "\
+puts n=1
+add_for n=1
+add_for ever n=1
+puts 5 n=1
+
+";
 
 #[test]
-fn an_age_ends_between_requests(rt: HostRuntime) -> Result<(), Fail> {
-    plays(
-        &rt,
-        rt.alloc(),
-        &[
-            request_to(
-                LOGIN,
-                0,
-                two(Move::AddFor("n", "1", 5), Move::Add("m", "2")),
-                "n=1; m=2",
-            ),
-            request_to(MAIL, 4, NO_MOVES, "n=1; m=2"),
-            request_to(MAIL, 5, NO_MOVES, "m=2"),
-        ],
-    )
+fn words_that_are_no_request_are_found(rt: HostRuntime) {
+    for line in NO_LINES.lines() {
+        assert!(rt; Line::parse(line).is_none(), "{line}");
+    }
+    for words in NO_MOVES.lines() {
+        assert!(rt; Move::parse(words).is_none(), "{words}");
+    }
 }
 
-#[test]
-fn what_is_reset_is_not_sent(rt: HostRuntime) -> Result<(), Fail> {
-    plays(
-        &rt,
-        rt.alloc(),
-        &[
-            request_to(LOGIN, 0, two(Move::Add("n", "1"), Move::ResetDelta), ""),
-            request_to(
-                LOGIN,
-                0,
-                [Move::Add("m", "2"), Move::ResetDelta, Move::Add("o", "3")],
-                "o=3",
-            ),
-        ],
-    )
-}
+const ROWS: &str = "\
+a removal without the path removes nothing (the trap: it asks for `/account`):
+https://example.com/login 0 | add n=1 | n=1
+https://example.com/account/mail 1 | remove_bare n | n=1
+https://example.com/account/mail 2 | remove n | 
+
+a removal without the path removes at the top (at `/login` it asks for `/`):
+https://example.com/login 0 | add n=1 | n=1
+https://example.com/login 1 | remove_bare n | 
+
+a removal without the domain removes nothing:
+http://www.example.com/a/b 0 | add_wide example.com n=1 | n=1
+https://example.com/login 0 | nothing | n=1
+http://www.example.com/a/b 1 | remove n | n=1
+http://www.example.com/a/b 2 | remove_wide example.com n | 
+
+a jar of the host prefix always removes:
+https://example.com/login 0 | add_host n=1 | __Host-n=1
+https://example.com/account/mail 1 | remove_host n | 
+
+an age ends between requests:
+https://example.com/login 0 | add_for 5 n=1, add m=2 | n=1; m=2
+https://example.com/account/mail 4 | nothing | n=1; m=2
+https://example.com/account/mail 5 | nothing | m=2
+
+what is reset is not sent:
+https://example.com/login 0 | add n=1, reset | 
+https://example.com/login 0 | add m=2, reset, add o=3 | o=3
+
+escapes go through the requests:
+https://example.com/login 0 | add a b=; | a%20b=%3B
+https://example.com/account/mail 0 | nothing | a%20b=%3B
+https://example.com/account/mail 0 | add \u{e9}=, remove a b | %C3%A9=
+";
 
 #[test]
-fn escapes_go_through_the_requests(rt: HostRuntime) -> Result<(), Fail> {
-    plays(
-        &rt,
-        rt.alloc(),
-        &[
-            request_to(LOGIN, 0, one(Move::Add("a b", ";")), "a%20b=%3B"),
-            request_to(MAIL, 0, NO_MOVES, "a%20b=%3B"),
-            request_to(
-                MAIL,
-                0,
-                two(Move::Add("\u{e9}", ""), Move::Remove("a b")),
-                "%C3%A9=",
-            ),
-        ],
-    )
+fn each_request_leaves_its_header(rt: HostRuntime) -> Result<(), Fail> {
+    for row in ROWS.split("\n\n") {
+        assert!(rt; is_right(rt.alloc(), row)?, "{row}");
+    }
+    Ok(())
 }
 
 #[test]
 fn no_request_at_all_comes_to_nothing(rt: HostRuntime) -> Result<(), Fail> {
-    assert!(rt; first_wrong(rt.alloc(), &[], &[3])?.is_none());
+    assert!(rt; plays(rt.alloc(), "", &[3])?);
     Ok(())
 }
 
-// Whether two calls were accepted, and the jar shows `m` alone.
+// Whether the header was sent, two calls were accepted, and the jar shows `m` alone.
 fn shows_the_other_original(visited: &Visited) -> bool {
-    visited.outcomes.as_slice() == [true; 2].as_slice()
+    visited.header.as_str() == "n=1; m=2"
+        && visited.outcomes.as_slice() == [true; 2].as_slice()
         && visited.jar.get("n").is_none()
         && visited
             .jar
@@ -291,25 +316,20 @@ fn shows_the_other_original(visited: &Visited) -> bool {
             .is_some_and(|cookie| cookie.value() == "2")
 }
 
+const TWO_ORIGINALS: &str = "\
+https://example.com/login 0 | add n=1, add m=2 | n=1; m=2
+https://example.com/account/mail 0 | remove_bare n, remove_bare absent | n=1; m=2
+";
+
+// Whether the last of the requests shows it.
+fn begins_with_the_header(alloc: Global) -> Result<bool, Fail> {
+    let visited = play(alloc, TWO_ORIGINALS, &[])?;
+    Ok(visited.last().is_some_and(shows_the_other_original))
+}
+
 // The jar shows what the header brought, and the calls that change nothing are accepted.
 #[test]
 fn a_jar_begins_with_the_header(rt: HostRuntime) -> Result<(), Fail> {
-    let rows = [
-        request_to(
-            LOGIN,
-            0,
-            two(Move::Add("n", "1"), Move::Add("m", "2")),
-            "n=1; m=2",
-        ),
-        request_to(
-            MAIL,
-            0,
-            two(Move::RemoveBare("n"), Move::RemoveBare("absent")),
-            "n=1; m=2",
-        ),
-    ];
-    let last = last_of(rt.alloc(), &rows)?;
-    assert!(rt; last.header.as_str() == "n=1; m=2");
-    assert!(rt; shows_the_other_original(&last));
+    assert!(rt; begins_with_the_header(rt.alloc())?);
     Ok(())
 }

@@ -1,188 +1,206 @@
 //! Which calls a user agent can follow.
 use super::at;
-use super::places::Place::{self, Address, Http, Https};
-use cookie::{Cookie, CookieBuilder, Expiration, Key, SameSite};
-use cookie_agent::{Scope, is_scoped};
+use super::places::{Place, attribute, truth, two_words};
+use cookie::{Cookie, Expiration, Key, SameSite};
+use cookie_agent::{Scope, Site, is_scoped};
 use cookie_client::{ChildCall, JarCall, PrefixKind};
 use jiff::SignedDuration;
+use jiff::civil::DateTime;
 use std::alloc::Global;
 use std::test::Fail;
 
-const BELOW: Place = Https("www.example.com", "/a/b");
+// A title, whether the call is in the scope of the whole host, the site, and the call.
+const WHOLE: &str = "\
+a cookie: true https://www.example.com/a/b add n=1; Path=/
+one that is live: true https://www.example.com/a/b add n=1; Path=/; Expires=1
+a secure one: true https://www.example.com/a/b add n=1; Path=/; Secure=true
+a removal: true https://www.example.com/a/b remove n=1; Path=/
+a reset: true https://www.example.com/a/b reset
+no path: false https://www.example.com/a/b add n=1
+another path: false https://www.example.com/a/b add n=1; Path=/a
+a semicolon: false https://www.example.com/a/b add n=1; Path=/;
+a space at the end: false https://www.example.com/a/b add n=1; Path=/ 
+a control character: false https://www.example.com/a/b add n=1; Path=/\u{1}
+a domain: false https://www.example.com/a/b add n=1; Path=/; Domain=www.example.com
+one that has passed: false https://www.example.com/a/b add n=1; Path=/; Expires=0
+one without an age: false https://www.example.com/a/b add n=1; Path=/; Max-Age=0
+one without a name: false https://www.example.com/a/b add =1; Path=/
+a removal without a path: false https://www.example.com/a/b remove n=1
+an original: false https://www.example.com/a/b original n=1; Path=/
+a forced removal: false https://www.example.com/a/b force
+an insecure connection: true http://www.example.com/a/b add n=1; Path=/
+a secure one over it: false http://www.example.com/a/b add n=1; Path=/; Secure=true
+an insecure one over it: true http://www.example.com/a/b add n=1; Path=/; Secure=false
+one of all sites over it: false http://www.example.com/a/b add n=1; Path=/; SameSite=None
+a partitioned one over it: false http://www.example.com/a/b add n=1; Path=/; Partitioned=true
+one with the prefix `__Host-`: true https://www.example.com/a/b host_add n
+a removal with it: true https://www.example.com/a/b host_remove n
+one with the prefix `__Secure-`: false https://www.example.com/a/b secure_add n
+one with it and a path: true https://www.example.com/a/b secure_add n=1; Path=/
+a signed one: true https://www.example.com/a/b signed_add n=1; Path=/
+a signed one without a path: false https://www.example.com/a/b signed_add n
+a removal through a private jar: true https://www.example.com/a/b private_remove n=1; Path=/
+an address: true address://10.0.0.1/x/y add n=1; Path=/
+";
 
-const PLAIN: Place = Http("www.example.com", "/a/b");
+// Each the other way round.
+const WRONG_WHOLE: &str = "\
+a cookie: false https://www.example.com/a/b add n=1; Path=/
+no path: true https://www.example.com/a/b add n=1
+one that is live: false https://www.example.com/a/b add n=1; Path=/; Expires=1
+one that has passed: true https://www.example.com/a/b add n=1; Path=/; Expires=0
+one without an age: true https://www.example.com/a/b add n=1; Path=/; Max-Age=0
+a domain: true https://www.example.com/a/b add n=1; Path=/; Domain=www.example.com
+a secure one: true http://www.example.com/a/b add n=1; Path=/; Secure=true
+one of all sites: true http://www.example.com/a/b add n=1; Path=/; SameSite=None
+a partitioned one: true http://www.example.com/a/b add n=1; Path=/; Partitioned=true
+a removal: false https://www.example.com/a/b remove n=1; Path=/
+a reset: false https://www.example.com/a/b reset
+an original: true https://www.example.com/a/b original n=1; Path=/
+a forced removal: true https://www.example.com/a/b force
+one with the prefix `__Host-`: false https://www.example.com/a/b host_add n
+a removal with it: false https://www.example.com/a/b host_remove n
+one with the prefix `__Secure-`: true https://www.example.com/a/b secure_add n
+a signed one: false https://www.example.com/a/b signed_add n=1; Path=/
+a removal through a private jar: false https://www.example.com/a/b private_remove n=1; Path=/";
 
-fn n() -> CookieBuilder<'static> {
-    CookieBuilder::new("n", "1")
+// Gives the cookie the attribute.
+fn set(cookie: &mut Cookie<'static>, part: &'static str) -> Result<(), Fail> {
+    let (name, value) = part.split_once('=').ok_or(part)?;
+    match name {
+        "Path" => cookie.set_path(value),
+        "Domain" => cookie.set_domain(value),
+        "Expires" => cookie.set_expires(Expiration::DateTime(at(value.parse()?)?)),
+        "Max-Age" => cookie.set_max_age(Some(SignedDuration::from_secs(value.parse()?))),
+        "Secure" => cookie.set_secure(truth(value)),
+        "SameSite" if value == "None" => cookie.set_same_site(Some(SameSite::None)),
+        "Partitioned" => cookie.set_partitioned(truth(value)),
+        _ => return Err(Fail::new(part)),
+    }
+    Ok(())
 }
 
-fn root() -> CookieBuilder<'static> {
-    n().path("/")
+// The cookie of a text such as `n=1; Path=/; Max-Age=0`.
+fn cookie_of(text: &'static str) -> Result<Cookie<'static>, Fail> {
+    let mut parts = text.split("; ");
+    let pair = parts.next().ok_or(text)?;
+    let (name, value) = pair.split_once('=').unwrap_or((pair, ""));
+    let mut cookie = Cookie::new(name, value);
+    for part in parts {
+        set(&mut cookie, part)?;
+    }
+    Ok(cookie)
 }
 
-fn adds(builder: CookieBuilder<'static>) -> JarCall<'static> {
-    JarCall::Add(builder.build())
+// The call of words such as `add n=1; Path=/`, at the first moment.
+fn call_of<'k>(alloc: Global, key: &'k Key, words: &'static str) -> Result<JarCall<'k>, Fail> {
+    let (verb, text) = words.split_once(' ').unwrap_or((words, ""));
+    let now = at(0)?;
+    let cookie = cookie_of(text)?;
+    match verb {
+        "original" => Ok(JarCall::AddOriginal(cookie)),
+        "add" => Ok(JarCall::Add(cookie)),
+        "remove" => Ok(JarCall::Remove(cookie, now)),
+        "force" => Ok(JarCall::ForceRemove(String::new(alloc))),
+        "reset" => Ok(JarCall::ResetDelta),
+        "host_add" => Ok(JarCall::Prefixed(PrefixKind::Host, ChildCall::Add(cookie))),
+        "host_remove" => Ok(JarCall::Prefixed(PrefixKind::Host, ChildCall::Remove(cookie, now))),
+        "secure_add" => Ok(JarCall::Prefixed(PrefixKind::Secure, ChildCall::Add(cookie))),
+        "signed_add" => Ok(JarCall::Signed(key, ChildCall::Add(cookie))),
+        "private_remove" => Ok(JarCall::Private(key, [0; 12], ChildCall::Remove(cookie, now))),
+        _ => Err(Fail::new(words)),
+    }
 }
 
-// A cookie with neither path nor domain.
-fn bare() -> Cookie<'static> {
-    Cookie::named("n")
+// Whether the call is in the scope, at the site.
+fn is_in(call: JarCall<'_>, site: &Site, scope: &Scope, now: DateTime) -> bool {
+    let calls = [call];
+    is_scoped(&calls[0], site, scope, now)
 }
 
-// The scope of a cookie of the place with this path and this domain.
-fn scope(
-    alloc: Global,
-    place: Place,
-    path: Option<&str>,
-    domain: Option<&str>,
-) -> Result<Scope, Fail> {
-    let scope = place.site(alloc)?.scope(alloc, path, domain)?;
-    Ok(scope.ok_or("a scope")?)
-}
-
-// Whether the call is in the scope of the whole host, at the place.
-fn is_whole(alloc: Global, call: &JarCall<'_>, place: Place) -> Result<bool, Fail> {
-    let site = place.site(alloc)?;
+// Whether the call that the words say is in the scope of the whole host, at the site.
+fn is_in_host(alloc: Global, key: &Key, words: &'static str, site: &Site) -> Result<bool, Fail> {
+    let now = at(0)?;
     let scope = site.host_scope(alloc)?;
-    Ok(is_scoped(call, &site, &scope, at(0)?))
+    Ok(is_in(call_of(alloc, key, words)?, site, &scope, now))
+}
+
+// The same at the site of the URL.
+fn is_whole(alloc: Global, words: &'static str, url: &'static str) -> Result<bool, Fail> {
+    let site = Place::site_of(alloc, url)?;
+    is_in_host(alloc, &Key::from(&[7; 64]), words, &site)
+}
+
+fn is_right(alloc: Global, row: &'static str) -> Result<bool, Fail> {
+    let (_, words) = row.split_once(": ").ok_or(row)?;
+    let (wanted, url, words) = two_words(words).ok_or(row)?;
+    Ok(Some(is_whole(alloc, words, url)?) == truth(wanted))
 }
 
 #[test]
-fn these_calls_are_in_the_whole_host(rt: HostRuntime) -> Result<(), Fail> {
+fn a_wrong_row_is_found(rt: HostRuntime) -> Result<(), Fail> {
+    for row in WRONG_WHOLE.lines() {
+        assert!(rt; !is_right(rt.alloc(), row)?, "{row}");
+    }
+    Ok(())
+}
+
+#[test]
+fn calls_are_in_the_whole_host_or_not(rt: HostRuntime) -> Result<(), Fail> {
+    for row in WHOLE.lines() {
+        assert!(rt; is_right(rt.alloc(), row)?, "{row}");
+    }
+    Ok(())
+}
+
+// Whether an addition for the domain `Example.com` is in the scope, at the site. The scope is that of a cookie of
+// `https://www.example.com/a/b` with the attributes.
+const SCOPES: &str = "\
+true https://www.example.com/a/b Domain=example.com
+true https://a.example.com/a/c Domain=example.com
+true https://example.com/a/c Domain=example.com
+false https://example.com/b/c Domain=example.com
+false https://other.com/a/c Domain=example.com
+false https://www.example.com/a/b
+false https://www.example.com/a/b Path=/; Domain=example.com
+false https://www.example.com/a/b Domain=www.example.com
+";
+
+// The scope of a cookie with the attributes.
+fn scope_of(alloc: Global, text: &'static str) -> Result<Option<Scope>, Fail> {
+    let site = Place::site_of(alloc, "https://www.example.com/a/b")?;
+    Ok(site.scope(alloc, attribute(text, "Path"), attribute(text, "Domain"))?)
+}
+
+// Whether the addition is in the scope, at the site.
+fn is_addition_scoped(site: &Site, scope: &Scope) -> Result<bool, Fail> {
     let now = at(0)?;
-    let later = Expiration::DateTime(at(1)?);
-    for (call, wanted) in &[
-        (adds(root()), "a cookie"),
-        (adds(root().expires(later)), "one that is live"),
-        (adds(root().secure(true)), "a secure one"),
-        (JarCall::Remove(root().build(), now), "a removal"),
-        (JarCall::ResetDelta, "a reset"),
-    ] {
-        let is_whole = is_whole(rt.alloc(), call, BELOW)?;
-        assert!(rt; is_whole, "{wanted}");
-    }
-    Ok(())
+    let cookie = cookie_of("n=1; Domain=Example.com")?;
+    Ok(is_in(JarCall::Add(cookie), site, scope, now))
+}
+
+fn is_scope_right(alloc: Global, row: &'static str) -> Result<bool, Fail> {
+    let (wanted, url, text) = two_words(row).ok_or(row)?;
+    let scope = scope_of(alloc, text)?.ok_or(row)?;
+    let is_scoped = is_addition_scoped(&Place::site_of(alloc, url)?, &scope)?;
+    Ok(Some(is_scoped) == truth(wanted))
 }
 
 #[test]
-fn these_calls_are_in_no_scope(rt: HostRuntime) -> Result<(), Fail> {
-    let now = at(0)?;
-    let passed = Expiration::DateTime(at(0)?);
-    for (call, wanted) in &[
-        (adds(n()), "no path"),
-        (adds(n().path("/a")), "another path"),
-        (adds(n().path("/;")), "a semicolon"),
-        (adds(n().path("/ ")), "a space at the end"),
-        (adds(n().path("/\u{1}")), "a control character"),
-        (adds(root().domain("www.example.com")), "a domain"),
-        (adds(root().expires(passed)), "one that has passed"),
-        (
-            adds(root().max_age(SignedDuration::ZERO)),
-            "one without an age",
-        ),
-        (
-            adds(CookieBuilder::new("", "1").path("/")),
-            "one without a name",
-        ),
-        (
-            JarCall::Remove(n().build(), now),
-            "a removal without a path",
-        ),
-        (JarCall::AddOriginal(root().build()), "an original"),
-        (
-            JarCall::ForceRemove(String::new(rt.alloc())),
-            "a forced removal",
-        ),
+fn a_wrong_scope_is_found(rt: HostRuntime) -> Result<(), Fail> {
+    for row in [
+        "false https://example.com/a/c Domain=example.com",
+        "true https://www.example.com/a/b",
     ] {
-        let is_whole = is_whole(rt.alloc(), call, BELOW)?;
-        assert!(rt; !is_whole, "{wanted}");
+        assert!(rt; !is_scope_right(rt.alloc(), row)?, "{row}");
     }
     Ok(())
-}
-
-#[test]
-fn secure_cookies_need_a_secure_connection(rt: HostRuntime) -> Result<(), Fail> {
-    for (call, wanted) in &[
-        (adds(root()), true),
-        (adds(root().secure(true)), false),
-        (adds(root().secure(false)), true),
-        (adds(root().same_site(SameSite::None)), false),
-        (adds(root().partitioned(true)), false),
-    ] {
-        assert!(rt; is_whole(rt.alloc(), call, PLAIN)? == *wanted);
-    }
-    Ok(())
-}
-
-#[test]
-fn calls_through_child_jars_are_looked_at_as_they_are_stored(rt: HostRuntime) -> Result<(), Fail> {
-    let now = at(0)?;
-    let key = Key::from(&[7; 64]);
-    for (call, wanted) in &[
-        (
-            JarCall::Prefixed(PrefixKind::Host, ChildCall::Add(bare())),
-            true,
-        ),
-        (
-            JarCall::Prefixed(PrefixKind::Host, ChildCall::Remove(bare(), now)),
-            true,
-        ),
-        (
-            JarCall::Prefixed(PrefixKind::Secure, ChildCall::Add(bare())),
-            false,
-        ),
-        (
-            JarCall::Prefixed(PrefixKind::Secure, ChildCall::Add(root().build())),
-            true,
-        ),
-        (JarCall::Signed(&key, ChildCall::Add(root().build())), true),
-        (JarCall::Signed(&key, ChildCall::Add(bare())), false),
-        (
-            JarCall::Private(&key, [0; 12], ChildCall::Remove(root().build(), now)),
-            true,
-        ),
-    ] {
-        assert!(rt; is_whole(rt.alloc(), call, BELOW)? == *wanted);
-    }
-    Ok(())
-}
-
-// Whether an addition for a domain is in the scope, at the place.
-fn is_scoped_at(
-    alloc: Global,
-    path: Option<&str>,
-    domain: Option<&str>,
-    place: Place,
-) -> Result<bool, Fail> {
-    let scope = scope(alloc, BELOW, path, domain)?;
-    let site = place.site(alloc)?;
-    let calls = [adds(n().domain("Example.com"))];
-    Ok(is_scoped(&calls[0], &site, &scope, at(0)?))
 }
 
 #[test]
 fn a_call_is_in_one_scope(rt: HostRuntime) -> Result<(), Fail> {
-    let wide = Some("example.com");
-    for (path, domain, place, wanted) in [
-        (None, wide, BELOW, true),
-        (None, wide, Https("a.example.com", "/a/c"), true),
-        (None, wide, Https("example.com", "/a/c"), true),
-        (None, wide, Https("example.com", "/b/c"), false),
-        (None, wide, Https("other.com", "/a/c"), false),
-        (None, None, BELOW, false),
-        (Some("/"), wide, BELOW, false),
-        (None, Some("www.example.com"), BELOW, false),
-    ] {
-        assert!(rt; is_scoped_at(rt.alloc(), path, domain, place)? == wanted);
-    }
-    Ok(())
-}
-
-#[test]
-fn an_address_is_a_scope(rt: HostRuntime) -> Result<(), Fail> {
-    let number = Address("10.0.0.1", "/x/y");
-    for call in &[adds(root())] {
-        assert!(rt; is_whole(rt.alloc(), call, number)?);
+    for row in SCOPES.lines() {
+        assert!(rt; is_scope_right(rt.alloc(), row)?, "{row}");
     }
     Ok(())
 }

@@ -1,307 +1,185 @@
 //! What is stored, replaced, removed and sent (RFC 6265 5.3, 5.4). Where a row's answer isn't curl's and Python's
-//! `http.cookiejar`'s too, it says so.
-use super::places::Place::{self, Address, Http, Https};
-use super::steps::Step::{At, Evicts, Refuses, Sends, Sets};
-use super::steps::{first_wrong, plays};
+//! `http.cookiejar`'s too, its title says so.
+use super::steps::play_rows;
 use std::test::Fail;
 
-const TOP: Place = Http("example.com", "/");
+const ROWS: &str = "\
+a new agent sends nothing:
+sends https://example.com/
 
-const BELOW: Place = Http("example.com", "/a/b");
+a removal without the path is missed:
+sets http://example.com/a/b n=1; Path=/
+sets http://example.com/a/b n=; Max-Age=0
+sends http://example.com/a/b n=1
+sets http://example.com/a/b n=; Max-Age=0; Path=/
+sends http://example.com/a/b
 
-const WWW: Place = Http("www.example.com", "/");
+a removal without the domain is missed:
+sets http://www.example.com/ n=1; Domain=example.com; Path=/
+sets http://www.example.com/ n=; Max-Age=0; Path=/
+sends http://www.example.com/ n=1
+sets http://www.example.com/ n=; Max-Age=0; Path=/; Domain=example.com
+sends http://www.example.com/
 
-const NUMBER: Place = Address("10.0.0.1", "/");
+a cookie is kept under name, domain and path
+(curl and `http.cookiejar` keep the first beside the last, as RFC 6265bis has it):
+sets http://example.com/a/b n=1; Path=/
+sets http://example.com/a/b n=2; Path=/a
+sends http://example.com/a/b n=2; n=1
+sets http://example.com/a/b n=3; Path=/; Domain=example.com
+sends http://example.com/a/b n=2; n=3
 
-#[test]
-fn a_removal_without_the_path_is_missed(rt: HostRuntime) -> Result<(), Fail> {
-    plays(
-        &rt,
-        rt.alloc(),
-        &[
-            Sets(BELOW, "n=1; Path=/"),
-            Sets(BELOW, "n=; Max-Age=0"),
-            Sends(BELOW, "n=1"),
-            Sets(BELOW, "n=; Max-Age=0; Path=/"),
-            Sends(BELOW, ""),
-        ],
-    )
-}
+the default path is the folder:
+sets http://example.com/a/b n=1
+sends http://example.com/a/c n=1
+sends http://example.com/a n=1
+sends http://example.com/
+sends http://example.com/ab
 
-#[test]
-fn a_removal_without_the_domain_is_missed(rt: HostRuntime) -> Result<(), Fail> {
-    plays(
-        &rt,
-        rt.alloc(),
-        &[
-            Sets(WWW, "n=1; Domain=example.com; Path=/"),
-            Sets(WWW, "n=; Max-Age=0; Path=/"),
-            Sends(WWW, "n=1"),
-            Sets(WWW, "n=; Max-Age=0; Path=/; Domain=example.com"),
-            Sends(WWW, ""),
-        ],
-    )
-}
+a path without its slash is the default path
+(curl takes such a path as `/`, and `http.cookiejar` refuses it):
+sets http://example.com/a/b n=1; Path=x
+sends http://example.com/a/c n=1
+sends http://example.com/
 
-// curl and `http.cookiejar` keep the first beside the last, as RFC 6265bis has it.
-#[test]
-fn a_cookie_is_kept_under_name_domain_and_path(rt: HostRuntime) -> Result<(), Fail> {
-    plays(
-        &rt,
-        rt.alloc(),
-        &[
-            Sets(BELOW, "n=1; Path=/"),
-            Sets(BELOW, "n=2; Path=/a"),
-            Sends(BELOW, "n=2; n=1"),
-            Sets(BELOW, "n=3; Path=/; Domain=example.com"),
-            Sends(BELOW, "n=2; n=3"),
-        ],
-    )
-}
+the last path counts (of two paths the last one does, RFC 6265 5.3, step 7):
+sets http://example.com/a/b n=1; Path=/; Path=/a/b
+sends http://example.com/
+sends http://example.com/a/b n=1
 
-#[test]
-fn the_default_path_is_the_folder(rt: HostRuntime) -> Result<(), Fail> {
-    plays(
-        &rt,
-        rt.alloc(),
-        &[
-            Sets(BELOW, "n=1"),
-            Sends(Http("example.com", "/a/c"), "n=1"),
-            Sends(Http("example.com", "/a"), "n=1"),
-            Sends(TOP, ""),
-            Sends(Http("example.com", "/ab"), ""),
-        ],
-    )
-}
+a replaced cookie keeps its place (curl has another order):
+sets http://example.com/ a=1
+sets http://example.com/ b=2
+sets http://example.com/ a=3
+sends http://example.com/ a=3; b=2
+sets http://example.com/ a=; Max-Age=0
+sends http://example.com/ b=2
+sets http://example.com/ a=3
+sends http://example.com/ b=2; a=3
 
-// curl takes such a path as `/`, and `http.cookiejar` refuses it.
-#[test]
-fn a_path_without_its_slash_is_the_default_path(rt: HostRuntime) -> Result<(), Fail> {
-    plays(
-        &rt,
-        rt.alloc(),
-        &[
-            Sets(BELOW, "n=1; Path=x"),
-            Sends(Http("example.com", "/a/c"), "n=1"),
-            Sends(TOP, ""),
-        ],
-    )
-}
+longer paths come first and then the earlier (curl has another order among equals):
+sets http://example.com/a/b a=1; Path=/
+sets http://example.com/a/b b=2; Path=/a
+sets http://example.com/a/b c=3; Path=/
+sends http://example.com/a/b b=2; a=1; c=3
 
-// Of two paths the last one counts (RFC 6265 5.3, step 7).
-#[test]
-fn the_last_path_counts(rt: HostRuntime) -> Result<(), Fail> {
-    plays(
-        &rt,
-        rt.alloc(),
-        &[
-            Sets(BELOW, "n=1; Path=/; Path=/a/b"),
-            Sends(TOP, ""),
-            Sends(BELOW, "n=1"),
-        ],
-    )
-}
+a foreign domain is ignored (the trailing dot and the second line were asked of curl alone):
+sets http://example.com/ n=1; Domain=other.com
+sets http://example.com/ n=1; Domain=www.example.com
+sends http://example.com/
+sends http://www.example.com/
+sets http://badexample.com/ n=1; Domain=example.com
+sends http://badexample.com/
+sends http://example.com/
+sets http://www.example.com/ n=1; Domain=example.com.
+sends http://www.example.com/
 
-// curl has another order.
-#[test]
-fn a_replaced_cookie_keeps_its_place(rt: HostRuntime) -> Result<(), Fail> {
-    plays(
-        &rt,
-        rt.alloc(),
-        &[
-            Sets(TOP, "a=1"),
-            Sets(TOP, "b=2"),
-            Sets(TOP, "a=3"),
-            Sends(TOP, "a=3; b=2"),
-            Sets(TOP, "a=; Max-Age=0"),
-            Sends(TOP, "b=2"),
-            Sets(TOP, "a=3"),
-            Sends(TOP, "b=2; a=3"),
-        ],
-    )
-}
+an address matches itself alone:
+sets address://10.0.0.1/ n=1; Domain=0.0.1
+sends address://10.0.0.1/
+sets address://10.0.0.1/ n=1; Domain=10.0.0.1
+sends address://10.0.0.1/ n=1
+sends address://9.10.0.0.1/
 
-// curl has another order among equals.
-#[test]
-fn longer_paths_come_first_and_then_the_earlier(rt: HostRuntime) -> Result<(), Fail> {
-    plays(
-        &rt,
-        rt.alloc(),
-        &[
-            Sets(BELOW, "a=1; Path=/"),
-            Sets(BELOW, "b=2; Path=/a"),
-            Sets(BELOW, "c=3; Path=/"),
-            Sends(BELOW, "b=2; a=1; c=3"),
-        ],
-    )
-}
+a secure cookie is for secure connections (curl refuses such a cookie, as RFC 6265bis does):
+sets http://example.com/ n=1; Secure
+sets http://example.com/ h=2; HttpOnly
+sends http://example.com/ h=2
+sends https://example.com/ n=1; h=2
 
-// The trailing dot and the second row were asked of curl alone.
-#[test]
-fn a_foreign_domain_is_ignored(rt: HostRuntime) -> Result<(), Fail> {
-    let bad = Http("badexample.com", "/");
-    plays(
-        &rt,
-        rt.alloc(),
-        &[
-            Sets(TOP, "n=1; Domain=other.com"),
-            Sets(TOP, "n=1; Domain=www.example.com"),
-            Sends(TOP, ""),
-            Sends(WWW, ""),
-            Sets(bad, "n=1; Domain=example.com"),
-            Sends(bad, ""),
-            Sends(TOP, ""),
-            Sets(WWW, "n=1; Domain=example.com."),
-            Sends(WWW, ""),
-        ],
-    )
-}
+names and values stay as they stand (asked of curl alone):
+sets http://example.com/ a%20b=1%3B2; Path=/
+sets http://example.com/  x = y 
+sets http://example.com/ v=
+sends http://example.com/ a%20b=1%3B2; x=y; v=
+
+a text without a name is no cookie:
+sets http://example.com/ a=1; Max-Age=1
+refuses http://example.com/
+refuses http://example.com/ n
+refuses http://example.com/ =1
+refuses http://example.com/ ; Path=/
+sends http://example.com/ a=1
+at 1
+refuses http://example.com/ n
+at 0
+sends http://example.com/
+
+an age counts from the reading:
+at 10
+sets http://example.com/ n=1; Max-Age=5
+sets http://example.com/ m=2; Max-Age=5; Expires=Wed, 21 Oct 2015 07:28:11 GMT
+sets http://example.com/ s=3
+at 14
+sends http://example.com/ n=1; m=2; s=3
+at 15
+sends http://example.com/ s=3
+
+an expiry is a moment:
+sets http://example.com/ n=1; Expires=Wed, 21 Oct 2015 07:28:09 GMT
+sets http://example.com/ m=2; Expires=Wed, 21 Oct 2015 07:28:00 GMT
+sends http://example.com/ n=1
+at 8
+sends http://example.com/ n=1
+at 9
+sends http://example.com/
+
+an expired cookie loses its place:
+sets http://example.com/ a=1; Max-Age=5
+sets http://example.com/ b=2
+at 5
+sets http://example.com/ a=3
+sends http://example.com/ b=2; a=3
+
+what is evicted is gone:
+sets http://example.com/ n=1; Max-Age=5
+sets http://example.com/ m=2; Max-Age=6
+at 5
+evicts
+at 0
+sends http://example.com/ m=2
+";
 
 // Asked of curl alone. curl refuses `com`, since it has a list of public suffixes, and the agent has none.
-#[test]
-fn a_domain_is_for_each_host_below_it(rt: HostRuntime) -> Result<(), Fail> {
-    for (text, above) in [
-        ("n=1; Domain=example.com", "n=1"),
-        ("n=1; Domain=.example.com", "n=1"),
-        ("n=1; Domain=EXAMPLE.COM", "n=1"),
-        ("n=1; Domain=com", "n=1"),
-        ("n=1; Domain=www.example.com", ""),
-        ("n=1; Domain=", ""),
-        ("n=1", ""),
-    ] {
-        let steps = [Sets(WWW, text), Sends(WWW, "n=1"), Sends(TOP, above)];
-        assert!(rt; first_wrong(rt.alloc(), &steps)?.is_none(), "{text}");
-    }
-    Ok(())
-}
+const DOMAINS: &str = "\
+a domain is for each host below it:
+sets http://www.example.com/ n=1; Domain=example.com
+sends http://www.example.com/ n=1
+sends http://example.com/ n=1
+
+one with a dot before it:
+sets http://www.example.com/ n=1; Domain=.example.com
+sends http://www.example.com/ n=1
+sends http://example.com/ n=1
+
+one in upper case:
+sets http://www.example.com/ n=1; Domain=EXAMPLE.COM
+sends http://www.example.com/ n=1
+sends http://example.com/ n=1
+
+one above:
+sets http://www.example.com/ n=1; Domain=com
+sends http://www.example.com/ n=1
+sends http://example.com/ n=1
+
+the host itself:
+sets http://www.example.com/ n=1; Domain=www.example.com
+sends http://www.example.com/ n=1
+sends http://example.com/
+
+an empty one:
+sets http://www.example.com/ n=1; Domain=
+sends http://www.example.com/ n=1
+sends http://example.com/
+
+none:
+sets http://www.example.com/ n=1
+sends http://www.example.com/ n=1
+sends http://example.com/
+";
 
 #[test]
-fn an_address_matches_itself_alone(rt: HostRuntime) -> Result<(), Fail> {
-    plays(
-        &rt,
-        rt.alloc(),
-        &[
-            Sets(NUMBER, "n=1; Domain=0.0.1"),
-            Sends(NUMBER, ""),
-            Sets(NUMBER, "n=1; Domain=10.0.0.1"),
-            Sends(NUMBER, "n=1"),
-            Sends(Address("9.10.0.0.1", "/"), ""),
-        ],
-    )
-}
-
-// curl refuses such a cookie, as RFC 6265bis does.
-#[test]
-fn a_secure_cookie_is_for_secure_connections(rt: HostRuntime) -> Result<(), Fail> {
-    plays(
-        &rt,
-        rt.alloc(),
-        &[
-            Sets(TOP, "n=1; Secure"),
-            Sets(TOP, "h=2; HttpOnly"),
-            Sends(TOP, "h=2"),
-            Sends(Https("example.com", "/"), "n=1; h=2"),
-        ],
-    )
-}
-
-// Asked of curl alone.
-#[test]
-fn names_and_values_stay_as_they_stand(rt: HostRuntime) -> Result<(), Fail> {
-    plays(
-        &rt,
-        rt.alloc(),
-        &[
-            Sets(TOP, "a%20b=1%3B2; Path=/"),
-            Sets(TOP, " x = y "),
-            Sets(TOP, "v="),
-            Sends(TOP, "a%20b=1%3B2; x=y; v="),
-        ],
-    )
-}
-
-#[test]
-fn a_text_without_a_name_is_no_cookie(rt: HostRuntime) -> Result<(), Fail> {
-    plays(
-        &rt,
-        rt.alloc(),
-        &[
-            Sets(TOP, "a=1; Max-Age=1"),
-            Refuses(TOP, ""),
-            Refuses(TOP, "n"),
-            Refuses(TOP, "=1"),
-            Refuses(TOP, "; Path=/"),
-            Sends(TOP, "a=1"),
-            At(1),
-            Refuses(TOP, "n"),
-            At(0),
-            Sends(TOP, ""),
-        ],
-    )
-}
-
-#[test]
-fn an_age_counts_from_the_reading(rt: HostRuntime) -> Result<(), Fail> {
-    plays(
-        &rt,
-        rt.alloc(),
-        &[
-            At(10),
-            Sets(TOP, "n=1; Max-Age=5"),
-            Sets(TOP, "m=2; Max-Age=5; Expires=Wed, 21 Oct 2015 07:28:11 GMT"),
-            Sets(TOP, "s=3"),
-            At(14),
-            Sends(TOP, "n=1; m=2; s=3"),
-            At(15),
-            Sends(TOP, "s=3"),
-        ],
-    )
-}
-
-#[test]
-fn an_expiry_is_a_moment(rt: HostRuntime) -> Result<(), Fail> {
-    plays(
-        &rt,
-        rt.alloc(),
-        &[
-            Sets(TOP, "n=1; Expires=Wed, 21 Oct 2015 07:28:09 GMT"),
-            Sets(TOP, "m=2; Expires=Wed, 21 Oct 2015 07:28:00 GMT"),
-            Sends(TOP, "n=1"),
-            At(8),
-            Sends(TOP, "n=1"),
-            At(9),
-            Sends(TOP, ""),
-        ],
-    )
-}
-
-#[test]
-fn an_expired_cookie_loses_its_place(rt: HostRuntime) -> Result<(), Fail> {
-    plays(
-        &rt,
-        rt.alloc(),
-        &[
-            Sets(TOP, "a=1; Max-Age=5"),
-            Sets(TOP, "b=2"),
-            At(5),
-            Sets(TOP, "a=3"),
-            Sends(TOP, "b=2; a=3"),
-        ],
-    )
-}
-
-#[test]
-fn what_is_evicted_is_gone(rt: HostRuntime) -> Result<(), Fail> {
-    plays(
-        &rt,
-        rt.alloc(),
-        &[
-            Sets(TOP, "n=1; Max-Age=5"),
-            Sets(TOP, "m=2; Max-Age=6"),
-            At(5),
-            Evicts,
-            At(0),
-            Sends(TOP, "m=2"),
-        ],
-    )
+fn what_is_stored_is_sent(rt: HostRuntime) -> Result<(), Fail> {
+    play_rows(rt.alloc(), ROWS)?;
+    play_rows(rt.alloc(), DOMAINS)
 }

@@ -1,198 +1,205 @@
 //! Calls as values: which are fit, which are changes, and what comes of them on a jar.
-use super::step_calls::calls;
-use cookie::{Cookie, CookieBuilder, CookieJar, Expiration};
+use super::rows::{are_accepted, call, calls, is_right, told};
+use cookie::{Cookie, CookieJar, Key};
 use cookie_client::{JarCall, replay};
-use jar_steps::{Step, after, first_wrong, moment};
-use jiff::SignedDuration;
+use jar_steps::{moment, test_key};
 use jiff::civil::DateTime;
 use std::alloc::Global;
-use std::process::Abort;
 use std::test::Fail;
 
-fn a() -> CookieBuilder<'static> {
-    CookieBuilder::new("a", "1")
+// Which calls a client can follow, and which are changes.
+const JUDGED: &str = "\
+a session's cookie: add a 1 -> fit change
+its expiry set: add a 1, session -> fit change
+a later expiry: add a 1, expires 1 0 -> fit change
+an age of a second: add a 1, age 1000 -> fit change
+an age counts first: add a 1, age 1000, expires 0 0 -> fit change
+a path and a domain: add a 1, path /x, domain b.c -> fit change
+semicolons that are escaped: add a; ; -> fit change
+a removal's path: remove a 1, path /; Max-Age=9 -> fit change
+an original: original a 1 -> fit
+any original: original a 1, age 0, path /; Max-Age=9 -> fit
+a forced removal: force -> fit
+a reset: reset -> fit
+half a second: add a 1, age 500 -> unfit change
+no age: add a 1, age 0, expires 1 0 -> unfit change
+an age below zero: add a 1, age -1000 -> unfit change
+a semicolon in the path: add a 1, path /; Max-Age=0 -> unfit change
+a semicolon in the domain: add a 1, domain b.c;, age 1000 -> unfit change
+the moment as expiry: add a 1, expires 0 0 -> unfit change
+a part of a second: add a 1, expires 0 900000000 -> unfit change
+no name: add  1 -> unfit change
+an original without a name: original -> unfit
+a removal without a name: remove -> unfit change
+an original without a value: original a -> fit
+an addition without a value: add a -> fit change
+a removal: remove a -> fit change
+a forced removal of a name: force a -> fit
+a call through a prefix as it was handed in: host add h 1, path /;x -> unfit change
+an original through a prefix: host original h 1 -> fit
+a removal through a prefix: host remove -> unfit change
+a call with a key as it was handed in: signed add a 1, path /;x -> unfit change
+an original with a key: signed original a 1 -> fit
+a removal with a key: private 0 remove -> unfit change
+";
+
+// Whether that is what a client makes of the call.
+fn has_verdict(calls: &[JarCall<'_>; 1], now: DateTime, wanted: &str) -> bool {
+    verdict(&calls[0], now) == wanted
 }
 
-fn adds(builder: CookieBuilder<'static>) -> JarCall<'static> {
-    JarCall::Add(builder.build())
+fn verdict(call: &JarCall<'_>, now: DateTime) -> &'static str {
+    match (call.is_fit(now), call.is_change()) {
+        (true, true) => "fit change",
+        (true, false) => "fit",
+        (false, true) => "unfit change",
+        (false, false) => "unfit",
+    }
 }
 
-// So many seconds and nanoseconds behind 07:28:00 of the day of most rows.
-fn at(second: i8, nanosecond: i32) -> Result<Expiration, Fail> {
-    let date = DateTime::new(2015, 10, 21, 7, 28, second, nanosecond)?;
-    Ok(Expiration::DateTime(date))
-}
-
-#[test]
-fn a_client_can_follow_these_calls(rt: HostRuntime) -> Result<(), Fail> {
+// Whether the line's call is fit, and a change, as the line says.
+fn is_judged(alloc: Global, key: &Key, line: &'static str) -> Result<bool, Fail> {
+    let (_, told) = line.split_once(": ").ok_or("a row without a title")?;
+    let (words, wanted) = told.split_once(" -> ").ok_or("a row without a verdict")?;
     let now = moment()?;
-    let (sharp, later) = (at(0, 0)?, at(1, 0)?);
-    let second = SignedDuration::from_secs(1);
-    let path = "/; Max-Age=9";
-    for (call, wanted) in &[
-        (adds(a()), "a session's cookie"),
-        (adds(a().expires(Expiration::Session)), "its expiry set"),
-        (adds(a().expires(later)), "a later expiry"),
-        (adds(a().max_age(second)), "an age of a second"),
-        (
-            adds(a().max_age(second).expires(sharp)),
-            "an age counts first",
-        ),
-        (adds(a().path("/x").domain("b.c")), "a path and a domain"),
-        (
-            adds(CookieBuilder::new("a;", ";")),
-            "semicolons that are escaped",
-        ),
-        (
-            JarCall::Remove(a().path(path).build(), now),
-            "a removal's path",
-        ),
-        (
-            JarCall::Remove(Cookie::named("a"), DateTime::MIN),
-            "an earlier removal",
-        ),
-        (JarCall::AddOriginal(Cookie::new("a", "1")), "an original"),
-        (
-            JarCall::AddOriginal(a().max_age(SignedDuration::ZERO).path(path).build()),
-            "any original",
-        ),
-        (
-            JarCall::ForceRemove(String::new(rt.alloc())),
-            "a forced removal",
-        ),
-        (JarCall::ResetDelta, "a reset"),
-    ] {
-        assert!(rt; call.is_fit(now), "{wanted}");
+    let calls = [call(alloc, key, words)?];
+    Ok(has_verdict(&calls, now, wanted))
+}
+
+fn first_misjudged(
+    alloc: Global,
+    key: &Key,
+    rows: &'static str,
+) -> Result<Option<&'static str>, Fail> {
+    for line in rows.lines() {
+        if !is_judged(alloc, key, line)? {
+            return Ok(Some(line));
+        }
     }
+    Ok(None)
+}
+
+fn judge_rows(alloc: Global, key: &Key, rows: &'static str) -> Result<(), Fail> {
+    told(first_misjudged(alloc, key, rows)?)
+}
+
+#[test]
+fn a_client_can_follow_calls_that_are_fit(rt: HostRuntime) -> Result<(), Fail> {
+    judge_rows(rt.alloc(), &test_key(), JUDGED)
+}
+
+fn are_fit(calls: &[JarCall<'_>], now: DateTime) -> bool {
+    for call in calls {
+        if !call.is_fit(now) {
+            return false;
+        }
+    }
+    true
+}
+
+// Whether a removal is fit, though it is made at another moment.
+fn is_removal_fit(now: DateTime, removed: DateTime) -> bool {
+    are_fit(&[JarCall::Remove(Cookie::named("a"), removed)], now)
+}
+
+#[test]
+fn a_client_can_follow_an_earlier_removal(rt: HostRuntime) -> Result<(), Fail> {
+    assert!(rt; is_removal_fit(moment()?, DateTime::MIN));
     Ok(())
 }
 
+// Calls on a jar that shows `o` and `gone`, each of which is accepted, and what the jar shows then. The second row has
+// an original that is held already, and removals of names that the jar lacks.
+const MADE: &str = "\
+calls are made in order on the jar handed in: [add gone 2; reset; original p 1; original f 1; add n 1; add n 2; remove o; remove absent; force f] -> counts 2 2; shows n 2; shows p 1; lacks o; lacks f; lacks gone; lacks absent
+calls that bring nothing new are accepted: [original o 1; add gone 1; remove absent; force absent] -> counts 1 2; shows o 1; shows gone 1; lacks absent
+no calls have no outcomes: [] -> counts 1 2
+";
+
+// Makes the calls on the jar, and answers whether each is accepted.
+fn accepts(alloc: Global, jar: &mut CookieJar, calls: &[JarCall<'_>]) -> Result<bool, Fail> {
+    let outcomes = replay(alloc, jar, calls)?;
+    Ok(are_accepted(&outcomes, calls.len()))
+}
+
+// Whether each of the calls is accepted once the jar shows `o` and `gone`, and it then shows what it has to.
+fn is_made_on(
+    alloc: Global,
+    jar: &mut CookieJar,
+    calls: &[JarCall<'_>],
+    shown: &'static str,
+) -> Result<bool, Fail> {
+    if !is_right(jar, "original o 1; add gone 1")? {
+        return Ok(false);
+    }
+    if !accepts(alloc, jar, calls)? {
+        return Ok(false);
+    }
+    is_right(jar, shown)
+}
+
+// Whether the calls come to that on a new jar.
+fn is_made(alloc: Global, calls: &[JarCall<'_>], shown: &'static str) -> Result<bool, Fail> {
+    let mut jar = CookieJar::new(alloc);
+    is_made_on(alloc, &mut jar, calls, shown)
+}
+
+fn is_line_made(alloc: Global, key: &Key, line: &'static str) -> Result<bool, Fail> {
+    let (_, told) = line.split_once(": [").ok_or("a row without calls")?;
+    let (words, shown) = told.split_once("] -> ").ok_or("a row without an end")?;
+    let calls = calls(alloc, key, words)?;
+    is_made(alloc, &calls, shown)
+}
+
+fn first_wrong(alloc: Global, key: &Key, rows: &'static str) -> Result<Option<&'static str>, Fail> {
+    for line in rows.lines() {
+        if !is_line_made(alloc, key, line)? {
+            return Ok(Some(line));
+        }
+    }
+    Ok(None)
+}
+
+fn make_rows(alloc: Global, key: &Key, rows: &'static str) -> Result<(), Fail> {
+    told(first_wrong(alloc, key, rows)?)
+}
+
 #[test]
-fn a_client_cannot_follow_these_calls(rt: HostRuntime) -> Result<(), Fail> {
-    let now = moment()?;
-    let (sharp, late, later) = (at(0, 0)?, at(0, 900_000_000)?, at(1, 0)?);
-    let second = SignedDuration::from_secs(1);
-    for (call, wanted) in &[
-        (
-            adds(a().max_age(SignedDuration::from_millis(500))),
-            "half a second",
-        ),
-        (
-            adds(a().max_age(SignedDuration::ZERO).expires(later)),
-            "no age",
-        ),
-        (
-            adds(a().max_age(SignedDuration::from_secs(-1))),
-            "an age below zero",
-        ),
-        (adds(a().path("/; Max-Age=0")), "a semicolon in the path"),
-        (
-            adds(a().domain("b.c;").max_age(second)),
-            "a semicolon in the domain",
-        ),
-        (adds(a().expires(sharp)), "the moment as expiry"),
-        (adds(a().expires(late)), "a part of a second"),
-        (adds(CookieBuilder::new("", "1")), "no name"),
-        (
-            JarCall::AddOriginal(Cookie::named("")),
-            "an original without a name",
-        ),
-        (
-            JarCall::Remove(Cookie::named(""), now),
-            "a removal without a name",
-        ),
-    ] {
-        assert!(rt; !call.is_fit(now), "{wanted}");
+fn calls_are_made_on_the_jar_handed_in(rt: HostRuntime) -> Result<(), Fail> {
+    make_rows(rt.alloc(), &test_key(), MADE)
+}
+
+// Each of them says of a call, or of the jar, what isn't so.
+const WRONGLY_JUDGED: &str = "\
+one: add a 1 -> fit
+one: add a 1 -> unfit change
+one: original a 1 -> fit change
+one: original -> fit
+one: add a 1, age 500 -> fit change
+one: host remove -> fit change
+";
+
+const WRONGLY_MADE: &str = "\
+one: [add a 1] -> shows a 2
+one: [remove o] -> shows o 1
+one: [remove o] -> lacks o; counts 1 1
+one: [] -> counts 2 2
+one: [reset] -> counts 1 1
+";
+
+#[test]
+fn a_wrong_row_is_found(rt: HostRuntime) -> Result<(), Fail> {
+    for line in WRONGLY_JUDGED.lines() {
+        assert!(rt;
+            first_misjudged(rt.alloc(), &test_key(), line)?.is_some(),
+            "{line}"
+        );
+    }
+    for line in WRONGLY_MADE.lines() {
+        assert!(rt;
+            first_wrong(rt.alloc(), &test_key(), line)?.is_some(),
+            "{line}"
+        );
     }
     Ok(())
-}
-
-#[test]
-fn additions_and_removals_are_changes(rt: HostRuntime) -> Result<(), Fail> {
-    for (step, wanted) in [
-        (Step::AddOriginal("a", ""), false),
-        (Step::Add("a", ""), true),
-        (Step::Remove("a"), true),
-        (Step::ForceRemove("a"), false),
-        (Step::ResetDelta, false),
-    ] {
-        let calls = calls(rt.alloc(), &[step])?;
-        let call = calls.first().ok_or("a call")?;
-        assert!(rt; call.is_change() == wanted);
-    }
-    Ok(())
-}
-
-// A jar that shows `o` and `gone`, once these calls are made on it, and their outcomes.
-fn jar_after(alloc: Global, steps: &[Step]) -> Result<(CookieJar, Vec<bool>), Fail> {
-    let shown = [Step::AddOriginal("o", "1"), Step::Add("gone", "1")];
-    let mut jar = after(alloc, &shown)?;
-    let calls = calls(alloc, steps)?;
-    let outcomes = replay(alloc, &mut jar, calls.as_slice())?;
-    Ok((jar, outcomes))
-}
-
-// Fails unless each call is accepted on that jar, and the jar then shows what it has to.
-fn plays(rt: &impl Abort, alloc: Global, steps: &[Step], shown: &[Step]) -> Result<(), Fail> {
-    let (mut jar, outcomes) = jar_after(alloc, steps)?;
-    assert!(rt; outcomes.len() == steps.len());
-    for outcome in &outcomes {
-        assert!(rt; *outcome);
-    }
-    assert!(rt; first_wrong(&mut jar, shown)?.is_none());
-    Ok(())
-}
-
-#[test]
-fn calls_are_made_in_order_on_the_jar_handed_in(rt: HostRuntime) -> Result<(), Fail> {
-    plays(
-        &rt,
-        rt.alloc(),
-        &[
-            Step::Add("gone", "2"),
-            Step::ResetDelta,
-            Step::AddOriginal("p", "1"),
-            Step::AddOriginal("f", "1"),
-            Step::Add("n", "1"),
-            Step::Add("n", "2"),
-            Step::Remove("o"),
-            Step::Remove("absent"),
-            Step::ForceRemove("f"),
-        ],
-        &[
-            Step::Counts(2, 2),
-            Step::Shows("n", "2"),
-            Step::Shows("p", "1"),
-            Step::Lacks("o"),
-            Step::Lacks("f"),
-            Step::Lacks("gone"),
-            Step::Lacks("absent"),
-        ],
-    )
-}
-
-// An original that is held already, and removals of names that the jar lacks.
-#[test]
-fn calls_that_bring_nothing_new_are_accepted(rt: HostRuntime) -> Result<(), Fail> {
-    plays(
-        &rt,
-        rt.alloc(),
-        &[
-            Step::AddOriginal("o", "1"),
-            Step::Add("gone", "1"),
-            Step::Remove("absent"),
-            Step::ForceRemove("absent"),
-        ],
-        &[
-            Step::Counts(1, 2),
-            Step::Shows("o", "1"),
-            Step::Shows("gone", "1"),
-            Step::Lacks("absent"),
-        ],
-    )
-}
-
-#[test]
-fn no_calls_have_no_outcomes(rt: HostRuntime) -> Result<(), Fail> {
-    plays(&rt, rt.alloc(), &[], &[Step::Counts(1, 2)])
 }

@@ -43,11 +43,16 @@ impl Draws {
         })
     }
 
+    fn push_call(&mut self, alloc: Global, calls: &mut Vec<JarCall<'static>>) -> Result<(), Fail> {
+        calls.push(self.call(alloc)?)?;
+        Ok(())
+    }
+
     // Up to 23 calls.
     pub(super) fn calls(&mut self, alloc: Global) -> Result<Vec<JarCall<'static>>, Fail> {
         let mut calls = Vec::new(alloc);
         for _ in 0..self.next() % 24 {
-            calls.push(self.call(alloc)?)?;
+            self.push_call(alloc, &mut calls)?;
         }
         Ok(calls)
     }
@@ -111,14 +116,23 @@ fn is_copied_alike(alloc: Global, jar: &CookieJar, flat: &FlatJar) -> Result<boo
 }
 
 // Whether the calls have the same outcomes on the two jars, and leave them, and a clone, alike.
+fn is_replayed_on(
+    alloc: Global,
+    calls: &[JarCall<'_>],
+    jar: &mut CookieJar,
+    flat: &mut FlatJar,
+) -> Result<bool, Fail> {
+    if !have_same_outcomes(alloc, calls, jar, flat)? || !is_alike(alloc, jar, flat)? {
+        return Ok(false);
+    }
+    is_copied_alike(alloc, jar, flat)
+}
+
+// Whether that comes of the calls on two new jars.
 fn is_replayed_alike(alloc: Global, calls: &[JarCall<'_>]) -> Result<bool, Fail> {
     let mut jar = CookieJar::new(alloc);
     let mut flat = FlatJar::new(alloc);
-    Ok(
-        have_same_outcomes(alloc, calls, &mut jar, &mut flat)?
-            && is_alike(alloc, &jar, &flat)?
-            && is_copied_alike(alloc, &jar, &flat)?,
-    )
+    is_replayed_on(alloc, calls, &mut jar, &mut flat)
 }
 
 #[test]

@@ -4,14 +4,19 @@ use cookie_client::delta_texts;
 use std::alloc::Global;
 use std::test::Fail;
 
-// A jar that changed so many names.
-fn jar_with(alloc: Global, count: usize) -> Result<CookieJar, Fail> {
-    let mut jar = CookieJar::new(alloc);
+fn change(alloc: Global, jar: &mut CookieJar, number: usize) -> Result<(), Fail> {
+    let value = String::from_str(alloc, "1")?;
+    let name = format!(in alloc; "n{number}")?;
+    jar.add(Cookie::new_owned(name, value))?;
+    Ok(())
+}
+
+// Changes so many names.
+fn change_names(alloc: Global, jar: &mut CookieJar, count: usize) -> Result<(), Fail> {
     for number in 0..count {
-        let name = format!(in alloc; "n{number}")?;
-        jar.add(Cookie::new_owned(name, String::from_str(alloc, "1")?))?;
+        change(alloc, jar, number)?;
     }
-    Ok(jar)
+    Ok(())
 }
 
 // So many numbers, each this step behind the one before.
@@ -25,31 +30,43 @@ fn numbers(alloc: Global, count: usize, step: usize) -> Result<Vec<usize>, Fail>
     Ok(numbers)
 }
 
-// The texts of the delta, taken out of a list one by one.
-fn plain_order(alloc: Global, jar: &CookieJar, pick: &[usize]) -> Result<Vec<String>, Fail> {
-    let mut left = Vec::new(alloc);
-    for cookie in jar.delta() {
-        left.push(cookie.encoded().to_string(alloc)?)?;
-    }
+// The texts of the delta.
+fn texts(alloc: Global, jar: &CookieJar) -> Result<Vec<String>, Fail> {
     let mut texts = Vec::new(alloc);
-    for number in pick {
-        if !left.is_empty() {
-            let place = *number % left.len();
-            texts.push(left.remove(place))?;
-        }
-    }
-    for text in left {
-        texts.push(text)?;
+    for cookie in jar.delta() {
+        texts.push(cookie.encoded().to_string(alloc)?)?;
     }
     Ok(texts)
 }
 
+// Takes the texts out of the list one by one, and answers whether they are these, in this order.
+fn is_plain_order(left: &mut Vec<String>, pick: &[usize], wanted: &[String]) -> bool {
+    let mut numbers = pick.iter();
+    for text in wanted {
+        if left.is_empty() {
+            return false;
+        }
+        let number = numbers.next().copied().unwrap_or(0);
+        if left.remove(number % left.len()).as_str() != text.as_str() {
+            return false;
+        }
+    }
+    left.is_empty()
+}
+
+// Whether the texts of the delta come in the order of the numbers.
+fn is_picked(alloc: Global, jar: &CookieJar, pick: &[usize]) -> Result<bool, Fail> {
+    let picked = delta_texts(alloc, jar, pick)?;
+    let mut left = texts(alloc, jar)?;
+    Ok(is_plain_order(&mut left, pick, &picked))
+}
+
 // Whether the texts of so many names come in the order of such numbers.
 fn is_ordered(alloc: Global, count: usize, picked: usize, step: usize) -> Result<bool, Fail> {
-    let jar = jar_with(alloc, count)?;
     let pick = numbers(alloc, picked, step)?;
-    let texts = delta_texts(alloc, &jar, pick.as_slice())?;
-    Ok(texts.as_slice() == plain_order(alloc, &jar, pick.as_slice())?.as_slice())
+    let mut jar = CookieJar::new(alloc);
+    change_names(alloc, &mut jar, count)?;
+    is_picked(alloc, &jar, &pick)
 }
 
 #[test]

@@ -1,21 +1,33 @@
 //! Calls through prefixed child jars, and a client that follows them.
-use cookie::{Cookie, CookieBuilder};
-use cookie_client::{ChildCall, JarCall, Played, PrefixKind, mirror};
-use jar_steps::moment;
-use jiff::civil::DateTime;
+use super::exchanges::play_rows;
+use super::rows::{are_accepted, calls};
+use cookie::{CookieJar, Key};
+use cookie_client::{JarCall, Played, mirror};
+use jar_steps::{moment, test_key};
 use std::alloc::Global;
 use std::test::Fail;
 
-// What a removal through the prefix tells the client.
-const REMOVED: &str = "__Host-h=; Secure; Path=/; Max-Age=0; Expires=Tue, 21 Oct 2014 07:28:00 GMT";
+// Calls, the client's header behind them, and what the jar shows then.
+const ROWS: &str = "\
+a client follows prefixed calls: [host original h 1; host add h 2; secure add s 3] -> [__Host-h=2; __Secure-s=3] -> shows __Host-h 2; shows __Secure-s 3
+a client follows a prefixed removal: [host original h 1; host add h 2; secure add s 3; host remove h] -> [__Secure-s=3] -> lacks __Host-h; shows __Secure-s 3
+";
 
-fn host(call: ChildCall) -> JarCall<'static> {
-    JarCall::Prefixed(PrefixKind::Host, call)
+#[test]
+fn a_client_follows_prefixed_calls(rt: HostRuntime) -> Result<(), Fail> {
+    play_rows(rt.alloc(), &test_key(), ROWS)
 }
 
+// What such calls tell the client: the cookies of the delta, as text.
+const TOLD: &str = "\
+host original h 1; host add h 2; secure add s 3 -> __Host-h=2; Secure; Path=/
+host original h 1; host add h 2; secure add s 3 -> __Secure-s=3; Secure
+host original h 1; host add h 2; secure add s 3; host remove h -> __Host-h=; Secure; Path=/; Max-Age=0; Expires=Tue, 21 Oct 2014 07:28:00 GMT
+";
+
 // Whether a cookie of the delta prints as the text.
-fn has_text(alloc: Global, played: &Played, text: &str) -> Result<bool, Fail> {
-    for cookie in played.jar.delta() {
+fn has_text(alloc: Global, jar: &CookieJar, text: &str) -> Result<bool, Fail> {
+    for cookie in jar.delta() {
         let encoded = cookie.encoded().to_string(alloc)?;
         if encoded.as_str() == text {
             return Ok(true);
@@ -24,60 +36,46 @@ fn has_text(alloc: Global, played: &Played, text: &str) -> Result<bool, Fail> {
     Ok(false)
 }
 
-fn prefixed_calls(now: DateTime) -> [JarCall<'static>; 4] {
-    [
-        host(ChildCall::AddOriginal(Cookie::new("h", "1"))),
-        host(ChildCall::Add(Cookie::new("h", "2"))),
-        JarCall::Prefixed(PrefixKind::Secure, ChildCall::Add(Cookie::new("s", "3"))),
-        host(ChildCall::Remove(Cookie::named("h"), now)),
-    ]
+// Whether so many calls were accepted, and the client is told the text.
+fn is_told_by(alloc: Global, played: &Played, count: usize, text: &str) -> Result<bool, Fail> {
+    if !are_accepted(&played.outcomes, count) {
+        return Ok(false);
+    }
+    has_text(alloc, &played.jar, text)
 }
 
-// What comes of the first of these calls.
-fn play(alloc: Global, count: usize) -> Result<Played, Fail> {
+// Whether the calls are accepted, and the client is told the text.
+fn is_told(alloc: Global, calls: &[JarCall<'_>], text: &str) -> Result<bool, Fail> {
     let now = moment()?;
-    let calls = prefixed_calls(now);
-    let calls = calls.get(..count).ok_or("fewer calls")?;
-    Ok(mirror(alloc, calls, &[], now)?)
+    let played = mirror(alloc, calls, &[], now)?;
+    is_told_by(alloc, &played, calls.len(), text)
 }
 
-fn has_header(played: &Played, header: &str) -> Result<bool, Fail> {
-    Ok(played.client.header()?.as_str() == header)
+fn is_line_told(alloc: Global, key: &Key, line: &'static str) -> Result<bool, Fail> {
+    let (words, text) = line.split_once(" -> ").ok_or("a row without a text")?;
+    let calls = calls(alloc, key, words)?;
+    is_told(alloc, &calls, text)
 }
 
 #[test]
-fn a_client_follows_prefixed_calls(rt: HostRuntime) -> Result<(), Fail> {
-    let played = play(rt.alloc(), 3)?;
-    assert!(rt; played.outcomes.as_slice() == [true; 3].as_slice());
-    assert!(rt; has_text(rt.alloc(), &played, "__Host-h=2; Secure; Path=/")?);
-    assert!(rt; has_text(rt.alloc(), &played, "__Secure-s=3; Secure")?);
-    assert!(rt; has_header(&played, "__Host-h=2; __Secure-s=3")?);
+fn a_client_is_told_the_attributes_of_a_prefix(rt: HostRuntime) -> Result<(), Fail> {
+    for line in TOLD.lines() {
+        assert!(rt; is_line_told(rt.alloc(), &test_key(), line)?, "{line}");
+    }
     Ok(())
 }
 
-#[test]
-fn a_client_follows_a_prefixed_removal(rt: HostRuntime) -> Result<(), Fail> {
-    let played = play(rt.alloc(), 4)?;
-    assert!(rt; has_text(rt.alloc(), &played, REMOVED)?);
-    assert!(rt; has_header(&played, "__Secure-s=3")?);
-    Ok(())
-}
-
-fn cut_path() -> JarCall<'static> {
-    let cookie = CookieBuilder::new("h", "1").path("/;x").build();
-    host(ChildCall::Add(cookie))
-}
+// Each of them says of the client what isn't so.
+const WRONGLY_TOLD: &str = "\
+host add h 2 -> __Host-h=2; Secure
+secure add s 3 -> __Host-s=3; Secure; Path=/
+host original h 1 -> __Host-h=1; Secure; Path=/
+";
 
 #[test]
-fn a_prefixed_call_is_looked_at_as_it_was_handed_in(rt: HostRuntime) -> Result<(), Fail> {
-    let now = moment()?;
-    let original = Cookie::new("h", "1");
-    for (call, is_fit, is_change) in &[
-        (cut_path(), false, true),
-        (host(ChildCall::AddOriginal(original)), true, false),
-        (host(ChildCall::Remove(Cookie::named(""), now)), false, true),
-    ] {
-        assert!(rt; (call.is_fit(now), call.is_change()) == (*is_fit, *is_change));
+fn a_wrong_row_is_found(rt: HostRuntime) -> Result<(), Fail> {
+    for line in WRONGLY_TOLD.lines() {
+        assert!(rt; !is_line_told(rt.alloc(), &test_key(), line)?, "{line}");
     }
     Ok(())
 }

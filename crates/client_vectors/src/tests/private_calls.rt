@@ -1,6 +1,7 @@
 //! Calls through private child jars, and a client that follows them.
-use cookie::{Cookie, CookieJar, Key};
-use cookie_client::{ChildCall, JarCall, Played, mirror};
+use super::rows::{are_accepted, calls};
+use cookie::{CookieJar, Key};
+use cookie_client::{Client, Played, mirror};
 use jar_steps::{moment, shown_value};
 use std::alloc::Global;
 use std::test::Fail;
@@ -13,39 +14,52 @@ fn answers(jar: &CookieJar, key: &Key, name: &str, value: &str) -> Result<bool, 
     }
 }
 
-// What comes of the first of three calls through a private jar: an original, a change, and a removal.
-fn play(alloc: Global, key: &Key, count: usize) -> Result<Played, Fail> {
+// What comes of calls through a private jar.
+fn play(alloc: Global, key: &Key, words: &'static str) -> Result<Played, Fail> {
     let now = moment()?;
-    let calls = [
-        JarCall::Private(key, [0; 12], ChildCall::AddOriginal(Cookie::new("a", "1"))),
-        JarCall::Private(key, [1; 12], ChildCall::Add(Cookie::new("b", "2"))),
-        JarCall::Private(key, [0; 12], ChildCall::Remove(Cookie::named("a"), now)),
-    ];
-    let calls = calls.get(..count).ok_or("fewer calls")?;
-    Ok(mirror(alloc, calls, &[1], now)?)
+    let calls = calls(alloc, key, words)?;
+    Ok(mirror(alloc, &calls, &[1], now)?)
+}
+
+// Whether the client has the value that the jar shows under the name.
+fn has_shown(client: &Client, jar: &CookieJar, name: &str) -> bool {
+    client.get(name).is_some() && client.get(name) == shown_value(jar, name)
+}
+
+// Whether the client has the value that the jar shows, and the private jar answers this one.
+fn is_followed(played: &Played, key: &Key, name: &str, value: &str) -> Result<bool, Fail> {
+    Ok(has_shown(&played.client, &played.jar, name) && answers(&played.jar, key, name, value)?)
+}
+
+// Whether both calls were accepted, and each of their cookies is followed.
+fn are_followed(played: &Played, key: &Key) -> Result<bool, Fail> {
+    if !are_accepted(&played.outcomes, 2) || !is_followed(played, key, "a", "1")? {
+        return Ok(false);
+    }
+    is_followed(played, key, "b", "2")
+}
+
+// Whether an original and a change are followed.
+fn are_calls_followed(alloc: Global, key: &Key) -> Result<bool, Fail> {
+    let played = play(alloc, key, "private 0 original a 1; private 1 add b 2")?;
+    are_followed(&played, key)
 }
 
 #[test]
 fn a_client_follows_private_calls(rt: HostRuntime) -> Result<(), Fail> {
-    let key = Key::from(&[0; 64]);
-    let played = play(rt.alloc(), &key, 2)?;
-    assert!(rt; played.outcomes.as_slice() == [true; 2].as_slice());
-    assert!(rt; is_followed(&played, "a"));
-    assert!(rt; is_followed(&played, "b"));
-    assert!(rt; answers(&played.jar, &key, "a", "1")?);
-    assert!(rt; answers(&played.jar, &key, "b", "2")?);
+    assert!(rt; are_calls_followed(rt.alloc(), &Key::from(&[0; 64]))?);
     Ok(())
 }
 
-// Whether the client has the value that the jar shows under the name.
-fn is_followed(played: &Played, name: &str) -> bool {
-    played.client.get(name).is_some() && played.client.get(name) == shown_value(&played.jar, name)
+// Whether a removal behind them is followed.
+fn is_removal_followed(alloc: Global, key: &Key) -> Result<bool, Fail> {
+    let words = "private 0 original a 1; private 1 add b 2; private 0 remove a";
+    let played = play(alloc, key, words)?;
+    Ok(played.client.get("a").is_none() && has_shown(&played.client, &played.jar, "b"))
 }
 
 #[test]
 fn a_client_follows_a_private_removal(rt: HostRuntime) -> Result<(), Fail> {
-    let played = play(rt.alloc(), &Key::from(&[0; 64]), 3)?;
-    assert!(rt; played.client.get("a").is_none());
-    assert!(rt; is_followed(&played, "b"));
+    assert!(rt; is_removal_followed(rt.alloc(), &Key::from(&[0; 64]))?);
     Ok(())
 }

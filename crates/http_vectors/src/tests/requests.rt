@@ -120,7 +120,7 @@ fn count(jar: &CookieJar) -> usize {
 fn a_request_may_have_10000_cookies(rt: HostRuntime) -> Result<(), Fail> {
     for in_field in [1, 100, 10_000] {
         let jar = large_jar(rt.alloc(), RandomState::new(&rt)?, in_field)?;
-        assert_eq!(rt; count(&jar), 10_000, "{in_field}");
+        assert!(rt; count(&jar) == 10_000, "{in_field}");
     }
     Ok(())
 }

@@ -1,33 +1,26 @@
 //! What a jar holds after its calls, and what the walks over it meet.
-use cookie::{Cookie, CookieJar, JarError};
-use jar_steps::{Step, after, counts, first_wrong, moment};
+use cookie::{Cookie, CookieJar};
+use jar_steps::{Step, after, counts, first_wrong, moment, play_rows, shown_value};
 use jiff::SignedDuration;
 use std::alloc::Global;
 use std::hash::RandomState;
 use std::test::Fail;
 
-// The place of the first wrong step on a new jar.
-fn wrong(alloc: Global, steps: &[Step]) -> Result<Option<usize>, Fail> {
-    first_wrong(&mut CookieJar::new(alloc), steps)
-}
+// What is shown between the calls on a new jar, a line each.
+const ROWS: &str = "\
+simple: add test; add test2; remove test; lacks test; shows test2; add test3; remove test2; remove test3; lacks test; lacks test2; lacks test3
+replace_original: original original_a a; original original_b b; shows original_a a; add original_a av2; shows original_a av2; shows original_b b; lacks original_c
+empty_delta: add name val; counts 1 1; remove name; counts 0 0; original name val; counts 0 1; remove name; counts 1 0; add name val; counts 1 1; remove name; counts 1 0
+add_remove_add: original name name; delta 0 0; remove name; delta 1 0; original name val; delta 1 0; remove name; delta 1 0; add name val; delta 1 1; remove name; delta 1 0
+replace_remove: original name name; delta 0 0; add name val; delta 1 1; remove name; delta 1 0
+calls_that_bring_nothing_new_leave_the_jar: original name val; original name val; counts 0 1; shows name val; remove absent; force absent; counts 0 1; shows name val; remove name; remove name; original name val; counts 1 0; lacks name
+forced_removals_leave_no_trace: original name name; add key value; counts 1 2; force name; counts 1 1; lacks name; force key; counts 0 0; force absent; counts 0 0
+a_reset_shows_the_originals_again: original name name; original language language; add language changed; add more more; remove name; counts 3 2; reset; counts 0 2; shows name name; shows language language
+";
 
 #[test]
-fn simple(rt: HostRuntime) -> Result<(), Fail> {
-    let steps = [
-        Step::Add("test", ""),
-        Step::Add("test2", ""),
-        Step::Remove("test"),
-        Step::Lacks("test"),
-        Step::Shows("test2", ""),
-        Step::Add("test3", ""),
-        Step::Remove("test2"),
-        Step::Remove("test3"),
-        Step::Lacks("test"),
-        Step::Lacks("test2"),
-        Step::Lacks("test3"),
-    ];
-    assert!(rt; wrong(rt.alloc(), &steps)?.is_none());
-    Ok(())
+fn jars_show_what_their_calls_say(rt: HostRuntime) -> Result<(), Fail> {
+    play_rows(rt.alloc(), ROWS)
 }
 
 // Originals, additions and removals.
@@ -51,13 +44,19 @@ fn age_of(name: &str) -> Option<Option<SignedDuration>> {
     }
 }
 
+// Whether that jar's delta has its four cookies.
+fn has_its_delta(jar: &CookieJar) -> bool {
+    for cookie in jar.delta() {
+        if age_of(cookie.name()) != Some(cookie.max_age()) {
+            return false;
+        }
+    }
+    counts(jar) == (4, 4)
+}
+
 #[test]
 fn delta(rt: HostRuntime) -> Result<(), Fail> {
-    let jar = after(rt.alloc(), &CHANGES)?;
-    assert!(rt; counts(&jar) == (4, 4));
-    for cookie in jar.delta() {
-        assert!(rt; age_of(cookie.name()) == Some(cookie.max_age()));
-    }
+    assert!(rt; has_its_delta(&after(rt.alloc(), &CHANGES)?));
     Ok(())
 }
 
@@ -72,104 +71,20 @@ fn value_of(name: &str) -> Option<&'static str> {
     }
 }
 
+// Whether the walk over that jar, once `original1` is `new`, meets its four cookies.
+fn has_its_walk(jar: &mut CookieJar) -> Result<bool, Fail> {
+    jar.add(Cookie::new("original1", "new"))?;
+    for cookie in jar.iter() {
+        if value_of(cookie.name()) != Some(cookie.value()) {
+            return Ok(false);
+        }
+    }
+    Ok(counts(jar) == (5, 4))
+}
+
 #[test]
 fn the_walk_meets_what_the_jar_shows(rt: HostRuntime) -> Result<(), Fail> {
-    let mut jar = after(rt.alloc(), &CHANGES)?;
-    let more = [Step::Add("original1", "new"), Step::Counts(5, 4)];
-    assert!(rt; first_wrong(&mut jar, &more)?.is_none());
-    for cookie in jar.iter() {
-        assert!(rt; value_of(cookie.name()) == Some(cookie.value()));
-    }
-    Ok(())
-}
-
-#[test]
-fn replace_original(rt: HostRuntime) -> Result<(), Fail> {
-    let steps = [
-        Step::AddOriginal("original_a", "a"),
-        Step::AddOriginal("original_b", "b"),
-        Step::Shows("original_a", "a"),
-        Step::Add("original_a", "av2"),
-        Step::Shows("original_a", "av2"),
-        Step::Shows("original_b", "b"),
-        Step::Lacks("original_c"),
-    ];
-    assert!(rt; wrong(rt.alloc(), &steps)?.is_none());
-    Ok(())
-}
-
-#[test]
-fn empty_delta(rt: HostRuntime) -> Result<(), Fail> {
-    let steps = [
-        Step::Add("name", "val"),
-        Step::Counts(1, 1),
-        Step::Remove("name"),
-        Step::Counts(0, 0),
-        Step::AddOriginal("name", "val"),
-        Step::Counts(0, 1),
-        Step::Remove("name"),
-        Step::Counts(1, 0),
-        Step::Add("name", "val"),
-        Step::Counts(1, 1),
-        Step::Remove("name"),
-        Step::Counts(1, 0),
-    ];
-    assert!(rt; wrong(rt.alloc(), &steps)?.is_none());
-    Ok(())
-}
-
-#[test]
-fn add_remove_add(rt: HostRuntime) -> Result<(), Fail> {
-    let steps = [
-        Step::AddOriginal("name", "name"),
-        Step::DeltaCounts(0, 0),
-        Step::Remove("name"),
-        Step::DeltaCounts(1, 0),
-        Step::AddOriginal("name", "val"),
-        Step::DeltaCounts(1, 0),
-        Step::Remove("name"),
-        Step::DeltaCounts(1, 0),
-        Step::Add("name", "val"),
-        Step::DeltaCounts(1, 1),
-        Step::Remove("name"),
-        Step::DeltaCounts(1, 0),
-    ];
-    assert!(rt; wrong(rt.alloc(), &steps)?.is_none());
-    Ok(())
-}
-
-#[test]
-fn replace_remove(rt: HostRuntime) -> Result<(), Fail> {
-    let steps = [
-        Step::AddOriginal("name", "name"),
-        Step::DeltaCounts(0, 0),
-        Step::Add("name", "val"),
-        Step::DeltaCounts(1, 1),
-        Step::Remove("name"),
-        Step::DeltaCounts(1, 0),
-    ];
-    assert!(rt; wrong(rt.alloc(), &steps)?.is_none());
-    Ok(())
-}
-
-#[test]
-fn calls_that_bring_nothing_new_leave_the_jar(rt: HostRuntime) -> Result<(), Fail> {
-    let steps = [
-        Step::AddOriginal("name", "val"),
-        Step::AddOriginal("name", "val"),
-        Step::Counts(0, 1),
-        Step::Shows("name", "val"),
-        Step::Remove("absent"),
-        Step::ForceRemove("absent"),
-        Step::Counts(0, 1),
-        Step::Shows("name", "val"),
-        Step::Remove("name"),
-        Step::Remove("name"),
-        Step::AddOriginal("name", "val"),
-        Step::Counts(1, 0),
-        Step::Lacks("name"),
-    ];
-    assert!(rt; wrong(rt.alloc(), &steps)?.is_none());
+    assert!(rt; has_its_walk(&mut after(rt.alloc(), &CHANGES)?)?);
     Ok(())
 }
 
@@ -180,118 +95,101 @@ fn remove_everywhere(jar: &mut CookieJar, name: &'static str) -> Result<(), Fail
     Ok(())
 }
 
+// Whether the jar's one change removes a cookie with that path.
+fn removes_everywhere(jar: &CookieJar) -> bool {
+    for cookie in jar.delta() {
+        if !cookie.value().is_empty() || cookie.path() != Some("/") {
+            return false;
+        }
+    }
+    counts(jar) == (1, 0)
+}
+
+// Whether the jar shows its one original, without a path.
+fn has_no_path(jar: &CookieJar) -> bool {
+    for cookie in jar.iter() {
+        if cookie.path().is_some() {
+            return false;
+        }
+    }
+    counts(jar) == (0, 1)
+}
+
+// Whether the original, without a path, is removed with that one.
+fn is_removed(jar: &mut CookieJar) -> Result<bool, Fail> {
+    let is_bare = has_no_path(jar);
+    remove_everywhere(jar, "name")?;
+    Ok(is_bare && removes_everywhere(jar))
+}
+
 #[test]
 fn remove_with_path(rt: HostRuntime) -> Result<(), Fail> {
-    let original = [Step::AddOriginal("name", "name"), Step::Counts(0, 1)];
-    let mut jar = after(rt.alloc(), &original)?;
-    for cookie in jar.iter() {
-        assert!(rt; cookie.path().is_none());
-    }
-    remove_everywhere(&mut jar, "name")?;
-    assert!(rt; counts(&jar) == (1, 0));
-    for cookie in jar.delta() {
-        assert!(rt; cookie.value().is_empty() && cookie.path() == Some("/"));
-    }
+    let mut jar = after(rt.alloc(), &[Step::AddOriginal("name", "name")])?;
+    assert!(rt; is_removed(&mut jar)?);
     Ok(())
 }
 
-#[test]
-fn forced_removals_leave_no_trace(rt: HostRuntime) -> Result<(), Fail> {
-    let steps = [
-        Step::AddOriginal("name", "name"),
-        Step::Add("key", "value"),
-        Step::Counts(1, 2),
-        Step::ForceRemove("name"),
-        Step::Counts(1, 1),
-        Step::Lacks("name"),
-        Step::ForceRemove("key"),
-        Step::Counts(0, 0),
-        Step::ForceRemove("absent"),
-        Step::Counts(0, 0),
-    ];
-    assert!(rt; wrong(rt.alloc(), &steps)?.is_none());
-    Ok(())
-}
+// Originals and changes, for a jar that is cloned.
+const BEFORE: [Step; 4] = [
+    Step::AddOriginal("kept", "kept"),
+    Step::AddOriginal("gone", "gone"),
+    Step::Add("new", "value"),
+    Step::Remove("gone"),
+];
 
-#[test]
-fn a_reset_shows_the_originals_again(rt: HostRuntime) -> Result<(), Fail> {
-    let steps = [
-        Step::AddOriginal("name", "name"),
-        Step::AddOriginal("language", "language"),
-        Step::Add("language", "changed"),
-        Step::Add("more", "more"),
-        Step::Remove("name"),
-        Step::Counts(3, 2),
-        Step::ResetDelta,
-        Step::Counts(0, 2),
-        Step::Shows("name", "name"),
-        Step::Shows("language", "language"),
-    ];
-    assert!(rt; wrong(rt.alloc(), &steps)?.is_none());
-    Ok(())
-}
+// What the clone shows, once the jar has lost it.
+const HELD: [Step; 4] = [
+    Step::Counts(2, 2),
+    Step::Shows("kept", "kept"),
+    Step::Lacks("gone"),
+    Step::Shows("new", "value"),
+];
 
-// A clone of a jar with two originals and two changes, once that jar has lost them.
-fn clone_before_loss(alloc: Global) -> Result<CookieJar, Fail> {
-    let steps = [
-        Step::AddOriginal("kept", "kept"),
-        Step::AddOriginal("gone", "gone"),
-        Step::Add("new", "value"),
-        Step::Remove("gone"),
-    ];
-    let mut jar = after(alloc, &steps)?;
-    let copy = jar.clone()?;
-    let more = [
-        Step::ResetDelta,
-        Step::ForceRemove("kept"),
-        Step::Counts(0, 1),
-    ];
-    match first_wrong(&mut jar, &more)? {
-        Some(_) => Err(Fail::new("the jar shows another thing")),
-        None => Ok(copy),
-    }
+// Whether a clone of the jar holds what the jar loses.
+fn is_cloned(jar: &mut CookieJar) -> Result<bool, Fail> {
+    let mut copy = jar.clone()?;
+    jar.reset_delta();
+    jar.force_remove("kept");
+    let wrong = first_wrong(&mut copy, &HELD)?;
+    Ok(wrong.is_none() && counts(jar) == (0, 1))
 }
 
 #[test]
 fn a_clone_goes_its_own_way(rt: HostRuntime) -> Result<(), Fail> {
-    let held = [
-        Step::Counts(2, 2),
-        Step::Shows("kept", "kept"),
-        Step::Lacks("gone"),
-        Step::Shows("new", "value"),
-    ];
-    assert!(rt; first_wrong(&mut clone_before_loss(rt.alloc())?, &held)?.is_none());
+    assert!(rt; is_cloned(&mut after(rt.alloc(), &BEFORE)?)?);
     Ok(())
 }
 
-// A jar that read its original and its change.
-fn jar_of_texts(alloc: Global) -> Result<CookieJar, Fail> {
-    let mut jar = CookieJar::new(alloc);
+// Adds an original and a change that were read.
+fn add_texts(jar: &mut CookieJar) -> Result<(), Fail> {
     jar.add_original(Cookie::parse("a=1")?)?;
     jar.add(Cookie::parse("b=2")?)?;
-    Ok(jar)
+    Ok(())
+}
+
+fn has_raw_values(jar: &CookieJar) -> bool {
+    for cookie in jar.iter() {
+        if cookie.value_raw() != Some(cookie.value()) {
+            return false;
+        }
+    }
+    counts(jar) == (1, 2)
+}
+
+// Whether a clone of the jar, once it has these, lends their values.
+fn keeps_raw_values(jar: &mut CookieJar) -> Result<bool, Fail> {
+    add_texts(jar)?;
+    Ok(has_raw_values(&jar.clone()?))
 }
 
 #[test]
 fn stored_cookies_keep_their_raw_forms(rt: HostRuntime) -> Result<(), Fail> {
-    let copy = jar_of_texts(rt.alloc())?.clone()?;
-    for cookie in copy.iter() {
-        assert!(rt; cookie.value_raw() == Some(cookie.value()));
-    }
-    assert!(rt; counts(&copy) == (1, 2));
+    assert!(rt; keeps_raw_values(&mut CookieJar::new(rt.alloc()))?);
     Ok(())
 }
 
-#[test]
-fn refusals_are_named(rt: HostRuntime) -> Result<(), Fail> {
-    for (error, text) in [
-        (JarError::OutOfMemory, "out of memory"),
-        (JarError::TooLong, "the value or name is too long to seal"),
-        (JarError::Generator, "the generator failed"),
-    ] {
-        assert!(rt; error.to_string(rt.alloc())?.as_str() == text);
-    }
-    Ok(())
+fn is_shown_as(alloc: Global, jar: &CookieJar, text: &str) -> Result<bool, Fail> {
+    Ok(format!(in alloc; "{jar:?}")?.as_str() == text)
 }
 
 // The text is that of a derived `Debug` of Rust, at structs with these fields.
@@ -303,18 +201,22 @@ fn a_jar_is_shown_with_its_values(rt: HostRuntime) -> Result<(), Fail> {
     )?;
     let shown =
         "CookieJar { originals: {\"o\": Original { cookie: Cookie { name: \"o\", value: \"1\", http_only: None, secure: None, partitioned: None, same_site: None, path: None, domain: None, max_age: None, expires: None } }}, delta: {\"d\": DeltaCookie { cookie: Cookie { name: \"d\", value: \"2\", http_only: None, secure: None, partitioned: None, same_site: None, path: None, domain: None, max_age: None, expires: None }, removed: false }} }";
-    assert!(rt; format!(in rt.alloc(); "{jar:?}")?.as_str() == shown);
+    assert!(rt; is_shown_as(rt.alloc(), &jar, shown)?);
     Ok(())
+}
+
+// Whether a clone of the jar shows its original and its change.
+fn is_cloned_whole(jar: &CookieJar) -> Result<bool, Fail> {
+    let copy = jar.clone()?;
+    let has_original = copy.original("name").map(|c| c.value()) == Some("val");
+    Ok(has_original && copy.original("new").is_none() && shown_value(&copy, "name") == Some("new"))
 }
 
 #[test]
 fn a_jar_with_drawn_keys_answers_as_any_other(rt: HostRuntime) -> Result<(), Fail> {
     let mut jar = CookieJar::with_hasher(rt.alloc(), RandomState::new(&rt)?);
-    jar.add_original(Cookie::new("name", "val"))?;
-    jar.add(Cookie::new("name", "new"))?;
-    let copy = jar.clone()?;
-    assert!(rt; copy.get("name").map(|c| c.value()) == Some("new"));
-    assert!(rt; copy.original("name").map(|c| c.value()) == Some("val"));
-    assert!(rt; copy.original("new").is_none());
+    let steps = [Step::AddOriginal("name", "val"), Step::Add("name", "new")];
+    assert!(rt; first_wrong(&mut jar, &steps)?.is_none());
+    assert!(rt; is_cloned_whole(&jar)?);
     Ok(())
 }

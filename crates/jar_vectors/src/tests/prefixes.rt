@@ -1,7 +1,7 @@
 //! Names with a prefix, and what a prefix asks of a cookie.
 use cookie::prefix::{Host, NamePrefix, Prefix, Prefixing, Secure};
 use cookie::{Cookie, CookieJar};
-use jar_steps::{counts, moment, shown_value};
+use jar_steps::{Step, after, counts, moment, shown_value};
 use std::alloc::Global;
 use std::test::Fail;
 
@@ -47,14 +47,17 @@ fn with_added<P: Prefix>(alloc: Global, prefix: P) -> Result<CookieJar, Fail> {
     Ok(jar)
 }
 
-// The encoded text of the one cookie of a delta that has this name.
-fn delta_text(alloc: Global, jar: &CookieJar, name: &str) -> Result<String, Fail> {
+// Whether the texts of the delta's cookies are these lines, in any order.
+fn tells(alloc: Global, jar: &CookieJar, lines: &str) -> Result<bool, Fail> {
+    let mut count = 0usize;
     for cookie in jar.delta() {
-        if cookie.name() == name {
-            return Ok(cookie.encoded().to_string(alloc)?);
+        let text = cookie.encoded().to_string(alloc)?;
+        if !lines.lines().any(|line| line == text.as_str()) {
+            return Ok(false);
         }
+        count = count.saturating_add(1);
     }
-    Err(Fail::new("the delta lacks the name"))
+    Ok(count == lines.lines().count())
 }
 
 // A cookie that asks for another path, for a domain, and for no secure connection.
@@ -84,12 +87,17 @@ fn shows_host_cookie(jar: &CookieJar) -> Result<bool, Fail> {
     }
 }
 
+// Whether the jar, once it has that cookie, shows it as `__Host-` asks for it.
+fn is_conforming(jar: &mut CookieJar) -> Result<bool, Fail> {
+    add(jar, Host, loose_cookie())?;
+    let is_named = shown_value(jar, "__Host-name").is_some() && shown_value(jar, "name").is_none();
+    let is_shown = shows_host_cookie(jar)?;
+    Ok(is_named && is_shown)
+}
+
 #[test]
 fn a_host_cookie_conforms(rt: HostRuntime) -> Result<(), Fail> {
-    let mut jar = CookieJar::new(rt.alloc());
-    add(&mut jar, Host, loose_cookie())?;
-    assert!(rt; shows_host_cookie(&jar)?);
-    assert!(rt; shown_value(&jar, "__Host-name").is_some() && shown_value(&jar, "name").is_none());
+    assert!(rt; is_conforming(&mut CookieJar::new(rt.alloc()))?);
     Ok(())
 }
 
@@ -113,46 +121,50 @@ fn remove(jar: &mut CookieJar, name: &'static str) -> Result<(), Fail> {
     Ok(())
 }
 
-// Whether the delta has a cookie with this text.
-fn is_told(alloc: Global, jar: &CookieJar, name: &str, text: &str) -> Result<bool, Fail> {
-    Ok(delta_text(alloc, jar, name)?.as_str() == text)
-}
+// What the two changes tell a client.
+const CHANGED: &str = "\
+__Host-h=2; Secure; Path=/
+__Secure-s=3; Secure
+";
+
+// The same, once the first is removed through its prefix.
+const REMOVED: &str = "\
+__Host-h=; Secure; Path=/; Max-Age=0; Expires=Tue, 21 Oct 2014 07:28:00 GMT
+__Secure-s=3; Secure
+";
 
 #[test]
 fn cookies_of_both_prefixes_are_printed(rt: HostRuntime) -> Result<(), Fail> {
-    let alloc = rt.alloc();
-    let jar = with_both(alloc)?;
+    let jar = with_both(rt.alloc())?;
+    assert!(rt; tells(rt.alloc(), &jar, CHANGED)?);
     assert!(rt; counts(&jar) == (2, 2));
-    assert!(rt; is_told(alloc, &jar, "__Host-h", "__Host-h=2; Secure; Path=/")?);
-    assert!(rt; is_told(alloc, &jar, "__Secure-s", "__Secure-s=3; Secure")?);
     Ok(())
 }
 
-// What a removal through the prefix tells the client.
-const REMOVED: &str = "__Host-h=; Secure; Path=/; Max-Age=0; Expires=Tue, 21 Oct 2014 07:28:00 GMT";
+// Whether the jar tells the removal of `h` through its prefix, and no longer shows it there.
+fn is_removed(alloc: Global, jar: &mut CookieJar) -> Result<bool, Fail> {
+    remove(jar, "h")?;
+    let is_shown = get(jar, Host, "h")?.is_some();
+    let is_told = tells(alloc, jar, REMOVED)?;
+    Ok(is_told && !is_shown)
+}
 
 #[test]
 fn a_removal_through_a_prefix_is_printed(rt: HostRuntime) -> Result<(), Fail> {
-    let mut jar = with_both(rt.alloc())?;
-    remove(&mut jar, "h")?;
-    assert!(rt; is_told(rt.alloc(), &jar, "__Host-h", REMOVED)?);
-    assert!(rt; get(&jar, Host, "h")?.is_none());
+    assert!(rt; is_removed(rt.alloc(), &mut with_both(rt.alloc())?)?);
     Ok(())
 }
 
-// Whether a cookie of the first name has the second once the prefix is taken off.
-fn is_clipped<P: Prefix>(alloc: Global, name: &'static str, wanted: &str) -> Result<bool, Fail> {
-    Ok(P::clip(alloc, Cookie::named(name))?.name() == wanted)
+fn clip<P: Prefix>(alloc: Global, text: &'static str) -> Option<Cookie<'static>> {
+    P::clip(alloc, Cookie::parse(text).ok()?).ok()
 }
 
-#[test]
-fn a_prefix_is_taken_off_in_its_own_case(rt: HostRuntime) -> Result<(), Fail> {
-    let alloc = rt.alloc();
-    assert!(rt; is_clipped::<Host>(alloc, "__Host-", "")?);
-    assert!(rt; is_clipped::<Host>(alloc, "__host-a", "__host-a")?);
-    assert!(rt; is_clipped::<Secure>(alloc, "__Secure-a", "a")?);
-    assert!(rt; is_clipped::<Secure>(alloc, "__Secure", "__Secure")?);
-    Ok(())
+// Whether the text's cookie has this name, lent or not, once the prefix is taken off.
+fn is_clipped<P: Prefix>(alloc: Global, text: &'static str, name: &str, raw: Option<&str>) -> bool {
+    match clip::<P>(alloc, text) {
+        Some(cookie) => cookie.name() == name && cookie.name_raw() == raw,
+        None => false,
+    }
 }
 
 // Whether a cookie that is added through the prefix is stored under this name, kept from scripts or not.
@@ -178,35 +190,60 @@ fn a_third_prefix_conforms(rt: HostRuntime) -> Result<(), Fail> {
     Ok(())
 }
 
-#[test]
-fn the_calls_of_a_prefix(rt: HostRuntime) -> Result<(), Fail> {
-    let alloc = rt.alloc();
-    assert!(rt; Host::PREFIX.as_str() == "__Host-");
-    assert!(rt; Secure::PREFIX.as_str() == "__Secure-");
-    assert!(rt; Host::prefixed_name(alloc, "a")?.as_str() == "__Host-a");
-    let prefixed = Team::prefix(alloc, Cookie::parse("a=1")?)?;
-    assert!(rt; prefixed.name() == "team.a" && prefixed.http_only().is_none());
-    assert!(rt; prefixed.name_raw().is_none() && prefixed.value_raw() == Some("1"));
-    Ok(())
+fn prefix<P: Prefix>(alloc: Global, text: &'static str) -> Option<Cookie<'static>> {
+    P::prefix(alloc, Cookie::parse(text).ok()?).ok()
+}
+
+// Whether the text's cookie has this name, lent or not, behind the prefix, and else what it was read with.
+fn is_prefixed<P: Prefix>(
+    alloc: Global,
+    text: &'static str,
+    name: &str,
+    raw: Option<&str>,
+) -> bool {
+    match prefix::<P>(alloc, text) {
+        Some(cookie) => {
+            cookie.name() == name
+                && cookie.name_raw() == raw
+                && cookie.value_raw() == Some("1")
+                && cookie.http_only().is_none()
+        }
+        None => false,
+    }
 }
 
 #[test]
-fn a_name_that_changes_is_no_longer_lent(rt: HostRuntime) -> Result<(), Fail> {
-    let alloc = rt.alloc();
-    let clipped = Team::clip(alloc, Cookie::parse("team.a=1")?)?;
-    assert!(rt; clipped.name() == "a" && clipped.name_raw().is_none());
-    let kept = Team::clip(alloc, Cookie::parse("a=1")?)?;
-    assert!(rt; kept.name_raw() == Some("a"));
+fn the_calls_of_a_prefix(rt: HostRuntime) -> Result<(), Fail> {
+    assert!(rt; Host::PREFIX.as_str() == "__Host-");
+    assert!(rt; Secure::PREFIX.as_str() == "__Secure-");
+    assert!(rt; Host::prefixed_name(rt.alloc(), "a")?.as_str() == "__Host-a");
+    assert!(rt; is_prefixed::<Team>(rt.alloc(), "a=1", "team.a", None));
     Ok(())
+}
+
+// Whether a cookie that is handed to `__Secure-` conforms to it.
+fn is_applied(alloc: Global) -> Result<bool, Fail> {
+    let cookie = Secure::apply(alloc, Cookie::new("a", "1"))?;
+    Ok(cookie.name() == "__Secure-a" && cookie.secure() == Some(true))
+}
+
+// A cookie of a path and a domain, once it conforms to `__Host-`.
+fn host_cookie() -> Result<Cookie<'static>, Fail> {
+    Ok(Host::conform(Cookie::parse("a=1; Path=/x; Domain=b.c")?))
+}
+
+// Whether the cookie `a`, whose name is lent, has the path of the whole host.
+fn has_the_whole_host(cookie: &Cookie<'_>) -> bool {
+    cookie.name_raw() == Some("a")
+        && cookie.path() == Some("/")
+        && cookie.path_raw().is_none()
+        && cookie.domain().is_none()
 }
 
 #[test]
 fn an_applied_cookie_conforms(rt: HostRuntime) -> Result<(), Fail> {
-    let applied = Secure::apply(rt.alloc(), Cookie::new("a", "1"))?;
-    assert!(rt; applied.name() == "__Secure-a" && applied.secure() == Some(true));
-    let conforming = Host::conform(Cookie::parse("a=1; Path=/x; Domain=b.c")?);
-    assert!(rt; conforming.name_raw() == Some("a") && conforming.path_raw().is_none());
-    assert!(rt; conforming.path() == Some("/") && conforming.domain().is_none());
+    assert!(rt; is_applied(rt.alloc())?);
+    assert!(rt; has_the_whole_host(&host_cookie()?));
     Ok(())
 }
 
@@ -225,8 +262,7 @@ fn is_looked_up(jar: &mut CookieJar) -> Result<bool, Fail> {
 
 #[test]
 fn a_child_jar_looks_up_what_it_changed(rt: HostRuntime) -> Result<(), Fail> {
-    let mut jar = CookieJar::new(rt.alloc());
-    jar.add(Cookie::new("a", "plain"))?;
+    let mut jar = after(rt.alloc(), &[Step::Add("a", "plain")])?;
     assert!(rt; is_looked_up(&mut jar)?);
     Ok(())
 }
@@ -256,11 +292,22 @@ impl Prefix for Bare {
 }
 
 #[test]
-fn an_empty_prefix_changes_nothing(rt: HostRuntime) -> Result<(), Fail> {
+fn an_empty_prefix_changes_nothing(rt: HostRuntime) {
+    assert!(rt; is_prefixed::<Bare>(rt.alloc(), "a=1", "a", Some("a")));
+    assert!(rt; is_clipped::<Bare>(rt.alloc(), "a=1", "a", Some("a")));
+}
+
+#[test]
+fn a_prefix_is_taken_off_in_its_own_case(rt: HostRuntime) {
     let alloc = rt.alloc();
-    let prefixed = Bare::prefix(alloc, Cookie::parse("a=1")?)?;
-    assert!(rt; prefixed.name() == "a" && prefixed.name_raw() == Some("a"));
-    let clipped = Bare::clip(alloc, prefixed)?;
-    assert!(rt; clipped.name() == "a" && clipped.name_raw() == Some("a"));
-    Ok(())
+    assert!(rt; is_clipped::<Host>(alloc, "__Host-=", "", None));
+    assert!(rt; is_clipped::<Host>(alloc, "__host-a=", "__host-a", Some("__host-a")));
+    assert!(rt; is_clipped::<Secure>(alloc, "__Secure-a=", "a", None));
+    assert!(rt; is_clipped::<Secure>(alloc, "__Secure=", "__Secure", Some("__Secure")));
+}
+
+#[test]
+fn a_name_that_changes_is_no_longer_lent(rt: HostRuntime) {
+    assert!(rt; is_clipped::<Team>(rt.alloc(), "team.a=1", "a", None));
+    assert!(rt; is_clipped::<Team>(rt.alloc(), "a=1", "a", Some("a")));
 }

@@ -104,20 +104,21 @@ fn deterministic_derive(rt: HostRuntime) {
 }
 
 // Whether the key that is derived of the bytes is this one.
-fn is_derived_as(master: &[u8], key: &[u8]) -> Result<bool, Fail> {
-    let derived = Key::try_derive_from(master)?;
-    Ok(derived.master() == key && derived == Key::derive_from(master))
+fn is_derived_as(master: &[u8], key: &[u8]) -> bool {
+    match Key::try_derive_from(master) {
+        Ok(derived) => derived.master() == key && derived == Key::derive_from(master),
+        Err(_) => false,
+    }
 }
 
 #[test]
-fn keys_are_derived_as_elsewhere(rt: HostRuntime) -> Result<(), Fail> {
+fn keys_are_derived_as_elsewhere(rt: HostRuntime) {
     let mut changed = [255; 64];
     changed[..32].copy_from_slice(&count_up::<32>());
-    assert!(rt; is_derived_as(&count_up::<32>(), &DERIVED)?);
-    assert!(rt; is_derived_as(&count_up::<33>(), &DERIVED_OF_33)?);
-    assert!(rt; is_derived_as(&count_up::<65>(), &DERIVED_OF_65)?);
-    assert!(rt; is_derived_as(&changed, &DERIVED_OF_CHANGED)?);
-    Ok(())
+    assert!(rt; is_derived_as(&count_up::<32>(), &DERIVED));
+    assert!(rt; is_derived_as(&count_up::<33>(), &DERIVED_OF_33));
+    assert!(rt; is_derived_as(&count_up::<65>(), &DERIVED_OF_65));
+    assert!(rt; is_derived_as(&changed, &DERIVED_OF_CHANGED));
 }
 
 #[test]
