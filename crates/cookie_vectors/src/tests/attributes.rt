@@ -1,12 +1,16 @@
 //! What each attribute of a text sets.
 use super::{foo, is_read_as};
-use cookie_core::{Cookie, Expiration, SameSite, read_date};
+use cookie_core::{Cookie, Expiration, ParseError, SameSite, read_date};
 use jiff::SignedDuration;
 use jiff::civil::DateTime;
 use std::test::Fail;
 
+fn age_of(text: &str) -> Result<Option<SignedDuration>, ParseError> {
+    Ok(Cookie::parse(text)?.max_age())
+}
+
 #[test]
-fn the_last_valid_age_counts(rt: HostRuntime) -> Result<(), Fail> {
+fn the_last_valid_age_counts(rt: HostRuntime) {
     let greatest = SignedDuration::from_secs(i64::MAX);
     let rows = [
         (
@@ -36,10 +40,8 @@ fn the_last_valid_age_counts(rt: HostRuntime) -> Result<(), Fail> {
         ("foo=bar", None),
     ];
     for (text, wanted) in rows {
-        let cookie = Cookie::parse(text)?;
-        assert!(rt; cookie.max_age() == wanted, "{text}");
+        assert!(rt; age_of(text) == Ok(wanted), "{text}");
     }
-    Ok(())
 }
 
 fn has_last_attributes(cookie: &Cookie<'_>) -> bool {
@@ -56,20 +58,32 @@ fn the_last_valid_attribute_counts(rt: HostRuntime) -> Result<(), Fail> {
     Ok(())
 }
 
-fn has_expiry(cookie: &Cookie<'_>, date: DateTime) -> bool {
-    cookie.expires_datetime() == Some(date) && cookie.expires() == Some(Expiration::DateTime(date))
+// Whether the text is read as a cookie with this expiry.
+fn has_expiry(text: &str, date: DateTime) -> bool {
+    match Cookie::parse(text) {
+        Ok(cookie) => {
+            let expiry = (cookie.expires_datetime(), cookie.expires());
+            expiry == (Some(date), Some(Expiration::DateTime(date)))
+        }
+        Err(_) => false,
+    }
 }
 
 #[test]
 fn an_expiry_is_read(rt: HostRuntime) -> Result<(), Fail> {
     let date = read_date("Wed, 21 Oct 2015 07:28:00 GMT").ok_or("a date")?;
-    let cookie = Cookie::parse("a=1; Expires=Wed, 21 Oct 2015 07:28:00 GMT; Expires=soon")?;
-    assert!(rt; has_expiry(&cookie, date) && Cookie::new("a", "1").expires().is_none());
+    let text = "a=1; Expires=Wed, 21 Oct 2015 07:28:00 GMT; Expires=soon";
+    assert!(rt; has_expiry(text, date));
+    assert!(rt; Cookie::new("a", "1").expires().is_none());
     Ok(())
 }
 
+fn site_of(text: &str) -> Result<Option<SameSite>, ParseError> {
+    Ok(Cookie::parse(text)?.same_site())
+}
+
 #[test]
-fn parse_same_site(rt: HostRuntime) -> Result<(), Fail> {
+fn parse_same_site(rt: HostRuntime) {
     for (text, wanted) in [
         ("foo=bar; SameSite=Lax", SameSite::Lax),
         ("foo=bar; SameSite=lax", SameSite::Lax),
@@ -82,11 +96,14 @@ fn parse_same_site(rt: HostRuntime) -> Result<(), Fail> {
         ("foo=bar; SAMESITE=nOne", SameSite::None),
         ("foo=bar; SameSite= None ", SameSite::None),
     ] {
-        let cookie = Cookie::parse(text)?;
-        assert!(rt; cookie.same_site() == Some(wanted), "{text}");
+        assert!(rt; site_of(text) == Ok(Some(wanted)), "{text}");
     }
-    assert!(rt; Cookie::parse("foo=bar; SameSite=odd")?.same_site() == None);
-    Ok(())
+    assert!(rt; site_of("foo=bar; SameSite=odd") == Ok(None));
+}
+
+// Whether the text is read as that cookie with this age.
+fn is_read_with(text: &str, age: SignedDuration) -> bool {
+    is_read_as(text, foo().max_age(age).inner())
 }
 
 #[test]
@@ -105,12 +122,12 @@ fn parse_very_large_max_ages(rt: HostRuntime) {
             SignedDuration::ZERO,
         ),
     ] {
-        assert!(rt; is_read_as(text, foo().max_age(age).inner()), "{text}");
+        assert!(rt; is_read_with(text, age), "{text}");
     }
 }
 
 #[test]
 fn do_not_panic_on_large_max_ages(rt: HostRuntime) {
-    let greatest = foo().max_age(SignedDuration::from_secs(i64::MAX));
-    assert!(rt; is_read_as(" foo=bar; Max-Age=9223372036854775808", greatest.inner()));
+    let greatest = SignedDuration::from_secs(i64::MAX);
+    assert!(rt; is_read_with(" foo=bar; Max-Age=9223372036854775808", greatest));
 }

@@ -1,47 +1,59 @@
 //! Texts that are read with their escapes undone.
+use super::is_read_as;
 use cookie_core::{Cookie, ParseError};
+use std::alloc::Global;
 use std::test::Fail;
 
-#[test]
-fn odd_characters_encoded(rt: HostRuntime) -> Result<(), Fail> {
-    let plain = Cookie::parse("foo=b%2Fr")?;
-    assert!(rt; plain.value() == "b%2Fr");
-    let decoded = Cookie::parse_encoded(rt.alloc(), "foo=b%2Fr")?;
-    assert!(rt; decoded.name_value() == ("foo", "b/r"));
-    Ok(())
+// Whether the text is decoded to this pair, and lends these forms of its name, its value and its path.
+fn is_decoded(
+    alloc: Global,
+    text: &str,
+    pair: (&str, &str),
+    lent: (Option<&str>, Option<&str>, Option<&str>),
+) -> bool {
+    match Cookie::parse_encoded(alloc, text) {
+        Ok(cookie) => {
+            cookie.name_value() == pair
+                && (cookie.name_raw(), cookie.value_raw(), cookie.path_raw()) == lent
+        }
+        Err(_) => false,
+    }
 }
 
 #[test]
-fn a_text_without_an_escape_is_lent(rt: HostRuntime) -> Result<(), Fail> {
+fn odd_characters_encoded(rt: HostRuntime) {
+    assert!(rt; is_read_as("foo=b%2Fr", &Cookie::new("foo", "b%2Fr")));
+    assert!(rt; is_decoded(rt.alloc(), "foo=b%2Fr", ("foo", "b/r"), (None, None, None)));
+}
+
+#[test]
+fn a_text_without_an_escape_is_lent(rt: HostRuntime) {
     let rows = [
         ("a%=b%4", "a%", "b%4"),
         ("a=100%", "a", "100%"),
         ("foo=", "foo", ""),
     ];
     for (text, name, value) in rows {
-        let cookie = Cookie::parse_encoded(rt.alloc(), text)?;
-        assert!(rt; cookie.name_value() == (name, value));
-        assert!(rt; cookie.name_raw() == Some(name));
-        assert!(rt; cookie.value_raw() == Some(value));
+        let lent = (Some(name), Some(value), None);
+        assert!(rt; is_decoded(rt.alloc(), text, (name, value), lent));
     }
-    Ok(())
 }
 
 #[test]
-fn an_escape_makes_both_texts_own(rt: HostRuntime) -> Result<(), Fail> {
+fn an_escape_makes_both_texts_own(rt: HostRuntime) {
     let rows = [
         ("%41=%zz; Path=/x", "A", "%zz"),
         ("a=%41; Path=/x", "a", "A"),
         ("%20=1; Path=/x", " ", "1"),
     ];
     for (text, name, value) in rows {
-        let cookie = Cookie::parse_encoded(rt.alloc(), text)?;
-        assert!(rt; cookie.name_value() == (name, value));
-        assert!(rt; cookie.name_raw().is_none());
-        assert!(rt; cookie.value_raw().is_none());
-        assert!(rt; cookie.path_raw() == Some("/x"));
+        let lent = (None, None, Some("/x"));
+        assert!(rt; is_decoded(rt.alloc(), text, (name, value), lent));
     }
-    Ok(())
+}
+
+fn refusal_of(alloc: Global, text: &str) -> Option<ParseError> {
+    Cookie::parse_encoded(alloc, text).err()
 }
 
 #[test]
@@ -51,10 +63,18 @@ fn refusals_come_in_order(rt: HostRuntime) {
         ("=%FF", ParseError::EmptyName),
     ];
     for (text, wanted) in rows {
-        match Cookie::parse_encoded(rt.alloc(), text) {
-            Ok(_) => assert!(rt; false, "{text} is read"),
-            Err(error) => assert!(rt; error == wanted, "{text}"),
+        assert!(rt; refusal_of(rt.alloc(), text) == Some(wanted), "{text}");
+    }
+}
+
+// Whether the text is refused for its bytes, with this place of the first fault.
+fn is_refused_at(alloc: Global, text: &str, place: usize) -> bool {
+    match refusal_of(alloc, text) {
+        Some(ParseError::Utf8Error(error)) => {
+            let refusal = ParseError::from(error);
+            error.valid_up_to() == place && refusal == ParseError::Utf8Error(error)
         }
+        _ => false,
     }
 }
 
@@ -67,22 +87,14 @@ fn the_first_fault_of_the_name_is_named(rt: HostRuntime) {
         ("a=b%20%FF", 2),
     ];
     for (text, place) in rows {
-        match Cookie::parse_encoded(rt.alloc(), text) {
-            Err(ParseError::Utf8Error(error)) => {
-                assert!(rt; error.valid_up_to() == place, "{text}");
-                assert!(rt; ParseError::from(error) == ParseError::Utf8Error(error));
-            }
-            _ => assert!(rt; false, "{text} is not refused as it should be"),
-        }
+        assert!(rt; is_refused_at(rt.alloc(), text, place), "{text}");
     }
 }
 
 #[test]
 fn a_refusal_of_bytes_has_its_text(rt: HostRuntime) -> Result<(), Fail> {
     let wanted = "decoding the cookie's name or value resulted in invalid UTF-8";
-    let error = Cookie::parse_encoded(rt.alloc(), "a=%FF")
-        .err()
-        .ok_or("a cookie")?;
+    let error = refusal_of(rt.alloc(), "a=%FF").ok_or("a cookie")?;
     assert!(rt; error.as_str() == wanted);
     assert!(rt; error.to_string(rt.alloc())?.as_str() == wanted);
     Ok(())

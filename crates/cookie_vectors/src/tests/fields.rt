@@ -4,6 +4,7 @@ use cookie_core::{Cookie, CookieBuilder, Expiration, ParseError, SameSite, days_
 use jiff::SignedDuration;
 use jiff::civil::DateTime;
 use std::alloc::{AllocError, Global};
+use std::fmt;
 use std::hash::{FoldHasher, Hash, Hasher};
 use std::test::Fail;
 
@@ -33,9 +34,8 @@ fn a_value_is_trimmed_of_its_quotes(rt: HostRuntime) {
     }
 }
 
-#[test]
-fn each_field_is_set_and_unset(rt: HostRuntime) -> Result<(), Fail> {
-    let expiry = DateTime::new(1994, 11, 6, 8, 49, 37, 500_000_000)?;
+// A cookie whose fields are all set.
+fn with_each_field(expiry: DateTime) -> Cookie<'static> {
     let mut cookie = Cookie::named("name");
     cookie.set_name("id");
     cookie.set_value("x y");
@@ -47,10 +47,10 @@ fn each_field_is_set_and_unset(rt: HostRuntime) -> Result<(), Fail> {
     cookie.set_domain(".a.example");
     cookie.set_max_age(Some(SignedDuration::from_millis(90_700)));
     cookie.set_expires(Expiration::DateTime(expiry));
-    let all =
-        "id=x y; HttpOnly; SameSite=Lax; Partitioned; Secure; Path=/; Domain=a.example; Max-Age=90; Expires=Sun, 06 Nov 1994 08:49:37 GMT";
-    assert!(rt; cookie.to_string(rt.alloc())?.as_str() == all);
-    assert!(rt; cookie.expires_datetime() == Some(expiry));
+    cookie
+}
+
+fn unset_each_field(cookie: &mut Cookie<'_>) {
     cookie.set_http_only(None);
     cookie.set_same_site(None);
     cookie.set_partitioned(None);
@@ -59,29 +59,53 @@ fn each_field_is_set_and_unset(rt: HostRuntime) -> Result<(), Fail> {
     cookie.unset_domain();
     cookie.set_max_age(None);
     cookie.unset_expires();
-    assert!(rt; cookie == Cookie::new("id", "x y"));
-    assert!(rt; cookie.same_site().is_none());
-    Ok(())
 }
 
 #[test]
-fn an_age_is_printed_in_whole_seconds(rt: HostRuntime) -> Result<(), Fail> {
+fn each_field_is_set_and_unset(rt: HostRuntime) -> Result<(), Fail> {
+    let all =
+        "id=x y; HttpOnly; SameSite=Lax; Partitioned; Secure; Path=/; Domain=a.example; Max-Age=90; Expires=Sun, 06 Nov 1994 08:49:37 GMT";
+    let expiry = DateTime::new(1994, 11, 6, 8, 49, 37, 500_000_000)?;
+    let mut cookie = with_each_field(expiry);
+    let has_expiry = cookie.expires_datetime() == Some(expiry);
+    assert!(rt; has_expiry && shows_text(rt.alloc(), &cookie, all));
+    unset_each_field(&mut cookie);
+    assert!(rt; cookie == Cookie::new("id", "x y") && cookie.same_site().is_none());
+    Ok(())
+}
+
+fn is_age_printed(alloc: Global, millis: i64, wanted: &str) -> bool {
+    let mut cookie = Cookie::new("a", "1");
+    cookie.set_max_age(Some(SignedDuration::from_millis(millis)));
+    shows_text(alloc, &cookie, wanted)
+}
+
+#[test]
+fn an_age_is_printed_in_whole_seconds(rt: HostRuntime) {
     for (millis, wanted) in [
         (-500, "a=1; Max-Age=0"),
         (-1500, "a=1; Max-Age=-1"),
         (90_700, "a=1; Max-Age=90"),
     ] {
-        let mut cookie = Cookie::new("a", "1");
-        cookie.set_max_age(Some(SignedDuration::from_millis(millis)));
-        assert!(rt; cookie.to_string(rt.alloc())?.as_str() == wanted);
+        assert!(rt; is_age_printed(rt.alloc(), millis, wanted));
     }
-    Ok(())
 }
 
 fn with_expiry(expiry: Expiration) -> Cookie<'static> {
     let mut cookie = Cookie::new("a", "1");
     cookie.set_expires(expiry);
     cookie
+}
+
+// Whether the moment is kept as this one.
+fn is_kept_as(moment: DateTime, kept: DateTime) -> bool {
+    with_expiry(Expiration::DateTime(moment)).expires() == Some(Expiration::DateTime(kept))
+}
+
+// Whether the end of the session is kept, and not printed.
+fn is_session_kept(alloc: Global) -> bool {
+    let cookie = with_expiry(Expiration::Session);
+    cookie.expires() == Some(Expiration::Session) && shows_text(alloc, &cookie, "a=1")
 }
 
 #[test]
@@ -94,14 +118,18 @@ fn an_expiry_has_a_greatest_value(rt: HostRuntime) -> Result<(), Fail> {
         (days_after(midnight, 1), greatest),
         (DateTime::MIN, DateTime::MIN),
     ] {
-        let cookie = with_expiry(Expiration::DateTime(moment));
-        assert!(rt; cookie.expires() == Some(Expiration::DateTime(kept)));
+        assert!(rt; is_kept_as(moment, kept));
     }
-    let cookie = with_expiry(Expiration::Session);
-    assert!(rt;
-        cookie.expires() == Some(Expiration::Session) && shows_text(rt.alloc(), &cookie, "a=1")
-    );
+    assert!(rt; is_session_kept(rt.alloc()));
     Ok(())
+}
+
+// Whether a permanent cookie is printed so, and is the builder's.
+fn is_permanent(alloc: Global, now: DateTime, wanted: &str) -> bool {
+    let mut cookie = Cookie::new("a", "1");
+    cookie.make_permanent(now);
+    let is_built = cookie == *CookieBuilder::new("a", "1").permanent(now).inner();
+    is_built && shows_text(alloc, &cookie, wanted)
 }
 
 #[test]
@@ -117,10 +145,7 @@ fn a_permanent_cookie_lasts_twenty_years(rt: HostRuntime) -> Result<(), Fail> {
         ),
     ] {
         let now = read_date(now).ok_or("a date")?;
-        let mut cookie = Cookie::new("a", "1");
-        cookie.make_permanent(now);
-        assert!(rt; cookie.to_string(rt.alloc())?.as_str() == wanted);
-        assert!(rt; cookie == CookieBuilder::new("a", "1").permanent(now).build());
+        assert!(rt; is_permanent(rt.alloc(), now, wanted));
     }
     Ok(())
 }
@@ -241,33 +266,39 @@ fn built_of_own_texts(alloc: Global) -> Result<Cookie<'static>, Fail> {
     )
 }
 
+// Whether the cookie has the four own texts.
+fn has_own_texts(alloc: Global, cookie: &Cookie<'_>) -> bool {
+    (cookie.domain(), cookie.domain_raw()) == (Some("c.d"), None)
+        && shows_text(alloc, cookie, "b=2; Path=/x; Domain=c.d")
+}
+
 #[test]
 fn own_texts_are_set(rt: HostRuntime) -> Result<(), Fail> {
-    let built = built_of_own_texts(rt.alloc())?;
     let mut cookie = of_own_texts(rt.alloc())?;
-    assert!(rt; cookie.name_value() == ("a", "1"));
+    let is_new = cookie.name_value() == ("a", "1");
     set_own_texts(rt.alloc(), &mut cookie)?;
-    assert!(rt; (cookie.domain(), cookie.domain_raw()) == (Some("c.d"), None));
-    assert!(rt; shows_text(rt.alloc(), &cookie, "b=2; Path=/x; Domain=c.d"));
-    assert!(rt; built == cookie);
+    assert!(rt; is_new && has_own_texts(rt.alloc(), &cookie));
+    assert!(rt; built_of_own_texts(rt.alloc())? == cookie);
     Ok(())
 }
 
 // The text is that of a derived `Debug` of Rust, at structs with these fields.
+fn debug_text<T: fmt::Debug>(alloc: Global, value: &T) -> Result<String, AllocError> {
+    format!(in alloc; "{value:?}")
+}
+
 #[test]
 fn a_cookie_is_shown_field_by_field(rt: HostRuntime) -> Result<(), Fail> {
-    let cookie = CookieBuilder::new("a", "x \"y\"")
+    let shown =
+        "Cookie { name: \"a\", value: \"x \\\"y\\\"\", http_only: None, secure: Some(true), partitioned: None, same_site: Some(Lax), path: Some(\"/\"), domain: None, max_age: None, expires: Some(Session) }";
+    let builder = CookieBuilder::new("a", "x \"y\"")
         .secure(true)
         .same_site(SameSite::Lax)
         .path("/")
-        .expires(Expiration::Session)
-        .build();
-    let shown =
-        "Cookie { name: \"a\", value: \"x \\\"y\\\"\", http_only: None, secure: Some(true), partitioned: None, same_site: Some(Lax), path: Some(\"/\"), domain: None, max_age: None, expires: Some(Session) }";
-    assert!(rt; format!(in rt.alloc(); "{cookie:?}")?.as_str() == shown);
-    let builder = Cookie::build(cookie);
-    let text = format!(in rt.alloc(); "{builder:?}")?;
+        .expires(Expiration::Session);
+    let text = debug_text(rt.alloc(), &builder)?;
     assert!(rt; text.as_str().strip_prefix("Builder { inner: ").is_some());
+    assert!(rt; debug_text(rt.alloc(), builder.inner())?.as_str() == shown);
     Ok(())
 }
 

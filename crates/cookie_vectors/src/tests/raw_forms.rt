@@ -1,6 +1,6 @@
 //! Borrowed and own texts, and the raw forms that are left of them.
 use super::shows_text;
-use cookie_core::{Cookie, Layout, ParseError, Span};
+use cookie_core::{Attributes, Cookie, Layout, ParseError, Span};
 use std::alloc::{AllocError, Global};
 use std::test::Fail;
 
@@ -63,12 +63,16 @@ fn lends_all(cookie: &Cookie<'_>) -> bool {
     )
 }
 
+// Whether a copy of the cookie lends all, and an own one nothing.
+fn is_owned(alloc: Global, cookie: Cookie<'_>) -> Result<bool, AllocError> {
+    let does_copy_lend = lends_all(&cookie.clone(alloc)?);
+    let own = cookie.into_owned(alloc)?;
+    Ok(does_copy_lend && is_whole(&own) && lends_nothing(&own))
+}
+
 #[test]
 fn owned_cookie_struct(rt: HostRuntime) -> Result<(), Fail> {
-    let cookie = Cookie::parse(SUBDIR)?;
-    assert!(rt; lends_all(&cookie.clone(rt.alloc())?));
-    let own = cookie.into_owned(rt.alloc())?;
-    assert!(rt; is_whole(&own) && lends_nothing(&own));
+    assert!(rt; is_owned(rt.alloc(), Cookie::parse(SUBDIR)?)?);
     Ok(())
 }
 
@@ -86,39 +90,40 @@ fn lends_all_but_the_value(cookie: &Cookie<'_>) -> bool {
 
 const SPACED: &str = " bar = baz ; Path=/subdir; HttpOnly; Domain=.crates.io";
 
-// The cookie of that text with another value.
-fn with_value() -> Result<Cookie<'static>, Fail> {
+// Whether the value alone is lent no more where the cookie of that text has another.
+fn loses_its_value() -> Result<bool, ParseError> {
     let mut cookie = Cookie::parse(SPACED)?;
+    let is_lent = cookie.value_raw() == Some("baz");
     cookie.set_value("x");
-    Ok(cookie)
+    Ok(is_lent && lends_all_but_the_value(&cookie))
 }
 
 // The same, with a value of its own.
-fn with_own_value(alloc: Global) -> Result<Cookie<'static>, Fail> {
-    let value = String::from_str(alloc, "x")?;
+fn loses_its_value_to(value: String) -> Result<bool, ParseError> {
     let mut cookie = Cookie::parse(SPACED)?;
     cookie.set_value_owned(value);
-    Ok(cookie)
+    Ok(lends_all_but_the_value(&cookie))
 }
 
 #[test]
 fn the_raw_value_alone_is_gone_where_the_value_was_set(rt: HostRuntime) -> Result<(), Fail> {
-    assert!(rt; Cookie::parse(SPACED)?.value_raw() == Some("baz"));
-    assert!(rt; lends_all_but_the_value(&with_value()?));
-    assert!(rt; lends_all_but_the_value(&with_own_value(rt.alloc())?));
+    assert!(rt; loses_its_value() == Ok(true));
+    let value = String::from_str(rt.alloc(), "x")?;
+    assert!(rt; loses_its_value_to(value) == Ok(true));
     Ok(())
+}
+
+// Whether the cookie is that of `a=%41; Secure`, of texts of its own.
+fn is_copied(cookie: &Cookie<'_>) -> bool {
+    cookie.name_value() == ("a", "%41")
+        && cookie.secure() == Some(true)
+        && cookie.name_raw().is_none()
 }
 
 #[test]
 fn a_text_is_copied(rt: HostRuntime) -> Result<(), Fail> {
-    let cookie = Cookie::from_str(rt.alloc(), "a=%41; Secure")?;
-    assert!(rt; cookie.name_value() == ("a", "%41"));
-    assert!(rt; cookie.secure() == Some(true));
-    assert!(rt; cookie.name_raw().is_none());
-    match Cookie::from_str(rt.alloc(), "=1") {
-        Ok(_) => assert!(rt; false, "it is read"),
-        Err(error) => assert!(rt; error == ParseError::EmptyName),
-    }
+    assert!(rt; is_copied(&Cookie::from_str(rt.alloc(), "a=%41; Secure")?));
+    assert!(rt; Cookie::from_str(rt.alloc(), "=1").err() == Some(ParseError::EmptyName));
     Ok(())
 }
 
@@ -144,20 +149,30 @@ fn is_at(span: Span, start: usize, end: usize) -> bool {
     span.start == start && span.end == end
 }
 
+// Whether the parts of that text have their places.
+fn has_places(layout: &Layout) -> bool {
+    match (layout.attributes.path, layout.attributes.domain) {
+        (Some(path), Some(domain)) => {
+            is_at(layout.name, 1, 4)
+                && is_at(layout.value, 7, 10)
+                && is_at(path, 18, 25)
+                && is_at(domain, 44, 54)
+        }
+        _ => false,
+    }
+}
+
+// Whether the attributes without a place are those of that text.
+fn sets_http_only(attributes: &Attributes) -> bool {
+    (attributes.http_only, attributes.secure) == (Some(true), None) && attributes.expires.is_none()
+}
+
 #[test]
 fn the_parts_of_a_text_have_their_places(rt: HostRuntime) -> Result<(), Fail> {
     let layout = Layout::of(SPACED)?;
-    assert!(rt; is_at(layout.name, 1, 4) && is_at(layout.value, 7, 10));
-    let path = layout.attributes.path.ok_or("a path")?;
-    let domain = layout.attributes.domain.ok_or("a domain")?;
-    assert!(rt; is_at(path, 18, 25) && is_at(domain, 44, 54));
+    assert!(rt; has_places(&layout) && sets_http_only(&layout.attributes));
     assert!(rt; &SPACED[layout.name.start..layout.name.end] == "bar");
-    assert!(rt; (layout.attributes.http_only, layout.attributes.secure) == (Some(true), None));
-    assert!(rt; layout.attributes.expires.is_none());
-    match Layout::of("bar") {
-        Ok(_) => assert!(rt; false, "it is read"),
-        Err(error) => assert!(rt; error == ParseError::MissingPair),
-    }
+    assert!(rt; Layout::of("bar").err() == Some(ParseError::MissingPair));
     Ok(())
 }
 

@@ -1,26 +1,7 @@
 //! The cookies of a header.
+use super::is_read_as;
 use cookie_core::{Cookie, ParseError, SplitCookies};
 use std::test::Fail;
-
-#[test]
-fn a_header_gives_its_pieces_in_order(rt: HostRuntime) {
-    let rows = [
-        Some(Ok(("a", "1"))),
-        Some(Err(ParseError::EmptyName)),
-        Some(Ok(("c", "=="))),
-        None,
-    ];
-    let mut items = Cookie::split_parse(" ;   a=1 ;  ; =v ; ;;c===  ");
-    for wanted in rows {
-        match items.next() {
-            Some(Ok(cookie)) => {
-                assert!(rt; wanted == Some(Ok(cookie.name_value())), "another cookie");
-            }
-            Some(Err(error)) => assert!(rt; wanted == Some(Err(error)), "another refusal"),
-            None => assert!(rt; wanted.is_none(), "an item is missing"),
-        }
-    }
-}
 
 #[test]
 fn a_blank_header_gives_no_items(rt: HostRuntime) {
@@ -44,39 +25,68 @@ fn is_next(items: &mut SplitCookies<'_>, pair: (&str, &str), is_lent: bool) -> b
     }
 }
 
-#[test]
-fn split_parse(rt: HostRuntime) {
-    let mut items = Cookie::split_parse("name=value ;  ; other=key;; ");
-    assert!(rt; is_next(&mut items, ("name", "value"), true));
-    assert!(rt; is_next(&mut items, ("other", "key"), true));
-    assert!(rt; items.next().is_none());
+fn is_refused_next(items: &mut SplitCookies<'_>, wanted: ParseError) -> bool {
+    match items.next() {
+        Some(Err(error)) => error == wanted,
+        _ => false,
+    }
+}
+
+// Whether the items are cookies with these pairs, and no more.
+fn are_items(items: &mut SplitCookies<'_>, pairs: [(&str, &str); 2], is_lent: bool) -> bool {
+    let [one, other] = pairs;
+    is_next(items, one, is_lent) && is_next(items, other, is_lent) && items.next().is_none()
+}
+
+// Whether the items are a cookie, the refusal of an empty name, and another cookie.
+fn are_items_around_a_refusal(
+    items: &mut SplitCookies<'_>,
+    pairs: [(&str, &str); 2],
+    is_lent: bool,
+) -> bool {
+    let [one, other] = pairs;
+    is_next(items, one, is_lent)
+        && is_refused_next(items, ParseError::EmptyName)
+        && is_next(items, other, is_lent)
+        && items.next().is_none()
 }
 
 #[test]
-fn escapes_are_not_undone(rt: HostRuntime) -> Result<(), Fail> {
+fn a_header_gives_its_pieces_in_order(rt: HostRuntime) {
+    let mut items = Cookie::split_parse(" ;   a=1 ;  ; =v ; ;;c===  ");
+    let pairs = [("a", "1"), ("c", "==")];
+    assert!(rt; are_items_around_a_refusal(&mut items, pairs, true));
+}
+
+#[test]
+fn split_parse(rt: HostRuntime) {
+    let mut items = Cookie::split_parse("name=value ;  ; other=key;; ");
+    let pairs = [("name", "value"), ("other", "key")];
+    assert!(rt; are_items(&mut items, pairs, true));
+}
+
+#[test]
+fn escapes_are_not_undone(rt: HostRuntime) {
     for (text, value) in [("a=d#$%^&*()_", "d#$%^&*()_"), ("a=%20", "%20")] {
-        assert!(rt; Cookie::parse(text)?.value() == value);
+        assert!(rt; is_read_as(text, &Cookie::new("a", value)));
     }
-    Ok(())
 }
 
 const ENCODED: &str = "name=val%20ue ; ; foo%20!%25%3F%3D=bar%3B%3B%2C%20a";
 
+const DECODED: [(&str, &str); 2] = [("name", "val ue"), ("foo !%?=", "bar;;, a")];
+
 #[test]
 fn split_parse_encoded(rt: HostRuntime) {
     let mut items = Cookie::split_parse_encoded(rt.alloc(), ENCODED);
-    assert!(rt; is_next(&mut items, ("name", "val ue"), false));
-    assert!(rt; is_next(&mut items, ("foo !%?=", "bar;;, a"), false));
-    assert!(rt; items.next().is_none());
+    assert!(rt; are_items(&mut items, DECODED, false));
 }
 
 #[test]
 fn split_parse_encoded_owned(rt: HostRuntime) -> Result<(), Fail> {
     let text = String::from_str(rt.alloc(), ENCODED)?;
     let mut items = Cookie::split_parse_encoded_owned(rt.alloc(), text);
-    assert!(rt; is_next(&mut items, ("name", "val ue"), false));
-    assert!(rt; is_next(&mut items, ("foo !%?=", "bar;;, a"), false));
-    assert!(rt; items.next().is_none());
+    assert!(rt; are_items(&mut items, DECODED, false));
     Ok(())
 }
 
@@ -84,12 +94,7 @@ fn split_parse_encoded_owned(rt: HostRuntime) -> Result<(), Fail> {
 fn an_own_header_goes_on_behind_a_refused_piece(rt: HostRuntime) -> Result<(), Fail> {
     let text = String::from_str(rt.alloc(), " a=1 ; ;=v;b=2")?;
     let mut items = Cookie::split_parse_owned(rt.alloc(), text);
-    assert!(rt; is_next(&mut items, ("a", "1"), false));
-    match items.next() {
-        Some(Err(error)) => assert!(rt; error == ParseError::EmptyName),
-        _ => assert!(rt; false, "the empty name is not refused"),
-    }
-    assert!(rt; is_next(&mut items, ("b", "2"), false));
-    assert!(rt; items.next().is_none());
+    let pairs = [("a", "1"), ("b", "2")];
+    assert!(rt; are_items_around_a_refusal(&mut items, pairs, false));
     Ok(())
 }
