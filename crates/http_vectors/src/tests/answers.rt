@@ -1,5 +1,5 @@
 //! A request and its response, from end to end.
-use super::rows::{has_values, put_cookies};
+use super::rows::{fields_of, has_values};
 use cookie::{Cookie, CookieJar};
 use cookie_http::{append_delta, with_headers};
 use http_header::HeaderMap;
@@ -22,8 +22,7 @@ fn answer(
 
 #[test]
 fn a_response_has_the_changes_alone(rt: HostRuntime) -> Result<(), Fail> {
-    let mut request = HeaderMap::new(rt.alloc());
-    put_cookies(rt.alloc(), &mut request, &[b"lang=en", b"theme=light"])?;
+    let request = fields_of(rt.alloc(), "Cookie: lang=en\nCookie: theme=light")?;
     let mut response = HeaderMap::new(rt.alloc());
     answer(rt.alloc(), RandomState::new(&rt)?, &request, &mut response)?;
     assert!(rt; has_values(&response, "set-cookie", &["theme=dark"]));

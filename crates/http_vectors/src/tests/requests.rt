@@ -1,5 +1,5 @@
 //! The cookies of a request's fields.
-use super::rows::{put_cookies, shows};
+use super::rows::{count, fields_of, put_cookie, put_fields, shows};
 use cookie::{Cookie, CookieJar};
 use cookie_http::{jar_from_headers, with_headers};
 use http_header::{HeaderMap, HeaderValue};
@@ -7,81 +7,125 @@ use std::alloc::Global;
 use std::hash::RandomState;
 use std::test::Fail;
 
-type Row = (
-    &'static str,
-    &'static [&'static [u8]],
-    &'static [(&'static str, &'static str)],
-);
-
-// Whether the jar of a request with these fields shows these names and values.
-fn is_read(alloc: Global, values: &[&[u8]], pairs: &[(&str, &str)]) -> Result<bool, Fail> {
-    let mut headers = HeaderMap::new(alloc);
-    put_cookies(alloc, &mut headers, values)?;
-    Ok(shows(&jar_from_headers(alloc, &headers)?, pairs))
+// Whether the jar of a request with the row's fields shows what the row says.
+fn is_read(alloc: Global, row: &str) -> Result<bool, Fail> {
+    let headers = fields_of(alloc, row)?;
+    Ok(shows(&jar_from_headers(alloc, &headers)?, row))
 }
+
+const ROWS: &str = "\
+no field:
+
+an empty field:
+Cookie: 
+
+RFC 6265 3.1:
+Cookie: SID=31d4d96e407aad42; lang=en-US
+shows SID=31d4d96e407aad42
+shows lang=en-US
+
+RFC 9113 8.2.3:
+Cookie: a=b
+Cookie: c=d
+Cookie: e=f
+shows a=b
+shows c=d
+shows e=f
+
+ten fields:
+Cookie: a=0
+Cookie: b=1
+Cookie: c=2
+Cookie: d=3
+Cookie: e=4
+Cookie: f=5
+Cookie: g=6
+Cookie: h=7
+Cookie: i=8
+Cookie: j=9
+shows a=0
+shows b=1
+shows c=2
+shows d=3
+shows e=4
+shows f=5
+shows g=6
+shows h=7
+shows i=8
+shows j=9
+
+the later one of a name:
+Cookie: a=1; b=2
+Cookie: a=3
+shows a=3
+shows b=2
+
+pieces that are no cookies:
+Cookie: a; =1; b=2;
+Cookie:   
+Cookie: c
+shows b=2
+
+escapes, and one of bytes that are no text:
+Cookie: a=%3B%20%2C; b=%FF
+shows a=; ,
+
+a letter past ASCII:
+Cookie: name=\u{e9}
+shows name=\u{e9}";
 
 #[test]
 fn a_request_has_these_cookies(rt: HostRuntime) -> Result<(), Fail> {
-    let rows: [Row; 10] = [
-        ("no field", &[], &[]),
-        ("an empty field", &[b""], &[]),
-        (
-            "RFC 6265 3.1",
-            &[b"SID=31d4d96e407aad42; lang=en-US"],
-            &[("SID", "31d4d96e407aad42"), ("lang", "en-US")],
-        ),
-        (
-            "RFC 9113 8.2.3",
-            &[b"a=b", b"c=d", b"e=f"],
-            &[("a", "b"), ("c", "d"), ("e", "f")],
-        ),
-        (
-            "ten fields",
-            &[
-                b"a=0", b"b=1", b"c=2", b"d=3", b"e=4", b"f=5", b"g=6", b"h=7", b"i=8", b"j=9",
-            ],
-            &[
-                ("a", "0"),
-                ("b", "1"),
-                ("c", "2"),
-                ("d", "3"),
-                ("e", "4"),
-                ("f", "5"),
-                ("g", "6"),
-                ("h", "7"),
-                ("i", "8"),
-                ("j", "9"),
-            ],
-        ),
-        (
-            "the later one of a name",
-            &[b"a=1; b=2", b"a=3"],
-            &[("a", "3"), ("b", "2")],
-        ),
-        (
-            "pieces that are no cookies",
-            &[b"a; =1; b=2;", b"  ", b"c"],
-            &[("b", "2")],
-        ),
-        (
-            "bytes that are no text",
-            &[b"a=1", b"b=\xff; c=2", b"d=3"],
-            &[("a", "1"), ("d", "3")],
-        ),
-        (
-            "escapes, and one of bytes that are no text",
-            &[b"a=%3B%20%2C; b=%FF"],
-            &[("a", "; ,")],
-        ),
-        (
-            "a letter past ASCII",
-            &[b"name=\xc3\xa9"],
-            &[("name", "\u{e9}")],
-        ),
-    ];
-    for (row, values, pairs) in rows {
-        assert!(rt; is_read(rt.alloc(), values, pairs)?, "{row}");
+    for row in ROWS.split("\n\n") {
+        assert!(rt; is_read(rt.alloc(), row)?, "{row}");
     }
+    Ok(())
+}
+
+// Another value, another name, a cookie too many, and one too few.
+const WRONG: &str = "\
+Cookie: a=1
+shows a=2
+
+Cookie: a=1
+shows b=1
+
+Cookie: a=1; b=2
+shows a=1
+
+Cookie: a=1
+shows a=1
+shows b=2
+
+shows a=1
+
+Cookie: a=1";
+
+#[test]
+fn a_wrong_row_is_found(rt: HostRuntime) -> Result<(), Fail> {
+    for row in WRONG.split("\n\n") {
+        assert!(rt; !is_read(rt.alloc(), row)?, "{row}");
+    }
+    Ok(())
+}
+
+// A request with a field of bytes that are no text, between two that are.
+fn with_odd_bytes(alloc: Global) -> Result<HeaderMap, Fail> {
+    let mut headers = fields_of(alloc, "Cookie: a=1")?;
+    put_cookie(alloc, &mut headers, b"b=\xff; c=2")?;
+    put_fields(alloc, &mut headers, "Cookie: d=3")?;
+    Ok(headers)
+}
+
+#[test]
+fn bytes_that_are_no_text_are_passed_over(rt: HostRuntime) -> Result<(), Fail> {
+    let headers = with_odd_bytes(rt.alloc())?;
+    assert!(rt;
+        shows(
+            &jar_from_headers(rt.alloc(), &headers)?,
+            "shows a=1\nshows d=3"
+        )
+    );
     Ok(())
 }
 
@@ -108,14 +152,6 @@ fn large_jar(alloc: Global, state: RandomState, in_field: usize) -> Result<Cooki
     Ok(with_headers(alloc, CookieJar::with_hasher(alloc, state), &headers)?)
 }
 
-fn count(jar: &CookieJar) -> usize {
-    let mut count = 0usize;
-    for _ in jar.iter() {
-        count = count.saturating_add(1);
-    }
-    count
-}
-
 #[test]
 fn a_request_may_have_10000_cookies(rt: HostRuntime) -> Result<(), Fail> {
     for in_field in [1, 100, 10_000] {
@@ -125,20 +161,25 @@ fn a_request_may_have_10000_cookies(rt: HostRuntime) -> Result<(), Fail> {
     Ok(())
 }
 
-// A jar with an original, a change, and what a request has.
-fn jar_with_more(alloc: Global) -> Result<CookieJar, Fail> {
-    let mut headers = HeaderMap::new(alloc);
-    put_cookies(alloc, &mut headers, &[b"a=2; b=3"])?;
-    let mut jar = CookieJar::new(alloc);
+// Gives the jar two originals and a change.
+fn fill(jar: &mut CookieJar) -> Result<(), Fail> {
     jar.add_original(Cookie::new("a", "1"))?;
     jar.add_original(Cookie::new("z", "0"))?;
     jar.add(Cookie::new("b", "4"))?;
+    Ok(())
+}
+
+// Such a jar, with what a request has.
+fn jar_with_more(alloc: Global) -> Result<CookieJar, Fail> {
+    let headers = fields_of(alloc, "Cookie: a=2; b=3")?;
+    let mut jar = CookieJar::new(alloc);
+    fill(&mut jar)?;
     Ok(with_headers(alloc, jar, &headers)?)
 }
 
 #[test]
 fn a_jar_keeps_what_it_has(rt: HostRuntime) -> Result<(), Fail> {
     let jar = jar_with_more(rt.alloc())?;
-    assert!(rt; shows(&jar, &[("a", "2"), ("b", "4"), ("z", "0")]));
+    assert!(rt; shows(&jar, "shows a=2\nshows b=4\nshows z=0"));
     Ok(())
 }

@@ -1,5 +1,5 @@
 //! The `Set-Cookie` fields of a jar's delta.
-use super::rows::{has_values, put_set_cookies};
+use super::rows::{fields_of, has_values};
 use cookie::{Cookie, CookieBuilder, CookieJar};
 use cookie_http::{HttpError, append_delta, remove_as_set};
 use http_header::{HeaderMap, HeaderName, HeaderValue};
@@ -14,91 +14,98 @@ fn jar_of(alloc: Global, cookie: Cookie<'static>) -> Result<CookieJar, Fail> {
     Ok(jar)
 }
 
-// The refusal of a response with the cookie, if it is refused. The map has the field `a=1` alone before and afterwards.
-fn refusal(alloc: Global, cookie: Cookie<'static>) -> Result<Option<HttpError>, Fail> {
-    let mut headers = HeaderMap::new(alloc);
-    put_set_cookies(alloc, &mut headers, &[b"a=1"])?;
-    let jar = jar_of(alloc, cookie)?;
-    match append_delta(alloc, &jar, &mut headers) {
+// The refusal of the jar, if it is refused. The map has the field `a=1` alone before and afterwards.
+fn refusal_of(
+    alloc: Global,
+    jar: &CookieJar,
+    headers: &mut HeaderMap,
+) -> Result<Option<HttpError>, Fail> {
+    match append_delta(alloc, jar, headers) {
         Ok(()) => Ok(None),
-        Err(error) if has_values(&headers, "set-cookie", &["a=1"]) => Ok(Some(error)),
+        Err(error) if has_values(headers, "set-cookie", &["a=1"]) => Ok(Some(error)),
         Err(_) => Err(Fail::new("the map was changed")),
     }
 }
 
+// The refusal of a response with the cookie.
+fn refusal(alloc: Global, cookie: Cookie<'static>) -> Result<Option<HttpError>, Fail> {
+    let jar = jar_of(alloc, cookie)?;
+    let mut headers = fields_of(alloc, "Set-Cookie: a=1")?;
+    refusal_of(alloc, &jar, &mut headers)
+}
+
+// Whether a path and a domain with this text are refused so, or not at all.
+fn are_refused(alloc: Global, text: &'static str, wanted: Option<HttpError>) -> Result<bool, Fail> {
+    let path = refusal(alloc, CookieBuilder::new("a", "1").path(text).build())?;
+    let domain = refusal(alloc, CookieBuilder::new("a", "1").domain(text).build())?;
+    Ok(path == wanted && domain == wanted)
+}
+
+const FIELD_TEXTS: &str = "/ | /a b | /\t | /\u{e9}";
+
+const OTHER_TEXTS: &str =
+    "/\r\nSet-Cookie: b=2 | /\n | /\r | /\0 | /\u{1} | /\u{b} | /\u{1f} | /\u{7f}";
+
 // RFC 9110 5.5: a field value holds no control character but the tab.
 #[test]
 fn no_field_is_split(rt: HostRuntime) -> Result<(), Fail> {
-    let rows: [(&'static str, &'static str, bool); 12] = [
-        ("a slash", "/", false),
-        ("a space", "/a b", false),
-        ("a tab", "/\t", false),
-        ("a letter past ASCII", "/\u{e9}", false),
-        ("another field", "/\r\nSet-Cookie: b=2", true),
-        ("a line feed", "/\n", true),
-        ("a carriage return", "/\r", true),
-        ("byte 0", "/\0", true),
-        ("byte 1", "/\u{1}", true),
-        ("byte 11", "/\u{b}", true),
-        ("byte 31", "/\u{1f}", true),
-        ("byte 127", "/\u{7f}", true),
-    ];
-    for (row, text, is_refused) in rows {
-        let wanted = if is_refused {
-            Some(HttpError::InvalidValue)
-        } else {
-            None
-        };
-        let path = CookieBuilder::new("a", "1").path(text).build();
-        assert!(rt; refusal(rt.alloc(), path)? == wanted, "path with {row}");
-        let domain = CookieBuilder::new("a", "1").domain(text).build();
-        assert!(rt; refusal(rt.alloc(), domain)? == wanted, "domain with {row}");
+    for text in FIELD_TEXTS.split(" | ") {
+        assert!(rt; are_refused(rt.alloc(), text, None)?, "{text:?}");
+    }
+    for text in OTHER_TEXTS.split(" | ") {
+        let wanted = Some(HttpError::InvalidValue);
+        assert!(rt; are_refused(rt.alloc(), text, wanted)?, "{text:?}");
     }
     Ok(())
 }
 
-// Whether the response of a jar with the cookie has this field behind one that was there.
-fn is_printed(alloc: Global, cookie: Cookie<'static>, text: &str) -> Result<bool, Fail> {
-    let mut headers = HeaderMap::new(alloc);
-    put_set_cookies(alloc, &mut headers, &[b"z=0; Path=/"])?;
-    append_delta(alloc, &jar_of(alloc, cookie)?, &mut headers)?;
-    Ok(has_values(&headers, "set-cookie", &["z=0; Path=/", text]))
+// Whether the jar's field stands behind the one that was there.
+fn is_behind(
+    alloc: Global,
+    jar: &CookieJar,
+    headers: &mut HeaderMap,
+    text: &str,
+) -> Result<bool, Fail> {
+    append_delta(alloc, jar, headers)?;
+    Ok(has_values(headers, "set-cookie", &["z=0; Path=/", text]))
 }
+
+// Whether the response of a jar with the cookie has this field.
+fn is_printed(alloc: Global, cookie: Cookie<'static>, text: &str) -> Result<bool, Fail> {
+    let jar = jar_of(alloc, cookie)?;
+    let mut headers = fields_of(alloc, "Set-Cookie: z=0; Path=/")?;
+    is_behind(alloc, &jar, &mut headers, text)
+}
+
+// Whether a cookie with that name and value, and with more, is printed as the pair and the rest.
+fn is_pair_printed(alloc: Global, row: &'static str) -> Result<bool, Fail> {
+    let (pair, printed) = row.split_once(" | ").ok_or(row)?;
+    let (name, value) = pair.split_once('=').ok_or(row)?;
+    let cookie = CookieBuilder::new(name, value)
+        .path("/")
+        .domain("example.com")
+        .secure(true)
+        .build();
+    let text = format!(in alloc; "{printed}; Secure; Path=/; Domain=example.com")?;
+    is_printed(alloc, cookie, text.as_str())
+}
+
+// A name and a value, and how they are printed.
+const PAIRS: [&str; 5] = [
+    "SID=31d4d96e407aad42 | SID=31d4d96e407aad42",
+    "lang= | lang=",
+    "a=\r\nb=2 | a=%0D%0Ab%3D2",
+    "\0=\u{e9} | %00=%C3%A9",
+    "a b=1; 2 | a%20b=1%3B%202",
+];
 
 // RFC 6265 4.1.1, with the escapes of RFC 3986 2.1
 #[test]
 fn a_response_has_these_fields(rt: HostRuntime) -> Result<(), Fail> {
-    let rows: [(&'static str, &'static str, &'static str); 5] = [
-        (
-            "SID",
-            "31d4d96e407aad42",
-            "SID=31d4d96e407aad42; Secure; Path=/; Domain=example.com",
-        ),
-        ("lang", "", "lang=; Secure; Path=/; Domain=example.com"),
-        (
-            "a",
-            "\r\nb=2",
-            "a=%0D%0Ab%3D2; Secure; Path=/; Domain=example.com",
-        ),
-        (
-            "\0",
-            "\u{e9}",
-            "%00=%C3%A9; Secure; Path=/; Domain=example.com",
-        ),
-        (
-            "a b",
-            "1; 2",
-            "a%20b=1%3B%202; Secure; Path=/; Domain=example.com",
-        ),
-    ];
-    for (name, value, text) in rows {
-        let cookie = CookieBuilder::new(name, value)
-            .path("/")
-            .domain("example.com")
-            .secure(true)
-            .build();
-        assert!(rt; is_printed(rt.alloc(), cookie, text)?, "{text}");
+    for row in PAIRS {
+        assert!(rt; is_pair_printed(rt.alloc(), row)?, "{row:?}");
     }
+    assert!(rt; !is_pair_printed(rt.alloc(), "a=1 | a=2")?);
     Ok(())
 }
 
@@ -112,17 +119,37 @@ fn full_map(alloc: Global, names: usize) -> Result<HeaderMap, Fail> {
     Ok(headers)
 }
 
+// Whether a map with all its names refuses the jar, and is as it was.
+fn is_full(alloc: Global, jar: &CookieJar) -> Result<bool, Fail> {
+    let mut headers = full_map(alloc, 24_576)?;
+    let is_refused = append_delta(alloc, jar, &mut headers) == Err(HttpError::TooManyFields);
+    Ok(is_refused && headers.len() == 24_576 && headers.get("set-cookie").is_none())
+}
+
+// Whether a map that has room for one more name takes the jar twice.
+fn has_room(alloc: Global, jar: &CookieJar) -> Result<bool, Fail> {
+    let mut headers = full_map(alloc, 24_575)?;
+    append_delta(alloc, jar, &mut headers)?;
+    append_delta(alloc, jar, &mut headers)?;
+    Ok(has_values(&headers, "set-cookie", &["a=1", "a=1"]))
+}
+
+// Whether the full map refuses the jar, and the other takes it.
+fn are_told(alloc: Global, jar: &CookieJar) -> Result<bool, Fail> {
+    let is_told = is_full(alloc, jar)?;
+    Ok(is_told && has_room(alloc, jar)?)
+}
+
+// The same of a jar with one cookie.
+fn are_told_of_one(alloc: Global) -> Result<bool, Fail> {
+    let jar = jar_of(alloc, Cookie::new("a", "1"))?;
+    are_told(alloc, &jar)
+}
+
 // A map holds 24,576 names at most.
 #[test]
 fn a_full_map_is_told(rt: HostRuntime) -> Result<(), Fail> {
-    let jar = jar_of(rt.alloc(), Cookie::new("a", "1"))?;
-    let mut headers = full_map(rt.alloc(), 24_576)?;
-    assert!(rt; append_delta(rt.alloc(), &jar, &mut headers) == Err(HttpError::TooManyFields));
-    assert!(rt; headers.len() == 24_576 && headers.get("set-cookie").is_none());
-    let mut headers = full_map(rt.alloc(), 24_575)?;
-    append_delta(rt.alloc(), &jar, &mut headers)?;
-    append_delta(rt.alloc(), &jar, &mut headers)?;
-    assert!(rt; has_values(&headers, "set-cookie", &["a=1", "a=1"]));
+    assert!(rt; are_told_of_one(rt.alloc())?);
     Ok(())
 }
 
@@ -130,14 +157,24 @@ fn moment() -> Result<DateTime, Fail> {
     Ok(DateTime::new(2015, 10, 21, 7, 28, 0, 0)?)
 }
 
-// The fields of a jar with an original, from which the cookie was removed as it was set.
+// Gives the jar an original, and removes the cookie as it was set.
+fn remove(alloc: Global, jar: &mut CookieJar, set: &Cookie<'static>) -> Result<(), Fail> {
+    jar.add_original(Cookie::new("a", "1"))?;
+    remove_as_set(alloc, jar, set, moment()?)?;
+    Ok(())
+}
+
+fn delta_fields(alloc: Global, jar: &CookieJar) -> Result<HeaderMap, Fail> {
+    let mut headers = HeaderMap::new(alloc);
+    append_delta(alloc, jar, &mut headers)?;
+    Ok(headers)
+}
+
+// The fields of such a jar.
 fn removal_fields(alloc: Global, set: &Cookie<'static>) -> Result<HeaderMap, Fail> {
     let mut jar = CookieJar::new(alloc);
-    jar.add_original(Cookie::new("a", "1"))?;
-    remove_as_set(alloc, &mut jar, set, moment()?)?;
-    let mut headers = HeaderMap::new(alloc);
-    append_delta(alloc, &jar, &mut headers)?;
-    Ok(headers)
+    remove(alloc, &mut jar, set)?;
+    delta_fields(alloc, &jar)
 }
 
 // RFC 6265 5.3, step 11: what has the same name, domain and path is dropped.
