@@ -19,6 +19,3 @@ pub use expand::expand64;
 pub use gcm::Gcm;
 pub use mac::{Mac, hmac};
 pub use steps::Steps;
-
-#[cfg(test)]
-mod tests;

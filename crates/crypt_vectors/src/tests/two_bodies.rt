@@ -1,6 +1,6 @@
-//! The crate's cipher beside a plain second body, over drawn keys, nonces, data and texts.
+//! The cipher beside a plain second body, over drawn keys, nonces, data and texts.
 use super::plain_cipher;
-use crate::{Aes256, Gcm, Steps};
+use cookie_crypt::{Aes256, Gcm, Steps};
 
 const LONGEST: usize = 100;
 
