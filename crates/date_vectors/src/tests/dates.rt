@@ -4,155 +4,190 @@ use jiff::civil::DateTime;
 use std::alloc::Global;
 use std::test::Fail;
 
-// A whole second, if the calendar and a clock have it.
-fn at(year: i16, month: i8, day: i8, clock: [i8; 3]) -> Option<DateTime> {
-    DateTime::new(year, month, day, clock[0], clock[1], clock[2], 0).ok()
-}
-
-// What each text is read as, `-` where it is no date.
+// What each text is read as, `-` where it is no date. Lines that begin with `#` say what the next ones are about.
 const READ: &str = "\
 # each form
-1994-11-06T08:49:37 Sun, 06 Nov 1994 08:49:37 GMT
-1994-11-06T08:49:37 06 Nov 1994 08:49:37 GMT
-1994-11-06T08:49:37 Sunday, 06-Nov-94 08:49:37 GMT
-1994-11-06T08:49:37 06-Nov-94 08:49:37 GMT
-1994-11-06T08:49:37 Sun Nov  6 08:49:37 1994
-1994-11-06T08:49:37 Nov  6 08:49:37 1994
-1994-11-06T08:49:37 06-Nov-1994 08:49:37 GMT
+read 1994-11-06T08:49:37 Sun, 06 Nov 1994 08:49:37 GMT
+read 1994-11-06T08:49:37 06 Nov 1994 08:49:37 GMT
+read 1994-11-06T08:49:37 Sunday, 06-Nov-94 08:49:37 GMT
+read 1994-11-06T08:49:37 06-Nov-94 08:49:37 GMT
+read 1994-11-06T08:49:37 Sun Nov  6 08:49:37 1994
+read 1994-11-06T08:49:37 Nov  6 08:49:37 1994
+read 1994-11-06T08:49:37 06-Nov-1994 08:49:37 GMT
 # years of two digits
-2020-09-10T20:00:00 Thu, 10-Sep-20 20:00:00 GMT
-2068-09-10T20:00:00 Thu, 10-Sep-68 20:00:00 GMT
-2069-09-10T20:00:00 Thu, 10-Sep-69 20:00:00 GMT
-1970-09-10T20:00:00 Thu, 10-Sep-70 20:00:00 GMT
-1999-09-10T20:00:00 Thu, 10-Sep-99 20:00:00 GMT
-2000-09-10T20:00:00 Thu, 10-Sep-00 20:00:00 GMT
-2000-09-10T20:00:00 Thu, 10-Sep-0 20:00:00 GMT
-2069-09-10T20:00:00 Thu, 10-Sep-2069 20:00:00 GMT
+read 2020-09-10T20:00:00 Thu, 10-Sep-20 20:00:00 GMT
+read 2068-09-10T20:00:00 Thu, 10-Sep-68 20:00:00 GMT
+read 2069-09-10T20:00:00 Thu, 10-Sep-69 20:00:00 GMT
+read 1970-09-10T20:00:00 Thu, 10-Sep-70 20:00:00 GMT
+read 1999-09-10T20:00:00 Thu, 10-Sep-99 20:00:00 GMT
+read 2000-09-10T20:00:00 Thu, 10-Sep-00 20:00:00 GMT
+read 2000-09-10T20:00:00 Thu, 10-Sep-0 20:00:00 GMT
+read 2069-09-10T20:00:00 Thu, 10-Sep-2069 20:00:00 GMT
 # years with a sign
--000094-10-21T00:00:00 21 Oct -94 00:00:00 GMT
--000094-10-21T00:00:00 21-Oct--94 00:00:00 GMT
-2000-10-21T00:00:00 21 Oct -0 00:00:00 GMT
-2015-10-21T00:00:00 21 Oct +15 00:00:00 GMT
--000094-11-06T08:49:37 06-Nov--94 08:49:37 GMT
+read -000094-10-21T00:00:00 21 Oct -94 00:00:00 GMT
+read -000094-10-21T00:00:00 21-Oct--94 00:00:00 GMT
+read 2000-10-21T00:00:00 21 Oct -0 00:00:00 GMT
+read 2015-10-21T00:00:00 21 Oct +15 00:00:00 GMT
+read -000094-11-06T08:49:37 06-Nov--94 08:49:37 GMT
 # leap days
-2000-02-29T00:00:00 29 Feb 2000 00:00:00 GMT
-2000-02-29T00:00:00 29 Feb 00 00:00:00 GMT
-- 29 Feb 1900 00:00:00 GMT
-- 29 Feb 2015 00:00:00 GMT
+read 2000-02-29T00:00:00 29 Feb 2000 00:00:00 GMT
+read 2000-02-29T00:00:00 29 Feb 00 00:00:00 GMT
+read - 29 Feb 1900 00:00:00 GMT
+read - 29 Feb 2015 00:00:00 GMT
 # long weekdays need years of two digits
-- Sunday, 06-Nov--94 08:49:37 GMT
-- Sunday, 06-Nov-0 08:49:37 GMT
-- Sunday, 06-Nov-000 08:49:37 GMT
-- Sunday, 06-Nov-1994 08:49:37 GMT
-- Sunday, 06-Nov-+94 08:49:37 GMT
+read - Sunday, 06-Nov--94 08:49:37 GMT
+read - Sunday, 06-Nov-0 08:49:37 GMT
+read - Sunday, 06-Nov-000 08:49:37 GMT
+read - Sunday, 06-Nov-1994 08:49:37 GMT
+read - Sunday, 06-Nov-+94 08:49:37 GMT
+# a weekday isn't compared
+read 2017-10-21T07:28:00 Wed, 21 Oct 2017 07:28:00 GMT
 # other texts
-- 31 Apr 2015 00:00:00 GMT
-- 00 Jan 2015 00:00:00 GMT
-- Nov 6 08:49:37 1994
-- Wed,21 Oct 2015 07:28:00 GMT
-- 21 oct 2015 07:28:00 GMT
-- 21 Oct 12015 07:28:00 GMT
-- 21 Oct 2015 24:28:00 GMT
-- 21 Oct 2015 07:28:60 GMT
-- 21 Oct 2015 07:28:00 GMT 
-- 
+read - 31 Apr 2015 00:00:00 GMT
+read - 00 Jan 2015 00:00:00 GMT
+read - Nov 6 08:49:37 1994
+read - Wed,21 Oct 2015 07:28:00 GMT
+read - 21 oct 2015 07:28:00 GMT
+read - 21 Oct 12015 07:28:00 GMT
+read - 21 Oct 2015 24:28:00 GMT
+read - 21 Oct 2015 07:28:60 GMT
+read - 21 Oct 2015 07:28:00 GMT 
+read - 
 ";
 
-// Whether the row's text is read as its date.
-fn is_read(alloc: Global, row: &str) -> Result<bool, Fail> {
-    let (wanted, text) = row.split_once(' ').ok_or("a row without a text")?;
+// How each date is printed.
+const PRINTED: &str = "\
+printed -000044-03-15T12:00:00 Thu, 15 Mar -44 12:00:00 GMT
+printed 0099-01-01T00:00:00 Thu, 01 Jan 99 00:00:00 GMT
+printed 2015-10-21T07:00:00 Wed, 21 Oct 2015 07:00:00 GMT
+printed 2017-10-21T07:28:00 Sat, 21 Oct 2017 07:28:00 GMT
+printed 9999-12-31T23:00:00 Fri, 31 Dec 9999 23:00:00 GMT
+";
+
+// What a date is read as where it was printed.
+const READ_BACK: &str = "\
+back -000044-01-01T12:00:00 -000044-01-01T12:00:00
+back 1999-01-01T12:00:00 0099-01-01T12:00:00
+back 2015-01-01T12:00:00 2015-01-01T12:00:00
+back 2069-01-01T12:00:00 0069-01-01T12:00:00
+back 0100-01-01T12:00:00 0100-01-01T12:00:00
+";
+
+// So many days after a date. The last rows are at the first and the last moment of the calendar.
+const ADDED: &str = "\
+added 2014-10-21T07:28:00 -365 2015-10-21T07:28:00
+added 2015-10-21T07:28:00 0 2015-10-21T07:28:00
+added 2035-10-16T07:28:00 7300 2015-10-21T07:28:00
+added 9999-12-31T05:00:00 1 9999-12-30T05:00:00
+added 9999-12-31T23:59:59.999999999 1 9999-12-31T00:00:00
+added 9999-12-31T23:59:59.999999999 2147483647 9999-12-31T00:00:00
+added -009999-01-01T00:00:00 -1 -009999-01-01T12:00:00
+added -009999-01-01T00:00:00 -2147483648 -009999-01-01T12:00:00
+";
+
+fn date_of(word: &str) -> Option<DateTime> {
+    word.parse().ok()
+}
+
+fn is_read(wanted: &str, text: &str) -> bool {
     match read_date(text) {
-        Some(date) => Ok(date.to_string(alloc)?.as_str() == wanted),
-        None => Ok(wanted == "-"),
+        Some(date) => date_of(wanted) == Some(date),
+        None => wanted == "-",
+    }
+}
+
+fn is_printed(alloc: Global, date: DateTime, text: &str) -> bool {
+    match DateText(date).to_string(alloc) {
+        Ok(printed) => printed.as_str() == text,
+        Err(_) => false,
+    }
+}
+
+// Whether the date is read back as another one, or itself, where it was printed.
+fn is_read_back(alloc: Global, wanted: &str, date: DateTime) -> bool {
+    match DateText(date).to_string(alloc) {
+        Ok(printed) => is_read(wanted, printed.as_str()),
+        Err(_) => false,
+    }
+}
+
+// Whether that comes of a number of days and a date, such as `-365 2015-10-21T07:28:00`.
+fn is_added(wanted: &str, words: &str) -> bool {
+    let (days, start) = words.split_once(' ').unwrap_or((words, ""));
+    match (days.parse().ok(), date_of(start)) {
+        (Some(days), Some(start)) => date_of(wanted) == Some(days_after(start, days)),
+        _ => false,
+    }
+}
+
+// Whether the words behind a row's first one are right.
+fn is_right(alloc: Global, first: &str, words: &str) -> bool {
+    let (one, rest) = words.split_once(' ').unwrap_or((words, ""));
+    match first {
+        "#" => true,
+        "read" => is_read(one, rest),
+        "added" => is_added(one, rest),
+        "printed" => date_of(one).is_some_and(|date| is_printed(alloc, date, rest)),
+        "back" => date_of(rest).is_some_and(|date| is_read_back(alloc, one, date)),
+        _ => false,
+    }
+}
+
+fn first_wrong(alloc: Global, rows: &'static str) -> Option<&'static str> {
+    for row in rows.lines() {
+        let (first, words) = row.split_once(' ').unwrap_or((row, ""));
+        if !is_right(alloc, first, words) {
+            return Some(row);
+        }
+    }
+    None
+}
+
+// Fails with the first row that is wrong.
+fn play(alloc: Global, rows: &'static str) -> Result<(), Fail> {
+    match first_wrong(alloc, rows) {
+        Some(row) => Err(Fail::new(row)),
+        None => Ok(()),
     }
 }
 
 #[test]
 fn texts_are_read_as_dates(rt: HostRuntime) -> Result<(), Fail> {
-    for row in READ.lines() {
-        if !row.starts_with('#') {
-            assert!(rt; is_read(rt.alloc(), row)?, "{row}");
-        }
-    }
-    Ok(())
-}
-
-#[test]
-fn a_wrong_row_is_found(rt: HostRuntime) -> Result<(), Fail> {
-    for row in [
-        "1994-11-06T08:49:38 06 Nov 1994 08:49:37 GMT",
-        "- 06 Nov 1994 08:49:37 GMT",
-        "1994-11-06T08:49:37 06 Nov 1994 08:49:60 GMT",
-    ] {
-        assert!(rt; !is_read(rt.alloc(), row)?, "{row}");
-    }
-    Ok(())
-}
-
-// Whether the date is printed as this text.
-fn is_printed(alloc: Global, date: DateTime, text: &str) -> Result<bool, Fail> {
-    Ok(DateText(date).to_string(alloc)?.as_str() == text)
+    play(rt.alloc(), READ)
 }
 
 #[test]
 fn dates_are_printed(rt: HostRuntime) -> Result<(), Fail> {
-    for (year, month, day, hour, text) in [
-        (-44, 3, 15, 12, "Thu, 15 Mar -44 12:00:00 GMT"),
-        (99, 1, 1, 0, "Thu, 01 Jan 99 00:00:00 GMT"),
-        (2015, 10, 21, 7, "Wed, 21 Oct 2015 07:00:00 GMT"),
-        (9999, 12, 31, 23, "Fri, 31 Dec 9999 23:00:00 GMT"),
-    ] {
-        let date = DateTime::new(year, month, day, hour, 0, 0, 0)?;
-        assert!(rt; is_printed(rt.alloc(), date, text)?, "at {text}");
-    }
-    Ok(())
+    play(rt.alloc(), PRINTED)
 }
 
 #[test]
 fn printed_dates_are_read_by_the_year_rule(rt: HostRuntime) -> Result<(), Fail> {
-    for (year, read) in [(-44, -44), (99, 1999), (2015, 2015), (69, 2069), (100, 100)] {
-        let date = DateTime::new(year, 1, 1, 12, 0, 0, 0)?;
-        let text = DateText(date).to_string(rt.alloc())?;
-        assert!(rt; read_date(&text) == at(read, 1, 1, [12, 0, 0]), "at {text}");
-    }
-    Ok(())
-}
-
-#[test]
-fn weekdays_are_not_compared(rt: HostRuntime) -> Result<(), Fail> {
-    let date = read_date("Wed, 21 Oct 2017 07:28:00 GMT");
-    assert!(rt; date == at(2017, 10, 21, [7, 28, 0]));
-    let date = date.unwrap_or(DateTime::MIN);
-    assert!(rt; is_printed(rt.alloc(), date, "Sat, 21 Oct 2017 07:28:00 GMT")?);
-    Ok(())
+    play(rt.alloc(), READ_BACK)
 }
 
 #[test]
 fn days_are_added(rt: HostRuntime) -> Result<(), Fail> {
-    let start = DateTime::new(2015, 10, 21, 7, 28, 0, 0)?;
-    assert!(rt; Some(days_after(start, -365)) == at(2014, 10, 21, [7, 28, 0]));
-    for (days, text) in [
-        (-365, "Tue, 21 Oct 2014 07:28:00 GMT"),
-        (0, "Wed, 21 Oct 2015 07:28:00 GMT"),
-        (7300, "Tue, 16 Oct 2035 07:28:00 GMT"),
-    ] {
-        let date = days_after(start, days);
-        assert!(rt; is_printed(rt.alloc(), date, text)?, "at {days} for {text}");
-    }
-    Ok(())
+    play(rt.alloc(), ADDED)
 }
 
+const WRONG: &str = "\
+read 1994-11-06T08:49:38 06 Nov 1994 08:49:37 GMT
+read - 06 Nov 1994 08:49:37 GMT
+read 1994-11-06T08:49:37 06 Nov 1994 08:49:60 GMT
+read  06 Nov 1994 08:49:60 GMT
+printed 2015-10-21T07:00:00 Tue, 21 Oct 2015 07:00:00 GMT
+printed - 
+back 0099-01-01T12:00:00 0099-01-01T12:00:00
+back - 
+added 2014-10-22T07:28:00 -365 2015-10-21T07:28:00
+added -
+other 2015-10-21T07:00:00 Wed, 21 Oct 2015 07:00:00 GMT
+";
+
 #[test]
-fn days_end_at_the_first_and_last_moment(rt: HostRuntime) -> Result<(), Fail> {
-    let near = DateTime::new(9999, 12, 30, 5, 0, 0, 0)?;
-    assert!(rt; Some(days_after(near, 1)) == at(9999, 12, 31, [5, 0, 0]));
-    let midnight = DateTime::new(9999, 12, 31, 0, 0, 0, 0)?;
-    let last = DateTime::new(9999, 12, 31, 23, 59, 59, 999_999_999)?;
-    assert!(rt; days_after(midnight, 1) == last);
-    assert!(rt; days_after(midnight, i32::MAX) == last);
-    let noon = DateTime::new(-9999, 1, 1, 12, 0, 0, 0)?;
-    let first = DateTime::new(-9999, 1, 1, 0, 0, 0, 0)?;
-    assert!(rt; days_after(noon, -1) == first);
-    assert!(rt; days_after(noon, i32::MIN) == first);
-    Ok(())
+fn a_wrong_row_is_found(rt: HostRuntime) {
+    for row in WRONG.lines() {
+        assert!(rt; first_wrong(rt.alloc(), row).is_some(), "{row}");
+    }
 }
