@@ -6,6 +6,3 @@ mod steps;
 
 pub use rows::{counts, moment, shown_value, test_key};
 pub use steps::{Step, after, first_wrong, first_wrong_row, play_rows};
-
-#[cfg(test)]
-mod tests;
