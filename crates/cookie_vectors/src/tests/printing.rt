@@ -1,256 +1,153 @@
 //! Texts of cookies, plain and escaped, with attributes and without.
-use super::{foo, shows_text};
-use cookie_core::{
-    Cookie, CookieBuilder, DateText, Expiration, ParseError, SameSite, encode, read_date,
-};
-use jiff::SignedDuration;
-use jiff::civil::DateTime;
+use super::making::builder;
+use super::rows::{are_right, is_right, parts};
+use cookie_core::{Cookie, DateText, ParseError, SameSite, encode, read_date};
 use std::alloc::Global;
 use std::fmt;
 use std::test::Fail;
 
-// Builders with one field set, by number, and the texts that they print.
-fn one_field(number: u8, expiry: Expiration) -> Option<(CookieBuilder<'static>, &'static str)> {
-    let row = match number {
-        0 => (foo(), "foo=bar"),
-        1 => (foo().http_only(true), "foo=bar; HttpOnly"),
-        2 => (
-            foo().max_age(SignedDuration::from_secs(10)),
-            "foo=bar; Max-Age=10",
-        ),
-        3 => (foo().secure(true), "foo=bar; Secure"),
-        4 => (foo().path("/"), "foo=bar; Path=/"),
-        5 => (
-            foo().domain("www.rust-lang.org"),
-            "foo=bar; Domain=www.rust-lang.org",
-        ),
-        6 => (
-            foo().domain(".rust-lang.org"),
-            "foo=bar; Domain=rust-lang.org",
-        ),
-        7 => (
-            foo().domain("rust-lang.org"),
-            "foo=bar; Domain=rust-lang.org",
-        ),
-        8 => (
-            foo().expires(expiry),
-            "foo=bar; Expires=Wed, 21 Oct 2015 07:28:00 GMT",
-        ),
-        _ => return None,
-    };
-    Some(row)
+// Whether the value is printed as a row's end `prints TEXT` says.
+fn is_printed<T: fmt::Display>(alloc: Global, shown: &T, rest: &str) -> bool {
+    match format!(in alloc; "prints {shown}") {
+        Ok(text) => text.as_str() == rest,
+        Err(_) => false,
+    }
 }
 
-// The same of the fields that `Secure` rests on.
-fn site_field(number: u8) -> Option<(CookieBuilder<'static>, &'static str)> {
-    let none = SameSite::None;
-    let row = match number {
-        0 => (
-            foo().same_site(SameSite::Strict),
-            "foo=bar; SameSite=Strict",
-        ),
-        1 => (foo().same_site(SameSite::Lax), "foo=bar; SameSite=Lax"),
-        2 => (foo().same_site(none), "foo=bar; SameSite=None; Secure"),
-        3 => (
-            foo().same_site(none).secure(false),
-            "foo=bar; SameSite=None",
-        ),
-        4 => (
-            foo().same_site(none).partitioned(true),
-            "foo=bar; SameSite=None; Partitioned; Secure",
-        ),
-        5 => (foo().partitioned(true), "foo=bar; Partitioned; Secure"),
-        6 => (
-            foo().partitioned(true).secure(false),
-            "foo=bar; Partitioned; Secure",
-        ),
-        7 => (foo().partitioned(false), "foo=bar"),
-        _ => return None,
-    };
-    Some(row)
+// Whether the builder of a row `build [CALLS] prints TEXT` is printed as this text too.
+fn is_builder_printed(alloc: Global, row: &'static str) -> bool {
+    let (_, calls, rest) = parts(row);
+    is_printed(alloc, &builder(alloc, calls), rest)
 }
 
-// Whether the text is printed.
-fn is_printed<T: fmt::Display>(alloc: Global, shown: &T, wanted: &str) -> Result<bool, Fail> {
-    let text = format!(in alloc; "{shown}")?;
-    Ok(text.as_str() == wanted)
-}
-
-fn is_printed_as(
-    alloc: Global,
-    builder: CookieBuilder<'static>,
-    wanted: &str,
-) -> Result<bool, Fail> {
-    let is_builder_printed = is_printed(alloc, &builder, wanted)?;
-    let is_cookie_printed = is_printed(alloc, &builder.build(), wanted)?;
-    Ok(is_builder_printed && is_cookie_printed)
-}
+// The crate's format, and the fields that `Secure` rests on.
+const BUILT: &str = "\
+build [foo=bar] prints foo=bar
+build [foo=bar|http-only true] prints foo=bar; HttpOnly
+build [foo=bar|age 10000] prints foo=bar; Max-Age=10
+build [foo=bar|secure true] prints foo=bar; Secure
+build [foo=bar|path /] prints foo=bar; Path=/
+build [foo=bar|domain www.rust-lang.org] prints foo=bar; Domain=www.rust-lang.org
+build [foo=bar|domain .rust-lang.org] prints foo=bar; Domain=rust-lang.org
+build [foo=bar|domain rust-lang.org] prints foo=bar; Domain=rust-lang.org
+build [foo=bar|expires Wed, 21 Oct 2015 07:28:00 GMT] prints foo=bar; Expires=Wed, 21 Oct 2015 07:28:00 GMT
+build [foo=bar|same-site Strict] prints foo=bar; SameSite=Strict
+build [foo=bar|same-site Lax] prints foo=bar; SameSite=Lax
+build [foo=bar|same-site None] prints foo=bar; SameSite=None; Secure
+build [foo=bar|same-site None|secure false] prints foo=bar; SameSite=None
+build [foo=bar|same-site None|partitioned true] prints foo=bar; SameSite=None; Partitioned; Secure
+build [foo=bar|partitioned true] prints foo=bar; Partitioned; Secure
+build [foo=bar|partitioned true|secure false] prints foo=bar; Partitioned; Secure
+build [foo=bar|partitioned false] prints foo=bar
+";
 
 #[test]
-fn format(rt: HostRuntime) -> Result<(), Fail> {
-    let date = read_date("Wed, 21 Oct 2015 07:28:00 GMT").ok_or("a date")?;
-    let expiry = Expiration::DateTime(date);
-    for number in 0..9u8 {
-        let (builder, wanted) = one_field(number, expiry).ok_or("a row")?;
-        assert!(rt; is_printed_as(rt.alloc(), builder, wanted)?, "{wanted}");
+fn format(rt: HostRuntime) {
+    for row in BUILT.lines() {
+        assert!(rt;
+            is_right(rt.alloc(), row) && is_builder_printed(rt.alloc(), row),
+            "{row}"
+        );
     }
-    Ok(())
+    assert!(rt; !is_builder_printed(rt.alloc(), "build [foo=bar|secure true] prints foo=bar"));
 }
+
+const PRINTED: &str = "\
+# the crate's format_encoded
+set [foo|name foo !%?=|value bar;;, a] prints-encoded foo%20!%25%3F%3D=bar%3B%3B%2C%20a
+# a text that was read
+parse [foo=bar; SameSite=None] prints foo=bar; SameSite=None; Secure
+parse [a=1; Domain=..crates.io] prints a=1; Domain=.crates.io
+parse [a=1; Domain=.crates.io] prints a=1; Domain=crates.io
+parse [ id = x y ;partitioned; DOMAIN=.a.example;path=/; HttpOnly; samesite=LAX; Max-Age=90; Expires=Sunday, 06-Nov-94 08:49:37 GMT] prints id=x y; HttpOnly; SameSite=Lax; Partitioned; Secure; Path=/; Domain=a.example; Max-Age=90; Expires=Sun, 06 Nov 1994 08:49:37 GMT
+# a long cookie in each way
+build [id=x y|http-only true|same-site Lax|partitioned true|path /|domain .a.example|age 90700|expires 1994-11-06T08:49:37.5] prints-encoded id=x%20y; HttpOnly; SameSite=Lax; Partitioned; Secure; Path=/; Domain=a.example; Max-Age=90; Expires=Sun, 06 Nov 1994 08:49:37 GMT
+build [id=x y|http-only true|same-site Lax|partitioned true|path /|domain .a.example|age 90700|expires 1994-11-06T08:49:37.5] prints-stripped id=x y
+build [id=x y|http-only true|same-site Lax|partitioned true|path /|domain .a.example|age 90700|expires 1994-11-06T08:49:37.5] prints-encoded-stripped id=x%20y
+build [id=x y|http-only true|same-site Lax|partitioned true|path /|domain .a.example|age 90700|expires 1994-11-06T08:49:37.5] prints-stripped-encoded id=x%20y
+# a removal
+set [name=val|removal Wed, 21 Oct 2015 07:28:00 GMT] prints name=; Max-Age=0; Expires=Tue, 21 Oct 2014 07:28:00 GMT
+";
 
 #[test]
-fn format_of_sites(rt: HostRuntime) -> Result<(), Fail> {
-    for number in 0..8u8 {
-        let (builder, wanted) = site_field(number).ok_or("a row")?;
-        assert!(rt; is_printed_as(rt.alloc(), builder, wanted)?, "{wanted}");
-    }
-    Ok(())
+fn cookies_are_printed(rt: HostRuntime) -> Result<(), Fail> {
+    are_right(rt.alloc(), PRINTED)
 }
 
-// A name and a value with escapes, as they are printed.
-const ESCAPED: &str = "foo%20!%25%3F%3D=bar%3B%3B%2C%20a";
-
-// Whether a cookie with that name and that value was read.
-fn is_unescaped(read: Result<Cookie<'_>, ParseError>) -> bool {
-    match read {
-        Ok(cookie) => cookie.name_value() == ("foo !%?=", "bar;;, a"),
+// Whether the text of a row `TEXT -> ESCAPED` is escaped so.
+fn is_escaped(alloc: Global, row: &str) -> bool {
+    let (text, wanted) = row.split_once(" -> ").unwrap_or((row, ""));
+    match encode(text).to_string(alloc) {
+        Ok(escaped) => escaped.as_str() == wanted,
         Err(_) => false,
     }
 }
 
 #[test]
-fn format_encoded(rt: HostRuntime) -> Result<(), Fail> {
-    let cookie = Cookie::new("foo !%?=", "bar;;, a");
-    assert!(rt; is_printed(rt.alloc(), &cookie.encoded(), ESCAPED)?);
-    Ok(())
-}
-
-#[test]
-fn what_is_printed_is_read_back(rt: HostRuntime) -> Result<(), Fail> {
-    let text = String::from_str(rt.alloc(), ESCAPED)?;
-    assert!(rt; is_unescaped(Cookie::parse_encoded(rt.alloc(), ESCAPED)));
-    assert!(rt; is_unescaped(Cookie::parse_encoded_owned(rt.alloc(), text)));
-    Ok(())
-}
-
-#[test]
-fn cookies_are_printed(rt: HostRuntime) -> Result<(), Fail> {
-    let rows = [
-        ("foo=bar; SameSite=None", "foo=bar; SameSite=None; Secure"),
-        ("a=1; Domain=..crates.io", "a=1; Domain=.crates.io"),
-        ("a=1; Domain=.crates.io", "a=1; Domain=crates.io"),
-        (
-            " id = x y ;partitioned; DOMAIN=.a.example;path=/; HttpOnly; samesite=LAX; Max-Age=90; Expires=Sunday, 06-Nov-94 08:49:37 GMT",
-            "id=x y; HttpOnly; SameSite=Lax; Partitioned; Secure; Path=/; Domain=a.example; Max-Age=90; Expires=Sun, 06 Nov 1994 08:49:37 GMT",
-        ),
-    ];
-    for (text, wanted) in rows {
-        assert!(rt; is_printed(rt.alloc(), &Cookie::parse(text)?, wanted)?);
-    }
-    Ok(())
-}
-
-fn long_cookie() -> Result<Cookie<'static>, Fail> {
-    let expiry = DateTime::new(1994, 11, 6, 8, 49, 37, 500_000_000)?;
-    Ok(
-        CookieBuilder::new("id", "x y")
-            .http_only(true)
-            .same_site(SameSite::Lax)
-            .partitioned(true)
-            .path("/")
-            .domain(".a.example")
-            .max_age(SignedDuration::from_millis(90_700))
-            .expires(Expiration::DateTime(expiry))
-            .build(),
-    )
-}
-
-const LONG_TEXT: &str =
-    "id=x%20y; HttpOnly; SameSite=Lax; Partitioned; Secure; Path=/; Domain=a.example; Max-Age=90; Expires=Sun, 06 Nov 1994 08:49:37 GMT";
-
-// Whether that cookie is printed as its text, and its pair alone, escaped and not.
-fn is_printed_in_each_way(alloc: Global, cookie: &Cookie<'_>) -> Result<bool, Fail> {
-    let is_whole = is_printed(alloc, &cookie.encoded(), LONG_TEXT)?;
-    let is_plain = is_printed(alloc, &cookie.stripped(), "id=x y")?;
-    let is_stripped_last = is_printed(alloc, &cookie.encoded().stripped(), "id=x%20y")?;
-    let is_stripped_first = is_printed(alloc, &cookie.stripped().encoded(), "id=x%20y")?;
-    Ok(is_whole && is_plain && is_stripped_last && is_stripped_first)
-}
-
-#[test]
-fn a_long_cookie_is_printed_in_each_way(rt: HostRuntime) -> Result<(), Fail> {
-    let cookie = long_cookie()?;
-    assert!(rt; is_printed_in_each_way(rt.alloc(), &cookie)?);
-    Ok(())
-}
-
-#[test]
-fn a_removal_is_printed(rt: HostRuntime) -> Result<(), Fail> {
-    let now = read_date("Wed, 21 Oct 2015 07:28:00 GMT").ok_or("a date")?;
-    let mut cookie = Cookie::new("name", "val");
-    cookie.make_removal(now);
-    let text = "name=; Max-Age=0; Expires=Tue, 21 Oct 2014 07:28:00 GMT";
-    assert!(rt; shows_text(rt.alloc(), &cookie, text));
-    Ok(())
-}
-
-#[test]
-fn texts_are_escaped(rt: HostRuntime) -> Result<(), Fail> {
-    let rows = [
-        ("é(", "%C3%A9%28"),
-        ("az09-_.~!*'$&+", "az09-_.~!*'$&+"),
-        ("\t\u{7f}", "%09%7F"),
-    ];
-    for (text, wanted) in rows {
-        let encoded = encode(text).to_string(rt.alloc())?;
-        assert!(rt; encoded.as_str() == wanted);
-    }
-    Ok(())
+fn texts_are_escaped(rt: HostRuntime) {
+    assert!(rt; is_escaped(rt.alloc(), "é( -> %C3%A9%28"));
+    assert!(rt; is_escaped(rt.alloc(), "az09-_.~!*'$&+ -> az09-_.~!*'$&+"));
+    assert!(rt; is_escaped(rt.alloc(), "\t\u{7f} -> %09%7F"));
+    assert!(rt; !is_escaped(rt.alloc(), "( -> ("));
 }
 
 // Whether the text stays as it is under a width, a sign, zeros in front and a precision.
-fn is_printed_alike<T: fmt::Display>(alloc: Global, shown: &T, wanted: &str) -> Result<bool, Fail> {
-    let text = format!(in alloc; "{shown}|{shown:>60}|{shown:*^+60}|{shown:060}|{shown:.3}")?;
-    let all = format!(in alloc; "{wanted}|{wanted}|{wanted}|{wanted}|{wanted}")?;
-    Ok(text.as_str() == all.as_str())
+fn is_printed_alike<T: fmt::Display>(alloc: Global, shown: &T, wanted: &str) -> bool {
+    match format!(in alloc; "{shown}|{shown:>60}|{shown:*^+60}|{shown:060}|{shown:.3}") {
+        Ok(text) => are_five(text.as_str(), wanted),
+        Err(_) => false,
+    }
 }
 
-#[test]
-fn neither_width_nor_precision_changes_a_text(rt: HostRuntime) -> Result<(), Fail> {
-    let alloc = rt.alloc();
-    let date = read_date("Wed, 21 Oct 2015 07:28:00 GMT").ok_or("a date")?;
-    assert!(rt; is_printed_alike(alloc, &DateText(date), "Wed, 21 Oct 2015 07:28:00 GMT")?);
-    assert!(rt; is_printed_alike(alloc, &SameSite::Strict, "Strict")?);
-    assert!(rt; is_printed_alike(alloc, &encode("\u{e9}("), "%C3%A9%28")?);
-    Ok(())
+// Whether the text is five pieces, each the wanted one, and bars between them.
+fn are_five(text: &str, wanted: &str) -> bool {
+    let mut count = 0u8;
+    for piece in text.split('|') {
+        if piece != wanted {
+            return false;
+        }
+        count = count.saturating_add(1);
+    }
+    count == 5
 }
 
-const LONG_COOKIE: &str =
+const DATE: &str = "Wed, 21 Oct 2015 07:28:00 GMT";
+
+// Whether a date, a rule, an escaped text and a refusal are printed alike.
+fn are_values_printed_alike(alloc: Global) -> bool {
+    let is_date = match read_date(DATE) {
+        Some(date) => is_printed_alike(alloc, &DateText(date), DATE),
+        None => false,
+    };
+    is_date
+        && is_printed_alike(alloc, &SameSite::Strict, "Strict")
+        && is_printed_alike(alloc, &encode("\u{e9}("), "%C3%A9%28")
+        && is_printed_alike(alloc, &ParseError::EmptyName, "the cookie's name is empty")
+}
+
+const LONG: &str =
     "id=x y; HttpOnly; SameSite=Lax; Secure; Path=/; Domain=b.c; Max-Age=90; Expires=Wed, 21 Oct 2015 07:28:00 GMT";
 
 // Whether that cookie is printed alike, whole and as a pair.
-fn is_cookie_printed_alike(alloc: Global, cookie: &Cookie<'_>) -> Result<bool, Fail> {
-    let is_whole = is_printed_alike(alloc, cookie, LONG_COOKIE)?;
-    let is_pair = is_printed_alike(alloc, &cookie.encoded().stripped(), "id=x%20y")?;
-    Ok(is_whole && is_pair)
+fn is_cookie_printed_alike(alloc: Global) -> bool {
+    match Cookie::parse(LONG) {
+        Ok(cookie) => {
+            is_printed_alike(alloc, &cookie, LONG)
+                && is_printed_alike(alloc, &cookie.encoded().stripped(), "id=x%20y")
+        }
+        Err(_) => false,
+    }
+}
+
+// Whether a builder is printed alike.
+fn is_builder_printed_alike(alloc: Global) -> bool {
+    is_printed_alike(alloc, &builder(alloc, "foo=bar|path /"), "foo=bar; Path=/")
 }
 
 #[test]
-fn neither_width_nor_precision_changes_a_cookie(rt: HostRuntime) -> Result<(), Fail> {
-    let cookie = Cookie::parse(LONG_COOKIE)?;
-    assert!(rt; is_cookie_printed_alike(rt.alloc(), &cookie)?);
-    Ok(())
-}
-
-#[test]
-fn neither_width_nor_precision_changes_a_builder(rt: HostRuntime) -> Result<(), Fail> {
-    let builder = foo().path("/");
-    assert!(rt; is_printed_alike(rt.alloc(), &builder, "foo=bar; Path=/")?);
-    Ok(())
-}
-
-#[test]
-fn neither_width_nor_precision_changes_a_refusal(rt: HostRuntime) -> Result<(), Fail> {
-    let refusal = ParseError::EmptyName;
-    assert!(rt; is_printed_alike(rt.alloc(), &refusal, "the cookie's name is empty")?);
-    Ok(())
+fn neither_width_nor_precision_changes_a_text(rt: HostRuntime) {
+    assert!(rt; are_values_printed_alike(rt.alloc()));
+    assert!(rt; is_cookie_printed_alike(rt.alloc()));
+    assert!(rt; is_builder_printed_alike(rt.alloc()));
+    assert!(rt; !is_printed_alike(rt.alloc(), &"Strict", "Strict"));
 }

@@ -1,149 +1,53 @@
 //! Borrowed and own texts, and the raw forms that are left of them.
-use super::shows_text;
+use super::rows::are_right;
 use cookie_core::{Attributes, Cookie, Layout, ParseError, Span};
-use std::alloc::{AllocError, Global};
 use std::test::Fail;
 
-const SUBDIR: &str = "bar=baz; Path=/subdir; HttpOnly; Domain=crates.io";
-
-// Whether the cookie lends these forms of its name, value, path and domain.
-fn lends(
-    cookie: &Cookie<'_>,
-    name: Option<&str>,
-    value: Option<&str>,
-    path: Option<&str>,
-    domain: Option<&str>,
-) -> bool {
-    cookie.name_raw() == name
-        && cookie.value_raw() == value
-        && cookie.path_raw() == path
-        && cookie.domain_raw() == domain
-}
-
-fn lends_nothing(cookie: &Cookie<'_>) -> bool {
-    lends(cookie, None, None, None, None)
+// Whether the forms that a text's cookie lends outlive it.
+fn are_lent_for_long() -> bool {
+    let text = "bar=baz; Path=/subdir; HttpOnly; Domain=crates.io";
+    let (pair, scope) = match Cookie::parse(text) {
+        Ok(cookie) => (
+            (cookie.name_raw(), cookie.value_raw()),
+            (cookie.path_raw(), cookie.domain_raw()),
+        ),
+        Err(_) => return false,
+    };
+    pair == (Some("bar"), Some("baz")) && scope == (Some("/subdir"), Some("crates.io"))
 }
 
 #[test]
-fn cookie_string_long_lifetimes(rt: HostRuntime) -> Result<(), Fail> {
-    let cookie = Cookie::parse(SUBDIR)?;
-    let name = cookie.name_raw();
-    let value = cookie.value_raw();
-    let path = cookie.path_raw();
-    let domain = cookie.domain_raw();
-    drop(cookie);
-    assert!(rt; name == Some("bar"));
-    assert!(rt; value == Some("baz"));
-    assert!(rt; path == Some("/subdir"));
-    assert!(rt; domain == Some("crates.io"));
-    Ok(())
+fn cookie_string_long_lifetimes(rt: HostRuntime) {
+    assert!(rt; are_lent_for_long());
 }
 
-// Whether the cookie has all that the text sets.
-fn is_whole(cookie: &Cookie<'_>) -> bool {
-    cookie.name_value() == ("bar", "baz")
-        && (cookie.path(), cookie.domain()) == (Some("/subdir"), Some("crates.io"))
-        && cookie.http_only() == Some(true)
-}
-
-#[test]
-fn owned_cookie_string(rt: HostRuntime) -> Result<(), Fail> {
-    let cookie = Cookie::parse_owned(String::from_str(rt.alloc(), SUBDIR)?)?;
-    assert!(rt; is_whole(&cookie) && lends_nothing(&cookie));
-    Ok(())
-}
-
-fn lends_all(cookie: &Cookie<'_>) -> bool {
-    lends(
-        cookie,
-        Some("bar"),
-        Some("baz"),
-        Some("/subdir"),
-        Some("crates.io"),
-    )
-}
-
-// Whether a copy of the cookie lends all, and an own one nothing.
-fn is_owned(alloc: Global, cookie: Cookie<'_>) -> Result<bool, AllocError> {
-    let does_copy_lend = lends_all(&cookie.clone(alloc)?);
-    let own = cookie.into_owned(alloc)?;
-    Ok(does_copy_lend && is_whole(&own) && lends_nothing(&own))
-}
+const COPIES: &str = "\
+# the crate's owned_cookie_string and owned_cookie_struct
+parse owned [bar=baz; Path=/subdir; HttpOnly; Domain=crates.io] has bar=baz, http-only true, path /subdir, domain crates.io
+parse owned [bar=baz; Path=/subdir; HttpOnly; Domain=crates.io] lends -|-|-|-
+clone [bar=baz; Path=/subdir; HttpOnly; Domain=crates.io] lends bar|baz|/subdir|crates.io
+into owned [bar=baz; Path=/subdir; HttpOnly; Domain=crates.io] has bar=baz, http-only true, path /subdir, domain crates.io
+into owned [bar=baz; Path=/subdir; HttpOnly; Domain=crates.io] lends -|-|-|-
+# the raw value alone is gone where the value was set
+parse [ bar = baz ; Path=/subdir; HttpOnly; Domain=.crates.io] lends bar|baz|/subdir|crates.io
+set parsed [ bar = baz ; Path=/subdir; HttpOnly; Domain=.crates.io|value x] prints-stripped bar=x
+set parsed [ bar = baz ; Path=/subdir; HttpOnly; Domain=.crates.io|value x] lends bar|-|/subdir|crates.io
+set parsed [ bar = baz ; Path=/subdir; HttpOnly; Domain=.crates.io|own value x] prints-stripped bar=x
+set parsed [ bar = baz ; Path=/subdir; HttpOnly; Domain=.crates.io|own value x] lends bar|-|/subdir|crates.io
+# a text is copied
+from str [a=%41; Secure] has a=%41, secure true
+from str [a=%41; Secure] lends -|-|-|-
+# copies are equal
+clone [a=1; SameSite=Strict; Path=/x; Domain=b.c; Max-Age=5] prints a=1; SameSite=Strict; Path=/x; Domain=b.c; Max-Age=5
+into owned [a=1; SameSite=Strict; Path=/x; Domain=b.c; Max-Age=5] prints a=1; SameSite=Strict; Path=/x; Domain=b.c; Max-Age=5
+";
 
 #[test]
-fn owned_cookie_struct(rt: HostRuntime) -> Result<(), Fail> {
-    assert!(rt; is_owned(rt.alloc(), Cookie::parse(SUBDIR)?)?);
-    Ok(())
-}
-
-// Whether the value is another one, and all but it is lent.
-fn lends_all_but_the_value(cookie: &Cookie<'_>) -> bool {
-    cookie.name_value() == ("bar", "x")
-        && lends(
-            cookie,
-            Some("bar"),
-            None,
-            Some("/subdir"),
-            Some("crates.io"),
-        )
+fn own_cookies_lend_nothing(rt: HostRuntime) -> Result<(), Fail> {
+    are_right(rt.alloc(), COPIES)
 }
 
 const SPACED: &str = " bar = baz ; Path=/subdir; HttpOnly; Domain=.crates.io";
-
-// Whether the value alone is lent no more where the cookie of that text has another.
-fn loses_its_value() -> Result<bool, ParseError> {
-    let mut cookie = Cookie::parse(SPACED)?;
-    let is_lent = cookie.value_raw() == Some("baz");
-    cookie.set_value("x");
-    Ok(is_lent && lends_all_but_the_value(&cookie))
-}
-
-// The same, with a value of its own.
-fn loses_its_value_to(value: String) -> Result<bool, ParseError> {
-    let mut cookie = Cookie::parse(SPACED)?;
-    cookie.set_value_owned(value);
-    Ok(lends_all_but_the_value(&cookie))
-}
-
-#[test]
-fn the_raw_value_alone_is_gone_where_the_value_was_set(rt: HostRuntime) -> Result<(), Fail> {
-    assert!(rt; loses_its_value() == Ok(true));
-    let value = String::from_str(rt.alloc(), "x")?;
-    assert!(rt; loses_its_value_to(value) == Ok(true));
-    Ok(())
-}
-
-// Whether the cookie is that of `a=%41; Secure`, of texts of its own.
-fn is_copied(cookie: &Cookie<'_>) -> bool {
-    cookie.name_value() == ("a", "%41")
-        && cookie.secure() == Some(true)
-        && cookie.name_raw().is_none()
-}
-
-#[test]
-fn a_text_is_copied(rt: HostRuntime) -> Result<(), Fail> {
-    assert!(rt; is_copied(&Cookie::from_str(rt.alloc(), "a=%41; Secure")?));
-    assert!(rt; Cookie::from_str(rt.alloc(), "=1").err() == Some(ParseError::EmptyName));
-    Ok(())
-}
-
-// Whether both copies of the cookie are printed as this text.
-fn are_copied(alloc: Global, cookie: Cookie<'_>, text: &str) -> Result<bool, AllocError> {
-    let copy = cookie.clone(alloc)?;
-    let own = cookie.into_owned(alloc)?;
-    let is_copied = shows_text(alloc, &copy, text);
-    Ok(is_copied && shows_text(alloc, &own, text))
-}
-
-#[test]
-fn copies_are_equal(rt: HostRuntime) -> Result<(), Fail> {
-    let text = "a=1; SameSite=Strict; Path=/x; Domain=b.c; Max-Age=5";
-    let cookie = Cookie::parse(text)?;
-    cookie.known();
-    assert!(rt; are_copied(rt.alloc(), cookie, text)?);
-    assert!(rt; Cookie::named("n").name_value() == ("n", ""));
-    Ok(())
-}
 
 fn is_at(span: Span, start: usize, end: usize) -> bool {
     span.start == start && span.end == end
@@ -167,13 +71,21 @@ fn sets_http_only(attributes: &Attributes) -> bool {
     (attributes.http_only, attributes.secure) == (Some(true), None) && attributes.expires.is_none()
 }
 
+// Whether that text is laid out so, and a text without a pair is not.
+fn is_laid_out() -> bool {
+    match (Layout::of(SPACED), Layout::of("bar")) {
+        (Ok(layout), Err(ParseError::MissingPair)) => {
+            has_places(&layout)
+                && sets_http_only(&layout.attributes)
+                && SPACED.get(layout.name.start..layout.name.end) == Some("bar")
+        }
+        _ => false,
+    }
+}
+
 #[test]
-fn the_parts_of_a_text_have_their_places(rt: HostRuntime) -> Result<(), Fail> {
-    let layout = Layout::of(SPACED)?;
-    assert!(rt; has_places(&layout) && sets_http_only(&layout.attributes));
-    assert!(rt; &SPACED[layout.name.start..layout.name.end] == "bar");
-    assert!(rt; Layout::of("bar").err() == Some(ParseError::MissingPair));
-    Ok(())
+fn the_parts_of_a_text_have_their_places(rt: HostRuntime) {
+    assert!(rt; is_laid_out());
 }
 
 #[test]
