@@ -2,8 +2,8 @@
 mod agents;
 mod comparison;
 mod draws;
+mod moves;
 mod owned_request;
-mod places;
 mod plain_agent;
 mod plain_jar;
 mod requests;
@@ -11,11 +11,11 @@ mod scoped;
 mod sites;
 mod steps;
 mod stores;
+mod wrong_rows;
 
 use jiff::civil::DateTime;
-use std::test::Fail;
 
-// So many seconds behind the minute of all rows, in UTC.
-fn at(second: i8) -> Result<DateTime, Fail> {
-    Ok(DateTime::new(2015, 10, 21, 7, 28, second, 0)?)
+// So many seconds behind the minute of all rows, in UTC. A number that no minute has is the first moment there is.
+fn at(second: i8) -> DateTime {
+    DateTime::new(2015, 10, 21, 7, 28, second, 0).unwrap_or(DateTime::MIN)
 }

@@ -3,31 +3,20 @@ use super::at;
 use super::draws::{Drawing, Draws, NAMES, SPOTS, Spot};
 use super::owned_request::{OwnedRequest, visit_each};
 use super::plain_agent::PlainAgent;
-use super::plain_jar::PlainJar;
+use super::plain_jar::{PlainJar, find};
+use super::sites::site_of;
 use cookie::CookieJar;
 use cookie_agent::{Agent, Visited};
 use std::alloc::{AllocError, Global};
-use std::test::Fail;
 
 // The drawn numbers that choose the order of reading.
 type Pick = [usize; 2];
 
-fn request_of(alloc: Global, drawing: &Drawing) -> Result<OwnedRequest, Fail> {
-    let mut calls = Vec::new(alloc);
-    for one in &drawing.moves {
-        calls.push(one.call(alloc)?)?;
-    }
-    Ok(OwnedRequest {
-        site: drawing.spot.place.site(alloc)?,
-        calls,
-        moment: at(drawing.second)?,
-    })
-}
-
-fn play(alloc: Global, drawings: &[Drawing], pick: Pick) -> Result<Vec<Visited>, Fail> {
+fn play(alloc: Global, drawings: &[Drawing], pick: Pick) -> Option<Vec<Visited>> {
     let mut requests = Vec::new(alloc);
-    for drawing in drawings {
-        requests.push(request_of(alloc, drawing)?)?;
+    for one in drawings {
+        let request = OwnedRequest::of(alloc, one.spot.url, one.second, &one.moves)?;
+        requests.push(request).ok()?;
     }
     visit_each(alloc, &requests, &pick)
 }
@@ -54,24 +43,22 @@ fn names_in_order(alloc: Global, jar: &CookieJar, pick: Pick) -> Result<Vec<&str
 }
 
 // Has the plain agent read the changes of the names, if each was changed.
-fn is_read(
-    agent: &mut PlainAgent,
-    drawing: &Drawing,
-    jar: &PlainJar,
-    names: &[&str],
-) -> Result<bool, AllocError> {
+fn is_read(agent: &mut PlainAgent, drawing: &Drawing, jar: &PlainJar, names: &[&str]) -> bool {
     for name in names {
-        let Some(change) = jar.change_of(name) else {
-            return Ok(false);
+        let is_read = match find(&jar.changes, name) {
+            Some(change) => agent.read(drawing.spot, change, drawing.second).is_ok(),
+            None => false,
         };
-        agent.read(drawing.spot, change, drawing.second)?;
+        if !is_read {
+            return false;
+        }
     }
-    Ok(names.len() == jar.count())
+    names.len() == jar.changes.len()
 }
 
 // Whether the two jars show the same under each name.
 fn is_shown_alike(jar: &CookieJar, plain: &PlainJar) -> bool {
-    for (name, _) in NAMES {
+    for name in NAMES {
         let shown = match jar.get(name) {
             Some(cookie) => Some(cookie.value()),
             None => None,
@@ -90,36 +77,26 @@ fn is_header_alike(
     plain: &PlainAgent,
     spot: Spot,
     second: i8,
-) -> Result<bool, Fail> {
-    let moment = at(second)?;
-    let plain_header = plain.header(spot, second)?;
-    let header = agent.header(&spot.place.site(alloc)?, moment)?;
-    Ok(header.as_str() == plain_header.as_str())
+) -> bool {
+    match site_of(alloc, spot.url) {
+        Some(site) => match agent.header(&site, at(second)) {
+            Ok(header) => plain.is_header(spot, second, header.as_str()),
+            Err(_) => false,
+        },
+        None => false,
+    }
 }
 
 // Whether the two agents send the same to each site, at three moments.
-fn is_sent_alike(alloc: Global, agent: &Agent, plain: &PlainAgent) -> Result<bool, Fail> {
+fn are_sent_alike(alloc: Global, agent: &Agent, plain: &PlainAgent) -> bool {
     for spot in SPOTS {
         for second in [0i8, 8, 16] {
-            if !is_header_alike(alloc, agent, plain, spot, second)? {
-                return Ok(false);
+            if !is_header_alike(alloc, agent, plain, spot, second) {
+                return false;
             }
         }
     }
-    Ok(true)
-}
-
-fn is_header(plain: &PlainAgent, drawing: &Drawing, header: &str) -> Result<bool, Fail> {
-    Ok(plain.header(drawing.spot, drawing.second)?.as_str() == header)
-}
-
-// The plain jar of a request after its calls.
-fn plain_jar(plain: &PlainAgent, drawing: &Drawing) -> Result<PlainJar, AllocError> {
-    let mut jar = plain.jar(drawing.spot, drawing.second)?;
-    for one in &drawing.moves {
-        jar.play(*one)?;
-    }
-    Ok(jar)
+    true
 }
 
 // Has the plain agent read the response of a request, and answers whether its jar shows and changes the same.
@@ -127,13 +104,15 @@ fn is_read_alike(
     alloc: Global,
     plain: &mut PlainAgent,
     drawing: &Drawing,
-    one: &Visited,
+    shown: &CookieJar,
     pick: Pick,
-) -> Result<bool, Fail> {
-    let jar = plain_jar(plain, drawing)?;
-    let names = names_in_order(alloc, &one.jar, pick)?;
-    let is_read = is_read(plain, drawing, &jar, &names)?;
-    Ok(is_read && is_shown_alike(&one.jar, &jar))
+) -> bool {
+    match (plain.jar_after(drawing), names_in_order(alloc, shown, pick)) {
+        (Ok(jar), Ok(names)) => {
+            is_read(plain, drawing, &jar, &names) && is_shown_alike(shown, &jar)
+        }
+        _ => false,
+    }
 }
 
 // Makes the calls of a request on a plain jar, and answers whether the same came of them.
@@ -143,51 +122,50 @@ fn is_visited_alike(
     drawing: &Drawing,
     one: &Visited,
     pick: Pick,
-) -> Result<bool, Fail> {
-    let is_header = is_header(plain, drawing, one.header.as_str())?;
-    let is_alike = is_read_alike(alloc, plain, drawing, one, pick)?;
-    let are_accepted = one.outcomes.iter().all(|outcome| *outcome);
-    let is_sent_alike = is_sent_alike(alloc, &one.agent, plain)?;
-    Ok(is_header && is_alike && are_accepted && is_sent_alike)
+) -> bool {
+    plain.is_header(drawing.spot, drawing.second, one.header.as_str())
+        && is_read_alike(alloc, plain, drawing, &one.jar, pick)
+        && one.outcomes.iter().all(|outcome| *outcome)
+        && are_sent_alike(alloc, &one.agent, plain)
 }
 
 // Whether a plain agent makes the same of the requests.
-fn are_made_alike(
-    alloc: Global,
-    drawings: &[Drawing],
-    visited: &[Visited],
-    pick: Pick,
-) -> Result<bool, Fail> {
+fn are_made_alike(alloc: Global, drawings: &[Drawing], visited: &[Visited], pick: Pick) -> bool {
     let mut plain = PlainAgent::new(alloc);
     for index in 0..drawings.len() {
-        let Some(one) = visited.get(index) else {
-            return Ok(false);
-        };
-        if !is_visited_alike(alloc, &mut plain, &drawings[index], one, pick)? {
-            return Ok(false);
+        match visited.get(index) {
+            Some(one) if is_visited_alike(alloc, &mut plain, &drawings[index], one, pick) => (),
+            _ => return false,
         }
     }
-    Ok(visited.len() == drawings.len())
+    visited.len() == drawings.len()
 }
 
 // Whether the requests come to the same with both bodies.
-fn are_visited_alike(alloc: Global, drawings: &[Drawing], pick: Pick) -> Result<bool, Fail> {
-    are_made_alike(alloc, drawings, &play(alloc, drawings, pick)?, pick)
+fn are_visited_alike(alloc: Global, drawings: &[Drawing], pick: Pick) -> bool {
+    match play(alloc, drawings, pick) {
+        Some(visited) => are_made_alike(alloc, drawings, &visited, pick),
+        None => false,
+    }
+}
+
+// The same of a list of requests that is drawn.
+fn is_list_alike(alloc: Global, draws: &mut Draws) -> bool {
+    match draws.drawings(alloc) {
+        Ok(drawings) => {
+            let pick = [(draws.next() % 8) as usize, (draws.next() % 8) as usize];
+            are_visited_alike(alloc, &drawings, pick)
+        }
+        Err(_) => false,
+    }
 }
 
 #[test]
-fn two_bodies_of_the_agent_are_alike(rt: HostRuntime) -> Result<(), Fail> {
+fn two_bodies_of_the_agent_are_alike(rt: HostRuntime) {
     let mut draws = Draws {
         state: 0x9E37_79B9_7F4A_7C15,
     };
     for number in 0..1000 {
-        let mut drawings = Vec::new(rt.alloc());
-        for _ in 0..draws.next() % 6 {
-            drawings.push(draws.drawing(rt.alloc())?)?;
-        }
-        let pick = [(draws.next() % 8) as usize, (draws.next() % 8) as usize];
-        let is_alike = are_visited_alike(rt.alloc(), &drawings, pick)?;
-        assert!(rt; is_alike, "list {number}");
+        assert!(rt; is_list_alike(rt.alloc(), &mut draws), "list {number}");
     }
-    Ok(())
 }

@@ -1,44 +1,69 @@
 //! A request whose site and calls are its own.
+use super::at;
+use super::moves::Move;
+use super::sites::site_of;
 use cookie_agent::{AgentRequest, Site, Visited, visits};
 use cookie_client::JarCall;
 use jiff::civil::DateTime;
 use std::alloc::Global;
-use std::test::Fail;
 
 // What a request is made of.
 #[derive(Drop)]
 pub(super) struct OwnedRequest {
-    pub(super) site: Site,
-    pub(super) calls: Vec<JarCall<'static>>,
-    pub(super) moment: DateTime,
+    site: Site,
+    calls: Vec<JarCall<'static>>,
+    moment: DateTime,
+}
+
+fn calls_of(alloc: Global, moves: &[Move]) -> Option<Vec<JarCall<'static>>> {
+    let mut calls = Vec::new(alloc);
+    for one in moves {
+        calls.push(one.call(alloc)?).ok()?;
+    }
+    Some(calls)
 }
 
 impl OwnedRequest {
-    fn lend(&self) -> AgentRequest<'_, 'static> {
-        AgentRequest {
-            site: &self.site,
-            calls: &self.calls,
-            moment: self.moment,
-        }
+    /// The request to the URL with these calls, so many seconds behind the minute of all rows.
+    pub(super) fn of(alloc: Global, url: &str, second: i8, moves: &[Move]) -> Option<OwnedRequest> {
+        let site = site_of(alloc, url)?;
+        let calls = calls_of(alloc, moves)?;
+        Some(OwnedRequest {
+            site,
+            calls,
+            moment: at(second),
+        })
     }
 }
 
-// What comes of up to five requests: a list of requests that are lent can't be made one by one here.
+// The request with the number, or the blank one where there are fewer.
+fn lend<'a>(
+    requests: &'a [OwnedRequest],
+    number: usize,
+    blank: &'a OwnedRequest,
+) -> AgentRequest<'a, 'static> {
+    let request = requests.get(number).unwrap_or(blank);
+    AgentRequest {
+        site: &request.site,
+        calls: &request.calls,
+        moment: request.moment,
+    }
+}
+
+/// What comes of up to five requests. A list of requests that are lent can't be made one by one here, so five are lent,
+/// and those that are there are made.
 pub(super) fn visit_each(
     alloc: Global,
     requests: &[OwnedRequest],
     pick: &[usize],
-) -> Result<Vec<Visited>, Fail> {
-    match requests {
-        [] => Ok(visits(alloc, &[], pick)?),
-        [a] => Ok(visits(alloc, &[a.lend()], pick)?),
-        [a, b] => Ok(visits(alloc, &[a.lend(), b.lend()], pick)?),
-        [a, b, c] => Ok(visits(alloc, &[a.lend(), b.lend(), c.lend()], pick)?),
-        [a, b, c, d] => Ok(visits(alloc, &[a.lend(), b.lend(), c.lend(), d.lend()], pick)?),
-        [a, b, c, d, e] => {
-            let requests = [a.lend(), b.lend(), c.lend(), d.lend(), e.lend()];
-            Ok(visits(alloc, &requests, pick)?)
-        }
-        _ => Err(Fail::new("more than five requests")),
-    }
+) -> Option<Vec<Visited>> {
+    let blank = OwnedRequest::of(alloc, "http://example.com/", 0, &[])?;
+    let lent = [
+        lend(requests, 0, &blank),
+        lend(requests, 1, &blank),
+        lend(requests, 2, &blank),
+        lend(requests, 3, &blank),
+        lend(requests, 4, &blank),
+    ];
+    visits(alloc, lent.get(..requests.len())?, pick).ok()
 }

@@ -1,18 +1,16 @@
 //! A second body of the user agent over plain values (RFC 6265 5.3, 5.4).
-use super::draws::{Spot, Text};
-use super::places::Place;
+use super::draws::{Drawing, Spot, escaped};
+use super::moves::PlainCookie;
 use super::plain_jar::{Change, PlainJar};
 use std::alloc::{AllocError, Global};
 
 /// A stored cookie. Its expiry is a second of the minute of all rows, or a later one.
 #[derive(Clone, Copy)]
 struct Held {
-    name: Text,
-    value: Text,
+    cookie: PlainCookie,
     domain: &'static str,
     is_host_only: bool,
     path: &'static str,
-    is_secure: bool,
     expiry: Option<i64>,
 }
 
@@ -33,11 +31,11 @@ impl Held {
         self.is_unexpired(second)
             && is_host
             && is_below(spot.path, self.path)
-            && (spot.is_secure || !self.is_secure)
+            && (spot.is_secure || self.cookie.secure.is_none())
     }
 
     fn is_same(&self, other: &Held) -> bool {
-        self.name.plain == other.name.plain
+        self.cookie.name == other.cookie.name
             && self.domain == other.domain
             && self.path == other.path
     }
@@ -47,7 +45,7 @@ impl Held {
 fn takes_in(domain: &str, spot: Spot) -> bool {
     match spot.host.as_bytes().strip_suffix(domain.as_bytes()) {
         Some([]) => true,
-        Some([.., before]) => *before == b'.' && !matches!(spot.place, Place::Address(_, _)),
+        Some([.., before]) => *before == b'.' && !spot.is_address,
         None => false,
     }
 }
@@ -88,12 +86,10 @@ fn stored_from(spot: Spot, change: Change, second: i8) -> Option<Held> {
         cookie.age
     };
     Some(Held {
-        name: cookie.name,
-        value: cookie.value,
+        cookie,
         domain,
         is_host_only,
         path: path_at(spot, cookie.path),
-        is_secure: cookie.is_secure,
         expiry: age.map(|age| age.saturating_add(second as i64)),
     })
 }
@@ -133,7 +129,7 @@ impl PlainAgent {
         second: i8,
     ) -> Result<(), AllocError> {
         self.cookies.retain(|held| held.is_unexpired(second));
-        if change.cookie.name.plain.is_empty() {
+        if change.cookie.name.is_empty() {
             return Ok(());
         }
         if let Some(cookie) = stored_from(spot, change, second) {
@@ -156,25 +152,40 @@ impl PlainAgent {
         Ok(sent)
     }
 
-    /// The header of a request to the site.
-    pub(super) fn header(&self, spot: Spot, second: i8) -> Result<String, AllocError> {
+    // The header of a request to the site.
+    fn header(&self, spot: Spot, second: i8) -> Result<String, AllocError> {
         let mut header = String::new(self.alloc);
         for held in &self.pairs_for(spot, second)? {
-            if !header.is_empty() {
-                header.push_str("; ")?;
-            }
-            header.push_str(held.name.escaped)?;
-            header.push_str("=")?;
-            header.push_str(held.value.escaped)?;
+            let separator = if header.is_empty() { "" } else { "; " };
+            let name = escaped(held.cookie.name);
+            let value = escaped(held.cookie.value);
+            write!(header, "{separator}{name}={value}")?;
         }
         Ok(header)
     }
 
-    /// A jar with what is sent as its originals, the last of a name alone.
-    pub(super) fn jar(&self, spot: Spot, second: i8) -> Result<PlainJar, AllocError> {
+    /// Whether this is the header of a request to the site at the second.
+    pub(super) fn is_header(&self, spot: Spot, second: i8, header: &str) -> bool {
+        match self.header(spot, second) {
+            Ok(text) => text.as_str() == header,
+            Err(_) => false,
+        }
+    }
+
+    // A jar with what is sent as its originals, the last of a name alone.
+    fn jar(&self, spot: Spot, second: i8) -> Result<PlainJar, AllocError> {
         let mut jar = PlainJar::new(self.alloc);
         for held in &self.pairs_for(spot, second)? {
-            jar.add_original(held.name, held.value)?;
+            jar.add_original(held.cookie)?;
+        }
+        Ok(jar)
+    }
+
+    /// The jar of a request after its calls.
+    pub(super) fn jar_after(&self, drawing: &Drawing) -> Result<PlainJar, AllocError> {
+        let mut jar = self.jar(drawing.spot, drawing.second)?;
+        for one in &drawing.moves {
+            jar.play(*one)?;
         }
         Ok(jar)
     }
