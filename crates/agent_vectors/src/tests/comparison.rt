@@ -56,14 +56,18 @@ fn is_read(agent: &mut PlainAgent, drawing: &Drawing, jar: &PlainJar, names: &[&
     names.len() == jar.changes.len()
 }
 
+/// The value that the jar shows under the name.
+pub(super) fn value_of<'a>(jar: &'a CookieJar, name: &str) -> Option<&'a str> {
+    match jar.get(name) {
+        Some(cookie) => Some(cookie.value()),
+        None => None,
+    }
+}
+
 // Whether the two jars show the same under each name.
 fn is_shown_alike(jar: &CookieJar, plain: &PlainJar) -> bool {
     for name in NAMES {
-        let shown = match jar.get(name) {
-            Some(cookie) => Some(cookie.value()),
-            None => None,
-        };
-        if shown != plain.get(name) {
+        if value_of(jar, name) != plain.get(name) {
             return false;
         }
     }
@@ -90,10 +94,11 @@ fn is_header_alike(
 // Whether the two agents send the same to each site, at three moments.
 fn are_sent_alike(alloc: Global, agent: &Agent, plain: &PlainAgent) -> bool {
     for spot in SPOTS {
-        for second in [0i8, 8, 16] {
-            if !is_header_alike(alloc, agent, plain, spot, second) {
-                return false;
-            }
+        let is_alike = is_header_alike(alloc, agent, plain, spot, 0)
+            && is_header_alike(alloc, agent, plain, spot, 8)
+            && is_header_alike(alloc, agent, plain, spot, 16);
+        if !is_alike {
+            return false;
         }
     }
     true
@@ -125,7 +130,7 @@ fn is_visited_alike(
 ) -> bool {
     plain.is_header(drawing.spot, drawing.second, one.header.as_str())
         && is_read_alike(alloc, plain, drawing, &one.jar, pick)
-        && one.outcomes.iter().all(|outcome| *outcome)
+        && !one.outcomes.contains(&false)
         && are_sent_alike(alloc, &one.agent, plain)
 }
 

@@ -15,8 +15,10 @@ pub(super) struct PlainCookie {
     pub(super) secure: Option<bool>,
     /// In seconds.
     pub(super) age: Option<i64>,
-    pub(super) expires: Option<Expiration>,
-    pub(super) same_site: Option<SameSite>,
+    /// A second of the minute of all rows.
+    pub(super) expires: Option<i8>,
+    /// Whether it has `SameSite=None`.
+    pub(super) is_for_all_sites: bool,
     pub(super) partitioned: Option<bool>,
 }
 
@@ -31,7 +33,7 @@ impl PlainCookie {
             secure: None,
             age: None,
             expires: None,
-            same_site: None,
+            is_for_all_sites: false,
             partitioned: None,
         }
     }
@@ -42,17 +44,17 @@ impl PlainCookie {
         match name {
             "Path" => self.path = Some(value),
             "Domain" => self.domain = Some(value),
-            "Expires" => self.expires = Some(Expiration::DateTime(at(value.parse().ok()?))),
+            "Expires" => self.expires = Some(value.parse().ok()?),
             "Max-Age" => self.age = Some(value.parse().ok()?),
             "Secure" => self.secure = Some(value.parse().ok()?),
-            "SameSite" if value == "None" => self.same_site = Some(SameSite::None),
+            "SameSite" if value == "None" => self.is_for_all_sites = true,
             "Partitioned" => self.partitioned = Some(value.parse().ok()?),
             _ => return None,
         }
         Some(self)
     }
 
-    /// The same with attributes such as `Path=/; Max-Age=0`. `Expires` is a second of the minute of all rows.
+    /// The same with attributes such as `Path=/; Max-Age=0`. `Expires` has a second of the minute of all rows.
     pub(super) fn with_all(self, attributes: &'static str) -> Option<PlainCookie> {
         let mut cookie = self;
         for words in attributes.split("; ") {
@@ -79,12 +81,16 @@ impl PlainCookie {
         if let Some(domain) = self.domain {
             cookie.set_domain(domain);
         }
-        if let Some(expires) = self.expires {
-            cookie.set_expires(expires);
+        if let Some(second) = self.expires {
+            cookie.set_expires(Expiration::DateTime(at(second)));
+        }
+        if let Some(age) = self.age {
+            cookie.set_max_age(Some(SignedDuration::from_secs(age)));
+        }
+        if self.is_for_all_sites {
+            cookie.set_same_site(Some(SameSite::None));
         }
         cookie.set_secure(self.secure);
-        cookie.set_max_age(self.age.map(SignedDuration::from_secs));
-        cookie.set_same_site(self.same_site);
         cookie.set_partitioned(self.partitioned);
         cookie
     }

@@ -90,7 +90,10 @@ fn stored_from(spot: Spot, change: Change, second: i8) -> Option<Held> {
         domain,
         is_host_only,
         path: path_at(spot, cookie.path),
-        expiry: age.map(|age| age.saturating_add(second as i64)),
+        expiry: match age {
+            Some(age) => Some(age.saturating_add(second as i64)),
+            None => None,
+        },
     })
 }
 
@@ -121,6 +124,10 @@ impl PlainAgent {
         Ok(())
     }
 
+    fn drop_expired(&mut self, second: i8) {
+        self.cookies.retain(|held| held.is_unexpired(second));
+    }
+
     /// Takes what the site sends at the second. No agent reads a cookie without a name.
     pub(super) fn read(
         &mut self,
@@ -128,14 +135,14 @@ impl PlainAgent {
         change: Change,
         second: i8,
     ) -> Result<(), AllocError> {
-        self.cookies.retain(|held| held.is_unexpired(second));
+        self.drop_expired(second);
         if change.cookie.name.is_empty() {
             return Ok(());
         }
         if let Some(cookie) = stored_from(spot, change, second) {
             self.put(cookie)?;
         }
-        self.cookies.retain(|held| held.is_unexpired(second));
+        self.drop_expired(second);
         Ok(())
     }
 

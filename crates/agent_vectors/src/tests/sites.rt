@@ -11,10 +11,10 @@ pub(super) fn site_of(alloc: Global, url: &str) -> Option<Site> {
     let (scheme, rest) = url.split_once("://")?;
     let (host, path) = rest.split_at_checked(rest.find('/')?)?;
     match scheme {
-        "http" => Site::new(alloc, host, path, false).ok(),
-        "https" => Site::new(alloc, host, path, true).ok(),
-        "address" => Site::of_address(alloc, host, path, false).ok(),
-        "secure-address" => Site::of_address(alloc, host, path, true).ok(),
+        "http" | "https" => Site::new(alloc, host, path, scheme == "https").ok(),
+        "address" | "secure-address" => {
+            Site::of_address(alloc, host, path, scheme == "secure-address").ok()
+        }
         _ => None,
     }
 }

@@ -5,8 +5,8 @@ use super::{at, requests};
 use cookie_agent::{Agent, Site};
 use std::alloc::Global;
 
-// Whether the agent sends the header to the site at the second.
-fn is_sent(agent: &Agent, site: &Site, second: i8, header: &str) -> bool {
+/// Whether the agent sends the header to the site at the second.
+pub(super) fn is_sent(agent: &Agent, site: &Site, second: i8, header: &str) -> bool {
     match agent.header(site, at(second)) {
         Ok(sent) => sent.as_str() == header,
         Err(_) => false,
@@ -16,26 +16,20 @@ fn is_sent(agent: &Agent, site: &Site, second: i8, header: &str) -> bool {
 // Lets happen at the second what the words say, and answers whether it comes out as they say:
 // `sets http://example.com/ n=1`: the site sets a cookie by this text;
 // `refuses http://example.com/ n`: the site's text is no cookie;
-// `sends http://example.com/ n=1`: the agent sends this header to the site;
-// `evicts`: the agent drops what is expired.
+// `sends http://example.com/ n=1`: the agent sends this header to the site.
 fn is_done(alloc: Global, agent: &mut Agent, second: i8, words: &'static str) -> Option<bool> {
     let (verb, rest) = words.split_once(' ').unwrap_or((words, ""));
-    if verb == "evicts" {
-        agent.evict(at(second));
-        return Some(true);
-    }
     let (url, text) = rest.split_once(' ').unwrap_or((rest, ""));
     let site = site_of(alloc, url)?;
     match verb {
-        "sets" => agent.read(&site, text, at(second)).ok(),
-        "refuses" => Some(agent.read(&site, text, at(second)) == Ok(false)),
+        "sets" | "refuses" => Some(agent.read(&site, text, at(second)) == Ok(verb == "sets")),
         "sends" => Some(is_sent(agent, &site, second, text)),
         _ => None,
     }
 }
 
-/// Whether all comes out as the lines say. A line is `at 5`, which sets the second (0 at first), or a step of the
-/// agent, or a question of a site and its answer.
+/// Whether all comes out as the lines say. A line is `at 5`, which sets the second (0 at first), `evicts`, by
+/// which the agent drops what is expired, another step of the agent, or a question of a site and its answer.
 pub(super) fn plays(alloc: Global, agent: &mut Agent, lines: &'static str) -> Option<bool> {
     let mut second = 0i8;
     for line in lines.lines() {
@@ -49,6 +43,10 @@ pub(super) fn plays(alloc: Global, agent: &mut Agent, lines: &'static str) -> Op
 }
 
 fn is_line_right(alloc: Global, agent: &mut Agent, second: i8, line: &'static str) -> Option<bool> {
+    if line == "evicts" {
+        agent.evict(at(second));
+        return Some(true);
+    }
     match line.split_once(" -> ") {
         Some((asked, wanted)) => is_answered(alloc, asked, wanted),
         None => is_done(alloc, agent, second, line),
