@@ -2,3 +2,4 @@
 mod jars;
 mod prefixes;
 mod refusals;
+mod steps;

@@ -1,13 +1,12 @@
 //! Names with a prefix, and what a prefix asks of a cookie.
+use super::jars::moment;
 use cookie::prefix::{Host, NamePrefix, Prefix, Prefixing, Secure};
 use cookie::{Cookie, CookieJar};
-use jar_steps::{Step, after, counts, moment, shown_value};
 use std::alloc::Global;
-use std::test::Fail;
 
-// A prefix of the tests' own: a cookie that is kept from scripts.
+/// A prefix of the tests' own: a cookie that is kept from scripts.
 #[derive(Clone, Copy, Debug)]
-struct Team;
+pub(super) struct Team;
 
 impl Prefix for Team {
     ghost use Rattle.std.specs.Prelude.{Some, true, codes, refl};
@@ -30,34 +29,83 @@ impl Prefix for Team {
     ghost is_conforming = { λ _. refl };
 }
 
-// Each call stands in a function of its own, so that a test's proof needn't know what the call says of the jar.
-fn add<P: Prefix>(jar: &mut CookieJar, prefix: P, cookie: Cookie<'static>) -> Result<(), Fail> {
-    jar.prefixed_mut(prefix).add(cookie)?;
-    Ok(())
-}
+/// A prefix that puts nothing before a name.
+#[derive(Clone, Copy, Debug)]
+pub(super) struct Bare;
 
-fn get<P: Prefix>(jar: &CookieJar, prefix: P, name: &str) -> Result<Option<Cookie<'static>>, Fail> {
-    Ok(jar.prefixed(prefix).get(name)?)
-}
+impl Prefix for Bare {
+    ghost use Rattle.std.specs.Prelude.{[], refl};
 
-// A jar with one cookie, added through a prefix.
-fn with_added<P: Prefix>(alloc: Global, prefix: P) -> Result<CookieJar, Fail> {
-    let mut jar = CookieJar::new(alloc);
-    add(&mut jar, prefix, Cookie::new("a", "1"))?;
-    Ok(jar)
-}
+    const PREFIX: NamePrefix = NamePrefix("");
 
-// Whether the texts of the delta's cookies are these lines, in any order.
-fn tells(alloc: Global, jar: &CookieJar, lines: &str) -> Result<bool, Fail> {
-    let mut count = 0usize;
-    for cookie in jar.delta() {
-        let text = cookie.encoded().to_string(alloc)?;
-        if !lines.lines().any(|line| line == text.as_str()) {
-            return Ok(false);
-        }
-        count = count.saturating_add(1);
+    ghost PREFIX = { [] };
+
+    ghost conformed = { λ r. r };
+
+    ghost conformed_raw = { λ c. c.raw };
+
+    fn conform<'c>(cookie: Cookie<'c>) -> Cookie<'c> {
+        cookie
     }
-    Ok(count == lines.lines().count())
+
+    ghost keeps_pair = { record { name = λ _. refl; value = λ _. refl } };
+
+    ghost is_conforming = { λ _. refl };
+}
+
+fn add<P: Prefix>(jar: &mut CookieJar, prefix: P, cookie: Cookie<'static>) -> bool {
+    jar.prefixed_mut(prefix).add(cookie).is_ok()
+}
+
+fn add_original<P: Prefix>(jar: &mut CookieJar, prefix: P, cookie: Cookie<'static>) -> bool {
+    jar.prefixed_mut(prefix).add_original(cookie).is_ok()
+}
+
+fn remove<P: Prefix>(jar: &mut CookieJar, prefix: P, name: &'static str) -> bool {
+    match moment() {
+        Some(moment) => jar
+            .prefixed_mut(prefix)
+            .remove(Cookie::named(name), moment)
+            .is_ok(),
+        None => false,
+    }
+}
+
+// Whether the answer is a cookie with the name and this value, or none where no value is wanted.
+fn is_answer(answer: &Option<Cookie<'static>>, name: &str, wanted: Option<&str>) -> bool {
+    match answer {
+        Some(cookie) => cookie.name() == name && Some(cookie.value()) == wanted,
+        None => wanted.is_none(),
+    }
+}
+
+// Whether the jar answers this value through the prefix, or none.
+fn answers<P: Prefix>(jar: &CookieJar, prefix: P, name: &str, wanted: Option<&str>) -> bool {
+    match jar.prefixed(prefix).get(name) {
+        Ok(answer) => is_answer(&answer, name, wanted),
+        Err(_) => false,
+    }
+}
+
+// Whether a child jar lacks the name, and shows the value there once it has added it.
+fn is_looked_up<P: Prefix>(
+    jar: &mut CookieJar,
+    prefix: P,
+    name: &'static str,
+    value: &'static str,
+) -> bool {
+    let mut child = jar.prefixed_mut(prefix);
+    match child.get(name) {
+        Ok(None) => {}
+        _ => return false,
+    }
+    if child.add(Cookie::new(name, value)).is_err() {
+        return false;
+    }
+    match child.get(name) {
+        Ok(answer) => is_answer(&answer, name, Some(value)),
+        Err(_) => false,
+    }
 }
 
 // A cookie that asks for another path, for a domain, and for no secure connection.
@@ -80,79 +128,18 @@ fn is_host_cookie(cookie: &Cookie<'_>) -> bool {
 }
 
 // Whether the jar shows that one through the prefix.
-fn shows_host_cookie(jar: &CookieJar) -> Result<bool, Fail> {
-    match get(jar, Host, "name")? {
-        Some(cookie) => Ok(is_host_cookie(&cookie)),
-        None => Ok(false),
+fn shows_host_cookie<P: Prefix>(jar: &CookieJar, prefix: P) -> bool {
+    match jar.prefixed(prefix).get("name") {
+        Ok(Some(cookie)) => is_host_cookie(&cookie),
+        _ => false,
     }
 }
 
-// Whether the jar, once it has that cookie, shows it as `__Host-` asks for it.
-fn is_conforming(jar: &mut CookieJar) -> Result<bool, Fail> {
-    add(jar, Host, loose_cookie())?;
-    let is_named = shown_value(jar, "__Host-name").is_some() && shown_value(jar, "name").is_none();
-    let is_shown = shows_host_cookie(jar)?;
-    Ok(is_named && is_shown)
-}
-
-#[test]
-fn a_host_cookie_conforms(rt: HostRuntime) -> Result<(), Fail> {
-    assert!(rt; is_conforming(&mut CookieJar::new(rt.alloc()))?);
-    Ok(())
-}
-
-// A jar with a change of each prefix of the standard, and an original.
-fn with_both(alloc: Global) -> Result<CookieJar, Fail> {
-    let mut jar = CookieJar::new(alloc);
-    add_original(&mut jar, Cookie::new("h", "1"))?;
-    add(&mut jar, Host, Cookie::new("h", "2"))?;
-    add(&mut jar, Secure, Cookie::new("s", "3"))?;
-    Ok(jar)
-}
-
-fn add_original(jar: &mut CookieJar, cookie: Cookie<'static>) -> Result<(), Fail> {
-    jar.prefixed_mut(Host).add_original(cookie)?;
-    Ok(())
-}
-
-fn remove(jar: &mut CookieJar, name: &'static str) -> Result<(), Fail> {
-    jar.prefixed_mut(Host)
-        .remove(Cookie::named(name), moment()?)?;
-    Ok(())
-}
-
-// What the two changes tell a client.
-const CHANGED: &str = "\
-__Host-h=2; Secure; Path=/
-__Secure-s=3; Secure
-";
-
-// The same, once the first is removed through its prefix.
-const REMOVED: &str = "\
-__Host-h=; Secure; Path=/; Max-Age=0; Expires=Tue, 21 Oct 2014 07:28:00 GMT
-__Secure-s=3; Secure
-";
-
-#[test]
-fn cookies_of_both_prefixes_are_printed(rt: HostRuntime) -> Result<(), Fail> {
-    let jar = with_both(rt.alloc())?;
-    assert!(rt; tells(rt.alloc(), &jar, CHANGED)?);
-    assert!(rt; counts(&jar) == (2, 2));
-    Ok(())
-}
-
-// Whether the jar tells the removal of `h` through its prefix, and no longer shows it there.
-fn is_removed(alloc: Global, jar: &mut CookieJar) -> Result<bool, Fail> {
-    remove(jar, "h")?;
-    let is_shown = get(jar, Host, "h")?.is_some();
-    let is_told = tells(alloc, jar, REMOVED)?;
-    Ok(is_told && !is_shown)
-}
-
-#[test]
-fn a_removal_through_a_prefix_is_printed(rt: HostRuntime) -> Result<(), Fail> {
-    assert!(rt; is_removed(rt.alloc(), &mut with_both(rt.alloc())?)?);
-    Ok(())
+fn is_prefixed_name<P: Prefix>(alloc: Global, name: &str, wanted: &str) -> bool {
+    match P::prefixed_name(alloc, name) {
+        Ok(made) => made.as_str() == wanted,
+        Err(_) => false,
+    }
 }
 
 fn clip<P: Prefix>(alloc: Global, text: &'static str) -> Option<Cookie<'static>> {
@@ -167,40 +154,12 @@ fn is_clipped<P: Prefix>(alloc: Global, text: &'static str, name: &str, raw: Opt
     }
 }
 
-// Whether a cookie that is added through the prefix is stored under this name, kept from scripts or not.
-fn is_stored<P: Prefix>(
-    alloc: Global,
-    prefix: P,
-    name: &str,
-    http_only: Option<bool>,
-) -> Result<bool, Fail> {
-    let jar = with_added(alloc, prefix)?;
-    match jar.get(name) {
-        Some(cookie) => Ok(cookie.value() == "1" && cookie.http_only() == http_only),
-        None => Ok(false),
-    }
-}
-
-#[test]
-fn a_third_prefix_conforms(rt: HostRuntime) -> Result<(), Fail> {
-    let alloc = rt.alloc();
-    assert!(rt; is_stored(alloc, Team, "team.a", Some(true))?);
-    assert!(rt; is_stored(alloc, Host, "__Host-a", None)?);
-    assert!(rt; is_stored(alloc, Secure, "__Secure-a", None)?);
-    Ok(())
-}
-
 fn prefix<P: Prefix>(alloc: Global, text: &'static str) -> Option<Cookie<'static>> {
     P::prefix(alloc, Cookie::parse(text).ok()?).ok()
 }
 
 // Whether the text's cookie has this name, lent or not, behind the prefix, and else what it was read with.
-fn is_prefixed<P: Prefix>(
-    alloc: Global,
-    text: &'static str,
-    name: &str,
-    raw: Option<&str>,
-) -> bool {
+fn is_prefixed<P: Prefix>(alloc: Global, text: &'static str, name: &str, raw: Option<&str>) -> bool {
     match prefix::<P>(alloc, text) {
         Some(cookie) => {
             cookie.name() == name
@@ -212,24 +171,68 @@ fn is_prefixed<P: Prefix>(
     }
 }
 
-#[test]
-fn the_calls_of_a_prefix(rt: HostRuntime) -> Result<(), Fail> {
-    assert!(rt; Host::PREFIX.as_str() == "__Host-");
-    assert!(rt; Secure::PREFIX.as_str() == "__Secure-");
-    assert!(rt; Host::prefixed_name(rt.alloc(), "a")?.as_str() == "__Host-a");
-    assert!(rt; is_prefixed::<Team>(rt.alloc(), "a=1", "team.a", None));
-    Ok(())
+// Whether the prefix makes of a name, or of a text's cookie, what it has to.
+fn makes<P: Prefix>(alloc: Global, verb: &str, rest: &'static str) -> bool {
+    let (text, name) = rest.split_once('>').unwrap_or((rest, ""));
+    match verb {
+        "begins" => P::PREFIX.as_str() == rest,
+        "names" => is_prefixed_name::<P>(alloc, text, name),
+        "clip" => is_clipped::<P>(alloc, text, name, None),
+        "clip-lent" => is_clipped::<P>(alloc, text, name, Some(name)),
+        "prefix" => is_prefixed::<P>(alloc, text, name, None),
+        "prefix-lent" => is_prefixed::<P>(alloc, text, name, Some(name)),
+        _ => false,
+    }
 }
+
+/// Makes a call through the prefix, or answers whether it shows or makes what it has to.
+pub(super) fn is_right<P: Prefix>(
+    alloc: Global,
+    jar: &mut CookieJar,
+    prefix: P,
+    step: &'static str,
+) -> bool {
+    let (verb, rest) = step.split_once(' ').unwrap_or((step, ""));
+    let (name, value) = rest.split_once(' ').unwrap_or((rest, ""));
+    match verb {
+        "add" => add(jar, prefix, Cookie::new(name, value)),
+        "original" => add_original(jar, prefix, Cookie::new(name, value)),
+        "remove" => remove(jar, prefix, name),
+        "shows" => answers(jar, prefix, name, Some(value)),
+        "lacks" => answers(jar, prefix, name, None),
+        "looks" => is_looked_up(jar, prefix, name, value),
+        "loose" => add(jar, prefix, loose_cookie()),
+        "bound" => shows_host_cookie(jar, prefix),
+        _ => makes::<P>(alloc, verb, rest),
+    }
+}
+
+/// What child jars of `__Host-`, `__Secure-`, the tests' own prefix and the empty one store, show and make of names. A
+/// prefix is taken off in its own case, and a name that changes is no longer lent.
+pub(super) const ROWS: &str = "\
+a_host_cookie_conforms: host loose | shows __Host-name some-value | lacks name | host bound
+cookies_of_both_prefixes_are_printed: host original h 1 | host add h 2 | secure add s 3 | \
+    tells __Host-h=2; Secure; Path=/ | tells __Secure-s=3; Secure | counts 2 2
+a_removal_through_a_prefix_is_printed: host original h 1 | host add h 2 | secure add s 3 | \
+    host remove h | host lacks h | tells __Secure-s=3; Secure | delta 2 1 | \
+    tells __Host-h=; Secure; Path=/; Max-Age=0; Expires=Tue, 21 Oct 2014 07:28:00 GMT
+a_third_prefix_conforms: team add a 1 | shows team.a 1 | kept team.a true
+a_third_prefix_conforms: host add a 1 | shows __Host-a 1 | kept __Host-a none
+a_third_prefix_conforms: secure add a 1 | shows __Secure-a 1 | kept __Secure-a none
+the_calls_of_a_prefix: host begins __Host- | secure begins __Secure- | host names a>__Host-a | \
+    team prefix a=1>team.a
+a_child_jar_looks_up_what_it_changed: add a plain | team looks a 1
+an_empty_prefix_changes_nothing: bare prefix-lent a=1>a | bare clip-lent a=1>a
+a_prefix_is_taken_off_in_its_own_case: host clip __Host-=> | host clip-lent __host-a=>__host-a | \
+    secure clip __Secure-a=>a | secure clip-lent __Secure=>__Secure
+a_name_that_changes_is_no_longer_lent: team clip team.a=1>a | team clip-lent a=1>a";
 
 // Whether a cookie that is handed to `__Secure-` conforms to it.
-fn is_applied(alloc: Global) -> Result<bool, Fail> {
-    let cookie = Secure::apply(alloc, Cookie::new("a", "1"))?;
-    Ok(cookie.name() == "__Secure-a" && cookie.secure() == Some(true))
-}
-
-// A cookie of a path and a domain, once it conforms to `__Host-`.
-fn host_cookie() -> Result<Cookie<'static>, Fail> {
-    Ok(Host::conform(Cookie::parse("a=1; Path=/x; Domain=b.c")?))
+fn is_applied(alloc: Global) -> bool {
+    match Secure::apply(alloc, Cookie::new("a", "1")) {
+        Ok(cookie) => cookie.name() == "__Secure-a" && cookie.secure() == Some(true),
+        Err(_) => false,
+    }
 }
 
 // Whether the cookie `a`, whose name is lent, has the path of the whole host.
@@ -240,74 +243,16 @@ fn has_the_whole_host(cookie: &Cookie<'_>) -> bool {
         && cookie.domain().is_none()
 }
 
-#[test]
-fn an_applied_cookie_conforms(rt: HostRuntime) -> Result<(), Fail> {
-    assert!(rt; is_applied(rt.alloc())?);
-    assert!(rt; has_the_whole_host(&host_cookie()?));
-    Ok(())
-}
-
-// Whether a child jar shows `a` once it has added it.
-fn is_looked_up(jar: &mut CookieJar) -> Result<bool, Fail> {
-    let mut child = jar.prefixed_mut(Team);
-    if child.get("a")?.is_some() {
-        return Ok(false);
-    }
-    child.add(Cookie::new("a", "1"))?;
-    match child.get("a")? {
-        Some(cookie) => Ok(cookie.name() == "a" && cookie.value() == "1"),
-        None => Ok(false),
+// Whether a cookie of a path and a domain has it, once it conforms to `__Host-`.
+fn is_conforming() -> bool {
+    match Cookie::parse("a=1; Path=/x; Domain=b.c") {
+        Ok(cookie) => has_the_whole_host(&Host::conform(cookie)),
+        Err(_) => false,
     }
 }
 
 #[test]
-fn a_child_jar_looks_up_what_it_changed(rt: HostRuntime) -> Result<(), Fail> {
-    let mut jar = after(rt.alloc(), &[Step::Add("a", "plain")])?;
-    assert!(rt; is_looked_up(&mut jar)?);
-    Ok(())
-}
-
-// A prefix that puts nothing before a name.
-#[derive(Clone, Copy, Debug)]
-struct Bare;
-
-impl Prefix for Bare {
-    ghost use Rattle.std.specs.Prelude.{[], refl};
-
-    const PREFIX: NamePrefix = NamePrefix("");
-
-    ghost PREFIX = { [] };
-
-    ghost conformed = { λ r. r };
-
-    ghost conformed_raw = { λ c. c.raw };
-
-    fn conform<'c>(cookie: Cookie<'c>) -> Cookie<'c> {
-        cookie
-    }
-
-    ghost keeps_pair = { record { name = λ _. refl; value = λ _. refl } };
-
-    ghost is_conforming = { λ _. refl };
-}
-
-#[test]
-fn an_empty_prefix_changes_nothing(rt: HostRuntime) {
-    assert!(rt; is_prefixed::<Bare>(rt.alloc(), "a=1", "a", Some("a")));
-    assert!(rt; is_clipped::<Bare>(rt.alloc(), "a=1", "a", Some("a")));
-}
-
-#[test]
-fn a_prefix_is_taken_off_in_its_own_case(rt: HostRuntime) {
-    let alloc = rt.alloc();
-    assert!(rt; is_clipped::<Host>(alloc, "__Host-=", "", None));
-    assert!(rt; is_clipped::<Host>(alloc, "__host-a=", "__host-a", Some("__host-a")));
-    assert!(rt; is_clipped::<Secure>(alloc, "__Secure-a=", "a", None));
-    assert!(rt; is_clipped::<Secure>(alloc, "__Secure=", "__Secure", Some("__Secure")));
-}
-
-#[test]
-fn a_name_that_changes_is_no_longer_lent(rt: HostRuntime) {
-    assert!(rt; is_clipped::<Team>(rt.alloc(), "team.a=1", "a", None));
-    assert!(rt; is_clipped::<Team>(rt.alloc(), "a=1", "a", Some("a")));
+fn an_applied_cookie_conforms(rt: HostRuntime) {
+    assert!(rt; is_applied(rt.alloc()));
+    assert!(rt; is_conforming());
 }
