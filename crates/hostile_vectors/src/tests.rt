@@ -1,3 +1,4 @@
 //! Texts that a stranger may send.
 mod cuts;
+mod readings;
 mod texts;

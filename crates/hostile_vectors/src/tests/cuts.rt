@@ -1,7 +1,6 @@
 //! A long cookie, cut at every place.
-use cookie_core::{Cookie, ParseError, SplitCookies};
+use super::readings::{are_read, are_split};
 use std::alloc::Global;
-use std::test::Fail;
 
 const LONG: &str =
     "id=x%20y; HttpOnly; SameSite=Lax; Partitioned; Secure; Path=/; Domain=a.example; Max-Age=90; Expires=Sun, 06 Nov 1994 08:49:37 GMT";
@@ -193,134 +192,32 @@ const SPLIT_DECODED: &str = "\
 130 id=x y|no pair|SameSite=Lax|no pair|no pair|Path=/|Domain=a.example|Max-Age=90|Expires=Sun, 06 Nov 1994 08:49:37 GMT
 ";
 
-// What a text is read as.
-fn outcome(alloc: Global, read: &Result<Cookie<'_>, ParseError>) -> Result<String, Fail> {
-    match read {
-        Ok(cookie) => {
-            let flag = if cookie.secure().is_some() {
-                "secure"
-            } else {
-                "plain"
-            };
-            Ok(format!(in alloc; "{flag} {cookie}")?)
+// The row of the length: the last one whose number isn't greater.
+fn row_at(rows: &'static str, length: usize) -> &'static str {
+    for line in rows.rsplit('\n') {
+        let (number, row) = line.split_once(' ').unwrap_or(("", ""));
+        if number.parse::<usize>().unwrap_or(usize::MAX) <= length {
+            return row;
         }
-        Err(error) => Ok(String::from_str(alloc, name_of(*error))?),
     }
+    ""
 }
 
-fn name_of(error: ParseError) -> &'static str {
-    match error {
-        ParseError::MissingPair => "no pair",
-        ParseError::EmptyName => "no name",
-        ParseError::Utf8Error(_) => "no UTF-8",
-        ParseError::OutOfMemory => "no memory",
-    }
+// Whether the long text, cut to that length, is read and split as its rows say.
+fn is_cut_right(alloc: Global, length: usize) -> bool {
+    let text = LONG.get(..length).unwrap_or("");
+    are_read(alloc, text, row_at(READ, length), row_at(DECODED, length))
+        && are_split(
+            alloc,
+            text,
+            row_at(SPLIT, length),
+            row_at(SPLIT_DECODED, length),
+        )
 }
 
-// Puts the item's pair behind the text, and a bar between them.
-fn push_pair(text: &mut String, item: &Result<Cookie<'_>, ParseError>) -> Result<(), Fail> {
-    if !text.is_empty() {
-        text.push_str("|")?;
-    }
-    match item {
-        Ok(cookie) => {
-            text.push_str(cookie.name())?;
-            text.push_str("=")?;
-            text.push_str(cookie.value())?;
-        }
-        Err(error) => text.push_str(name_of(*error))?,
-    }
-    Ok(())
-}
-
-// The pairs of the items, with a bar between them.
-fn pairs(alloc: Global, items: SplitCookies<'_>) -> Result<String, Fail> {
-    let mut text = String::new(alloc);
-    for item in items {
-        push_pair(&mut text, &item)?;
-    }
-    Ok(text)
-}
-
-// How a text is read.
-#[derive(Clone, Copy)]
-enum Reading {
-    Parse,
-    ParseOwned,
-    ParseEncoded,
-    ParseEncodedOwned,
-    FromStr,
-    Split,
-    SplitOwned,
-    SplitEncoded,
-    SplitEncodedOwned,
-}
-
-fn answer(alloc: Global, reading: Reading, text: &str) -> Result<String, Fail> {
-    match reading {
-        Reading::Parse => outcome(alloc, &Cookie::parse(text)),
-        Reading::ParseEncoded => outcome(alloc, &Cookie::parse_encoded(alloc, text)),
-        Reading::FromStr => outcome(alloc, &Cookie::from_str(alloc, text)),
-        Reading::Split => pairs(alloc, Cookie::split_parse(text)),
-        Reading::SplitEncoded => pairs(alloc, Cookie::split_parse_encoded(alloc, text)),
-        _ => answer_to_own(alloc, reading, String::from_str(alloc, text)?),
-    }
-}
-
-// The same of the readings that take the text.
-fn answer_to_own(alloc: Global, reading: Reading, text: String) -> Result<String, Fail> {
-    match reading {
-        Reading::ParseOwned => outcome(alloc, &Cookie::parse_owned(text)),
-        Reading::ParseEncodedOwned => outcome(alloc, &Cookie::parse_encoded_owned(alloc, text)),
-        Reading::SplitOwned => pairs(alloc, Cookie::split_parse_owned(alloc, text)),
-        Reading::SplitEncodedOwned => pairs(alloc, Cookie::split_parse_encoded_owned(alloc, text)),
-        _ => Err(Fail::new("a reading that lends its text")),
-    }
-}
-
-fn push_answer(alloc: Global, all: &mut String, length: usize, answer: &str) -> Result<(), Fail> {
-    all.push_str(format!(in alloc; "{length} {answer}\n")?.as_str())?;
-    Ok(())
-}
-
-// The answers to the text of each length, each with the first length that has it.
-fn answers(alloc: Global, reading: Reading) -> Result<String, Fail> {
-    let mut all = String::new(alloc);
-    let mut last = String::new(alloc);
+#[test]
+fn a_cut_text_is_read_and_split_as_what_is_left(rt: HostRuntime) {
     for length in 0..=LONG.len() {
-        let text = LONG.get(..length).ok_or("a cut")?;
-        let answer = answer(alloc, reading, text)?;
-        if length == 0 || answer.as_str() != last.as_str() {
-            push_answer(alloc, &mut all, length, answer.as_str())?;
-        }
-        last = answer;
+        assert!(rt; is_cut_right(rt.alloc(), length), "{length}");
     }
-    Ok(all)
-}
-
-#[test]
-fn a_cut_text_is_read_as_what_is_left(rt: HostRuntime) -> Result<(), Fail> {
-    for (reading, wanted) in [
-        (Reading::Parse, READ),
-        (Reading::ParseOwned, READ),
-        (Reading::FromStr, READ),
-        (Reading::ParseEncoded, DECODED),
-        (Reading::ParseEncodedOwned, DECODED),
-    ] {
-        assert!(rt; answers(rt.alloc(), reading)?.as_str() == wanted);
-    }
-    Ok(())
-}
-
-#[test]
-fn a_cut_text_is_split_into_what_is_left(rt: HostRuntime) -> Result<(), Fail> {
-    for (reading, wanted) in [
-        (Reading::Split, SPLIT),
-        (Reading::SplitOwned, SPLIT),
-        (Reading::SplitEncoded, SPLIT_DECODED),
-        (Reading::SplitEncodedOwned, SPLIT_DECODED),
-    ] {
-        assert!(rt; answers(rt.alloc(), reading)?.as_str() == wanted);
-    }
-    Ok(())
 }

@@ -1,111 +1,139 @@
 //! Texts of other alphabets, and long ones.
-use cookie_core::{Cookie, ParseError, SplitCookies};
+use super::readings::{are_read, are_split};
+use cookie_core::{Cookie, ParseError};
 use jiff::SignedDuration;
 use std::alloc::{AllocError, Global};
-use std::test::Fail;
 
-// The text, so many times.
-fn repeat(alloc: Global, text: &str, times: u32) -> Result<String, AllocError> {
-    let mut all = String::new(alloc);
-    for _ in 0..times {
-        all.push_str(text)?;
-    }
-    Ok(all)
-}
-
-// Whether so many items are refused for their empty names, and then there are none, however often one asks.
-fn is_refused_throughout(mut items: SplitCookies<'_>, times: u32) -> bool {
-    for _ in 0..times {
-        if !matches!(items.next(), Some(Err(ParseError::EmptyName))) {
-            return false;
-        }
-    }
-    items.next().is_none() && items.next().is_none() && items.next().is_none()
+// Whether ten thousand empty names are as many refusals.
+fn are_all_refused(alloc: Global) -> Result<bool, AllocError> {
+    let text = "=;".repeat(alloc, 10_000)?;
+    let row = "no name|".repeat(alloc, 10_000)?;
+    Ok(are_split(alloc, text.as_str(), row.as_str(), row.as_str()))
 }
 
 #[test]
-fn ten_thousand_empty_names_are_ten_thousand_refusals(rt: HostRuntime) -> Result<(), Fail> {
-    let alloc = rt.alloc();
-    let text = repeat(alloc, "=;", 10_000)?;
-    assert!(rt; is_refused_throughout(Cookie::split_parse(&text), 10_000));
-    assert!(rt; is_refused_throughout(Cookie::split_parse_encoded(alloc, &text), 10_000));
-    let own = Cookie::split_parse_owned(alloc, repeat(alloc, "=;", 10_000)?);
-    assert!(rt; is_refused_throughout(own, 10_000));
-    let own = Cookie::split_parse_encoded_owned(alloc, text);
-    assert!(rt; is_refused_throughout(own, 10_000));
-    Ok(())
+fn ten_thousand_empty_names_are_ten_thousand_refusals(rt: HostRuntime) {
+    assert!(rt; are_all_refused(rt.alloc()).unwrap_or(false));
 }
 
-// Whether the cookie lends these two texts.
+// A pair, and a text that is read as the pair alone.
+const PAIRS: &str = "\
+a=1 < \u{3000}a\u{a0}=\u{85}1\u{3000}
+\u{200b}=1 < \u{200b}=1
+\u{200b}=1 <  \u{200b} = 1 
+a=1 < a=1; \u{17f}ecure
+a=1 < a=1; \u{17f}ame\u{17f}ite=Lax
+a=1 < a=1; SameSite=\u{17f}trict
+a=1 < a=1; SameSite=\u{17f}TRICT
+a=1 < a=1; expire\u{17f}=Wed, 21 Oct 2015 07:28:00 GMT
+a=1 < a=1; Expires=Wed, 21 Oct 2015 07:28:00 GMT\u{17f}
+a=1 < a=1; Max-Age=\u{663}
+a=1 < a=1; Max-Age=\u{ff11}
+a=1 < a=1; Max\u{2010}Age=1";
+
+// Whether the cookie lends this name and this value.
 fn is_lent(cookie: &Cookie<'_>, name: &str, value: &str) -> bool {
     cookie.name_value() == (name, value)
         && cookie.name_raw() == Some(name)
         && cookie.value_raw() == Some(value)
 }
 
-// Whether the text is read as these two, with its escapes undone and without.
-fn is_read(alloc: Global, text: &str, name: &str, value: &str) -> Result<bool, Fail> {
-    let is_plain = is_lent(&Cookie::parse(text)?, name, value);
-    let is_decoded = is_lent(&Cookie::parse_encoded(alloc, text)?, name, value);
-    Ok(is_plain && is_decoded)
+// Whether the cookie has this name and this value alone.
+fn is_bare(cookie: &Cookie<'_>, name: &str, value: &str) -> bool {
+    *cookie == Cookie::new(name, value) && cookie.same_site().is_none() && cookie.secure().is_none()
 }
 
-#[test]
-fn white_space_of_other_alphabets_is_trimmed(rt: HostRuntime) -> Result<(), Fail> {
-    assert!(rt; is_read(rt.alloc(), "\u{3000}a\u{a0}=\u{85}1\u{3000}", "a", "1")?);
-    Ok(())
-}
-
-// A space of no width isn't White_Space in Unicode.
-#[test]
-fn a_space_of_no_width_is_a_name(rt: HostRuntime) -> Result<(), Fail> {
-    for text in ["\u{200b}=1", " \u{200b} = 1 "] {
-        assert!(rt; is_read(rt.alloc(), text, "\u{200b}", "1")?);
+// Whether both hold of the cookie that was read.
+fn is_pair_read(read: Result<Cookie<'_>, ParseError>, name: &str, value: &str) -> bool {
+    match read {
+        Ok(cookie) => is_lent(&cookie, name, value) && is_bare(&cookie, name, value),
+        Err(_) => false,
     }
-    Ok(())
 }
 
-// U+017F is a small s of another shape, and U+212A a capital K: in Unicode both have ASCII letters in the other case.
+// Whether the row's text is read as its pair, with escapes undone and without.
+fn is_pair(alloc: Global, row: &str) -> bool {
+    let (pair, text) = row.split_once(" < ").unwrap_or((row, ""));
+    let (name, value) = pair.split_once('=').unwrap_or((pair, ""));
+    is_pair_read(Cookie::parse(text), name, value)
+        && is_pair_read(Cookie::parse_encoded(alloc, text), name, value)
+}
+
+// White space of other alphabets is trimmed, but a space of no width isn't White_Space in Unicode. The case of keys is
+// that of ASCII: U+017F is a small s of another shape, and U+212A a capital K: in Unicode both have ASCII letters in the
+// other case.
 #[test]
-fn the_case_of_keys_is_that_of_ascii(rt: HostRuntime) -> Result<(), Fail> {
-    for text in [
-        "a=1; \u{17f}ecure",
-        "a=1; \u{17f}ame\u{17f}ite=Lax",
-        "a=1; SameSite=\u{17f}trict",
-        "a=1; SameSite=\u{17f}TRICT",
-        "a=1; expire\u{17f}=Wed, 21 Oct 2015 07:28:00 GMT",
-        "a=1; Expires=Wed, 21 Oct 2015 07:28:00 GMT\u{17f}",
-        "a=1; Max-Age=\u{663}",
-        "a=1; Max-Age=\u{ff11}",
-        "a=1; Max\u{2010}Age=1",
-    ] {
-        let cookie = Cookie::parse(text)?;
-        assert!(rt; cookie == Cookie::new("a", "1"), "{text}");
-        assert!(rt;
-            cookie.same_site().is_none() && cookie.secure().is_none(),
-            "{text}"
-        );
+fn texts_of_other_alphabets_are_read_as_pairs(rt: HostRuntime) {
+    for row in PAIRS.lines() {
+        assert!(rt; is_pair(rt.alloc(), row), "{row}");
     }
-    Ok(())
 }
 
-// A cookie with an age of 100,000 digits, and what stands behind them.
-fn with_digits(alloc: Global, end: &str) -> Result<String, Fail> {
-    let digits = repeat(alloc, "9", 100_000)?;
-    Ok(format!(in alloc; "a=1; Max-Age={digits}{end}")?)
+// The cookie's age in seconds, -1 where it has none, and -2 where it wasn't read.
+fn age_of(read: Result<Cookie<'_>, ParseError>) -> i64 {
+    match read {
+        Ok(cookie) => seconds(cookie.max_age()),
+        Err(_) => -2,
+    }
+}
+
+fn seconds(age: Option<SignedDuration>) -> i64 {
+    match age {
+        Some(age) => age.as_secs(),
+        None => -1,
+    }
 }
 
 // Whether the text has this age, with its escapes undone and without.
-fn has_age(alloc: Global, text: &str, age: Option<SignedDuration>) -> Result<bool, Fail> {
-    let is_plain = Cookie::parse(text)?.max_age() == age;
-    let is_decoded = Cookie::parse_encoded(alloc, text)?.max_age() == age;
-    Ok(is_plain && is_decoded)
+fn is_age(alloc: Global, text: &str, age: i64) -> bool {
+    age_of(Cookie::parse(text)) == age && age_of(Cookie::parse_encoded(alloc, text)) == age
+}
+
+// Whether the age is the greatest, and there is none where a letter stands behind it.
+fn is_greatest(alloc: Global, text: &str) -> bool {
+    is_age(alloc, text.trim_end_matches('x'), i64::MAX) && is_age(alloc, text, -1)
+}
+
+// The same of an age of 100,000 digits.
+fn is_long_age_greatest(alloc: Global) -> Result<bool, AllocError> {
+    let digits = "9".repeat(alloc, 100_000)?;
+    let text = format!(in alloc; "a=1; Max-Age={digits}x")?;
+    Ok(is_greatest(alloc, text.as_str()))
 }
 
 #[test]
-fn an_age_of_many_digits_is_the_greatest(rt: HostRuntime) -> Result<(), Fail> {
-    let greatest = Some(SignedDuration::from_secs(i64::MAX));
-    assert!(rt; has_age(rt.alloc(), with_digits(rt.alloc(), "")?.as_str(), greatest)?);
-    assert!(rt; has_age(rt.alloc(), with_digits(rt.alloc(), "x")?.as_str(), None)?);
-    Ok(())
+fn an_age_of_many_digits_is_the_greatest(rt: HostRuntime) {
+    assert!(rt; is_long_age_greatest(rt.alloc()).unwrap_or(false));
+}
+
+// Another value, another name, an attribute, a piece too many and one too few, and a text that is refused.
+const WRONG: &str = "\
+a=2 < a=1
+b=1 < a=1
+a=1 < a=1; Secure
+a=1 < a=1; SameSite=Lax
+a=1 < a=1; Max-Age=1
+a=1 < a
+plain a=2 < a=1
+plain b=1 < a=1
+secure a=1 < a=1
+plain a=1; Secure < a=1; Secure
+plain a= < a
+no pair < =1
+a=1|b=2|c=3 < a=1; b=2
+a=1|b=2|no pair < a=1; b=2
+a=1|b=3 < a=1; b=2
+a=1|no pair < a=1; =2";
+
+// Whether a reader takes the row for right.
+fn is_taken(alloc: Global, line: &str) -> bool {
+    let (row, text) = line.split_once(" < ").unwrap_or((line, ""));
+    is_pair(alloc, line) || are_read(alloc, text, row, row) || are_split(alloc, text, row, row)
+}
+
+#[test]
+fn a_wrong_row_is_found(rt: HostRuntime) {
+    for line in WRONG.lines() {
+        assert!(rt; !is_taken(rt.alloc(), line), "{line}");
+    }
 }
