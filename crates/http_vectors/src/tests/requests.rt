@@ -1,16 +1,19 @@
 //! The cookies of a request's fields.
-use super::rows::{count, fields_of, put_cookie, put_fields, shows};
+use super::clients::is_sent;
+use super::rows::{are_shown, count, fields_of, put_cookie, shows};
 use cookie::{Cookie, CookieJar};
-use cookie_http::{jar_from_headers, with_headers};
-use http_header::{HeaderMap, HeaderValue};
-use std::alloc::Global;
+use cookie_http::with_headers;
+use http_header::HeaderMap;
+use std::alloc::{AllocError, Global};
 use std::hash::RandomState;
 use std::test::Fail;
 
 // Whether the jar of a request with the row's fields shows what the row says.
-fn is_read(alloc: Global, row: &str) -> Result<bool, Fail> {
-    let headers = fields_of(alloc, row)?;
-    Ok(shows(&jar_from_headers(alloc, &headers)?, row))
+fn is_read(alloc: Global, row: &str) -> bool {
+    match fields_of(alloc, row) {
+        Some(headers) => are_shown(alloc, &headers, row),
+        None => false,
+    }
 }
 
 const ROWS: &str = "\
@@ -66,6 +69,13 @@ Cookie:
 Cookie: c
 shows b=2
 
+bytes that are no text:
+Cookie: a=1
+Cookie: b=<FF>; c=2
+Cookie: d=3
+shows a=1
+shows d=3
+
 escapes, and one of bytes that are no text:
 Cookie: a=%3B%20%2C; b=%FF
 shows a=; ,
@@ -75,14 +85,13 @@ Cookie: name=\u{e9}
 shows name=\u{e9}";
 
 #[test]
-fn a_request_has_these_cookies(rt: HostRuntime) -> Result<(), Fail> {
+fn a_request_has_these_cookies(rt: HostRuntime) {
     for row in ROWS.split("\n\n") {
-        assert!(rt; is_read(rt.alloc(), row)?, "{row}");
+        assert!(rt; is_read(rt.alloc(), row), "{row}");
     }
-    Ok(())
 }
 
-// Another value, another name, a cookie too many, and one too few.
+// Of requests another value, another name, a cookie too many, and one too few. Of clients another text, another cookie.
 const WRONG: &str = "\
 Cookie: a=1
 shows a=2
@@ -99,87 +108,118 @@ shows b=2
 
 shows a=1
 
-Cookie: a=1";
+Cookie: a=1
+
+sends b=2
+shows b=1
+
+sends b=1
+shows b=2";
+
+// Whether a reader takes the row for right.
+fn is_taken(alloc: Global, row: &str) -> bool {
+    is_read(alloc, row) || is_sent(alloc, row)
+}
 
 #[test]
-fn a_wrong_row_is_found(rt: HostRuntime) -> Result<(), Fail> {
+fn a_wrong_row_is_found(rt: HostRuntime) {
     for row in WRONG.split("\n\n") {
-        assert!(rt; !is_read(rt.alloc(), row)?, "{row}");
+        assert!(rt; !is_taken(rt.alloc(), row), "{row}");
     }
-    Ok(())
 }
 
-// A request with a field of bytes that are no text, between two that are.
-fn with_odd_bytes(alloc: Global) -> Result<HeaderMap, Fail> {
-    let mut headers = fields_of(alloc, "Cookie: a=1")?;
-    put_cookie(alloc, &mut headers, b"b=\xff; c=2")?;
-    put_fields(alloc, &mut headers, "Cookie: d=3")?;
-    Ok(headers)
-}
-
-#[test]
-fn bytes_that_are_no_text_are_passed_over(rt: HostRuntime) -> Result<(), Fail> {
-    let headers = with_odd_bytes(rt.alloc())?;
-    assert!(rt;
-        shows(
-            &jar_from_headers(rt.alloc(), &headers)?,
-            "shows a=1\nshows d=3"
-        )
-    );
-    Ok(())
-}
-
-// A request of 10,000 cookies, so many in a field.
-fn large_request(alloc: Global, in_field: usize) -> Result<HeaderMap, Fail> {
-    let mut headers = HeaderMap::new(alloc);
+// So many cookies from a number on, as the value of a field.
+fn numbered(alloc: Global, start: usize, count: usize) -> Result<String, AllocError> {
     let mut field = String::new(alloc);
-    let mut count = 0usize;
-    for number in 0..10_000usize {
-        field.push_str(format!(in alloc; "n{number}={number}; ")?.as_str())?;
-        count = count.saturating_add(1);
-        if count == in_field {
-            headers.append("cookie", HeaderValue::from_str(alloc, field.as_str())?)?;
-            field = String::new(alloc);
-            count = 0;
+    for number in start..start.saturating_add(count) {
+        write!(field, "n{number}={number}; ")?;
+    }
+    Ok(field)
+}
+
+fn put_numbered(alloc: Global, headers: &mut HeaderMap, start: usize, count: usize) -> bool {
+    match numbered(alloc, start, count) {
+        Ok(field) => put_cookie(alloc, headers, field.as_str()),
+        Err(_) => false,
+    }
+}
+
+// A request of so many fields, each of as many cookies.
+fn large_request(alloc: Global, fields: usize, in_field: usize) -> Option<HeaderMap> {
+    let mut headers = HeaderMap::new(alloc);
+    for index in 0..fields {
+        if !put_numbered(
+            alloc,
+            &mut headers,
+            index.saturating_mul(in_field),
+            in_field,
+        ) {
+            return None;
         }
     }
-    Ok(headers)
+    Some(headers)
 }
 
-// The jar of such a request, whose hash has drawn keys.
-fn large_jar(alloc: Global, state: RandomState, in_field: usize) -> Result<CookieJar, Fail> {
-    let headers = large_request(alloc, in_field)?;
-    Ok(with_headers(alloc, CookieJar::with_hasher(alloc, state), &headers)?)
+// How many cookies the jar of the request has, whose hash has drawn keys.
+fn count_of(alloc: Global, state: RandomState, headers: &HeaderMap) -> usize {
+    match with_headers(alloc, CookieJar::with_hasher(alloc, state), headers) {
+        Ok(jar) => count(&jar),
+        Err(_) => 0,
+    }
+}
+
+// Whether 10,000 cookies are read from so many fields.
+fn are_all_read(alloc: Global, state: RandomState, fields: usize, in_field: usize) -> bool {
+    match large_request(alloc, fields, in_field) {
+        Some(headers) => count_of(alloc, state, &headers) == 10_000,
+        None => false,
+    }
+}
+
+// Whether they are read from 10,000 fields, from a hundred and from one.
+fn are_read(alloc: Global, state: RandomState) -> bool {
+    are_all_read(alloc, state, 10_000, 1)
+        && are_all_read(alloc, state, 100, 100)
+        && are_all_read(alloc, state, 1, 10_000)
 }
 
 #[test]
 fn a_request_may_have_10000_cookies(rt: HostRuntime) -> Result<(), Fail> {
-    for in_field in [1, 100, 10_000] {
-        let jar = large_jar(rt.alloc(), RandomState::new(&rt)?, in_field)?;
-        assert!(rt; count(&jar) == 10_000, "{in_field}");
+    let state = RandomState::new(&rt)?;
+    assert!(rt; are_read(rt.alloc(), state));
+    Ok(())
+}
+
+// Gives the jar two originals and a change. False where memory runs out.
+fn fill(jar: &mut CookieJar) -> bool {
+    jar.add_original(Cookie::new("a", "1")).is_ok()
+        && jar.add_original(Cookie::new("z", "0")).is_ok()
+        && jar.add(Cookie::new("b", "4")).is_ok()
+}
+
+// Whether the jar shows what the lines say, once it has what a request has.
+fn has_more(alloc: Global, jar: CookieJar, headers: &HeaderMap, lines: &str) -> bool {
+    match with_headers(alloc, jar, headers) {
+        Ok(jar) => shows(&jar, lines),
+        Err(_) => false,
     }
-    Ok(())
 }
 
-// Gives the jar two originals and a change.
-fn fill(jar: &mut CookieJar) -> Result<(), Fail> {
-    jar.add_original(Cookie::new("a", "1"))?;
-    jar.add_original(Cookie::new("z", "0"))?;
-    jar.add(Cookie::new("b", "4"))?;
-    Ok(())
-}
-
-// Such a jar, with what a request has.
-fn jar_with_more(alloc: Global) -> Result<CookieJar, Fail> {
-    let headers = fields_of(alloc, "Cookie: a=2; b=3")?;
+// Whether such a jar, with what the row's request has, shows what the row says.
+fn is_kept(alloc: Global, row: &str) -> bool {
     let mut jar = CookieJar::new(alloc);
-    fill(&mut jar)?;
-    Ok(with_headers(alloc, jar, &headers)?)
+    match fields_of(alloc, row) {
+        Some(headers) => fill(&mut jar) && has_more(alloc, jar, &headers, row),
+        None => false,
+    }
 }
 
 #[test]
-fn a_jar_keeps_what_it_has(rt: HostRuntime) -> Result<(), Fail> {
-    let jar = jar_with_more(rt.alloc())?;
-    assert!(rt; shows(&jar, "shows a=2\nshows b=4\nshows z=0"));
-    Ok(())
+fn a_jar_keeps_what_it_has(rt: HostRuntime) {
+    assert!(rt;
+        is_kept(
+            rt.alloc(),
+            "Cookie: a=2; b=3\nshows a=2\nshows b=4\nshows z=0"
+        )
+    );
 }
