@@ -60,8 +60,8 @@ fn is_pair(alloc: Global, row: &str) -> bool {
 }
 
 // White space of other alphabets is trimmed, but a space of no width isn't White_Space in Unicode. The case of keys is
-// that of ASCII: U+017F is a small s of another shape, and U+212A a capital K: in Unicode both have ASCII letters in the
-// other case.
+// that of ASCII: U+017F is a small s of another shape, and U+212A a capital K: in Unicode both have ASCII letters in
+// the other case.
 #[test]
 fn texts_of_other_alphabets_are_read_as_pairs(rt: HostRuntime) {
     for row in PAIRS.lines() {
