@@ -5,37 +5,27 @@ mod refusals;
 mod sevens;
 mod texts;
 
-use jar_steps::{moment, test_key};
+use cookie::JarError;
+use jar_steps::test_key;
+use jiff::civil::DateTime;
 use login_core::{Page, Request, Response, Site, User, answer};
 use sevens::Sevens;
-use std::alloc::Global;
+use std::alloc::{AllocError, Global};
 use std::hash::RandomState;
-use std::test::Fail;
 
-/// A request to a site of the users `ann` and `<b>bo</b>`, and what is answered.
-#[derive(Clone, Copy)]
-struct Row {
-    is_secure: bool,
-    method: &'static str,
-    path: &'static str,
-    cookies: &'static str,
-    form: &'static str,
-    status: u16,
-    greeted: Option<&'static str>,
-    // The texts of the `Set-Cookie` fields, a line each, in any order.
-    set: &'static str,
-    // Stands in the page.
-    part: &'static str,
-}
+// A row is a request to a site of the users `ann` and `<b>bo</b>`, and what is answered: the method and the path, behind
+// `plain` where the connection isn't secure, and then lines: `cookies` and `form` of the request, `is` with the status,
+// `greets` with the user who is greeted, `sets` with the text of a `Set-Cookie` field, in any order and each once, and
+// at last `has` with a part of the response's text.
 
-fn user(alloc: Global, name: &str, password: &str) -> Result<User, Fail> {
+fn user(alloc: Global, name: &str, password: &str) -> Result<User, AllocError> {
     Ok(User {
         name: String::from_str(alloc, name)?,
         password: String::from_str(alloc, password)?,
     })
 }
 
-fn users(alloc: Global) -> Result<Vec<User>, Fail> {
+fn users(alloc: Global) -> Result<Vec<User>, JarError> {
     let mut users = Vec::new(alloc);
     users.push(user(alloc, "ann", "open sesame")?)?;
     users.push(user(alloc, "<b>bo</b>", "x&y=z")?)?;
@@ -49,7 +39,7 @@ fn play(
     is_secure: bool,
     request: &Request<'_>,
     left: usize,
-) -> Result<Response, Fail> {
+) -> Result<Response, JarError> {
     let key = test_key();
     let users = users(alloc)?;
     let site = Site {
@@ -57,19 +47,28 @@ fn play(
         users: &users,
         is_secure,
     };
-    let now = moment()?;
-    Ok(answer(alloc, state, &site, request, now, &mut Sevens { left })?)
+    let now = DateTime::constant(2015, 10, 21, 7, 28, 0, 0);
+    answer(alloc, state, &site, request, now, &mut Sevens { left })
 }
 
-// Whether the page greets that user, and no other.
-fn greets(page: &Page, wanted: Option<&str>) -> bool {
-    match (page, wanted) {
-        (Page::Home(visitor), Some(name)) => match &visitor.user {
-            Some(user) => user.as_str() == name,
-            None => false,
+// What stands on the row's line that begins so, and nothing where there is none.
+fn part<'r>(row: &'r str, start: &str) -> &'r str {
+    for line in row.lines() {
+        if let Some(rest) = line.strip_prefix(start) {
+            return rest;
+        }
+    }
+    ""
+}
+
+// Whether the page greets that user, and nobody where there is none.
+fn greets(page: &Page, wanted: &str) -> bool {
+    match page {
+        Page::Home(visitor) => match &visitor.user {
+            Some(user) => !wanted.is_empty() && user.as_str() == wanted,
+            None => wanted.is_empty(),
         },
-        (Page::Home(visitor), None) => visitor.user.is_none(),
-        (_, wanted) => wanted.is_none(),
+        _ => wanted.is_empty(),
     }
 }
 
@@ -77,14 +76,16 @@ fn is_among(cookies: &[String], text: &str) -> bool {
     cookies.iter().any(|cookie| cookie.as_str() == text)
 }
 
-// Whether these are the lines, in any order.
-fn are_lines(cookies: &[String], lines: &str) -> bool {
+// Whether these are the row's lines that begin with `sets`, in any order.
+fn are_set(cookies: &[String], row: &str) -> bool {
     let mut count = 0usize;
-    for line in lines.lines() {
-        if !is_among(cookies, line) {
-            return false;
+    for line in row.lines() {
+        if let Some(text) = line.strip_prefix("sets ") {
+            if !is_among(cookies, text) {
+                return false;
+            }
+            count = count.saturating_add(1);
         }
-        count = count.saturating_add(1);
     }
     count == cookies.len()
 }
@@ -96,90 +97,42 @@ fn has_part(text: &[u8], part: &str) -> bool {
     }
 }
 
-fn is_answered(alloc: Global, row: &Row, response: &Response) -> Result<bool, Fail> {
-    let text = response.text(alloc, "/cgi-bin/login.cgi")?;
-    Ok(
-        response.page.status() == row.status
-            && greets(&response.page, row.greeted)
-            && are_lines(&response.cookies, row.set)
-            && has_part(&text, row.part),
-    )
+// Whether the response's text has what stands behind the row's `has`.
+fn has_text(alloc: Global, row: &str, response: &Response) -> bool {
+    let (_, part) = row.split_once("\nhas ").unwrap_or((row, ""));
+    match response.text(alloc, "/cgi-bin/login.cgi") {
+        Ok(text) => has_part(&text, part),
+        Err(_) => false,
+    }
+}
+
+fn is_answered(alloc: Global, row: &str, response: &Response) -> bool {
+    part(row, "is ").parse::<u16>().unwrap_or(0) == response.page.status()
+        && greets(&response.page, part(row, "greets "))
+        && are_set(&response.cookies, row)
+        && has_text(alloc, row, response)
+}
+
+// Whether the row's request over such a connection is answered as it says.
+fn is_right_over(alloc: Global, state: RandomState, is_secure: bool, row: &str) -> bool {
+    let (head, _) = row.split_once('\n').unwrap_or((row, ""));
+    let (method, path) = head.split_once(' ').unwrap_or((head, ""));
+    let request = Request {
+        method,
+        path,
+        cookies: part(row, "cookies "),
+        form: part(row, "form ").as_bytes(),
+    };
+    match play(alloc, state, is_secure, &request, 12) {
+        Ok(response) => is_answered(alloc, row, &response),
+        Err(_) => false,
+    }
 }
 
 // Whether the row's request is answered as it says.
-fn is_right(alloc: Global, state: RandomState, row: &Row) -> Result<bool, Fail> {
-    let request = Request {
-        method: row.method,
-        path: row.path,
-        cookies: row.cookies,
-        form: row.form.as_bytes(),
-    };
-    let response = play(alloc, state, row.is_secure, &request, 12)?;
-    is_answered(alloc, row, &response)
-}
-
-// The place of the first row that is answered otherwise.
-fn first_wrong(alloc: Global, state: RandomState, rows: &[Row]) -> Result<Option<usize>, Fail> {
-    for index in 0..rows.len() {
-        if !is_right(alloc, state, &rows[index])? {
-            return Ok(Some(index));
-        }
-    }
-    Ok(None)
-}
-
-// `GET /` with these cookies.
-fn visit(
-    cookies: &'static str,
-    greeted: Option<&'static str>,
-    set: &'static str,
-    part: &'static str,
-) -> Row {
-    Row {
-        is_secure: true,
-        method: "GET",
-        path: "/",
-        cookies,
-        form: "",
-        status: 200,
-        greeted,
-        set,
-        part,
-    }
-}
-
-// A request with a form.
-fn post(
-    path: &'static str,
-    cookies: &'static str,
-    form: &'static str,
-    status: u16,
-    set: &'static str,
-) -> Row {
-    Row {
-        is_secure: true,
-        method: "POST",
-        path,
-        cookies,
-        form,
-        status,
-        greeted: None,
-        set,
-        part: "",
-    }
-}
-
-// A request that is refused.
-fn refusal(method: &'static str, path: &'static str, status: u16, part: &'static str) -> Row {
-    Row {
-        is_secure: true,
-        method,
-        path,
-        cookies: "",
-        form: "user=ann&password=open+sesame",
-        status,
-        greeted: None,
-        set: "",
-        part,
+fn is_right(alloc: Global, state: RandomState, row: &str) -> bool {
+    match row.strip_prefix("plain ") {
+        Some(row) => is_right_over(alloc, state, false, row),
+        None => is_right_over(alloc, state, true, row),
     }
 }
