@@ -1,6 +1,5 @@
 use crate::rows::{counts, moment, shown_value};
 use cookie::{Cookie, CookieJar};
-use std::alloc::Global;
 use std::test::Fail;
 
 /// A call on a jar, or what the jar has to show then.
@@ -70,59 +69,4 @@ fn delta_counts(jar: &CookieJar) -> (usize, usize) {
         }
     }
     (all, valued)
-}
-
-/// The place of the first step at which the jar shows another thing.
-pub fn first_wrong(jar: &mut CookieJar, steps: &[Step]) -> Result<Option<usize>, Fail> {
-    for index in 0..steps.len() {
-        if !steps[index].is_right(jar)? {
-            return Ok(Some(index));
-        }
-    }
-    Ok(None)
-}
-
-/// A jar after these steps, all of them right.
-pub fn after(alloc: Global, steps: &[Step]) -> Result<CookieJar, Fail> {
-    let mut jar = CookieJar::new(alloc);
-    match first_wrong(&mut jar, steps)? {
-        Some(_) => Err(Fail::new("another thing is shown")),
-        None => Ok(jar),
-    }
-}
-
-// Plays the row on the jar, and answers whether each of its steps is right. Words that are no step aren't.
-fn is_right(jar: &mut CookieJar, row: &'static str) -> Result<bool, Fail> {
-    let Some((_, steps)) = row.split_once(": ") else {
-        return Ok(false);
-    };
-    for words in steps.split("; ") {
-        match Step::parse(words) {
-            Some(step) => {
-                if !step.is_right(jar)? {
-                    return Ok(false);
-                }
-            }
-            None => return Ok(false),
-        }
-    }
-    Ok(true)
-}
-
-/// The first line that is wrong on a new jar: a title and steps, as in `one: add a 1; shows a 1`.
-pub fn first_wrong_row(alloc: Global, rows: &'static str) -> Result<Option<&'static str>, Fail> {
-    for row in rows.lines() {
-        if !is_right(&mut CookieJar::new(alloc), row)? {
-            return Ok(Some(row));
-        }
-    }
-    Ok(None)
-}
-
-/// Plays each line on a new jar, and fails with the first that is wrong.
-pub fn play_rows(alloc: Global, rows: &'static str) -> Result<(), Fail> {
-    match first_wrong_row(alloc, rows)? {
-        Some(row) => Err(Fail::new(row)),
-        None => Ok(()),
-    }
 }

@@ -1,29 +1,12 @@
 //! What a jar holds after its calls, and what the walks over it meet.
 use super::steps::is_row_right;
 use cookie::{Cookie, CookieJar};
-use jar_steps::{counts, play_rows, shown_value};
+use jar_steps::{counts, shown_value};
 use jiff::SignedDuration;
 use jiff::civil::DateTime;
 use std::alloc::Global;
 use std::hash::RandomState;
 use std::test::Fail;
-
-// What is shown between the calls on a new jar, a line each.
-const PLAIN_ROWS: &str = "\
-simple: add test; add test2; remove test; lacks test; shows test2; add test3; remove test2; remove test3; lacks test; lacks test2; lacks test3
-replace_original: original original_a a; original original_b b; shows original_a a; add original_a av2; shows original_a av2; shows original_b b; lacks original_c
-empty_delta: add name val; counts 1 1; remove name; counts 0 0; original name val; counts 0 1; remove name; counts 1 0; add name val; counts 1 1; remove name; counts 1 0
-add_remove_add: original name name; delta 0 0; remove name; delta 1 0; original name val; delta 1 0; remove name; delta 1 0; add name val; delta 1 1; remove name; delta 1 0
-replace_remove: original name name; delta 0 0; add name val; delta 1 1; remove name; delta 1 0
-calls_that_bring_nothing_new_leave_the_jar: original name val; original name val; counts 0 1; shows name val; remove absent; force absent; counts 0 1; shows name val; remove name; remove name; original name val; counts 1 0; lacks name
-forced_removals_leave_no_trace: original name name; add key value; counts 1 2; force name; counts 1 1; lacks name; force key; counts 0 0; force absent; counts 0 0
-a_reset_shows_the_originals_again: original name name; original language language; add language changed; add more more; remove name; counts 3 2; reset; counts 0 2; shows name name; shows language language
-";
-
-#[test]
-fn jars_show_what_their_calls_say(rt: HostRuntime) -> Result<(), Fail> {
-    play_rows(rt.alloc(), PLAIN_ROWS)
-}
 
 // Whether the delta has a cookie of the name with no age, `none`, or an age of nothing, `zero`.
 fn is_aged(jar: &CookieJar, name: &str, age: &str) -> bool {
@@ -177,9 +160,25 @@ pub(super) fn is_right(alloc: Global, jar: &mut CookieJar, verb: &str, rest: &'s
     }
 }
 
-/// What the jar's delta, its walks, its clones and its text hold. The last text is that of a derived `Debug` of Rust,
-/// at structs with these fields.
+/// What a jar shows between its calls, and what its delta, its walks, its clones and its text hold. The last text is
+/// that of a derived `Debug` of Rust, at structs with these fields.
 pub(super) const ROWS: &str = "\
+simple: add test | add test2 | remove test | lacks test | shows test2 | add test3 | remove test2 | \
+    remove test3 | lacks test | lacks test2 | lacks test3
+replace_original: original original_a a | original original_b b | shows original_a a | add original_a av2 | \
+    shows original_a av2 | shows original_b b | lacks original_c
+empty_delta: add name val | counts 1 1 | remove name | counts 0 0 | original name val | counts 0 1 | \
+    remove name | counts 1 0 | add name val | counts 1 1 | remove name | counts 1 0
+add_remove_add: original name name | delta 0 0 | remove name | delta 1 0 | original name val | delta 1 0 | \
+    remove name | delta 1 0 | add name val | delta 1 1 | remove name | delta 1 0
+replace_remove: original name name | delta 0 0 | add name val | delta 1 1 | remove name | delta 1 0
+calls_that_bring_nothing_new_leave_the_jar: original name val | original name val | counts 0 1 | \
+    shows name val | remove absent | force absent | counts 0 1 | shows name val | remove name | remove name | \
+    original name val | counts 1 0 | lacks name
+forced_removals_leave_no_trace: original name name | add key value | counts 1 2 | force name | counts 1 1 | \
+    lacks name | force key | counts 0 0 | force absent | counts 0 0
+a_reset_shows_the_originals_again: original name name | original language language | add language changed | \
+    add more more | remove name | counts 3 2 | reset | counts 0 2 | shows name name | shows language language
 delta: original original original | original original1 original1 | add test test | add test2 test2 | \
     add test3 test3 | add test4 test4 | remove test | remove original | counts 4 4 | aged original zero | \
     aged test2 none | aged test3 none | aged test4 none

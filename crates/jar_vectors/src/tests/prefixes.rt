@@ -159,7 +159,12 @@ fn prefix<P: Prefix>(alloc: Global, text: &'static str) -> Option<Cookie<'static
 }
 
 // Whether the text's cookie has this name, lent or not, behind the prefix, and else what it was read with.
-fn is_prefixed<P: Prefix>(alloc: Global, text: &'static str, name: &str, raw: Option<&str>) -> bool {
+fn is_prefixed<P: Prefix>(
+    alloc: Global,
+    text: &'static str,
+    name: &str,
+    raw: Option<&str>,
+) -> bool {
     match prefix::<P>(alloc, text) {
         Some(cookie) => {
             cookie.name() == name

@@ -83,6 +83,13 @@ one: host clip-lent a=>b
 one: host clip a=>a
 one: host puts a 1
 one: add a 1 | shows a 2
+one: add a 1 | lacks a
+one: add a 1 | counts 0 0
+one: add a 1 | counts 1
+one: add a 1 | remove a | delta 1 0
+one: original a 1 | remove a | counts 0 0
+one: original a 1 | force a | shows a 1
+one: original a 1 | add a 2 | reset | shows a 2
 one: puts a 1
 one
 add a 1";
