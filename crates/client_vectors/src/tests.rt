@@ -1,17 +1,15 @@
 //! Rows whose answers come from the rules of the program, from the standards, and from a second body of the jar.
-mod calls;
 mod clients;
 mod comparison;
 mod devices;
 mod exchanges;
 mod flat_jar;
+mod forms;
+mod judged;
 mod orders;
-mod prefixed_calls;
-mod private_calls;
 mod rounds;
 mod rows;
 mod sessions;
-mod signed_calls;
 mod streams;
 
 // The moment of most rows, as the argument of the program.

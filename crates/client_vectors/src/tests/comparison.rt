@@ -1,10 +1,12 @@
 //! The jar against a second body of it, over calls that are drawn.
-use super::flat_jar::{FlatJar, Pair};
-use cookie::{Cookie, CookieJar};
+use super::MOMENT;
+use super::exchanges::are_accepted;
+use super::flat_jar::{FlatJar, Pair, Pairs};
+use super::rows::{call_with, forced, push};
+use cookie::{Cookie, CookieJar, read_date};
 use cookie_client::{JarCall, replay};
-use jar_steps::{moment, shown_value};
+use jar_steps::shown_value;
 use std::alloc::{AllocError, Global};
-use std::test::Fail;
 
 pub(super) const NAMES: [&str; 8] = ["a", "b", "c", "id", "A", "", "\u{e9}", "a b"];
 
@@ -32,118 +34,114 @@ impl Draws {
         VALUES[(self.next() % 4) as usize]
     }
 
-    fn call(&mut self, alloc: Global) -> Result<JarCall<'static>, Fail> {
-        let name = self.name();
-        Ok(match self.next() % 16 {
-            0..=3 => JarCall::AddOriginal(Cookie::new(name, self.value())),
-            4..=8 => JarCall::Add(Cookie::new(name, self.value())),
-            9..=12 => JarCall::Remove(Cookie::named(name), moment()?),
-            13..=14 => JarCall::ForceRemove(String::from_str(alloc, name)?),
-            _ => JarCall::ResetDelta,
-        })
-    }
-
-    fn push_call(&mut self, alloc: Global, calls: &mut Vec<JarCall<'static>>) -> Result<(), Fail> {
-        calls.push(self.call(alloc)?)?;
-        Ok(())
-    }
-
-    // Up to 23 calls.
-    pub(super) fn calls(&mut self, alloc: Global) -> Result<Vec<JarCall<'static>>, Fail> {
-        let mut calls = Vec::new(alloc);
-        for _ in 0..self.next() % 24 {
-            self.push_call(alloc, &mut calls)?;
+    fn verb(&mut self) -> &'static str {
+        match self.next() % 16 {
+            0..=3 => "original",
+            4..=8 => "add",
+            9..=12 => "remove",
+            13..=14 => "force",
+            _ => "reset",
         }
-        Ok(calls)
+    }
+
+    fn call(&mut self, alloc: Global) -> Option<JarCall<'static>> {
+        let name = self.name();
+        match self.verb() {
+            "force" => forced(alloc, name),
+            "reset" => Some(JarCall::ResetDelta),
+            verb => call_with(verb, Cookie::new(name, self.value()), read_date(MOMENT)?),
+        }
+    }
+
+    fn push_call(&mut self, alloc: Global, calls: &mut Vec<JarCall<'static>>) -> bool {
+        match self.call(alloc) {
+            Some(call) => push(calls, call).is_ok(),
+            None => false,
+        }
+    }
+
+    // Adds up to 23 calls.
+    pub(super) fn push_calls(&mut self, alloc: Global, calls: &mut Vec<JarCall<'static>>) -> bool {
+        for _ in 0..self.next() % 24 {
+            if !self.push_call(alloc, calls) {
+                return false;
+            }
+        }
+        true
     }
 }
 
-fn delta_of(alloc: Global, jar: &CookieJar) -> Result<Vec<Pair<'_>>, AllocError> {
-    let mut pairs = Vec::new(alloc);
+// The pairs of the changes, each behind `true`, and of what the jar shows, each behind `false`, all sorted.
+fn walked(alloc: Global, jar: &CookieJar) -> Result<Vec<(bool, Pair<'_>)>, AllocError> {
+    let mut walked = Vec::new(alloc);
     for cookie in jar.delta() {
-        pairs.push(cookie.name_value())?;
+        walked.push((true, cookie.name_value()))?;
     }
-    pairs.sort()?;
-    Ok(pairs)
-}
-
-fn shown_by(alloc: Global, jar: &CookieJar) -> Result<Vec<Pair<'_>>, AllocError> {
-    let mut pairs = Vec::new(alloc);
     for cookie in jar.iter() {
-        pairs.push(cookie.name_value())?;
+        walked.push((false, cookie.name_value()))?;
     }
-    pairs.sort()?;
-    Ok(pairs)
+    walked.sort()?;
+    Ok(walked)
 }
 
-// Whether the two jars answer the same for each name.
-fn is_answered_alike(jar: &CookieJar, flat: &FlatJar) -> bool {
-    for name in NAMES {
-        if shown_value(jar, name) != flat.get(name) {
+// Whether the two jars have the same pairs, once sorted.
+fn are_walks_alike(alloc: Global, jar: &CookieJar, flat: &FlatJar<'_>) -> bool {
+    match (walked(alloc, jar), flat.walked(alloc)) {
+        (Ok(walked), Ok(wanted)) => walked == wanted,
+        _ => false,
+    }
+}
+
+/// Whether the two jars have the same pairs, and answer the same for each name.
+pub(super) fn is_alike(alloc: Global, jar: &CookieJar, flat: &FlatJar<'_>) -> bool {
+    for name in &NAMES {
+        if shown_value(jar, *name) != flat.get(*name) {
             return false;
         }
     }
-    true
-}
-
-// Whether the two jars have the same pairs, once sorted by name.
-fn is_met_alike(alloc: Global, jar: &CookieJar, flat: &FlatJar) -> Result<bool, AllocError> {
-    let mut delta = flat.delta()?;
-    delta.sort()?;
-    let mut shown = flat.shown_pairs()?;
-    shown.sort()?;
-    Ok(delta_of(alloc, jar)? == delta && shown_by(alloc, jar)? == shown)
-}
-
-pub(super) fn is_alike(alloc: Global, jar: &CookieJar, flat: &FlatJar) -> Result<bool, AllocError> {
-    Ok(is_answered_alike(jar, flat) && is_met_alike(alloc, jar, flat)?)
-}
-
-// Whether the calls have the same outcomes on the two jars.
-fn have_same_outcomes(
-    alloc: Global,
-    calls: &[JarCall<'_>],
-    jar: &mut CookieJar,
-    flat: &mut FlatJar,
-) -> Result<bool, Fail> {
-    let outcomes = replay(alloc, jar, calls)?;
-    Ok(flat.replay(calls)?.as_slice() == outcomes.as_slice())
+    are_walks_alike(alloc, jar, flat)
 }
 
 // Whether a clone of the first jar is like the second.
-fn is_copied_alike(alloc: Global, jar: &CookieJar, flat: &FlatJar) -> Result<bool, Fail> {
-    Ok(is_alike(alloc, &jar.clone()?, flat)?)
+fn is_copied_alike(alloc: Global, jar: &CookieJar, flat: &FlatJar<'_>) -> bool {
+    match jar.clone() {
+        Ok(copy) => is_alike(alloc, &copy, flat),
+        Err(_) => false,
+    }
 }
 
-// Whether the calls have the same outcomes on the two jars, and leave them, and a clone, alike.
-fn is_replayed_on(
-    alloc: Global,
-    calls: &[JarCall<'_>],
-    jar: &mut CookieJar,
-    flat: &mut FlatJar,
-) -> Result<bool, Fail> {
-    if !have_same_outcomes(alloc, calls, jar, flat)? || !is_alike(alloc, jar, flat)? {
-        return Ok(false);
+// Whether the calls are accepted by the jar, as they are by the second, and leave the two, and a clone, alike.
+fn is_replayed_alike(alloc: Global, calls: &[JarCall<'_>], flat: &FlatJar<'_>) -> bool {
+    let mut jar = CookieJar::new(alloc);
+    match replay(alloc, &mut jar, calls) {
+        Ok(outcomes) => {
+            are_accepted(&outcomes, calls.len())
+                && is_alike(alloc, &jar, flat)
+                && is_copied_alike(alloc, &jar, flat)
+        }
+        Err(_) => false,
     }
-    is_copied_alike(alloc, jar, flat)
 }
 
 // Whether that comes of the calls on two new jars.
-fn is_replayed_alike(alloc: Global, calls: &[JarCall<'_>]) -> Result<bool, Fail> {
-    let mut jar = CookieJar::new(alloc);
-    let mut flat = FlatJar::new(alloc);
-    is_replayed_on(alloc, calls, &mut jar, &mut flat)
+fn are_bodies_alike(alloc: Global, calls: &[JarCall<'_>]) -> Result<bool, AllocError> {
+    let mut flat = FlatJar::with(alloc, &Pairs::new(alloc))?;
+    flat.replay(calls)?;
+    Ok(is_replayed_alike(alloc, calls, &flat))
+}
+
+// Whether that comes of the next calls.
+fn is_next_alike(alloc: Global, draws: &mut Draws) -> bool {
+    let mut calls: Vec<JarCall<'static>> = Vec::new(alloc);
+    draws.push_calls(alloc, &mut calls) && are_bodies_alike(alloc, &calls).unwrap_or(false)
 }
 
 #[test]
-fn two_bodies_of_the_jar_are_alike(rt: HostRuntime) -> Result<(), Fail> {
+fn two_bodies_of_the_jar_are_alike(rt: HostRuntime) {
     let mut draws = Draws {
         state: 0x9E37_79B9_7F4A_7C15,
     };
     for number in 0..1000 {
-        let calls = draws.calls(rt.alloc())?;
-        let is_alike = is_replayed_alike(rt.alloc(), &calls)?;
-        assert!(rt; is_alike, "list {number}");
+        assert!(rt; is_next_alike(rt.alloc(), &mut draws), "list {number}");
     }
-    Ok(())
 }

@@ -37,7 +37,7 @@ impl<'t> Read for FailingReader<'t> {
     }
 }
 
-/// A writer that takes so many bytes a call at most, and fails behind so many calls.
+/// A writer that takes so many bytes a call at most, or none, and fails behind so many calls.
 #[derive(Drop)]
 pub(super) struct ShortWriter {
     taken: Vec<u8>,
@@ -69,20 +69,6 @@ impl Write for ShortWriter {
         self.taken.extend_from_slice(part)?;
         self.left -= 1;
         Ok(part.len())
-    }
-
-    fn flush(&mut self) -> io::Result<()> {
-        Ok(())
-    }
-}
-
-/// A writer that takes no byte.
-#[derive(Drop)]
-pub(super) struct FullWriter;
-
-impl Write for FullWriter {
-    fn write(&mut self, _buf: &[u8]) -> io::Result<usize> {
-        Ok(0)
     }
 
     fn flush(&mut self) -> io::Result<()> {

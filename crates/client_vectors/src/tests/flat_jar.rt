@@ -1,162 +1,142 @@
-//! A second body of the jar: two lists, with a cookie's place found by going over all of them.
-use cookie::Cookie;
+//! A second body of the jar: two lists, with a name's place found by going over all of them.
 use cookie_client::JarCall;
-use jiff::civil::DateTime;
 use std::alloc::{AllocError, Global};
 
-// A cookie that was added, or one that tells the client to drop its name.
+/// A name and a value.
+pub(super) type Pair<'c> = (&'c str, &'c str);
+
+/// Names and their values, each name at most once. A name that is told to be removed has no value.
 #[derive(Drop)]
-struct Change {
-    cookie: Cookie<'static>,
-    is_removal: bool,
+pub(super) struct Pairs<'c> {
+    held: Vec<(&'c str, Option<&'c str>)>,
 }
 
-// An original cookie.
-#[derive(Drop)]
-struct Original {
-    cookie: Cookie<'static>,
-}
-
-/// Originals and changes, each name at most once in each list.
-#[derive(Drop)]
-pub(super) struct FlatJar {
-    alloc: Global,
-    originals: Vec<Original>,
-    changes: Vec<Change>,
-}
-
-/// The name and the value of a cookie.
-pub(super) type Pair<'a> = (&'a str, &'a str);
-
-impl FlatJar {
-    pub(super) fn new(alloc: Global) -> FlatJar {
-        FlatJar {
-            alloc,
-            originals: Vec::new(alloc),
-            changes: Vec::new(alloc),
+impl<'c> Pairs<'c> {
+    pub(super) fn new(alloc: Global) -> Pairs<'c> {
+        Pairs {
+            held: Vec::new(alloc),
         }
     }
 
-    /// Makes the calls in order, and answers which were accepted.
-    pub(super) fn replay(&mut self, calls: &[JarCall<'_>]) -> Result<Vec<bool>, AllocError> {
-        let mut outcomes = Vec::new(self.alloc);
-        for call in calls {
-            outcomes.push(self.play(call).is_ok())?;
-        }
-        Ok(outcomes)
-    }
-
-    fn play(&mut self, call: &JarCall<'_>) -> Result<(), AllocError> {
-        match call {
-            JarCall::AddOriginal(cookie) => self.add_original(cookie.clone(self.alloc)?),
-            JarCall::Add(cookie) => self.change(cookie.clone(self.alloc)?, false),
-            JarCall::Remove(cookie, now) => self.remove(cookie.clone(self.alloc)?, *now),
-            JarCall::ForceRemove(name) => {
-                self.force_remove(name.as_str());
-                Ok(())
-            }
-            JarCall::ResetDelta => {
-                self.changes.clear();
-                Ok(())
-            }
-            // The lists that are compared have no calls of child jars.
-            JarCall::Prefixed(_, _) => Ok(()),
-            JarCall::Signed(_, _) => Ok(()),
-            JarCall::Private(_, _, _) => Ok(()),
-        }
-    }
-
-    pub(super) fn add_original(&mut self, cookie: Cookie<'static>) -> Result<(), AllocError> {
-        for held in self.originals.iter_mut() {
-            if held.cookie.name() == cookie.name() {
-                held.cookie = cookie;
-                return Ok(());
+    fn has(&self, name: &str) -> bool {
+        for (held, _) in &self.held {
+            if *held == name {
+                return true;
             }
         }
-        self.originals.push(Original { cookie })?;
-        Ok(())
+        false
     }
 
-    fn change(&mut self, cookie: Cookie<'static>, is_removal: bool) -> Result<(), AllocError> {
-        for held in self.changes.iter_mut() {
-            if held.cookie.name() == cookie.name() {
-                held.cookie = cookie;
-                held.is_removal = is_removal;
-                return Ok(());
-            }
-        }
-        self.changes.push(Change { cookie, is_removal })?;
-        Ok(())
-    }
-
-    fn forget(&mut self, name: &str) {
-        self.changes.retain(|held| held.cookie.name() != name);
-    }
-
-    fn remove(&mut self, mut cookie: Cookie<'static>, now: DateTime) -> Result<(), AllocError> {
-        let is_original = self
-            .originals
-            .iter()
-            .any(|held| held.cookie.name() == cookie.name());
-        if is_original {
-            cookie.make_removal(now);
-            return self.change(cookie, true);
-        }
-        self.forget(cookie.name());
-        Ok(())
-    }
-
-    fn force_remove(&mut self, name: &str) {
-        self.originals.retain(|held| held.cookie.name() != name);
-        self.forget(name);
-    }
-
-    /// The value that the jar shows under the name.
-    pub(super) fn get(&self, name: &str) -> Option<&str> {
-        for held in &self.changes {
-            if held.cookie.name() == name {
-                return if held.is_removal {
-                    None
-                } else {
-                    Some(held.cookie.value())
-                };
-            }
-        }
-        for held in &self.originals {
-            if held.cookie.name() == name {
-                return Some(held.cookie.value());
+    /// The value of the name, if it has one.
+    pub(super) fn get(&self, name: &str) -> Option<&'c str> {
+        for (held, value) in &self.held {
+            if *held == name {
+                return *value;
             }
         }
         None
     }
 
-    /// The pairs of the cookies that were changed.
-    pub(super) fn delta(&self) -> Result<Vec<Pair<'_>>, AllocError> {
-        let mut pairs = Vec::new(self.alloc);
-        for held in &self.changes {
-            pairs.push(held.cookie.name_value())?;
-        }
-        Ok(pairs)
+    fn forget(&mut self, name: &str) {
+        self.held.retain(|held| held.0 != name);
     }
 
-    /// The pairs of the cookies that the jar shows.
-    pub(super) fn shown_pairs(&self) -> Result<Vec<Pair<'_>>, AllocError> {
-        let mut pairs = Vec::new(self.alloc);
-        for held in &self.changes {
-            if !held.is_removal {
-                pairs.push(held.cookie.name_value())?;
+    fn put(&mut self, name: &'c str, value: Option<&'c str>) -> Result<(), AllocError> {
+        self.forget(name);
+        self.held.push((name, value))?;
+        Ok(())
+    }
+
+    /// Takes what the jar has for each changed name: no client reads a cookie without a name.
+    pub(super) fn read(&mut self, jar: &FlatJar<'c>) -> Result<(), AllocError> {
+        for (name, value) in &jar.changes.held {
+            self.forget(*name);
+            if value.is_some() && !name.is_empty() {
+                self.put(*name, *value)?;
             }
         }
-        for held in &self.originals {
-            let name = held.cookie.name();
-            if !self
-                .changes
-                .iter()
-                .any(|change| change.cookie.name() == name)
-            {
-                pairs.push(held.cookie.name_value())?;
+        Ok(())
+    }
+}
+
+/// Originals and changes.
+#[derive(Drop)]
+pub(super) struct FlatJar<'c> {
+    originals: Pairs<'c>,
+    changes: Pairs<'c>,
+}
+
+impl<'c> FlatJar<'c> {
+    /// A jar without changes that has what is held as its originals.
+    pub(super) fn with(alloc: Global, held: &Pairs<'c>) -> Result<FlatJar<'c>, AllocError> {
+        let originals = Pairs {
+            held: held.held.clone()?,
+        };
+        Ok(FlatJar {
+            originals,
+            changes: Pairs::new(alloc),
+        })
+    }
+
+    /// Makes the calls in order. It accepts each.
+    pub(super) fn replay(&mut self, calls: &'c [JarCall<'_>]) -> Result<(), AllocError> {
+        for call in calls {
+            self.play(call)?;
+        }
+        Ok(())
+    }
+
+    fn play(&mut self, call: &'c JarCall<'_>) -> Result<(), AllocError> {
+        match call {
+            JarCall::AddOriginal(cookie) => self.originals.put(cookie.name(), Some(cookie.value())),
+            JarCall::Add(cookie) => self.changes.put(cookie.name(), Some(cookie.value())),
+            JarCall::Remove(cookie, _) => self.remove(cookie.name()),
+            JarCall::ForceRemove(name) => {
+                self.originals.forget(name.as_str());
+                self.changes.forget(name.as_str());
+                Ok(())
+            }
+            JarCall::ResetDelta => {
+                self.changes.held.clear();
+                Ok(())
+            }
+            // The lists that are compared have no calls of child jars.
+            JarCall::Prefixed(_, _) | JarCall::Signed(_, _) | JarCall::Private(_, _, _) => Ok(()),
+        }
+    }
+
+    fn remove(&mut self, name: &'c str) -> Result<(), AllocError> {
+        if self.originals.has(name) {
+            return self.changes.put(name, None);
+        }
+        self.changes.forget(name);
+        Ok(())
+    }
+
+    /// The value that the jar shows under the name.
+    pub(super) fn get(&self, name: &str) -> Option<&'c str> {
+        if self.changes.has(name) {
+            return self.changes.get(name);
+        }
+        self.originals.get(name)
+    }
+
+    /// The pairs of the changes, each behind `true`, and of what the jar shows, each behind `false`, all
+    /// sorted. The value of a removal is empty.
+    pub(super) fn walked(&self, alloc: Global) -> Result<Vec<(bool, Pair<'c>)>, AllocError> {
+        let mut walked = Vec::new(alloc);
+        for (name, value) in &self.changes.held {
+            walked.push((true, (*name, value.unwrap_or(""))))?;
+            if let Some(value) = value {
+                walked.push((false, (*name, *value)))?;
             }
         }
-        Ok(pairs)
+        for (name, value) in &self.originals.held {
+            if !self.changes.has(name) {
+                walked.push((false, (*name, value.unwrap_or(""))))?;
+            }
+        }
+        walked.sort()?;
+        Ok(walked)
     }
 }

@@ -1,63 +1,96 @@
-//! Calls as words, and rows of them.
-use cookie::{Cookie, CookieJar, Expiration, Key};
-use cookie_client::{ChildCall, JarCall, PrefixKind};
-use jar_steps::{Step, moment};
+//! Calls as words.
+use cookie::{Cookie, CookieBuilder, Expiration, Key};
+use cookie_client::{ChildCall, JarCall, PrefixKind, Request};
 use jiff::SignedDuration;
 use jiff::civil::DateTime;
-use std::alloc::Global;
-use std::test::Fail;
+use std::alloc::{AllocError, Global};
 
-// So many seconds and nanoseconds behind 07:28:00 of the day of most rows.
-fn behind(words: &str) -> Result<Expiration, Fail> {
-    let (second, nanosecond) = words.split_once(' ').ok_or("no nanoseconds")?;
-    let date = DateTime::new(2015, 10, 21, 7, 28, second.parse()?, nanosecond.parse()?)?;
-    Ok(Expiration::DateTime(date))
+// So many milliseconds.
+fn duration(words: &str) -> Option<SignedDuration> {
+    Some(SignedDuration::from_millis(words.parse().ok()?))
 }
 
-// Sets the attribute that the words say, such as `path /`, or `age 500` in milliseconds.
-fn set(cookie: &mut Cookie<'static>, words: &'static str) -> Result<(), Fail> {
+// So many milliseconds behind the moment.
+fn behind(now: DateTime, words: &str) -> Option<Expiration> {
+    let date = now.checked_add(duration(words)?).ok()?;
+    Some(Expiration::DateTime(date))
+}
+
+// A copy of the cookie that owns its texts.
+fn copy(alloc: Global, cookie: &Cookie<'static>) -> Option<Cookie<'static>> {
+    cookie.clone(alloc).ok()?.into_owned(alloc).ok()
+}
+
+// Sets the attribute that the words say, such as `path /`, or `age 500` and `expires 500` in milliseconds (behind the
+// moment); or makes the cookie a removal at the moment, or a copy.
+fn set(
+    alloc: Global,
+    cookie: &mut Cookie<'static>,
+    now: DateTime,
+    words: &'static str,
+) -> Option<()> {
     let (name, value) = words.split_once(' ').unwrap_or((words, ""));
     match name {
-        "age" => cookie.set_max_age(Some(SignedDuration::from_millis(value.parse()?))),
-        "expires" => cookie.set_expires(behind(value)?),
+        "age" => cookie.set_max_age(Some(duration(value)?)),
+        "expires" => cookie.set_expires(behind(now, value)?),
         "session" => cookie.set_expires(Expiration::Session),
         "path" => cookie.set_path(value),
         "domain" => cookie.set_domain(value),
         "secure" => cookie.set_secure(Some(true)),
-        _ => return Err(Fail::new("words that are no attribute")),
+        "removed" => cookie.make_removal(now),
+        "copied" => *cookie = copy(alloc, cookie)?,
+        _ => return None,
     }
-    Ok(())
+    Some(())
 }
 
-fn set_all(cookie: &mut Cookie<'static>, attributes: &'static str) -> Result<(), Fail> {
+fn are_set(
+    alloc: Global,
+    cookie: &mut Cookie<'static>,
+    now: DateTime,
+    attributes: &'static str,
+) -> bool {
     for words in attributes.split(", ") {
-        if !words.is_empty() {
-            set(cookie, words)?;
+        if !words.is_empty() && set(alloc, cookie, now, words).is_none() {
+            return false;
         }
     }
-    Ok(())
+    true
+}
+
+// The cookie of the words, a name that may have spaces and a value that has none.
+fn pair(words: &'static str) -> Cookie<'static> {
+    match words.rsplit_once(' ') {
+        Some((name, value)) => Cookie::new(name, value),
+        None => Cookie::named(words),
+    }
 }
 
 // The cookie that the words say, such as `a 1` or `a 1, path /, secure`.
-fn cookie(words: &'static str) -> Result<Cookie<'static>, Fail> {
-    let (pair, attributes) = words.split_once(", ").unwrap_or((words, ""));
-    let (name, value) = pair.split_once(' ').unwrap_or((pair, ""));
-    let mut cookie = Cookie::new(name, value);
-    set_all(&mut cookie, attributes)?;
-    Ok(cookie)
+fn cookie(alloc: Global, now: DateTime, words: &'static str) -> Option<Cookie<'static>> {
+    let (words, attributes) = words.split_once(", ").unwrap_or((words, ""));
+    let mut cookie = pair(words);
+    match are_set(alloc, &mut cookie, now, attributes) {
+        true => Some(cookie),
+        false => None,
+    }
+}
+
+// The call with the cookie on a child jar.
+fn child_call_with(verb: &str, cookie: Cookie<'static>, now: DateTime) -> Option<ChildCall> {
+    match verb {
+        "original" => Some(ChildCall::AddOriginal(cookie)),
+        "add" => Some(ChildCall::Add(cookie)),
+        "remove" => Some(ChildCall::Remove(cookie, now)),
+        "earlier" => Some(ChildCall::Remove(cookie, DateTime::MIN)),
+        _ => None,
+    }
 }
 
 // The call on a child jar that the words say, such as `add a 1`.
-fn child_call(words: &'static str) -> Result<ChildCall, Fail> {
+fn child_call(alloc: Global, now: DateTime, words: &'static str) -> Option<ChildCall> {
     let (verb, rest) = words.split_once(' ').unwrap_or((words, ""));
-    let now = moment()?;
-    let cookie = cookie(rest)?;
-    match verb {
-        "original" => Ok(ChildCall::AddOriginal(cookie)),
-        "add" => Ok(ChildCall::Add(cookie)),
-        "remove" => Ok(ChildCall::Remove(cookie, now)),
-        _ => Err(Fail::new("words that are no call")),
-    }
+    child_call_with(verb, cookie(alloc, now, rest)?, now)
 }
 
 // The same call on the jar itself.
@@ -69,102 +102,152 @@ fn own_call(call: ChildCall) -> JarCall<'static> {
     }
 }
 
-// A call through the private jar, such as `1 add a 1` with a nonce of ones.
-fn private_call<'k>(key: &'k Key, words: &'static str) -> Result<JarCall<'k>, Fail> {
-    let (byte, rest) = words.split_once(' ').ok_or("no nonce")?;
-    let nonce = [byte.parse()?; 12];
-    Ok(JarCall::Private(key, nonce, child_call(rest)?))
+/// The call with the cookie on the jar itself: `original`, `add`, `remove` or `earlier`, at the least moment.
+pub(super) fn call_with(
+    verb: &str,
+    cookie: Cookie<'static>,
+    now: DateTime,
+) -> Option<JarCall<'static>> {
+    Some(own_call(child_call_with(verb, cookie, now)?))
 }
 
-/// The call that the words say, such as `add a 1`, `add a 1, age 500`, `reset`, `host remove a` or `signed add a 1`.
-pub(super) fn call<'k>(
+/// The forced removal of the name.
+pub(super) fn forced(alloc: Global, name: &str) -> Option<JarCall<'static>> {
+    Some(JarCall::ForceRemove(String::from_str(alloc, name).ok()?))
+}
+
+// A call that borrows a key, such as `signed add a 1` or `private0 add a 1`, whose nonce is zeros.
+fn keyed_call<'k>(
     alloc: Global,
     key: &'k Key,
+    now: DateTime,
     words: &'static str,
-) -> Result<JarCall<'k>, Fail> {
+) -> Option<JarCall<'k>> {
     let (first, rest) = words.split_once(' ').unwrap_or((words, ""));
+    let call = child_call(alloc, now, rest)?;
     match first {
-        "force" => Ok(JarCall::ForceRemove(String::from_str(alloc, rest)?)),
-        "reset" => Ok(JarCall::ResetDelta),
-        "host" => Ok(JarCall::Prefixed(PrefixKind::Host, child_call(rest)?)),
-        "secure" => Ok(JarCall::Prefixed(PrefixKind::Secure, child_call(rest)?)),
-        "signed" => Ok(JarCall::Signed(key, child_call(rest)?)),
-        "private" => private_call(key, rest),
-        _ => Ok(own_call(child_call(words)?)),
+        "signed" => Some(JarCall::Signed(key, call)),
+        "private0" => Some(JarCall::Private(key, [0; 12], call)),
+        "private1" => Some(JarCall::Private(key, [1; 12], call)),
+        _ => None,
     }
 }
 
-fn push_call<'k>(
+// A call without a key, such as `add a 1`, `add a 1, age 500`, `reset` or `host remove a`.
+fn plain_call(alloc: Global, now: DateTime, words: &'static str) -> Option<JarCall<'static>> {
+    let (first, rest) = words.split_once(' ').unwrap_or((words, ""));
+    match first {
+        "force" => forced(alloc, rest),
+        "reset" => Some(JarCall::ResetDelta),
+        "host" => Some(JarCall::Prefixed(PrefixKind::Host, child_call(alloc, now, rest)?)),
+        "secure" => Some(JarCall::Prefixed(PrefixKind::Secure, child_call(alloc, now, rest)?)),
+        _ => Some(own_call(child_call(alloc, now, words)?)),
+    }
+}
+
+// The call that the words say.
+fn call<'k>(
     alloc: Global,
     key: &'k Key,
+    now: DateTime,
     words: &'static str,
-    calls: &mut Vec<JarCall<'k>>,
-) -> Result<(), Fail> {
-    calls.push(call(alloc, key, words)?)?;
+) -> Option<JarCall<'k>> {
+    if words.starts_with("signed ") || words.starts_with("private") {
+        keyed_call(alloc, key, now, words)
+    } else {
+        plain_call(alloc, now, words)
+    }
+}
+
+/// Adds the call to the calls. What is refused is dropped in the conversion of the error.
+pub(super) fn push<'k>(calls: &mut Vec<JarCall<'k>>, call: JarCall<'k>) -> Result<(), AllocError> {
+    calls.push(call)?;
     Ok(())
 }
 
-/// The calls that the words say, as `add a 1; remove a`.
-pub(super) fn calls<'k>(
+/// Adds the list of calls to the lists.
+pub(super) fn push_all<'k>(
+    lists: &mut Vec<Vec<JarCall<'k>>>,
+    calls: Vec<JarCall<'k>>,
+) -> Result<(), AllocError> {
+    lists.push(calls)?;
+    Ok(())
+}
+
+/// Adds the call that the words say to the calls, and answers whether they say one.
+pub(super) fn push_call<'k>(
     alloc: Global,
     key: &'k Key,
+    now: DateTime,
     words: &'static str,
-) -> Result<Vec<JarCall<'k>>, Fail> {
-    let mut calls = Vec::new(alloc);
+    calls: &mut Vec<JarCall<'k>>,
+) -> bool {
+    match call(alloc, key, now, words) {
+        Some(call) => push(calls, call).is_ok(),
+        None => false,
+    }
+}
+
+// Adds the calls that the words say, as `add a 1; remove a`.
+fn push_calls<'k>(
+    alloc: Global,
+    key: &'k Key,
+    now: DateTime,
+    words: &'static str,
+    calls: &mut Vec<JarCall<'k>>,
+) -> bool {
     for words in words.split("; ") {
-        if !words.is_empty() {
-            push_call(alloc, key, words, &mut calls)?;
-        }
-    }
-    Ok(calls)
-}
-
-/// Calls and what has to come of them, as in `title: [add a 1] -> [a=1] -> shows a 1`.
-#[derive(Clone, Copy)]
-pub(super) struct Row {
-    pub(super) calls: &'static str,
-    pub(super) headers: &'static str,
-    pub(super) shown: &'static str,
-}
-
-impl Row {
-    pub(super) fn parse(line: &'static str) -> Option<Row> {
-        let (_, told) = line.split_once(": [")?;
-        let (calls, told) = told.split_once("] -> [")?;
-        let (headers, shown) = told.split_once("] -> ")?;
-        Some(Row {
-            calls,
-            headers,
-            shown,
-        })
-    }
-}
-
-/// Plays steps on the jar, such as `shows a 1; counts 1 1`, and answers whether each is right.
-pub(super) fn is_right(jar: &mut CookieJar, steps: &'static str) -> Result<bool, Fail> {
-    for words in steps.split("; ") {
-        let step = Step::parse(words).ok_or("words that are no step")?;
-        if !step.is_right(jar)? {
-            return Ok(false);
-        }
-    }
-    Ok(true)
-}
-
-/// Whether so many calls were made, and each was accepted.
-pub(super) fn are_accepted(outcomes: &[bool], count: usize) -> bool {
-    for outcome in outcomes {
-        if !outcome {
+        if !words.is_empty() && !push_call(alloc, key, now, words, calls) {
             return false;
         }
     }
-    outcomes.len() == count
+    true
 }
 
-/// Fails with the row that was found wrong, if any.
-pub(super) fn told(wrong: Option<&'static str>) -> Result<(), Fail> {
-    match wrong {
-        Some(row) => Err(Fail::new(row)),
-        None => Ok(()),
+// Adds the list of calls that the words say.
+fn push_list<'k>(
+    alloc: Global,
+    key: &'k Key,
+    now: DateTime,
+    words: &'static str,
+    lists: &mut Vec<Vec<JarCall<'k>>>,
+) -> bool {
+    let mut calls = Vec::new(alloc);
+    push_calls(alloc, key, now, words, &mut calls) && push_all(lists, calls).is_ok()
+}
+
+/// Adds the lists of calls that the words say, as `add a 1] [remove a; reset`.
+pub(super) fn push_lists<'k>(
+    alloc: Global,
+    key: &'k Key,
+    now: DateTime,
+    words: &'static str,
+    lists: &mut Vec<Vec<JarCall<'k>>>,
+) -> bool {
+    for words in words.split("] [") {
+        if !push_list(alloc, key, now, words, lists) {
+            return false;
+        }
     }
+    true
+}
+
+/// A request for each list of calls.
+pub(super) fn requests<'c, 'k>(
+    alloc: Global,
+    lists: &'c [Vec<JarCall<'k>>],
+) -> Result<Vec<Request<'c, 'k>>, AllocError> {
+    let mut requests = Vec::new(alloc);
+    for calls in lists {
+        requests.push(Request { calls })?;
+    }
+    Ok(requests)
+}
+
+/// The addition of a cookie `a`, with the value 1, that expires then.
+pub(super) fn addition_until(expiry: DateTime) -> JarCall<'static> {
+    let cookie = CookieBuilder::new("a", "1")
+        .expires(Expiration::DateTime(expiry))
+        .build();
+    JarCall::Add(cookie)
 }

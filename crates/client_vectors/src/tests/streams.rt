@@ -1,127 +1,11 @@
 //! Sessions of the program over readers and writers that fail, and long ones over streams that take a little at a time.
 use super::MOMENT;
-use super::devices::{FailingReader, FullWriter, ShortWriter};
+use super::devices::{FailingReader, ShortWriter};
+use super::sessions::has_text;
 use cookie_client::{RunError, run};
-use std::alloc::Global;
-use std::test::Fail;
+use std::alloc::{AllocError, Global};
 
-const INPUT: &[u8] = b"x=1\nadd a=1";
-
-const OUTPUT: &[u8] = b"Set-Cookie: a=1\nCookie: a=1; x=1\n";
-
-// Whether a session whose reader fails behind so many calls fails in this way, and writes nothing.
-fn is_fault_unwritten(
-    alloc: Global,
-    moment: &str,
-    text: &[u8],
-    left: usize,
-    wanted: &RunError,
-) -> bool {
-    let mut input = FailingReader::new(text, left);
-    let mut written = Vec::new(alloc);
-    match run(alloc, moment, &mut input, &mut written) {
-        Ok(()) => false,
-        Err(error) => written.is_empty() && is_same(&error, wanted),
-    }
-}
-
-// Whether both are a failed read, or both a bad moment.
-fn is_same(error: &RunError, wanted: &RunError) -> bool {
-    match (error, wanted) {
-        (RunError::Input, RunError::Input) => true,
-        (RunError::BadMoment, RunError::BadMoment) => true,
-        _ => false,
-    }
-}
-
-// Whether a session of that input is read by single bytes, and written whole.
-fn is_written(alloc: Global) -> bool {
-    let mut input = FailingReader::new(INPUT, 100);
-    let mut written = Vec::new(alloc);
-    let is_ok = run(alloc, MOMENT, &mut input, &mut written).is_ok();
-    is_ok && written.as_slice() == OUTPUT
-}
-
-#[test]
-fn a_failed_read_writes_nothing(rt: HostRuntime) {
-    for left in 0..12 {
-        let is_fault = is_fault_unwritten(rt.alloc(), MOMENT, INPUT, left, &RunError::Input);
-        assert!(rt; is_fault, "after {left}");
-    }
-    assert!(rt; is_written(rt.alloc()));
-}
-
-#[test]
-fn a_bad_moment_is_told_before_anything_is_read(rt: HostRuntime) {
-    assert!(rt; is_fault_unwritten(rt.alloc(), "", INPUT, 0, &RunError::BadMoment));
-}
-
-// Whether a writer that takes one byte a call, and so many calls, has the beginning of the text then, and the session
-// has failed where that isn't the whole.
-fn leaves_a_beginning(alloc: Global, input: &[u8], text: &[u8], left: usize) -> bool {
-    let mut input = input;
-    let mut output = ShortWriter::new(alloc, 1, left);
-    let is_whole = left >= text.len();
-    let is_told = match run(alloc, MOMENT, &mut input, &mut output) {
-        Ok(()) => is_whole,
-        Err(RunError::Output) => !is_whole,
-        Err(_) => false,
-    };
-    is_told && output.bytes() == text.get(..left).unwrap_or(text)
-}
-
-// Whether a writer that takes no byte is told.
-fn is_full_writer_told(alloc: Global) -> bool {
-    let mut input = INPUT;
-    let outcome = run(alloc, MOMENT, &mut input, &mut FullWriter);
-    matches!(outcome, Err(RunError::Output))
-}
-
-#[test]
-fn a_failed_write_leaves_a_beginning(rt: HostRuntime) {
-    for left in 0..40 {
-        assert!(rt;
-            leaves_a_beginning(rt.alloc(), INPUT, OUTPUT, left),
-            "after {left}"
-        );
-    }
-    assert!(rt; is_full_writer_told(rt.alloc()));
-}
-
-// Whether a session is refused in this way, though its writer fails as soon as anything is written.
-fn is_refused_unwritten(alloc: Global, moment: &str, input: &[u8], status: u8) -> bool {
-    let mut input = FailingReader::new(input, usize::MAX);
-    let mut output = ShortWriter::new(alloc, 1, 0);
-    match run(alloc, moment, &mut input, &mut output) {
-        Err(error) => error.status() == status && !matches!(error, RunError::Output),
-        Ok(()) => false,
-    }
-}
-
-// Sessions that are refused, with a bar between them.
-const REFUSED: &str = "\
-x=1\nadd a=1\nadd bar|\
-x=1\nadd a=1\nadd %FF=1|\
-x=1\nadd a=1\nremove |\
-x=1\nadd a=1\nforce|\
-x=1\nadd a=1\nresets|\
-x=1\nadd a=1\nbar\nadd b=1";
-
-#[test]
-fn nothing_is_written_before_another_refusal(rt: HostRuntime) {
-    for moment in "|21 Oct -5 00:00:00 GMT".split("|") {
-        assert!(rt;
-            is_refused_unwritten(rt.alloc(), moment, INPUT, 2),
-            "{moment}"
-        );
-    }
-    for input in REFUSED.split("|") {
-        let is_refused = is_refused_unwritten(rt.alloc(), MOMENT, input.as_bytes(), 2);
-        assert!(rt; is_refused, "{input}");
-    }
-    assert!(rt; is_refused_unwritten(rt.alloc(), MOMENT, b"x=1\nadd a=1\n\xff", 2));
-    assert!(rt; !is_refused_unwritten(rt.alloc(), MOMENT, INPUT, 2));
-}
+const INPUT: &str = "x=1\nadd a=1";
 
 // A session with an original, two additions and a removal, and its text.
 const CHANGES: &str =
@@ -130,110 +14,180 @@ const CHANGES: &str =
 const CHANGES_TEXT: &str =
     "Set-Cookie: c=3\nSet-Cookie: x=; Max-Age=0; Expires=Tue, 21 Oct 2014 07:28:00 GMT\nCookie: c=3; name=val\n";
 
-#[test]
-fn each_failed_write_leaves_what_was_taken(rt: HostRuntime) {
-    for left in 0..=CHANGES_TEXT.len() {
-        let (input, text) = (CHANGES.as_bytes(), CHANGES_TEXT.as_bytes());
-        assert!(rt;
-            leaves_a_beginning(rt.alloc(), input, text, left),
-            "after {left}"
-        );
-    }
-}
-
-#[test]
-fn each_failed_read_is_told(rt: HostRuntime) {
-    for left in 0..=CHANGES.len() {
-        let is_fault = is_read_fault(rt.alloc(), CHANGES.as_bytes(), left);
-        assert!(rt; is_fault, "after {left}");
-    }
-}
-
-// Whether a session whose reader fails behind so many calls tells that, though its writer fails too.
-fn is_read_fault(alloc: Global, text: &[u8], left: usize) -> bool {
-    let mut input = FailingReader::new(text, left);
-    let mut output = ShortWriter::new(alloc, 1, 0);
-    let outcome = run(alloc, MOMENT, &mut input, &mut output);
-    matches!(outcome, Err(RunError::Input))
-}
-
-// A name with three digits, and a value of 500 bytes that no other name has.
-fn pair(alloc: Global, number: u32) -> Result<String, Fail> {
-    let name = format!(in alloc; "n{number}")?;
-    let mut pair = format!(in alloc; "{name}=")?;
-    for _ in 0..125 {
-        pair.push_str(name.as_str())?;
-    }
-    Ok(pair)
-}
-
-// Adds the pair to a session, to its delta's text and to its header's.
-fn push_pair(
+// What a session comes to whose reader gives a byte a call, and fails behind so many calls.
+fn outcome(
     alloc: Global,
-    pair: &str,
-    input: &mut String,
-    written: &mut String,
-    header: &mut String,
-) -> Result<(), Fail> {
-    input.push_str(format!(in alloc; "\nadd {pair}")?.as_str())?;
-    written.push_str(format!(in alloc; "Set-Cookie: {pair}\n")?.as_str())?;
-    if !header.is_empty() {
-        header.push_str("; ")?;
+    moment: &str,
+    input: &[u8],
+    reads: usize,
+    writer: &mut ShortWriter,
+) -> &'static str {
+    let mut reader = FailingReader::new(input, reads);
+    match run(alloc, moment, &mut reader, writer) {
+        Ok(()) => "written",
+        Err(RunError::BadMoment) => "bad moment",
+        Err(RunError::BadInput) => "bad input",
+        Err(RunError::BadLine(_)) => "bad line",
+        Err(RunError::OutOfMemory) => "no memory",
+        Err(RunError::Input) => "failed read",
+        Err(RunError::Output) => "failed write",
     }
-    header.push_str(pair)?;
-    Ok(())
 }
 
-// Adds a hundred of them, and the header to what is written.
-fn push_pairs(
-    alloc: Global,
-    input: &mut String,
-    written: &mut String,
-    header: &mut String,
-) -> Result<(), Fail> {
+// Whether a session whose reader fails behind so many calls comes to that, and writes nothing: with a writer that takes
+// whatever it is given, and with one that fails as soon as anything is written.
+fn is_unwritten(alloc: Global, moment: &str, input: &[u8], reads: usize, wanted: &str) -> bool {
+    let mut taking = ShortWriter::new(alloc, 1, usize::MAX);
+    let mut failing = ShortWriter::new(alloc, 1, 0);
+    outcome(alloc, moment, input, reads, &mut taking) == wanted
+        && taking.bytes().is_empty()
+        && outcome(alloc, moment, input, reads, &mut failing) == wanted
+}
+
+// Whether a session is written whole by a writer that takes so many bytes a call at most.
+fn is_written(alloc: Global, input: &[u8], text: &[u8], most: usize) -> bool {
+    let mut writer = ShortWriter::new(alloc, most, usize::MAX);
+    outcome(alloc, MOMENT, input, usize::MAX, &mut writer) == "written" && writer.bytes() == text
+}
+
+// Whether each failed read of the session is told, and it is written whole where none fails.
+fn are_failed_reads_told(alloc: Global, input: &[u8], text: &[u8]) -> bool {
+    for reads in 0..=input.len() {
+        if !is_unwritten(alloc, MOMENT, input, reads, "failed read") {
+            return false;
+        }
+    }
+    is_written(alloc, input, text, 1)
+}
+
+#[test]
+fn a_failed_read_writes_nothing(rt: HostRuntime) {
+    let (input, text) = (CHANGES.as_bytes(), CHANGES_TEXT.as_bytes());
+    assert!(rt; are_failed_reads_told(rt.alloc(), input, text));
+}
+
+#[test]
+fn a_bad_moment_is_told_before_anything_is_read(rt: HostRuntime) {
+    assert!(rt; is_unwritten(rt.alloc(), "", INPUT.as_bytes(), 0, "bad moment"));
+}
+
+// Whether a writer that takes one byte a call, and so many calls, has the beginning of the text then, and the session
+// has failed where that isn't the whole.
+fn leaves_a_beginning(alloc: Global, input: &[u8], text: &[u8], writes: usize) -> bool {
+    let mut writer = ShortWriter::new(alloc, 1, writes);
+    let wanted = if writes < text.len() {
+        "failed write"
+    } else {
+        "written"
+    };
+    outcome(alloc, MOMENT, input, usize::MAX, &mut writer) == wanted
+        && writer.bytes() == text.get(..writes).unwrap_or(text)
+}
+
+// Whether a writer that takes no byte is told.
+fn is_full_writer_told(alloc: Global, input: &[u8]) -> bool {
+    let mut writer = ShortWriter::new(alloc, 0, usize::MAX);
+    outcome(alloc, MOMENT, input, usize::MAX, &mut writer) == "failed write"
+}
+
+// Whether each failed write of the session leaves what was taken.
+fn are_failed_writes_told(alloc: Global, input: &[u8], text: &[u8]) -> bool {
+    for writes in 0..text.len().saturating_add(7) {
+        if !leaves_a_beginning(alloc, input, text, writes) {
+            return false;
+        }
+    }
+    is_full_writer_told(alloc, input)
+}
+
+#[test]
+fn a_failed_write_leaves_a_beginning(rt: HostRuntime) {
+    let (input, text) = (CHANGES.as_bytes(), CHANGES_TEXT.as_bytes());
+    assert!(rt; are_failed_writes_told(rt.alloc(), input, text));
+}
+
+// Sessions with a bad line, with a bar between them.
+const REFUSED: &str = "\
+x=1\nadd a=1\nadd bar|\
+x=1\nadd a=1\nadd %FF=1|\
+x=1\nadd a=1\nremove |\
+x=1\nadd a=1\nforce|\
+x=1\nadd a=1\nresets|\
+x=1\nadd a=1\nbar\nadd b=1";
+
+fn is_refused(alloc: Global, moment: &str, input: &[u8], wanted: &str) -> bool {
+    is_unwritten(alloc, moment, input, usize::MAX, wanted)
+}
+
+fn are_bad_lines_told(alloc: Global, inputs: &str) -> bool {
+    for input in inputs.split("|") {
+        if !is_refused(alloc, MOMENT, input.as_bytes(), "bad line") {
+            return false;
+        }
+    }
+    true
+}
+
+fn are_others_told(alloc: Global, input: &[u8]) -> bool {
+    is_refused(alloc, "", input, "bad moment")
+        && is_refused(alloc, "21 Oct -5 00:00:00 GMT", input, "bad moment")
+        && is_refused(alloc, MOMENT, b"x=1\nadd a=1\n\xff", "bad input")
+        && !is_refused(alloc, MOMENT, input, "written")
+}
+
+#[test]
+fn nothing_is_written_before_another_refusal(rt: HostRuntime) {
+    assert!(rt; are_bad_lines_told(rt.alloc(), REFUSED));
+    assert!(rt; !are_bad_lines_told(rt.alloc(), INPUT));
+    assert!(rt; are_others_told(rt.alloc(), INPUT.as_bytes()));
+}
+
+// Adds a hundred pairs: each has a name with three digits, and a value of 500 bytes that no other name has.
+fn push_pairs(text: &mut String, label: &str, end: &str) -> Result<(), AllocError> {
     for number in 100..200 {
-        let pair = pair(alloc, number)?;
-        push_pair(alloc, pair.as_str(), input, written, header)?;
+        write!(text, "{label}n{number}=")?;
+        for _ in 0..125 {
+            write!(text, "n{number}")?;
+        }
+        text.push_str(end)?;
     }
-    written.push_str("Cookie: ")?;
-    written.push_str(header.as_str())?;
-    written.push_str("\n")?;
     Ok(())
 }
 
-// A session that adds a hundred of them, and what is written for it: each of them twice.
-fn long_session(alloc: Global) -> Result<(String, String), Fail> {
-    let mut input = String::new(alloc);
-    let mut written = String::new(alloc);
-    let mut header = String::new(alloc);
-    push_pairs(alloc, &mut input, &mut written, &mut header)?;
-    Ok((input, written))
+// Adds a session that adds the hundred, and what is written for it: each of them twice.
+fn push_session(row: &mut String) -> Result<(), AllocError> {
+    push_pairs(row, "\nadd ", "")?;
+    row.push_str(" -> ")?;
+    push_pairs(row, "Set-Cookie: ", "\n")?;
+    row.push_str("Cookie: ")?;
+    push_pairs(row, "", "; ")?;
+    row.pop();
+    row.pop();
+    row.push('\n')
 }
 
-fn is_written_whole(alloc: Global, text: &str, wanted: &str) -> Result<bool, Fail> {
-    let mut input = text.as_bytes();
-    let mut written = Vec::new(alloc);
-    run(alloc, MOMENT, &mut input, &mut written)?;
-    Ok(wanted.len() == 102_507 && written.as_slice() == wanted.as_bytes())
+fn is_written_slowly(alloc: Global, row: &str) -> bool {
+    let (input, text) = row.split_once(" -> ").unwrap_or((row, ""));
+    text.len() == 102_507 && is_written(alloc, input.as_bytes(), text.as_bytes(), 7)
+}
+
+// Whether a long session has its text: over streams that take a little at a time, or over bytes in memory.
+fn is_long_one_written(alloc: Global, is_slow: bool) -> bool {
+    let mut row = String::new(alloc);
+    push_session(&mut row).is_ok()
+        && if is_slow {
+            is_written_slowly(alloc, row.as_str())
+        } else {
+            has_text(alloc, row.as_str())
+        }
 }
 
 #[test]
-fn a_long_text_is_written_whole(rt: HostRuntime) -> Result<(), Fail> {
-    let (text, wanted) = long_session(rt.alloc())?;
-    assert!(rt; is_written_whole(rt.alloc(), text.as_str(), wanted.as_str())?);
-    Ok(())
-}
-
-fn is_written_slowly(alloc: Global, text: &str, wanted: &str) -> Result<bool, Fail> {
-    let mut input = FailingReader::new(text.as_bytes(), usize::MAX);
-    let mut output = ShortWriter::new(alloc, 7, usize::MAX);
-    run(alloc, MOMENT, &mut input, &mut output)?;
-    Ok(output.bytes() == wanted.as_bytes())
+fn a_long_text_is_written_whole(rt: HostRuntime) {
+    assert!(rt; is_long_one_written(rt.alloc(), false));
 }
 
 #[test]
-fn a_long_text_is_read_and_written_a_little_at_a_time(rt: HostRuntime) -> Result<(), Fail> {
-    let (text, wanted) = long_session(rt.alloc())?;
-    assert!(rt; is_written_slowly(rt.alloc(), text.as_str(), wanted.as_str())?);
-    Ok(())
+fn a_long_text_is_read_and_written_a_little_at_a_time(rt: HostRuntime) {
+    assert!(rt; is_long_one_written(rt.alloc(), true));
 }
