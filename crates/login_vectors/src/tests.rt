@@ -13,10 +13,10 @@ use sevens::Sevens;
 use std::alloc::{AllocError, Global};
 use std::hash::RandomState;
 
-// A row is a request to a site of the users `ann` and `<b>bo</b>`, and what is answered: the method and the path, behind
-// `plain` where the connection isn't secure, and then lines: `cookies` and `form` of the request, `is` with the status,
-// `greets` with the user who is greeted, `sets` with the text of a `Set-Cookie` field, in any order and each once, and
-// at last `has` with a part of the response's text.
+// A row is a request to a site of the users `ann` and `<b>bo</b>`, and what is answered: the method and the path,
+// behind `plain` where the connection isn't secure, and then lines: `cookies` and `form` of the request, `is` with the
+// status, `greets` with the user who is greeted, `sets` with the text of a `Set-Cookie` field, in any order and each once,
+// and at last `has` with a part of the response's text.
 
 fn user(alloc: Global, name: &str, password: &str) -> Result<User, AllocError> {
     Ok(User {
