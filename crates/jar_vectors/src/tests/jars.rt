@@ -1,5 +1,5 @@
 //! What a jar holds after its calls, and what the walks over it meet.
-use super::steps::is_row_right;
+use super::steps::are_right;
 use cookie::{Cookie, CookieJar};
 use jar_steps::{counts, shown_value};
 use jiff::SignedDuration;
@@ -200,6 +200,6 @@ const DRAWN: &str =
 #[test]
 fn a_jar_with_drawn_keys_answers_as_any_other(rt: HostRuntime) -> Result<(), Fail> {
     let mut jar = CookieJar::with_hasher(rt.alloc(), RandomState::new(&rt)?);
-    assert!(rt; is_row_right(rt.alloc(), &mut jar, DRAWN)?);
+    assert!(rt; are_right(rt.alloc(), &mut jar, DRAWN)?);
     Ok(())
 }

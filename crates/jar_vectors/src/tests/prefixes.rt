@@ -1,6 +1,6 @@
 //! Names with a prefix, and what a prefix asks of a cookie.
 use super::jars::moment;
-use cookie::prefix::{Host, NamePrefix, Prefix, Prefixing, Secure};
+use cookie::prefix::{Host, NamePrefix, Prefix, PrefixedJarMut, Prefixing, Secure};
 use cookie::{Cookie, CookieJar};
 use std::alloc::Global;
 
@@ -87,6 +87,14 @@ fn answers<P: Prefix>(jar: &CookieJar, prefix: P, name: &str, wanted: Option<&st
     }
 }
 
+// Whether the child jar answers this value, or none.
+fn is_answered<P: Prefix>(child: &PrefixedJarMut<'_, P>, name: &str, wanted: Option<&str>) -> bool {
+    match child.get(name) {
+        Ok(answer) => is_answer(&answer, name, wanted),
+        Err(_) => false,
+    }
+}
+
 // Whether a child jar lacks the name, and shows the value there once it has added it.
 fn is_looked_up<P: Prefix>(
     jar: &mut CookieJar,
@@ -95,17 +103,9 @@ fn is_looked_up<P: Prefix>(
     value: &'static str,
 ) -> bool {
     let mut child = jar.prefixed_mut(prefix);
-    match child.get(name) {
-        Ok(None) => {}
-        _ => return false,
-    }
-    if child.add(Cookie::new(name, value)).is_err() {
-        return false;
-    }
-    match child.get(name) {
-        Ok(answer) => is_answer(&answer, name, Some(value)),
-        Err(_) => false,
-    }
+    is_answered(&child, name, None)
+        && child.add(Cookie::new(name, value)).is_ok()
+        && is_answered(&child, name, Some(value))
 }
 
 // A cookie that asks for another path, for a domain, and for no secure connection.

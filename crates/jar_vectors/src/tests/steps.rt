@@ -23,7 +23,7 @@ fn is_right(alloc: Global, jar: &mut CookieJar, step: &'static str) -> Result<bo
 
 /// Plays the steps of a row on the jar, and answers whether each is right. A row is a title and steps, as in
 /// `one: add a 1 | host lacks a`.
-pub(super) fn is_row_right(
+pub(super) fn are_right(
     alloc: Global,
     jar: &mut CookieJar,
     row: &'static str,
@@ -35,6 +35,11 @@ pub(super) fn is_row_right(
         }
     }
     Ok(true)
+}
+
+// The same on a new jar.
+fn is_row_right(alloc: Global, row: &'static str) -> Result<bool, Fail> {
+    are_right(alloc, &mut CookieJar::new(alloc), row)
 }
 
 // Rows whose last step is wrong, and some that can't be read.
@@ -97,8 +102,7 @@ add a 1";
 #[test]
 fn a_wrong_row_is_found(rt: HostRuntime) -> Result<(), Fail> {
     for row in WRONG.lines() {
-        let mut jar = CookieJar::new(rt.alloc());
-        assert!(rt; !is_row_right(rt.alloc(), &mut jar, row)?, "{row}");
+        assert!(rt; !is_row_right(rt.alloc(), row)?, "{row}");
     }
     Ok(())
 }
@@ -106,8 +110,7 @@ fn a_wrong_row_is_found(rt: HostRuntime) -> Result<(), Fail> {
 #[test]
 fn jars_do_as_the_rows_say(rt: HostRuntime) -> Result<(), Fail> {
     for row in jars::ROWS.lines() {
-        let mut jar = CookieJar::new(rt.alloc());
-        assert!(rt; is_row_right(rt.alloc(), &mut jar, row)?, "{row}");
+        assert!(rt; is_row_right(rt.alloc(), row)?, "{row}");
     }
     Ok(())
 }
@@ -115,8 +118,7 @@ fn jars_do_as_the_rows_say(rt: HostRuntime) -> Result<(), Fail> {
 #[test]
 fn prefixes_do_as_the_rows_say(rt: HostRuntime) -> Result<(), Fail> {
     for row in prefixes::ROWS.lines() {
-        let mut jar = CookieJar::new(rt.alloc());
-        assert!(rt; is_row_right(rt.alloc(), &mut jar, row)?, "{row}");
+        assert!(rt; is_row_right(rt.alloc(), row)?, "{row}");
     }
     Ok(())
 }
