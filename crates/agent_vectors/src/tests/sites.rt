@@ -148,7 +148,8 @@ fn is_answer(
     }
 }
 
-/// Whether the answer is the wanted one, to a question such as `domain http://example.com/ example.com` or `path /a/b /a`.
+/// Whether the answer to a question is the wanted one, such as `domain http://example.com/ example.com` or
+/// `path /a/b /a`.
 pub(super) fn is_answered(alloc: Global, asked: &'static str, wanted: &str) -> Option<bool> {
     let (question, rest) = asked.split_once(' ')?;
     let (place, text) = rest.split_once(' ').unwrap_or((rest, ""));

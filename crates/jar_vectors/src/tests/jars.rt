@@ -1,7 +1,7 @@
 //! What a jar holds after its calls, and what the walks over it meet.
 use super::steps::are_right;
 use cookie::{Cookie, CookieJar};
-use jar_steps::{counts, shown_value};
+use jar_steps::counts;
 use jiff::SignedDuration;
 use jiff::civil::DateTime;
 use std::alloc::Global;
