@@ -2,6 +2,7 @@
 use super::hex::{cut, fill, key_of};
 use super::rows::play;
 use cookie_crypt::{Mac, are_equal, expand64, hmac};
+use std::alloc::{AllocError, Global};
 use std::test::Fail;
 
 const LONGEST: usize = 256;
@@ -73,6 +74,29 @@ pub fn is_hashed_as(row: &str) -> bool {
 #[test]
 fn messages_are_hashed_under_a_key() -> Result<(), Fail> {
     play(CODES)
+}
+
+// The bytes of the message as a piece each, with an empty piece behind it.
+fn pieces_of(alloc: Global, message: &[u8]) -> Result<Vec<&[u8]>, AllocError> {
+    let mut pieces = Vec::new(alloc);
+    for byte in message.chunks(1) {
+        pieces.push(byte)?;
+        pieces.push(b"".as_slice())?;
+    }
+    Ok(pieces)
+}
+
+// RFC 4231 4.3.
+fn is_hashed_by_bytes(alloc: Global) -> Result<bool, AllocError> {
+    let pieces = pieces_of(alloc, b"what do ya want for nothing?")?;
+    let code = hmac(b"Jefe", pieces.as_slice());
+    let wanted = "5bdcc146bf60754e6a042426089575c75a003f089d2739839dec58b964ec3843";
+    Ok(pieces.len() == 56 && code == key_of(wanted))
+}
+
+#[test]
+fn a_message_is_hashed_byte_by_byte(rt: HostRuntime) {
+    assert!(rt; is_hashed_by_bytes(rt.alloc()).unwrap_or(false));
 }
 
 /// Whether the expansion of the key begins with these bytes.

@@ -69,29 +69,23 @@ fn texts_of_other_alphabets_are_read_as_pairs(rt: HostRuntime) {
     }
 }
 
-// The cookie's age in seconds, -1 where it has none, and -2 where it wasn't read.
-fn age_of(read: Result<Cookie<'_>, ParseError>) -> i64 {
+// Whether the text was read as a cookie with this age.
+fn has_age(read: Result<Cookie<'_>, ParseError>, age: Option<SignedDuration>) -> bool {
     match read {
-        Ok(cookie) => seconds(cookie.max_age()),
-        Err(_) => -2,
+        Ok(cookie) => cookie.max_age() == age,
+        Err(_) => false,
     }
 }
 
-fn seconds(age: Option<SignedDuration>) -> i64 {
-    match age {
-        Some(age) => age.as_secs(),
-        None => -1,
-    }
-}
-
-// Whether the text has this age, with its escapes undone and without.
-fn is_age(alloc: Global, text: &str, age: i64) -> bool {
-    age_of(Cookie::parse(text)) == age && age_of(Cookie::parse_encoded(alloc, text)) == age
+// The same with its escapes undone and without.
+fn is_age(alloc: Global, text: &str, age: Option<SignedDuration>) -> bool {
+    has_age(Cookie::parse(text), age) && has_age(Cookie::parse_encoded(alloc, text), age)
 }
 
 // Whether the age is the greatest, and there is none where a letter stands behind it.
 fn is_greatest(alloc: Global, text: &str) -> bool {
-    is_age(alloc, text.trim_end_matches('x'), i64::MAX) && is_age(alloc, text, -1)
+    let greatest = SignedDuration::from_secs(i64::MAX);
+    is_age(alloc, text.trim_end_matches('x'), Some(greatest)) && is_age(alloc, text, None)
 }
 
 // The same of an age of 100,000 digits.
