@@ -58,17 +58,15 @@ fn print_user(rt: &HostRuntime, jar: &CookieJar, key: &Key) -> Result<()> {
 }
 
 pub fn flash(rt: &HostRuntime, now: DateTime) -> Result<()> {
+    print_flashes(rt, now)?;
+    print_removal(rt, now)?;
+    print_scope_removal(rt, now)
+}
+
+fn print_flashes(rt: &HostRuntime, now: DateTime) -> Result<()> {
     let mut jar = requests::request_jar(rt.alloc(), RandomState::new(rt)?, "flash=saved")?;
     print_flash(rt, &mut jar, now)?;
-    print_flash(rt, &mut jar, now)?;
-    let set = CookieBuilder::new("cart", "3")
-        .path("/shop")
-        .domain("example.com")
-        .build();
-    print_removal(rt, set, now)?;
-    let mut jar = CookieJar::new(rt.alloc());
-    removal::remove_in_scope(&mut jar, now)?;
-    print_counts(rt, &jar)
+    print_flash(rt, &mut jar, now)
 }
 
 fn print_flash(rt: &HostRuntime, jar: &mut CookieJar, now: DateTime) -> Result<()> {
@@ -79,11 +77,21 @@ fn print_flash(rt: &HostRuntime, jar: &mut CookieJar, now: DateTime) -> Result<(
     Ok(())
 }
 
-fn print_removal(rt: &HostRuntime, set: Cookie<'static>, now: DateTime) -> Result<()> {
+fn print_removal(rt: &HostRuntime, now: DateTime) -> Result<()> {
     let mut jar = requests::request_jar(rt.alloc(), RandomState::new(rt)?, "cart=3")?;
-    change_jar(rt.alloc(), &mut jar, &set, now)?;
-    print_counts(rt, &jar)?;
-    print_delta(rt, &jar)
+    change_jar(rt.alloc(), &mut jar, now)?;
+    print_jar(rt, &jar)
+}
+
+fn print_scope_removal(rt: &HostRuntime, now: DateTime) -> Result<()> {
+    let mut jar = CookieJar::new(rt.alloc());
+    removal::remove_in_scope(&mut jar, now)?;
+    print_counts(rt, &jar)
+}
+
+fn print_jar(rt: &HostRuntime, jar: &CookieJar) -> Result<()> {
+    print_counts(rt, jar)?;
+    print_delta(rt, jar)
 }
 
 fn print_counts(rt: &HostRuntime, jar: &CookieJar) -> Result<()> {
@@ -93,13 +101,12 @@ fn print_counts(rt: &HostRuntime, jar: &CookieJar) -> Result<()> {
     Ok(())
 }
 
-fn change_jar(
-    alloc: Global,
-    jar: &mut CookieJar,
-    set: &Cookie<'static>,
-    now: DateTime,
-) -> Result<(), JarError> {
-    removal::remove_as_set(alloc, jar, set, now)?;
+fn change_jar(alloc: Global, jar: &mut CookieJar, now: DateTime) -> Result<(), JarError> {
+    let set = CookieBuilder::new("cart", "3")
+        .path("/shop")
+        .domain("example.com")
+        .build();
+    removal::remove_as_set(alloc, jar, &set, now)?;
     team::add_for_team(jar, Cookie::new("colour", "blue"))
 }
 
