@@ -138,24 +138,27 @@ impl Move {
 
     /// The call as the jar has it, at the first moment.
     pub(super) fn call(self, alloc: Global) -> Option<JarCall<'static>> {
-        let cookie = self.cookie.cookie();
         let now = at(0);
         match self.verb {
-            Verb::AddOriginal => Some(JarCall::AddOriginal(cookie)),
-            Verb::Add => Some(JarCall::Add(cookie)),
-            Verb::Remove => Some(JarCall::Remove(cookie, now)),
+            Verb::AddOriginal => Some(JarCall::AddOriginal(self.cookie.cookie())),
+            Verb::Add => Some(JarCall::Add(self.cookie.cookie())),
+            Verb::Remove => Some(JarCall::Remove(self.cookie.cookie(), now)),
             Verb::ForceRemove => match String::from_str(alloc, self.cookie.name) {
                 Ok(name) => Some(JarCall::ForceRemove(name)),
                 Err(_) => None,
             },
             Verb::ResetDelta => Some(JarCall::ResetDelta),
-            Verb::HostAdd => Some(JarCall::Prefixed(PrefixKind::Host, ChildCall::Add(cookie))),
+            Verb::HostAdd => Some(self.add_by(PrefixKind::Host)),
             Verb::HostRemove => {
-                Some(JarCall::Prefixed(PrefixKind::Host, ChildCall::Remove(cookie, now)))
+                let call = ChildCall::Remove(self.cookie.cookie(), now);
+                Some(JarCall::Prefixed(PrefixKind::Host, call))
             }
-            Verb::SecureAdd => {
-                Some(JarCall::Prefixed(PrefixKind::Secure, ChildCall::Add(cookie)))
-            }
+            Verb::SecureAdd => Some(self.add_by(PrefixKind::Secure)),
         }
+    }
+
+    // The addition through the child jar of the prefix.
+    fn add_by(self, prefix: PrefixKind) -> JarCall<'static> {
+        JarCall::Prefixed(prefix, ChildCall::Add(self.cookie.cookie()))
     }
 }

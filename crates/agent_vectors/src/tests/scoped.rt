@@ -52,17 +52,19 @@ scoped https://www.example.com/a/b -> false
 scoped https://www.example.com/a/b Path=/; Domain=example.com -> false
 scoped https://www.example.com/a/b Domain=www.example.com -> false";
 
+fn addition(text: &'static str) -> Option<ChildCall> {
+    Some(ChildCall::Add(PlainCookie::parse(text)?.cookie()))
+}
+
+fn removal(text: &'static str) -> Option<ChildCall> {
+    Some(ChildCall::Remove(PlainCookie::parse(text)?.cookie(), at(0)))
+}
+
 // The call of words such as `add n=1; Path=/` or `signed_add n=1`, at the first moment.
 fn call_of<'k>(alloc: Global, key: &'k Key, words: &'static str) -> Option<JarCall<'k>> {
     match words.split_once(' ') {
-        Some(("signed_add", text)) => {
-            let cookie = PlainCookie::parse(text)?.cookie();
-            Some(JarCall::Signed(key, ChildCall::Add(cookie)))
-        }
-        Some(("private_remove", text)) => {
-            let cookie = PlainCookie::parse(text)?.cookie();
-            Some(JarCall::Private(key, [0; 12], ChildCall::Remove(cookie, at(0))))
-        }
+        Some(("signed_add", text)) => Some(JarCall::Signed(key, addition(text)?)),
+        Some(("private_remove", text)) => Some(JarCall::Private(key, [0; 12], removal(text)?)),
         _ => Move::parse(words)?.call(alloc),
     }
 }

@@ -198,6 +198,20 @@ fn replayed(alloc: Global, calls: &[JarCall<'_>]) -> Result<Played, ClientError>
     })
 }
 
+// What comes of the calls, by `mirror` or by `replay`.
+fn one_played(
+    alloc: Global,
+    form: &str,
+    calls: &[JarCall<'_>],
+    pick: &[usize],
+    now: DateTime,
+) -> Result<Played, ClientError> {
+    match form {
+        "mirror" => mirror(alloc, calls, pick, now),
+        _ => replayed(alloc, calls),
+    }
+}
+
 // What comes of each list of calls.
 fn played(
     alloc: Global,
@@ -211,10 +225,7 @@ fn played(
     }
     let mut played = Vec::new(alloc);
     for calls in lists {
-        played.push(match form {
-            "mirror" => mirror(alloc, calls, pick, now)?,
-            _ => replayed(alloc, calls)?,
-        })?;
+        played.push(one_played(alloc, form, calls, pick, now)?)?;
     }
     Ok(played)
 }

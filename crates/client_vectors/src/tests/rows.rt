@@ -124,13 +124,31 @@ fn keyed_call<'k>(
     words: &'static str,
 ) -> Option<JarCall<'k>> {
     let (first, rest) = words.split_once(' ').unwrap_or((words, ""));
-    let call = child_call(alloc, now, rest)?;
-    match first {
-        "signed" => Some(JarCall::Signed(key, call)),
-        "private0" => Some(JarCall::Private(key, [0; 12], call)),
-        "private1" => Some(JarCall::Private(key, [1; 12], call)),
-        _ => None,
+    let nonce = match first {
+        "signed" => None,
+        "private0" => Some([0; 12]),
+        "private1" => Some([1; 12]),
+        _ => return None,
+    };
+    Some(call_by(key, nonce, child_call(alloc, now, rest)?))
+}
+
+// The call on the private child jar with the nonce, or else on the signed one.
+fn call_by<'k>(key: &'k Key, nonce: Option<[u8; 12]>, call: ChildCall) -> JarCall<'k> {
+    match nonce {
+        Some(nonce) => JarCall::Private(key, nonce, call),
+        None => JarCall::Signed(key, call),
     }
+}
+
+// The call on the child jar of the prefix.
+fn prefixed_call(
+    alloc: Global,
+    prefix: PrefixKind,
+    now: DateTime,
+    words: &'static str,
+) -> Option<JarCall<'static>> {
+    Some(JarCall::Prefixed(prefix, child_call(alloc, now, words)?))
 }
 
 // A call without a key, such as `add a 1`, `add a 1, age 500`, `reset` or `host remove a`.
@@ -139,8 +157,8 @@ fn plain_call(alloc: Global, now: DateTime, words: &'static str) -> Option<JarCa
     match first {
         "force" => forced(alloc, rest),
         "reset" => Some(JarCall::ResetDelta),
-        "host" => Some(JarCall::Prefixed(PrefixKind::Host, child_call(alloc, now, rest)?)),
-        "secure" => Some(JarCall::Prefixed(PrefixKind::Secure, child_call(alloc, now, rest)?)),
+        "host" => prefixed_call(alloc, PrefixKind::Host, now, rest),
+        "secure" => prefixed_call(alloc, PrefixKind::Secure, now, rest),
         _ => Some(own_call(child_call(alloc, now, words)?)),
     }
 }
