@@ -52,10 +52,12 @@ scoped https://www.example.com/a/b -> false
 scoped https://www.example.com/a/b Path=/; Domain=example.com -> false
 scoped https://www.example.com/a/b Domain=www.example.com -> false";
 
+// The addition of a cookie such as `n=1; Path=/`.
 fn addition(text: &'static str) -> Option<ChildCall> {
     Some(ChildCall::Add(PlainCookie::parse(text)?.cookie()))
 }
 
+// The removal of such a cookie, at the first moment.
 fn removal(text: &'static str) -> Option<ChildCall> {
     Some(ChildCall::Remove(PlainCookie::parse(text)?.cookie(), at(0)))
 }

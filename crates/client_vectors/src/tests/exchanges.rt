@@ -187,7 +187,7 @@ fn replay_on(
 }
 
 // What comes of that on a new jar, with a client that is told nothing.
-fn replayed(alloc: Global, calls: &[JarCall<'_>]) -> Result<Played, ClientError> {
+fn replay_anew(alloc: Global, calls: &[JarCall<'_>]) -> Result<Played, ClientError> {
     let mut jar = CookieJar::new(alloc);
     let outcomes = replay_on(alloc, &mut jar, calls)?;
     let client = Client::new(alloc);
@@ -199,7 +199,7 @@ fn replayed(alloc: Global, calls: &[JarCall<'_>]) -> Result<Played, ClientError>
 }
 
 // What comes of the calls, by `mirror` or by `replay`.
-fn one_played(
+fn play_list(
     alloc: Global,
     form: &str,
     calls: &[JarCall<'_>],
@@ -208,12 +208,12 @@ fn one_played(
 ) -> Result<Played, ClientError> {
     match form {
         "mirror" => mirror(alloc, calls, pick, now),
-        _ => replayed(alloc, calls),
+        _ => replay_anew(alloc, calls),
     }
 }
 
 // What comes of each list of calls.
-fn played(
+fn play_lists(
     alloc: Global,
     form: &str,
     lists: &[Vec<JarCall<'_>>],
@@ -225,7 +225,7 @@ fn played(
     }
     let mut played = Vec::new(alloc);
     for calls in lists {
-        played.push(one_played(alloc, form, calls, pick, now)?)?;
+        played.push(play_list(alloc, form, calls, pick, now)?)?;
     }
     Ok(played)
 }
@@ -249,7 +249,7 @@ fn is_played(
     told: &str,
 ) -> bool {
     let (headers, shown) = told.split_once("] -> ").unwrap_or((told, ""));
-    match played(alloc, form, lists, pick, now) {
+    match play_lists(alloc, form, lists, pick, now) {
         Ok(played) => {
             have_headers(&played, lists, headers) && does_last_show(alloc, &played, key, shown)
         }
