@@ -50,9 +50,7 @@ pub fn answer<R: TryRng>(
         × AreDeltaTexts jar.delta (map string_bytes response.cookies.items)) }
 {
     let mut jar = request_jar(alloc, state, request.cookies)?;
-    let page = decide(alloc, site, request, &mut jar, now, rng)?;
-    let cookies = delta_texts(alloc, &jar, &[])?;
-    Ok(Response { page, cookies })
+    respond(alloc, site, request, &mut jar, now, rng)
 }
 
 // The jar of the request's cookies.
@@ -63,6 +61,26 @@ fn request_jar(alloc: Global, state: RandomState, header: &str) -> Result<Cookie
         Ok(jar) => Ok(jar),
         Err(ClientError::OutOfMemory) => Err(JarError::OutOfMemory),
     }
+}
+
+// The page, and the texts of what it changes.
+fn respond<R: TryRng>(
+    alloc: Global,
+    site: &Site<'_>,
+    request: &Request<'_>,
+    jar: &mut CookieJar,
+    now: DateTime,
+    rng: &mut R,
+) -> Result<Response, JarError>
+    ensures { IfOk result (λ response.
+        Answers (λ nonce. R.may_fill rng.old nonce rng.new)
+        site.now request.now now jar.old
+        (route_of request.now.method.now request.now.path.now) response.page jar.new
+        × AreDeltaTexts jar.new.delta (map string_bytes response.cookies.items)) }
+{
+    let page = decide(alloc, site, request, jar, now, rng)?;
+    let cookies = delta_texts(alloc, jar, &[])?;
+    Ok(Response { page, cookies })
 }
 
 // The page, and what it changes.

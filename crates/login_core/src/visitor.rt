@@ -6,8 +6,8 @@ ghost use Rattle.login_core.specs.declared.site_cookie.SiteCookie.TheVariants as
 
 use crate::site::Site;
 use crate::site_cookie::SiteCookie;
-use cookie::{CookieJar, JarError};
-use std::alloc::Global;
+use cookie::{Cookie, CookieJar, JarError};
+use std::alloc::{AllocError, Global};
 
 /// What the cookies of a request say.
 #[derive(Drop)]
@@ -42,13 +42,9 @@ fn user_of(alloc: Global, site: &Site<'_>, jar: &CookieJar) -> Result<Option<Str
     ensures { IfOk result (λ found. (user : List ℕ) → (option_map string_bytes found ≡ Some user)
         ↔ IsLoggedIn site.now jar.now user) }
 {
-    match jar
-        .private(site.key)
-        .get(SiteCookie::User.name(site.is_secure))?
-    {
-        Some(cookie) => Ok(Some(String::from_str(alloc, cookie.value())?)),
-        None => Ok(None),
-    }
+    let name = SiteCookie::User.name(site.is_secure);
+    let cookie = jar.private(site.key).get(name)?;
+    Ok(value_of(alloc, cookie.as_ref())?)
 }
 
 // The text that was signed under the key.
@@ -61,7 +57,16 @@ fn signed_value(
     ensures { IfOk result (λ found. (text : List ℕ) → (option_map string_bytes found ≡ Some text)
         ↔ HasSigned site.now jar.now which text) }
 {
-    match jar.signed(site.key).get(which.name(site.is_secure))? {
+    let cookie = jar.signed(site.key).get(which.name(site.is_secure))?;
+    Ok(value_of(alloc, cookie.as_ref())?)
+}
+
+// A copy of the cookie's value.
+fn value_of(alloc: Global, cookie: Option<&Cookie<'_>>) -> Result<Option<String>, AllocError>
+    ensures { IfOk result (λ value.
+        option_map string_bytes value ≡ option_map (λ c. c.now.fields.value) cookie.entry) }
+{
+    match cookie {
         Some(cookie) => Ok(Some(String::from_str(alloc, cookie.value())?)),
         None => Ok(None),
     }
