@@ -28,9 +28,8 @@ pub fn request(rt: &HostRuntime, now: DateTime) -> Result<()> {
 pub fn texts(rt: &HostRuntime, now: DateTime) -> Result<()> {
     let (name, value) = reading::name_and_value("theme=dark; Path=/")?;
     println!(rt; "name {name}, value {value}")?;
-    let (removal, pair) = printing::texts(rt.alloc(), now)?;
-    println!(rt; "{removal}")?;
-    println!(rt; "{pair}")?;
+    println!(rt; "{}", printing::removal_text(rt.alloc(), now)?)?;
+    println!(rt; "{}", printing::pair_text(rt.alloc())?)?;
     let later = dates::week_after("Wed, 21 Oct 2015 07:28:00 GMT").unwrap_or(DateTime::MIN);
     println!(rt; "a week later: {}", DateText(later))?;
     let mut text = [1, 2, 3];
@@ -40,13 +39,17 @@ pub fn texts(rt: &HostRuntime, now: DateTime) -> Result<()> {
 }
 
 pub fn session(rt: &HostRuntime) -> Result<()> {
-    let alloc = rt.alloc();
     let mut rng = generator();
     let key = Key::generate(&mut rng);
-    let mut jar = CookieJar::new(alloc);
-    session::sign_in(alloc, &mut jar, &key, "ann", &mut rng)?;
+    let jar = jar_of_user(rt.alloc(), &key, &mut rng)?;
     print_user(rt, &jar, &key)?;
     print_user(rt, &jar, &Key::generate(&mut rng))
+}
+
+fn jar_of_user(alloc: Global, key: &Key, rng: &mut StdRng) -> Result<CookieJar, JarError> {
+    let mut jar = CookieJar::new(alloc);
+    session::sign_in(alloc, &mut jar, key, "ann", rng)?;
+    Ok(jar)
 }
 
 fn print_user(rt: &HostRuntime, jar: &CookieJar, key: &Key) -> Result<()> {
@@ -178,7 +181,11 @@ pub fn browser(rt: &HostRuntime, now: DateTime) -> Result<()> {
 pub fn headers(rt: &HostRuntime) -> Result<()> {
     let mut request = HeaderMap::new(rt.alloc());
     request.append("cookie", HeaderValue::from_static("lang=en"))?;
-    let jar = headers::jar_of(rt.alloc(), RandomState::new(rt)?, &request)?;
+    print_lang(rt, &request)
+}
+
+fn print_lang(rt: &HostRuntime, request: &HeaderMap) -> Result<()> {
+    let jar = headers::jar_of(rt.alloc(), RandomState::new(rt)?, request)?;
     let has_lang = jar.get("lang").is_some();
     println!(rt; "a header map with lang: {has_lang}")?;
     Ok(())
