@@ -74,7 +74,7 @@ static text unhex(const char *hex) {
 static const char *const NAMES[] = {
     "DONE",      "BUFFER_TOO_SHORT", "OUT_OF_MEMORY", "NOT_UTF8", "KEY_TOO_SHORT", "MASTER_TOO_SHORT", "BAD_NONCE",
     "NOT_SIGNED", "NOT_SEALED", "TOO_LONG", "NO_DATE", "BAD_MOMENT", "BAD_LINE", "MISSING_PAIR", "EMPTY_NAME", "BAD_ESCAPE",
-    "NO_PAIR", "NO_JAR", "NOT_FOUND", "BAD_COOKIE", "BAD_ATTRIBUTE",
+    "NO_PAIR", "NO_JAR", "NOT_FOUND", "BAD_ATTRIBUTE",
 };
 
 static uint32_t status_named(const char *name) {

@@ -190,7 +190,7 @@ def use():
                           (lambda: cookie.run(moment, "\nnonsense"), cookie.BAD_LINE),
                           (lambda: cookie.print_cookie("a", "1", path=b"\xff"), cookie.NOT_UTF8),
                           (lambda: cookie.read_decoded_cookie("a=%ff"), cookie.BAD_ESCAPE),
-                          (lambda: jar.get("a"), cookie.NO_JAR), (lambda: cookie.Jar().add("a"), cookie.BAD_COOKIE)):
+                          (lambda: jar.get("a"), cookie.NO_JAR), (lambda: cookie.Jar().add("a"), cookie.MISSING_PAIR)):
         try:
             wrong()
             faults.append("a use isn't refused")

@@ -100,10 +100,10 @@ unsafe extern "C" {
     fn cookie_jar_free(jar: &mut Jar);
 }
 
-const STATUSES: [&str; 21] = [
+const STATUSES: [&str; 20] = [
     "DONE", "BUFFER_TOO_SHORT", "OUT_OF_MEMORY", "NOT_UTF8", "KEY_TOO_SHORT", "MASTER_TOO_SHORT", "BAD_NONCE",
     "NOT_SIGNED", "NOT_SEALED", "TOO_LONG", "NO_DATE", "BAD_MOMENT", "BAD_LINE", "MISSING_PAIR", "EMPTY_NAME", "BAD_ESCAPE",
-    "NO_PAIR", "NO_JAR", "NOT_FOUND", "BAD_COOKIE", "BAD_ATTRIBUTE",
+    "NO_PAIR", "NO_JAR", "NOT_FOUND", "BAD_ATTRIBUTE",
 ];
 
 fn number_of(status: &str) -> u32 {

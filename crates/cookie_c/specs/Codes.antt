@@ -26,8 +26,7 @@ code_of status.BadEscape = 15
 code_of status.NoPair = 16
 code_of status.NoJar = 17
 code_of status.NotFound = 18
-code_of status.BadCookie = 19
-code_of status.BadAttribute = 20
+code_of status.BadAttribute = 19
 
 -- the status of a text that is refused as no cookie
 abbrev pub refusal_status : ParseError → Status

@@ -9,10 +9,12 @@ use Rattle.cookie.specs.Moments.{date_of}
 use Rattle.cookie.specs.Record.{Record, plain}
 use Rattle.cookie.specs.Text.{cookie_text}
 use Rattle.cookie.specs.Walk.{Walks}
+use Rattle.cookie.specs.declared.ParseError.{ParseError}
 use Rattle.cookie_client.specs.Originals.{with_originals}
 use Rattle.cookie_client.specs.Session.{set_cookie_lines}
 use Rattle.cookie_c.specs.Answers.{IsGiven, IsRefused}
-use Rattle.cookie_c.specs.Codes.{code_of}
+use Rattle.cookie_c.specs.Codes.{code_of, refusal_status}
+use Rattle.cookie_c.specs.Decoded.{IsDecodingRefusal}
 use Rattle.cookie_c.specs.declared.answer.Answer.{Answer}
 use Rattle.cookie_c.specs.declared.status.Status.{Status}
 use Rattle.cookie_c.specs.declared.status.Status.TheVariants as status
@@ -31,13 +33,14 @@ pub record HasOriginals (header : List ℕ) (answer : Status) (old new : JarStat
   pub not_utf8 : ¬ (IsUtf8 header) → IsKept status.NotUtf8 answer old new
   pub added : IsUtf8 header → IsChanged (with_originals (header_cookies true header)) answer old new
 
--- the cookie that the text of a `Set-Cookie` header is was added
+-- the cookie that the text of a `Set-Cookie` header is, decoded, was added, or the answer tells why the text is refused
 pub record IsAdded (text : List ℕ) (answer : Status) (old new : JarState) : Type 0 where
   pub not_utf8 : ¬ (IsUtf8 text) → IsKept status.NotUtf8 answer old new
-  pub refused : IsUtf8 text → cookie_of true text ≡ None
-      → IsKept status.BadCookie answer old new ⊎ IsKept status.OutOfMemory answer old new
-  pub added : (cookie : Record) → IsUtf8 text → cookie_of true text ≡ Some cookie
-      → IsChanged (after (Add cookie)) answer old new
+  pub read : IsUtf8 text
+      → ((r : Record) × (cookie_of true text ≡ Some r)
+      × IsChanged (after (Add r)) answer old new)
+      ⊎ ((why : ParseError) × IsDecodingRefusal text why
+      × IsKept (refusal_status why) answer old new)
 
 -- the cookie of the name was removed, at the date and time that a text stands for
 pub record IsRemoved (moment name : List ℕ) (answer : Status) (old new : JarState) : Type 0 where

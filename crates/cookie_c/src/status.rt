@@ -43,10 +43,8 @@ pub enum Status {
     NoJar = 17,
     /// The jar shows no cookie of the name.
     NotFound = 18,
-    /// The text is no cookie.
-    BadCookie = 19,
     /// A number of the attributes says nothing.
-    BadAttribute = 20,
+    BadAttribute = 19,
 }
 
 impl Status {

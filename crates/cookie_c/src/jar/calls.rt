@@ -1,18 +1,16 @@
 //! The calls that change a jar behind a handle.
-ghost use Rattle.std.specs.Prelude.{◌≡◌, ◌⊎◌, Some, None, IfOk, true, option_map};
-ghost use Rattle.cookie.specs.CookieOf.{cookie_of, header_cookies};
-ghost use Rattle.cookie.specs.Jar.{empty_jar};
-ghost use Rattle.cookie.specs.Memory.{Gives};
+ghost use Rattle.std.specs.Prelude.{◌≡◌, ◌⊎◌, Some, None, IfOk, true};
+ghost use Rattle.cookie.specs.CookieOf.{header_cookies};
+ghost use Rattle.cookie.specs.Jar.{Add, after, empty_jar};
 ghost use Rattle.cookie_client.specs.Originals.{with_originals};
-ghost use Rattle.cookie_client.specs.declared.client_error.ClientError.TheVariants as refusal;
 ghost use Rattle.cookie_c.specs.Codes.{code_of};
-ghost use Rattle.cookie_c.specs.Jars.{AtJar, HasOriginals, IsAdded, IsRemoved};
+ghost use Rattle.cookie_c.specs.Jars.{AtJar, HasOriginals, IsAdded, IsChanged, IsRemoved};
 ghost use Rattle.cookie_c.specs.declared.status.Status.TheVariants as status;
 
 use super::Jar;
 use crate::session::Seed;
 use crate::status::Status;
-use cookie::{Cookie, CookieJar, ParseError, read_date};
+use cookie::{Cookie, CookieJar, read_date};
 use cookie_client::{ClientError, with_originals};
 use std::alloc::Global;
 use std::hash::RandomState;
@@ -58,8 +56,8 @@ pub extern "C" fn cookie_jar_add_originals(alloc: Global, jar: &mut Jar, header:
 /// Adds the cookie that the text of a `Set-Cookie` header is, decoded (RFC 6265 5.2), in the place of the one that the
 /// jar shows under its name.
 ///
-/// Refuses a handle without a jar, then a text that isn't UTF-8, and then one that is no cookie; else it fails for want
-/// of memory alone. After a refusal the jar is as before.
+/// Refuses a handle without a jar, and then as `cookie_read_decoded` does; else it fails for want of memory alone. After
+/// a refusal the jar is as before.
 #[tactic(auto, using(crate::proofs::JarLemmas::at_none, crate::proofs::JarLemmas::at_some))]
 #[unsafe(no_mangle)]
 pub extern "C" fn cookie_jar_add(alloc: Global, jar: &mut Jar, text: &[u8]) -> u32
@@ -131,26 +129,22 @@ fn add(alloc: Global, jar: &mut CookieJar, text: &[u8]) -> Status
     let Ok(text) = str::from_utf8(text) else {
         return Status::NotUtf8;
     };
-    let cookie = match read(alloc, text) {
-        Ok(Some(cookie)) => cookie,
-        Ok(None) => return Status::BadCookie,
-        Err(_) => return Status::OutOfMemory,
-    };
-    match jar.add(cookie) {
-        Ok(()) => Status::Done,
-        Err(_) => Status::OutOfMemory,
+    match Cookie::parse_encoded(alloc, text) {
+        Ok(cookie) => add_copy(alloc, jar, cookie),
+        Err(error) => Status::of(error),
     }
 }
 
-// The cookie that the text is, if it is one.
-fn read(alloc: Global, text: &str) -> Result<Option<Cookie<'static>>, ClientError>
-    ensures { Gives refusal.OutOfMemory result (λ cookie.
-        option_map (λ c. c.fields) cookie ≡ cookie_of true text.now) }
+// Adds a copy of the cookie.
+fn add_copy(alloc: Global, jar: &mut CookieJar, cookie: Cookie<'_>) -> Status
+    ensures { IsChanged (after (Add cookie.entry.fields)) result jar.old jar.new }
 {
-    match Cookie::parse_encoded(alloc, text) {
-        Ok(cookie) => Ok(Some(cookie.into_owned(alloc)?)),
-        Err(ParseError::OutOfMemory) => Err(ClientError::OutOfMemory),
-        Err(ParseError::MissingPair | ParseError::EmptyName | ParseError::Utf8Error(_)) => Ok(None),
+    let Ok(copy) = cookie.into_owned(alloc) else {
+        return Status::OutOfMemory;
+    };
+    match jar.add(copy) {
+        Ok(()) => Status::Done,
+        Err(_) => Status::OutOfMemory,
     }
 }
 

@@ -48,14 +48,15 @@ fn has_delta(alloc: Global, jar: &mut Jar, lines: &[u8]) -> bool {
 // By a model of RFC 6265 5.2 to 5.4, and by the header's words.
 #[test]
 fn steps_have_their_statuses(rt: HostRuntime) {
-    let rows: [(Step<'_>, u32); 14] = [
+    let rows: [(Step<'_>, u32); 15] = [
         (Step::Add(b"a=1"), 17),
         (Step::New, 0),
         (Step::AddOriginals(b"name=val; lang=en"), 0),
         (Step::AddOriginals(b"\xff"), 3),
         (Step::Add(b"a=%20"), 0),
-        (Step::Add(b"a"), 19),
-        (Step::Add(b"a=%FF"), 19),
+        (Step::Add(b"a"), 13),
+        (Step::Add(b"=1"), 14),
+        (Step::Add(b"a=%FF"), 15),
         (Step::Add(b"a=\xff"), 3),
         (Step::Remove(MOMENT, b"a"), 0),
         (Step::Remove(b"yesterday", b"name"), 10),
