@@ -2,7 +2,7 @@
 use super::MOMENT;
 use super::exchanges::are_accepted;
 use super::flat_jar::{FlatJar, Pair, Pairs};
-use super::rows::{call_with, forced, push};
+use super::rows::{call_with, forced_removal, push};
 use cookie::{Cookie, CookieJar, read_date};
 use cookie_client::{JarCall, replay};
 use jar_steps::shown_value;
@@ -47,7 +47,7 @@ impl Draws {
     fn call(&mut self, alloc: Global) -> Option<JarCall<'static>> {
         let name = self.name();
         match self.verb() {
-            "force" => forced(alloc, name),
+            "force" => forced_removal(alloc, name),
             "reset" => Some(JarCall::ResetDelta),
             verb => call_with(verb, Cookie::new(name, self.value()), read_date(MOMENT)?),
         }

@@ -112,7 +112,7 @@ pub(super) fn call_with(
 }
 
 /// The forced removal of the name.
-pub(super) fn forced(alloc: Global, name: &str) -> Option<JarCall<'static>> {
+pub(super) fn forced_removal(alloc: Global, name: &str) -> Option<JarCall<'static>> {
     Some(JarCall::ForceRemove(String::from_str(alloc, name).ok()?))
 }
 
@@ -155,7 +155,7 @@ fn prefixed_call(
 fn plain_call(alloc: Global, now: DateTime, words: &'static str) -> Option<JarCall<'static>> {
     let (first, rest) = words.split_once(' ').unwrap_or((words, ""));
     match first {
-        "force" => forced(alloc, rest),
+        "force" => forced_removal(alloc, rest),
         "reset" => Some(JarCall::ResetDelta),
         "host" => prefixed_call(alloc, PrefixKind::Host, now, rest),
         "secure" => prefixed_call(alloc, PrefixKind::Secure, now, rest),
