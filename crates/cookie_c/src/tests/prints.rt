@@ -114,8 +114,8 @@ fn parts_are_refused(rt: HostRuntime) {
         ..date
     };
     let rows: [(&[u8], &[u8], Attributes, u32); 6] = [
-        (b"id", b"/", flag, 20),
-        (b"\xff", b"/", both, 20),
+        (b"id", b"/", flag, 19),
+        (b"\xff", b"/", both, 19),
         (b"\xff", b"/", date, 10),
         (b"\xff", b"/", SET, 3),
         (b"id", b"\xff", SET, 3),
