@@ -1,14 +1,14 @@
 //! The jar's main job in one call for C: a session as the program `cookiejar` plays it.
-ghost use Rattle.std.specs.Prelude.{IsUtf8, MatchResult, Ok, ◌≡◌};
-ghost use Rattle.cookie_client.specs.Run.{Refuses};
-ghost use Rattle.cookie_client.specs.Session.{session};
+ghost use Rattle.std.specs.Prelude.{IsUtf8, MatchResult, None, Ok, Err, ◌≡◌};
+ghost use Rattle.cookie_client.specs.Session.{moment_of, session};
+ghost use Rattle.cookie_client.specs.declared.run_error.RunError.TheVariants as errors;
 ghost use Rattle.cookie_c.specs.Answers.{IsRefused};
 ghost use Rattle.cookie_c.specs.Played.{IsPlayedFor, IsSession};
 ghost use Rattle.cookie_c.specs.declared.status.Status.TheVariants as status;
 
 use crate::answer::Answer;
 use crate::status::Status;
-use cookie_client::{RunError, run_with_hasher};
+use cookie_client::{RunError, moment_of, run_with_hasher};
 use std::alloc::Global;
 use std::hash::RandomState;
 use std::io;
@@ -34,8 +34,9 @@ impl RandomSource for Seed {
 /// `reset`. The moment is a date in UTC of the year 100 or later. The two seeds are random; the jar hashes names with
 /// them.
 ///
-/// Refuses a moment that is no such date, then an input that isn't UTF-8, then the first bad line, counted from 1, with
-/// its number for length; else it fails for want of memory alone, which may also be told in the place of these two.
+/// Refuses a moment that is no such date, whatever memory there is. Then it refuses an input that isn't UTF-8, and then
+/// the first bad line, counted from 1, with its number for length; else it fails for want of memory alone, which may
+/// also be told in the place of these two.
 #[unsafe(no_mangle)]
 pub extern "C" fn cookie_run(
     alloc: Global,
@@ -46,6 +47,8 @@ pub extern "C" fn cookie_run(
     out: &mut [u8],
 ) -> Answer
     ensures not_utf8 { ¬ IsUtf8 moment.now → IsRefused status.BadMoment result out.old out.new }
+    ensures bad_moment { IsUtf8 moment.now → moment_of moment.now ≡ None
+        → IsRefused status.BadMoment result out.old out.new }
     ensures played { IsUtf8 moment.now
         → IsSession (session moment.now input.now) result out.old out.new }
 {
@@ -65,10 +68,14 @@ pub extern "C" fn cookie_run(
 
 // The session's text.
 fn session_text(alloc: Global, seed: &Seed, moment: &str, input: &[u8]) -> Result<Vec<u8>, RunError>
-    ensures { MatchResult result
+    ensures bad_moment { moment_of moment.now ≡ None → result ≡ Err errors.BadMoment }
+    ensures played { MatchResult result
         (λ text. session moment.now input.now ≡ Ok text.items)
         (IsPlayedFor (session moment.now input.now)) }
 {
+    if moment_of(moment).is_none() {
+        return Err(RunError::BadMoment);
+    }
     let mut text = Vec::new(alloc);
     let mut input = input;
     match RandomState::new(seed) {

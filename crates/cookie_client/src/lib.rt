@@ -33,6 +33,6 @@ pub use prefix_kind::PrefixKind;
 pub use request::Request;
 pub use requests::rounds;
 pub use run_error::RunError;
-pub use session::{run, run_with_hasher};
+pub use session::{moment_of, run, run_with_hasher};
 pub use text_map::Pairs;
 pub use texts::delta_texts;

@@ -25,8 +25,9 @@ use std::alloc::{AllocError, Global};
 use std::hash::RandomState;
 use std::io::{Read, Write};
 
-// The moment that the text stands for, if it is of the year 100 or later.
-fn moment_of(text: &str) -> Option<DateTime>
+/// The moment of a session that the text stands for: a date in UTC, in one of the four forms that `cookie::read_date`
+/// takes, of the year 100 or later. Any other text has none.
+pub fn moment_of(text: &str) -> Option<DateTime>
     ensures { result ≡ moment_of text.now }
 {
     let moment = read_date(text)?;
@@ -219,7 +220,7 @@ fn answer(alloc: Global, jar: CookieJar, now: DateTime, bytes: &[u8]) -> Result<
 }
 
 /// Plays the program's session: reads the input to its end, works out the whole text, and then writes it. The moment is
-/// a date in UTC, in one of the four forms that `cookie::read_date` takes, of the year 100 or later.
+/// a date in UTC that [`moment_of`] takes.
 ///
 /// Line 1 of the input is the value of a `Cookie` header, which may be empty: its cookies are the jar's originals and
 /// what the client holds. Each further line is a call: `add TEXT` with the text of a `Set-Cookie` header,

@@ -1,7 +1,8 @@
 //! Sessions of the program, over bytes in memory.
 use super::MOMENT;
 use super::forms::{first_row, first_wrong};
-use cookie_client::{ClientError, RunError, run, run_with_hasher};
+use cookie_client::{ClientError, RunError, moment_of, run, run_with_hasher};
+use jiff::civil::DateTime;
 use std::alloc::Global;
 use std::hash::RandomState;
 use std::test::Fail;
@@ -79,6 +80,24 @@ fn are_bad_moments(alloc: Global, moments: &str) -> bool {
         }
     }
     true
+}
+
+// By RFC 9110 5.6.7, but for the years.
+#[test]
+fn moments_are_of_the_year_100_or_later(rt: HostRuntime) {
+    let moments = [
+        (MOMENT, Some(DateTime::constant(2015, 10, 21, 7, 28, 0, 0))),
+        (
+            "Thu, 21 Oct 0100 07:28:00 GMT",
+            Some(DateTime::constant(100, 10, 21, 7, 28, 0, 0)),
+        ),
+        ("Wed, 21 Oct -15 07:28:00 GMT", None),
+        ("now", None),
+        ("", None),
+    ];
+    for (text, moment) in moments {
+        assert!(rt; moment_of(text) == moment);
+    }
 }
 
 #[test]
