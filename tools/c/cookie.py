@@ -295,7 +295,11 @@ def seeds():
 
 
 class Jar:
-    """A jar whose originals are the cookies in a `Cookie` header. `with Jar(header) as jar` frees it at the end."""
+    """A jar whose originals are the cookies in a `Cookie` header. `with Jar(header) as jar` frees it at the end.
+
+    It is looked up as `http.cookies.SimpleCookie` is, but `jar[name]` is the value itself. It can't be iterated.
+    """
+    __iter__ = None
 
     def __init__(self, header=""):
         self.handle = Handle()
@@ -323,6 +327,17 @@ class Jar:
     def get(self, name):
         """The value of the cookie of that name, or None."""
         return read(JAR_GET, NOT_FOUND, self.handle, name)
+
+    def __getitem__(self, name):
+        """The value of the cookie of that name, or `KeyError`."""
+        value = self.get(name)
+        if value is None:
+            raise KeyError(name)
+        return value
+
+    def __contains__(self, name):
+        """Whether the jar shows a cookie of that name."""
+        return self.get(name) is not None
 
     def delta(self):
         """The lines `Set-Cookie: ..` for the jar's changes, in any order."""

@@ -1,6 +1,7 @@
 """Plays rows.tsv through the library by ctypes, and some uses of cookie.py."""
 import ctypes
 import datetime
+import http.cookies
 import pathlib
 import sys
 
@@ -150,6 +151,15 @@ def play(number, line):
             check(number, call, inputs, length, "BUFFER_TOO_SHORT", count, b"")
 
 
+def lacks(jar, name):
+    """Whether the jar raises `KeyError` for the name."""
+    try:
+        jar[name]
+    except KeyError:
+        return True
+    return False
+
+
 def use():
     """Uses of the module, whose answers are the round trip or Python's own."""
     key = cookie.derive_key(bytes(range(32)))
@@ -179,6 +189,8 @@ def use():
     with cookie.Jar("name=val; n=x%20y") as jar:
         jar.add("a=1; Path=/")
         assert jar.get("a") == "1" and jar.get("n") == "x y" and jar.get("b") is None
+        assert jar["name"] == http.cookies.SimpleCookie("name=val; n=x%20y")["name"].value
+        assert "a" in jar and "b" not in jar and lacks(jar, "b")
         jar.remove("name", moment)
         assert jar.get("name") is None
         assert sorted(jar.delta()) == [
