@@ -1,6 +1,5 @@
 -- What a call on a handle answers, by whether the handle has a jar.
-use Rattle.std.proofs.Common.{◌≡◌, ℕ, List, ◌++◌, Option, Some, None, ap, sym, subst, ◌∙◌}
-use Rattle.std.proofs.lemmas.List.{append_assoc}
+use Rattle.std.proofs.Common.{◌≡◌, ℕ, List, Option, Some, None, sym, subst}
 use Rattle.cookie.specs.Jar.{JarState}
 use Rattle.cookie_c.specs.Answers.{IsRefused}
 use Rattle.cookie_c.specs.Codes.{code_of}
@@ -25,10 +24,3 @@ of_none Gives jar answer old new none refused = subst (λ j. OfJar Gives j answe
 pub of_some : (Gives : JarState → Answer → List ℕ → List ℕ → Type 0) (jar : Option JarState) (state : JarState) (answer : Answer) (old new : List ℕ)
     → jar ≡ Some state → Gives state answer old new → OfJar Gives jar answer old new
 of_some Gives jar state answer old new some gives = subst (λ j. OfJar Gives j answer old new) (sym some) gives
-
--- three texts pushed one after the other
-pub pushed_thrice : (old first second third one two three : List ℕ) → first ≡ old ++ one → second ≡ first ++ two → third ≡ second ++ three
-    → third ≡ old ++ (one ++ (two ++ three))
-pushed_thrice old first second third one two three e f g =
-    g ∙ ap (λ l. l ++ three) (f ∙ ap (λ l. l ++ two) e)
-    ∙ append_assoc (old ++ one) two three ∙ append_assoc old one (two ++ three)

@@ -76,18 +76,14 @@ fn lines(alloc: Global, jar: &CookieJar) -> Result<String, AllocError>
 {
     let mut text = String::new(alloc);
     for cookie in jar.delta() {
-        push_line(alloc, &mut text, cookie)?;
+        push_line(&mut text, cookie)?;
     }
     Ok(text)
 }
 
-fn push_line(alloc: Global, text: &mut String, cookie: &Cookie<'_>) -> Result<(), AllocError>
+fn push_line(text: &mut String, cookie: &Cookie<'_>) -> Result<(), AllocError>
     ensures { OnOk result (string_bytes text.new ≡ string_bytes text.old
         ++ (codes "Set-Cookie: " ++ (cookie_text true false cookie.now.fields ++ codes "\n"))) }
 {
-    let encoded = cookie.encoded().to_string(alloc)?;
-    text.push_str("Set-Cookie: ")?;
-    text.push_str(encoded.as_str())?;
-    text.push_str("\n")?;
-    Ok(())
+    writeln!(text, "Set-Cookie: {}", cookie.encoded())
 }
