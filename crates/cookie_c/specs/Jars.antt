@@ -37,8 +37,8 @@ pub record HasOriginals (header : List ℕ) (answer : Status) (old new : JarStat
 pub record IsAdded (text : List ℕ) (answer : Status) (old new : JarState) : Type 0 where
   pub not_utf8 : ¬ (IsUtf8 text) → IsKept status.NotUtf8 answer old new
   pub read : IsUtf8 text
-      → ((r : Record) × (cookie_of true text ≡ Some r)
-      × IsChanged (after (Add r)) answer old new)
+      → ((cookie : Record) × (cookie_of true text ≡ Some cookie)
+      × IsChanged (after (Add cookie)) answer old new)
       ⊎ ((why : ParseError) × IsDecodingRefusal text why
       × IsKept (refusal_status why) answer old new)
 
