@@ -43,12 +43,13 @@ impl fmt::Display for SameSite {
     ghost use Rattle.cookie_core.specs.SameSite.{same_site_text};
 
     ghost output = { λ s. Some (same_site_text s) };
+    ghost styled_output = { λ s _. Some (same_site_text s) };
 
     fn fmt<W: fmt::Write>(&self, f: &mut fmt::Formatter<W>) -> fmt::Result {
         match self {
-            SameSite::Strict => write!(f, "Strict"),
-            SameSite::Lax => write!(f, "Lax"),
-            SameSite::None => write!(f, "None"),
+            SameSite::Strict => f.write_str("Strict"),
+            SameSite::Lax => f.write_str("Lax"),
+            SameSite::None => f.write_str("None"),
         }
     }
 }

@@ -14,10 +14,10 @@ product_of_the_standard : byte_product 0x57 0x83 ≡ 0xc1
 unfolding byte_product byte_product_below byte_times_power byte_times_x
 product_of_the_standard = refl
 
--- FIPS 197 5.1.1: S of 53
-s_box_of_the_standard : s_box 0x53 ≡ 0xed
+-- FIPS 197 5.1.1: S of 00, 01 and 53
+s_box_of_the_standard : (s_box 0x00 ≡ 0x63) × (s_box 0x01 ≡ 0x7c) × (s_box 0x53 ≡ 0xed)
 unfolding s_box affine_below inverse inverse_in_last byte_product byte_product_below byte_times_power byte_times_x
-s_box_of_the_standard = refl
+s_box_of_the_standard = (refl, refl, refl)
 
 -- FIPS 197 C.3
 block_of_the_standard : encrypt_block (range_with_len 0 32) (0x00 ∷ 0x11 ∷ 0x22 ∷ 0x33 ∷ 0x44 ∷ 0x55 ∷ 0x66 ∷ 0x77 ∷ 0x88 ∷ 0x99 ∷ 0xaa ∷ 0xbb ∷ 0xcc ∷ 0xdd ∷ 0xee ∷ 0xff ∷ [])

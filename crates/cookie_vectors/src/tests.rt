@@ -3,6 +3,7 @@ mod attributes;
 mod decoding;
 mod expiries;
 mod fields;
+mod flags;
 mod making;
 mod printing;
 mod raw_forms;

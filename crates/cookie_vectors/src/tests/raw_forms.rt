@@ -28,6 +28,9 @@ parse owned [bar=baz; Path=/subdir; HttpOnly; Domain=crates.io] lends -|-|-|-
 clone [bar=baz; Path=/subdir; HttpOnly; Domain=crates.io] lends bar|baz|/subdir|crates.io
 into owned [bar=baz; Path=/subdir; HttpOnly; Domain=crates.io] has bar=baz, http-only true, path /subdir, domain crates.io
 into owned [bar=baz; Path=/subdir; HttpOnly; Domain=crates.io] lends -|-|-|-
+parse owned [ bar = baz ; Path=/subdir; HttpOnly; Domain=.crates.io] has bar=baz, http-only true, path /subdir, domain crates.io
+parse owned [ bar = baz ; Path=/subdir; HttpOnly; Domain=.crates.io] lends -|-|-|-
+into owned [ bar = baz ; Path=/subdir; HttpOnly; Domain=.crates.io] lends -|-|-|-
 # the raw value alone is gone where the value was set
 parse [ bar = baz ; Path=/subdir; HttpOnly; Domain=.crates.io] lends bar|baz|/subdir|crates.io
 set parsed [ bar = baz ; Path=/subdir; HttpOnly; Domain=.crates.io|value x] prints-stripped bar=x
