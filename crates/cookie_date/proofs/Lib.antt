@@ -8,3 +8,7 @@ pub mod DateLemmas
 pub mod PrintLemmas
 pub mod CalendarLemmas
 pub mod DayLemmas
+pub mod TokenLemmas
+pub mod ProductionLemmas
+pub mod FoundLemmas
+pub mod TokenPrintLemmas

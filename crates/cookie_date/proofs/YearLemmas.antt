@@ -18,7 +18,7 @@ use Rattle.cookie_date.proofs.OptionLemmas.{through, not_stopped}
 abbrev pub NoDigit : List ℕ → Type 0
 NoDigit text = is_in_range 48 57 (get_or text 0 0) ≡ false
 
-read_digits-read : (k number : ℕ) (ds rest : List ℕ) → AllDigits 10 ds → length ds ≤ k → NoDigit rest → read_digits k number (ds ++ rest) ≡ (digits_value_after 10 number ds, rest)
+pub read_digits-read : (k number : ℕ) (ds rest : List ℕ) → AllDigits 10 ds → length ds ≤ k → NoDigit rest → read_digits k number (ds ++ rest) ≡ (digits_value_after 10 number ds, rest)
 read_digits-read zero number [] rest d l n = refl
 read_digits-read zero number (c ∷ ds) rest d l n = absurd (omega arith)
 read_digits-read (suc k) number [] [] d l n = refl
@@ -29,7 +29,7 @@ read_digits-read (suc k) number (c ∷ ds) rest d l n =
     let value : c - 48 ≡ digit_value c = omega (arith, digit_value_digit c digit) in
     rw test (ap (λ v. read_digits k (number * 10 + v) (ds ++ rest)) value ∙ read_digits-read k (number * 10 + digit_value c) ds rest d.1 (omega arith) n)
 
-read_digits-front : (k number : ℕ) (text : List ℕ) → (ds : List ℕ) × (text ≡ ds ++ (read_digits k number text).1) × AllDigits 10 ds × (length ds ≤ k) × ((read_digits k number text).0 ≡ digits_value_after 10 number ds)
+pub read_digits-front : (k number : ℕ) (text : List ℕ) → (ds : List ℕ) × (text ≡ ds ++ (read_digits k number text).1) × AllDigits 10 ds × (length ds ≤ k) × ((read_digits k number text).0 ≡ digits_value_after 10 number ds)
 read_digits-front zero number text = ([], refl, tt, omega arith, refl)
 read_digits-front (suc k) number [] = ([], refl, tt, omega arith, refl)
 read_digits-front (suc k) number (c ∷ text) = go (is_in_range 48 57 c) refl (read_digits-front k (number * 10 + (c - 48)) text)

@@ -7,3 +7,6 @@ pub mod Calendar
 pub mod Fields
 pub mod Reader
 pub mod Moments
+pub mod CookieDate
+pub mod Found
+pub mod Productions

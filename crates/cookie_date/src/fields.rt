@@ -18,7 +18,7 @@ pub struct Fields {
 }
 
 // RFC 6265 5.1.1, steps 3 and 4.
-fn full_year(year: i16) -> i16
+pub fn full_year(year: i16) -> i16
     requires { IsYear year }
     ensures value { result ≡ full_year year }
     ensures bound { IsYear result }

@@ -67,7 +67,7 @@ pub fn read_gmt(text: &[u8]) -> Option<(u8, u8, u8)>
 }
 
 // At most so many more digits of a number.
-fn read_digits(most: u8, number: u16, text: &[u8]) -> (u16, &[u8])
+pub fn read_digits(most: u8, number: u16, text: &[u8]) -> (u16, &[u8])
     requires { number < Reader.room most }
     ensures value { (result.0, result.1.now) ≡ Reader.read_digits most number text.now }
     ensures bound { result.0 < 10000 }
