@@ -23,6 +23,8 @@ impl fmt::Display for JarError {
 
     ghost output = { λ e. Some (refusal_text e) };
 
+    ghost styled_output = { λ e _. Some (refusal_text e) };
+
     fn fmt<W: fmt::Write>(&self, f: &mut fmt::Formatter<W>) -> fmt::Result {
         f.write_str(match self {
             JarError::OutOfMemory => "out of memory",
