@@ -1,5 +1,5 @@
 //! Child jars whose cookies have sealed values.
-ghost use Rattle.std.specs.Prelude.{◌≡◌, ◌↔◌, ℕ, List, None, Some, Err, IfOk, IsOk, OnOk, OnErr, option_map};
+ghost use Rattle.std.specs.Prelude.{◌≡◌, ◌↔◌, ℕ, List, None, Some, Err, IfOk, IfSome, IsOk, OnOk, OnErr, option_map};
 ghost use Rattle.std.specs.FinMap.{get};
 ghost use Rattle.cookie_core.specs.Memory.{Gives};
 ghost use Rattle.cookie.specs.AnswersExactly.{AnswersExactly, AnswersPair};
@@ -80,9 +80,11 @@ impl CookieJar {
 
     // The cookie that the jar shows under the name, with the value that its own is a sealing of.
     fn get_decrypted(&self, cipher: &Gcm, name: &str) -> Result<Option<Cookie<'static>>, JarError>
-        ensures { Gives refusal.OutOfMemory result (λ answer.
+        ensures answers { Gives refusal.OutOfMemory result (λ answer.
             AnswersExactly (IsSealingOf cipher.now) (view self.now name.now)
             (option_map (λ c. c.fields) answer)) }
+        ensures raw { Gives refusal.OutOfMemory result (λ answer.
+            IfSome answer (λ c. c.raw.value ≡ None)) }
     {
         let alloc = self.allocator();
         match self.get(name) {
@@ -98,9 +100,13 @@ impl<'a> PrivateJar<'a> {
     ///
     /// Fails with `JarError::OutOfMemory` alone.
     pub fn get(&self, name: &str) -> Result<Option<Cookie<'static>>, JarError>
-        ensures { Gives refusal.OutOfMemory result (λ answer.
+        ensures answers { Gives refusal.OutOfMemory result (λ answer.
             AnswersExactly (IsSealingOf self.now.key) (view self.now.jar name.now)
             (option_map (λ c. c.fields) answer)) }
+
+        // The value is a text of its own.
+        ensures raw { Gives refusal.OutOfMemory result (λ answer.
+            IfSome answer (λ c. c.raw.value ≡ None)) }
     {
         self.jar.get_decrypted(&self.cipher, name)
     }
@@ -110,9 +116,13 @@ impl<'a> PrivateJar<'a> {
     ///
     /// Fails with `JarError::OutOfMemory` alone.
     pub fn decrypt(&self, cookie: Cookie<'static>) -> Result<Option<Cookie<'static>>, JarError>
-        ensures { Gives refusal.OutOfMemory result (λ answer.
+        ensures answers { Gives refusal.OutOfMemory result (λ answer.
             AnswersExactly (IsSealingOf self.now.key) (Some cookie.entry.fields)
             (option_map (λ c. c.fields) answer)) }
+
+        // Only the value changes of what the cookie lends: it is a text of its own.
+        ensures raw { Gives refusal.OutOfMemory result (λ answer.
+            IfSome answer (λ c. c.raw ≡ record cookie.entry.raw { value = None })) }
     {
         Ok(decrypt(self.jar.allocator(), &self.cipher, cookie)?)
     }
@@ -124,9 +134,13 @@ impl<'a> PrivateJarMut<'a> {
     ///
     /// Fails with `JarError::OutOfMemory` alone.
     pub fn get(&self, name: &str) -> Result<Option<Cookie<'static>>, JarError>
-        ensures { Gives refusal.OutOfMemory result (λ answer.
+        ensures answers { Gives refusal.OutOfMemory result (λ answer.
             AnswersExactly (IsSealingOf (key_of self.now)) (view (jar_of self.now) name.now)
             (option_map (λ c. c.fields) answer)) }
+
+        // The value is a text of its own.
+        ensures raw { Gives refusal.OutOfMemory result (λ answer.
+            IfSome answer (λ c. c.raw.value ≡ None)) }
     {
         self.jar.get_decrypted(&self.storing.cipher, name)
     }
@@ -136,9 +150,13 @@ impl<'a> PrivateJarMut<'a> {
     ///
     /// Fails with `JarError::OutOfMemory` alone.
     pub fn decrypt(&self, cookie: Cookie<'static>) -> Result<Option<Cookie<'static>>, JarError>
-        ensures { Gives refusal.OutOfMemory result (λ answer.
+        ensures answers { Gives refusal.OutOfMemory result (λ answer.
             AnswersExactly (IsSealingOf (key_of self.now)) (Some cookie.entry.fields)
             (option_map (λ c. c.fields) answer)) }
+
+        // Only the value changes of what the cookie lends: it is a text of its own.
+        ensures raw { Gives refusal.OutOfMemory result (λ answer.
+            IfSome answer (λ c. c.raw ≡ record cookie.entry.raw { value = None })) }
     {
         Ok(decrypt(self.jar.allocator(), &self.storing.cipher, cookie)?)
     }

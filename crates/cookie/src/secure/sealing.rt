@@ -1,5 +1,5 @@
 //! Values sealed with AES-256-GCM, and opened again (SP 800-38D 7, RFC 4648 4).
-ghost use Rattle.std.specs.Prelude.{◌≡◌, ◌↔◌, ℕ, List, Some, IfOk, IfSome, IsTrue, alloc_error, option_map};
+ghost use Rattle.std.specs.Prelude.{◌≡◌, ◌↔◌, ℕ, List, None, Some, IfOk, IfSome, IsTrue, alloc_error, option_map};
 ghost use Rattle.std.specs.String.{string_bytes};
 ghost use Rattle.base64.specs.Engines.{standard};
 ghost use Rattle.base64.specs.GeneralPurpose.{encode_of};
@@ -63,9 +63,11 @@ pub(crate) fn decrypt<'c>(
     cipher: &Gcm,
     mut cookie: Cookie<'c>,
 ) -> Result<Option<Cookie<'c>>, AllocError>
-    ensures { Gives alloc_error result (λ answer.
+    ensures answers { Gives alloc_error result (λ answer.
         AnswersExactly (IsSealingOf cipher.now) (Some cookie.entry.fields)
         (option_map (λ c. c.fields) answer)) }
+    ensures raw { Gives alloc_error result (λ answer.
+        IfSome answer (λ c. c.raw ≡ record cookie.entry.raw { value = None })) }
 {
     let Some(value) = unseal(alloc, cipher, cookie.name(), cookie.value())? else {
         return Ok(None);

@@ -1,5 +1,5 @@
 //! Child jars whose cookies have signed values.
-ghost use Rattle.std.specs.Prelude.{◌≡◌, Some, ⊤, option_map};
+ghost use Rattle.std.specs.Prelude.{◌≡◌, None, Some, IfSome, ⊤, option_map};
 ghost use Rattle.cookie_core.specs.Memory.{Gives};
 ghost use Rattle.cookie.specs.AnswersExactly.{AnswersExactly, AnswersPair};
 ghost use Rattle.cookie.specs.Jar.{view};
@@ -108,9 +108,11 @@ impl CookieJar {
 
     // The cookie that the jar shows under the name, with the value that its own is the signing of.
     fn get_verified(&self, mac: &Mac, name: &str) -> Result<Option<Cookie<'static>>, JarError>
-        ensures { Gives refusal.OutOfMemory result (λ answer.
+        ensures answers { Gives refusal.OutOfMemory result (λ answer.
             AnswersExactly (IsSigningOf mac.now) (view self.now name.now)
             (option_map (λ c. c.fields) answer)) }
+        ensures raw { Gives refusal.OutOfMemory result (λ answer.
+            IfSome answer (λ c. c.raw.value ≡ None)) }
     {
         let alloc = self.allocator();
         match self.get(name) {
@@ -126,9 +128,13 @@ impl<'a> SignedJar<'a> {
     ///
     /// Fails with `JarError::OutOfMemory` alone.
     pub fn get(&self, name: &str) -> Result<Option<Cookie<'static>>, JarError>
-        ensures { Gives refusal.OutOfMemory result (λ answer.
+        ensures answers { Gives refusal.OutOfMemory result (λ answer.
             AnswersExactly (IsSigningOf self.now.key) (view self.now.jar name.now)
             (option_map (λ c. c.fields) answer)) }
+
+        // The value is a text of its own.
+        ensures raw { Gives refusal.OutOfMemory result (λ answer.
+            IfSome answer (λ c. c.raw.value ≡ None)) }
     {
         self.jar.get_verified(&self.mac, name)
     }
@@ -141,6 +147,10 @@ impl<'a> SignedJar<'a> {
         ensures answers { Gives refusal.OutOfMemory result (λ answer.
             AnswersExactly (IsSigningOf self.now.key) (Some cookie.entry.fields)
             (option_map (λ c. c.fields) answer)) }
+
+        // Only the value changes of what the cookie lends: it is a text of its own.
+        ensures raw { Gives refusal.OutOfMemory result (λ answer.
+            IfSome answer (λ c. c.raw ≡ record cookie.entry.raw { value = None })) }
 
         // What a signature covers says where the name ends and the value begins.
         ensures one_pair { CoversOnePair }
@@ -155,9 +165,13 @@ impl<'a> SignedJarMut<'a> {
     ///
     /// Fails with `JarError::OutOfMemory` alone.
     pub fn get(&self, name: &str) -> Result<Option<Cookie<'static>>, JarError>
-        ensures { Gives refusal.OutOfMemory result (λ answer.
+        ensures answers { Gives refusal.OutOfMemory result (λ answer.
             AnswersExactly (IsSigningOf (key_of self.now)) (view (jar_of self.now) name.now)
             (option_map (λ c. c.fields) answer)) }
+
+        // The value is a text of its own.
+        ensures raw { Gives refusal.OutOfMemory result (λ answer.
+            IfSome answer (λ c. c.raw.value ≡ None)) }
     {
         self.jar.get_verified(&self.storing.mac, name)
     }
@@ -170,6 +184,10 @@ impl<'a> SignedJarMut<'a> {
         ensures answers { Gives refusal.OutOfMemory result (λ answer.
             AnswersExactly (IsSigningOf (key_of self.now)) (Some cookie.entry.fields)
             (option_map (λ c. c.fields) answer)) }
+
+        // Only the value changes of what the cookie lends: it is a text of its own.
+        ensures raw { Gives refusal.OutOfMemory result (λ answer.
+            IfSome answer (λ c. c.raw ≡ record cookie.entry.raw { value = None })) }
 
         // What a signature covers says where the name ends and the value begins.
         ensures one_pair { CoversOnePair }

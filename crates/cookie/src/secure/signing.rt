@@ -1,5 +1,5 @@
 //! The signing of values with HMAC-SHA256 (RFC 2104).
-ghost use Rattle.std.specs.Prelude.{◌≡◌, ◌↔◌, List, ℕ, Some, alloc_error, option_map};
+ghost use Rattle.std.specs.Prelude.{◌≡◌, ◌↔◌, List, ℕ, None, Some, IfSome, alloc_error, option_map};
 ghost use Rattle.std.specs.Option.{option_copied};
 ghost use Rattle.cookie_core.specs.Memory.{Gives};
 ghost use Rattle.cookie.specs.AnswersExactly.{AnswersExactly};
@@ -62,9 +62,11 @@ pub(crate) fn verify<'c>(
     mac: &Mac,
     mut cookie: Cookie<'c>,
 ) -> Result<Option<Cookie<'c>>, AllocError>
-    ensures { Gives alloc_error result (λ answer.
+    ensures answers { Gives alloc_error result (λ answer.
         AnswersExactly (IsSigningOf mac.now) (Some cookie.entry.fields)
         (option_map (λ c. c.fields) answer)) }
+    ensures raw { Gives alloc_error result (λ answer.
+        IfSome answer (λ c. c.raw ≡ record cookie.entry.raw { value = None })) }
 {
     let Some(value) = unsign(mac, cookie.name(), cookie.value()) else {
         return Ok(None);
