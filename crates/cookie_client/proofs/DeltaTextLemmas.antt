@@ -1,7 +1,7 @@
 -- The texts of the cookies that a delta's walk meets are the delta's, in any order.
 use Rattle.std.proofs.Common.{◌≡◌, ℕ, zero, suc, true, false, List, [], ◌∷◌, map, Contains, Option, Some, None, option_map, refl, sym, ap, arith}
 use Rattle.std.proofs.lemmas.List.Elements.{All-map, All-weaker}
-use Rattle.std.proofs.lemmas.List.Sorted.{All-permutation, Contains-permutation}
+use Rattle.std.proofs.lemmas.List.Sorted.{All-permutation, Contains-permutation, IsPermutation-trans}
 use Rattle.std.proofs.lemmas.Option.{none-some, same_Some}
 use Rattle.std.specs.FinMap.{FinMap, get}
 use Rattle.std.specs.List.Sorted.{IsPermutation}
@@ -10,7 +10,7 @@ use Rattle.cookie.specs.Record.{Record}
 use Rattle.cookie.specs.Text.{cookie_text}
 use Rattle.cookie.specs.Walk.{Walks}
 use Rattle.cookie.proofs.MetLemmas.{meets_each, meets_only}
-use Rattle.cookie_client.specs.Agreement.{IsDeltaText, AreDeltaTexts}
+use Rattle.cookie_client.specs.Agreement.{IsDeltaText, AreDeltaTexts, AreDeltaTextsOnce}
 
 -- the encoded text of a cookie
 abbrev text_of : Record → List ℕ
@@ -38,7 +38,7 @@ module _ (delta : FinMap name_cmp Marked) where
       let (entry, stands, is) = entry_of (get delta cookie.name) cookie e in
       record { name = cookie.name; entry = entry; stands = stands; is = ap text_of (sym is) }
 
-  pub AreDeltaTexts-walk : (cookies : List Record) → Walks (λ n. option_map (λ m. m.cookie) (get delta n)) cookies → AreDeltaTexts delta (map (cookie_text true false) cookies)
+  AreDeltaTexts-walk : (cookies : List Record) → Walks (λ n. option_map (λ m. m.cookie) (get delta n)) cookies → AreDeltaTexts delta (map (cookie_text true false) cookies)
   AreDeltaTexts-walk cookies walks =
       record {
         each = λ name entry e. Contains-text cookies entry.cookie (meets_each (λ n. cookie_of (get delta n)) cookies walks name entry.cookie (ap cookie_of e));
@@ -46,9 +46,21 @@ module _ (delta : FinMap name_cmp Marked) where
             (All-weaker (λ c. cookie_of (get delta c.name) ≡ Some c) (λ c. IsDeltaText delta (text_of c)) is_text cookies (meets_only (λ n. cookie_of (get delta n)) cookies walks));
       }
 
-  pub AreDeltaTexts-moved : (texts others : List (List ℕ)) → IsPermutation texts others → AreDeltaTexts delta texts → AreDeltaTexts delta others
+  AreDeltaTexts-moved : (texts others : List (List ℕ)) → IsPermutation texts others → AreDeltaTexts delta texts → AreDeltaTexts delta others
   AreDeltaTexts-moved texts others moved are =
       record {
         each = λ name entry e. Contains-permutation texts others (text_of entry.cookie) moved (are.each name entry e);
         only = All-permutation (IsDeltaText delta) texts others moved are.only;
+      }
+
+  -- once is at least once
+  pub AreDeltaTexts-once : (texts : List (List ℕ)) → AreDeltaTextsOnce delta texts → AreDeltaTexts delta texts
+  AreDeltaTexts-once texts once = AreDeltaTexts-moved (map text_of once.cookies) texts once.written (AreDeltaTexts-walk once.cookies once.are)
+
+  pub AreDeltaTextsOnce-moved : (texts others : List (List ℕ)) → IsPermutation texts others → AreDeltaTextsOnce delta texts → AreDeltaTextsOnce delta others
+  AreDeltaTextsOnce-moved texts others moved once =
+      record {
+        cookies = once.cookies;
+        are = once.are;
+        written = IsPermutation-trans (map text_of once.cookies) texts others once.written moved;
       }

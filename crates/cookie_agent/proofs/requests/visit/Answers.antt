@@ -34,6 +34,6 @@ returns c =
       sent = c.in_ok-header.ensures;
       jar = jar;
       texts = texts;
-      are = c.in_ok-texts.ensures;
+      are = c.in_ok-texts.ensures.each;
       read = read;
     })

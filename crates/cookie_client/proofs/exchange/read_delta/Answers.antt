@@ -8,6 +8,6 @@ returns c =
     let texts : List (List ℕ) = map string_bytes c.in_ok-texts.texts.items in
     on_ok_weaker c.read_texts.result (λ read. (
       texts,
-      c.in_ok-texts.ensures,
+      c.in_ok-texts.ensures.each,
       read ∙ ap (λ ts. after_texts c.args.now (map string_bytes ts) c.args.client.now) c.deref.ensures.value,
     )) c.read_texts.ensures

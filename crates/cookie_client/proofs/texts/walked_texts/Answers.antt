@@ -1,11 +1,16 @@
-use Rattle.std.proofs.Common.{sym, subst, map, true, false, string_bytes, ◌++◌}
+use Rattle.std.proofs.Common.{ap, map, true, false, string_bytes, sym, subst, List, ℕ, ◌++◌, ◌∙◌}
+use Rattle.std.proofs.lemmas.List.Sorted.{IsPermutation-refl}
+use Rattle.std.specs.List.Sorted.{IsPermutation}
 use Rattle.cookie.specs.Text.{cookie_text}
-use Rattle.cookie_client.specs.Agreement.{AreDeltaTexts}
-use Rattle.cookie_client.proofs.DeltaTextLemmas.{AreDeltaTexts-walk}
 use Rattle.cookie_client.proofs.texts.walked_texts.Goals as goal
 
 pub loop-cookie-init : goal.loop-cookie-init
 loop-cookie-init c =
-    subst (λ ts. AreDeltaTexts c.args.jar.now.delta (map string_bytes ts ++ map (cookie_text true false) c.into_iter-cookie-iterator.result)) (sym c.new-texts.ensures.items)
-    (subst (λ cookies. AreDeltaTexts c.args.jar.now.delta (map (cookie_text true false) cookies)) (sym c.into_iter-cookie-iterator.ensures.into_iter_gives)
-    (AreDeltaTexts-walk c.args.jar.now.delta c.delta-cookie-items.result c.delta-cookie-items.ensures.walks))
+    let all = map (cookie_text true false) c.delta-cookie-items.result in
+    record {
+      cookies = c.delta-cookie-items.result;
+      are = c.delta-cookie-items.ensures.walks;
+      written = subst (IsPermutation all) (sym (
+          ap (λ ts. map string_bytes ts ++ map (cookie_text true false) c.into_iter-cookie-iterator.result) c.new-texts.ensures.items
+          ∙ ap (λ cookies. map (cookie_text true false) cookies) c.into_iter-cookie-iterator.ensures.into_iter_gives)) (IsPermutation-refl all);
+    }
