@@ -3,7 +3,7 @@ use Rattle.std.proofs.Common.{◌≡◌, ℕ, Bool, true, false, cond, ◌||◌,
 use mathlib.Core.List.{reverse_aux}
 use mathlib.Core.Logic.{◌≢◌}
 use Rattle.std.proofs.lemmas.Bool.{or_parts}
-use Rattle.std.proofs.lemmas.List.Elements.{All-head, All-tail}
+use Rattle.std.proofs.lemmas.List.Elements.{All-nil, All-cons, All-head, All-tail}
 use Rattle.std.proofs.lemmas.Option.{none-some}
 use Rattle.std.specs.FinMap.{FinMap, empty, get, insert, get-empty}
 use Rattle.std.specs.List.{list_any}
@@ -74,16 +74,28 @@ another_name : (name : Name) → name ≢ [] → bytes_eq [] name ≡ false
 another_name [] some = absurd (some refl)
 another_name (b ∷ bs) some = refl
 
-held_unnamed : (now : DateTime) (changes : List Change) (values : Values) → All (IsFit now) changes → get (holding (originals_of changes) values) [] ≡ get values []
-held_unnamed now [] values all = refl
-held_unnamed now (AddOriginal cookie ∷ changes) values all =
-    held_unnamed now changes (insert values cookie.name cookie.value) (All-tail (IsFit now) (AddOriginal cookie) changes all)
+-- the cookie has a name
+abbrev pub HasName : Record → Type 0
+HasName cookie = cookie.name ≢ []
+
+-- cookies with names leave the empty name as it was
+pub held_unnamed : (cookies : List Record) (values : Values) → All HasName cookies → get (holding cookies values) [] ≡ get values []
+held_unnamed [] values named = refl
+held_unnamed (cookie ∷ cookies) values named =
+    held_unnamed cookies (insert values cookie.name cookie.value) (All-tail HasName cookie cookies named)
     ∙ get_inserted values cookie.name cookie.value []
-    ∙ ap (λ b. cond b (Some cookie.value) (get values [])) (another_name cookie.name (All-head (IsFit now) (AddOriginal cookie) changes all))
-held_unnamed now (Add cookie ∷ changes) values all = held_unnamed now changes values (All-tail (IsFit now) (Add cookie) changes all)
-held_unnamed now (Remove cookie moment ∷ changes) values all = held_unnamed now changes values (All-tail (IsFit now) (Remove cookie moment) changes all)
-held_unnamed now (ForceRemove name ∷ changes) values all = held_unnamed now changes values (All-tail (IsFit now) (ForceRemove name) changes all)
-held_unnamed now (ResetDelta ∷ changes) values all = held_unnamed now changes values (All-tail (IsFit now) ResetDelta changes all)
+    ∙ ap (λ b. cond b (Some cookie.value) (get values [])) (another_name cookie.name (All-head HasName cookie cookies named))
+
+-- fit originals have names
+originals_named : (now : DateTime) (changes : List Change) → All (IsFit now) changes → All HasName (originals_of changes)
+originals_named now [] fits = All-nil HasName
+originals_named now (AddOriginal cookie ∷ changes) fits =
+    All-cons HasName cookie (originals_of changes) (All-head (IsFit now) (AddOriginal cookie) changes fits)
+    (originals_named now changes (All-tail (IsFit now) (AddOriginal cookie) changes fits))
+originals_named now (Add cookie ∷ changes) fits = originals_named now changes (All-tail (IsFit now) (Add cookie) changes fits)
+originals_named now (Remove cookie moment ∷ changes) fits = originals_named now changes (All-tail (IsFit now) (Remove cookie moment) changes fits)
+originals_named now (ForceRemove name ∷ changes) fits = originals_named now changes (All-tail (IsFit now) (ForceRemove name) changes fits)
+originals_named now (ResetDelta ∷ changes) fits = originals_named now changes (All-tail (IsFit now) ResetDelta changes fits)
 
 -- a text of the delta leaves the empty name as it was
 pub decided_unnamed : (now : DateTime) (delta : FinMap name_cmp Marked) → AreEntries IsKept delta → (o : Option Marked) → get delta [] ≡ o → (before : Option (List ℕ)) → decided now o before ≡ before
@@ -113,7 +125,7 @@ holds_each now changes jar is =
       last = last;
       unforced = λ name unforced. last name ∙ ap value_of (last_unforced name (reverse changes) (unforced_back name changes [] unforced refl) ∙ sym (original name));
       standing = λ name cookie e. last name ∙ ap value_of (last_of_kept name (reverse changes) cookie (sym (original name) ∙ e) ∙ sym e);
-      named = λ fits. held_unnamed now changes empty fits ∙ get-empty name_cmp [];
+      named = λ fits. held_unnamed (originals_of changes) empty (originals_named now changes fits) ∙ get-empty name_cmp [];
     }
 
 -- ---- originals that no change alters

@@ -8,6 +8,7 @@ pub mod FitLemmas
 pub mod HeaderLemmas
 pub mod LineLemmas
 pub mod LiveLemmas
+pub mod NameLemmas
 pub mod OriginalLemmas
 pub mod ReadTextLemmas
 pub mod StoredLemmas

@@ -1,5 +1,6 @@
 -- What a run answers, from what its session is.
 use Rattle.std.proofs.Common.{◌≡◌, ℕ, true, List, [], ◌∷◌, ◌++◌, map, drop, Option, Some, None, Result, Ok, Err, cond, IsUtf8, refl, sym, ap, subst, ◌∙◌}
+use Rattle.std.specs.FinMap.{get}
 use Rattle.std.specs.Io.KnownBytes.{Keeps}
 use Rattle.std.specs.List.{list_all}
 use Rattle.std.specs.Result.{MatchResult, result_map_both}
@@ -13,7 +14,7 @@ use Rattle.cookie.specs.Jar.{Change, JarState}
 use Rattle.cookie.specs.Memory.{Gives}
 use Rattle.cookie_client.specs.Agreement.{Agrees}
 use Rattle.cookie_client.specs.Calls.{IsOutcome, change_of, changes_of}
-use Rattle.cookie_client.specs.Client.{after_texts}
+use Rattle.cookie_client.specs.Client.{ReadsBack, after_texts}
 use Rattle.cookie_client.specs.Lines.{lines_of}
 use Rattle.cookie_client.specs.Exchange.{IsExchange}
 use Rattle.cookie_client.specs.Originals.{client_for, jar_for}
@@ -24,6 +25,7 @@ use Rattle.cookie_client.specs.declared.exchange.Played.{Played}
 use Rattle.cookie_client.specs.declared.run_error.RunError.{RunError}
 use Rattle.cookie_client.specs.declared.run_error.RunError.TheVariants as refusal
 use Rattle.cookie_client.proofs.EntriesLemmas.{are_texts}
+use Rattle.cookie_client.proofs.NameLemmas.{client_for-unnamed}
 use Rattle.cookie_client.proofs.RoundLemmas.{holds_kept}
 use Rattle.cookie_client.proofs.SessionLemmas.{accepted_items-all, jar_after-changes}
 
@@ -61,15 +63,17 @@ session_of_lines-refused now lines refusal.Output h = h
 
 -- what is written of a visit is the session's text, and of a client that agrees with the jar
 pub written_by : (now : DateTime) (lines : List (List ℕ)) (calls : List JarCall) (p : Played) (text : List ℕ) → changes_in now 2 (drop 1 lines) ≡ Ok (map change_of calls)
-    → IsExchange now (jar_for (header_line lines)) (client_for (header_line lines)) calls p → list_all (λ b. b) p.outcomes.items ≡ true → text ≡ set_cookie_lines (delta_texts p.jar) ++ cookie_line p.client
+    → IsExchange now (jar_for (header_line lines)) (client_for (header_line lines)) calls p → list_all (λ b. b) p.outcomes.items ≡ true
+    → (text ≡ set_cookie_lines (delta_texts p.jar) ++ cookie_line p.client) × (get p.client [] ≡ None → ReadsBack p.client)
     → (session_of_lines now lines ≡ Ok text) × IsOfAgreement now lines text
 unfolding asked
-written_by now lines calls p text asks visit all is =
+written_by now lines calls p text asks visit all (is, reads_back) =
     let values = client_for (header_line lines) in
     let start : JarState = jar_for (header_line lines) in
     let changes : List Change = map change_of calls in
     let same : changes_of p.outcomes.items calls ≡ changes = ap (map change_of) (accepted_items-all p.outcomes.items calls (AllZip-long IsOutcome calls p.outcomes.items visit.outcomes) all) in
     let made : p.jar ≡ after_all changes start = visit.jar ∙ ap (λ cs. after_all cs start) same in
+    let named : get p.client [] ≡ None = visit.agreement.named (client_for-unnamed (header_line lines)) in
     let client : p.client ≡ after_texts now (delta_texts p.jar) values = visit.agreement.in_any_order (delta_texts p.jar) (are_texts p.jar) in (
       by_changes now lines ∙ ap (asked now lines) asks
           ∙ sym (ap Ok (is ∙ ap (λ v. set_cookie_lines (delta_texts p.jar) ++ cookie_line v) client ∙ ap (λ jar. session_text now values jar) made)),
@@ -81,6 +85,8 @@ written_by now lines calls p text asks visit all is =
         client = p.client;
         agreement = subst (λ cs. Agrees now values cs p.jar p.client) same visit.agreement;
         held = holds_kept (header_line lines) changes p.jar made;
+        named = named;
+        reads_back = reads_back named;
         written = is;
       },
     )

@@ -1,5 +1,6 @@
 -- How what a run answered and wrote fits its session.
 use Rattle.std.specs.Prelude.{◌≡◌, ◌+◌, ℕ, false, List, [], ◌∷◌, ◌++◌, ◌<◌, drop, length, take, Option, Some, None, Result, Ok, Err, OnOk}
+use Rattle.std.specs.FinMap.{get}
 use Rattle.std.specs.Io.KnownBytes.{Keeps, Appends, Consumes, IsAtEnd}
 use Rattle.std.specs.List.{list_any}
 use Rattle.std.specs.Result.{result_map_both}
@@ -7,7 +8,7 @@ use Rattle.jiff.specs.Types.{DateTime}
 use Rattle.cookie.specs.History.{after_all}
 use Rattle.cookie.specs.Jar.{Name, JarState, Change}
 use Rattle.cookie_client.specs.Agreement.{Agrees, HoldsOriginal, alters_original}
-use Rattle.cookie_client.specs.Client.{Values}
+use Rattle.cookie_client.specs.Client.{ReadsBack, Values}
 use Rattle.cookie_client.specs.Lines.{lines_of}
 use Rattle.cookie_client.specs.Originals.{client_for, jar_for}
 use Rattle.cookie_client.specs.Session.{Fault, BadMoment, BadInput, BadLine, call_of, cookie_line, delta_texts, moment_of, session, set_cookie_lines}
@@ -80,6 +81,9 @@ pub record IsOfAgreement (now : DateTime) (lines : List (List ℕ)) (text : List
   -- which held the jar's original of each name that no line removes by force
   pub held : (name : Name) → list_any (alters_original name) changes ≡ false
       → HoldsOriginal (client_for (header_line lines)) jar name
+  -- and which holds nothing under the empty name, so that its header is read back as its names and values
+  pub named : get client [] ≡ None
+  pub reads_back : ReadsBack client
   -- and the text is the jar's delta and that client's header
   pub written : text ≡ set_cookie_lines (delta_texts jar) ++ cookie_line client
 

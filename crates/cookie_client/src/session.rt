@@ -1,12 +1,13 @@
 //! The engine of the program: a session from the bytes of its input to its text.
-ghost use Rattle.std.specs.Prelude.{◌≡◌, ◌+◌, ◌++◌, ◌^◌, ◌<◌, codes, true, false, option_map, None, Ok, Err, IfOk, OnOk, MatchResult, drop, map, length, string_bytes};
-ghost use Rattle.std.specs.FinMap.{entries};
+ghost use Rattle.std.specs.Prelude.{◌≡◌, ◌+◌, ◌++◌, ◌^◌, ◌<◌, [], codes, true, false, option_map, None, Ok, Err, IfOk, OnOk, MatchResult, drop, map, length, string_bytes};
+ghost use Rattle.std.specs.FinMap.{entries, get};
 ghost use Rattle.std.specs.List.{list_all};
 ghost use Rattle.cookie.specs.CookieOf.{cookie_of};
 ghost use Rattle.cookie.specs.Memory.{Gives};
 ghost use Rattle.cookie.specs.Jar.{Add, empty_jar};
 ghost use Rattle.cookie.specs.Text.{cookie_text};
 ghost use Rattle.cookie_client.specs.Calls.{change_of};
+ghost use Rattle.cookie_client.specs.Client.{ReadsBack};
 ghost use Rattle.cookie_client.specs.Lines.{lines_of};
 ghost use Rattle.cookie_client.specs.Run.{IsAgreed, IsOfAgreement, IsPlayed, IsRead, Refuses, changes_in, header_line};
 ghost use Rattle.cookie_client.specs.Session.{moment_of, call_of, removal_of, forced_removal_of, discarding_of, set_cookie_lines, delta_texts, cookie_line, session_of_lines, session_of_bytes};
@@ -153,7 +154,8 @@ fn push_line(written: &mut String, label: &str, text: &str) -> Result<(), AllocE
 // What is written of a jar, and of a client that read its delta.
 fn output(alloc: Global, client: &Client, jar: &CookieJar) -> Result<String, RunError>
     ensures { Gives refusal.OutOfMemory result (λ text.
-        string_bytes text ≡ set_cookie_lines (delta_texts jar.now) ++ cookie_line client.now) }
+        (string_bytes text ≡ set_cookie_lines (delta_texts jar.now) ++ cookie_line client.now)
+        × (get client.now [] ≡ None → ReadsBack client.now)) }
 {
     let texts = texts_by_name(alloc, jar)?;
     let mut written = String::new(alloc);

@@ -1,7 +1,9 @@
-use Rattle.std.proofs.Common.{◌≡◌, ◌++◌, Ok, List, ℕ, length, drop, sym, ap, subst, ◌∙◌, arith, length-drop}
+use Rattle.std.proofs.Common.{◌≡◌, ◌++◌, [], None, Ok, List, ℕ, length, drop, sym, ap, subst, ◌∙◌, arith, length-drop}
+use Rattle.std.specs.FinMap.{get}
 use Rattle.std.specs.List.{list_all}
 use Rattle.std.proofs.lemmas.Result.{err_from_is_err_and}
 use Rattle.std.specs.String.{string_bytes}
+use Rattle.cookie_client.specs.Client.{ReadsBack}
 use Rattle.cookie_client.specs.Exchange.{IsExchange}
 use Rattle.cookie_client.specs.Lines.{lines_of}
 use Rattle.cookie_client.specs.Originals.{client_for, jar_for}
@@ -24,7 +26,9 @@ returns-in_err-calls-clause-played c =
     (subst (λ ls. Refuses (changes_in c.args.now 2 ls) c.in_err-calls.field-0.0) rest c.in_err-calls.ensures))
 
 -- what is written is the session's text, and of an agreement
-told : (c : goal.After-drop-calls-2) (text : List ℕ) → text ≡ set_cookie_lines (delta_texts c.in_ok-visited.visited.jar) ++ cookie_line c.in_ok-visited.visited.client
+told : (c : goal.After-drop-calls-2) (text : List ℕ)
+    → (text ≡ set_cookie_lines (delta_texts c.in_ok-visited.visited.jar) ++ cookie_line c.in_ok-visited.visited.client)
+    × (get c.in_ok-visited.visited.client [] ≡ None → ReadsBack c.in_ok-visited.visited.client)
     → (session_of_lines c.args.now (lines_of c.args.text.now) ≡ Ok text) × IsOfAgreement c.args.now (lines_of c.args.text.now) text
 told c text is =
     let now = c.args.now in
