@@ -75,6 +75,7 @@ module _ (now : DateTime) (calls : List JarCall) (e : Exchanged) where
         reads = λ texts same. exchange.agreement.in_any_order texts (AreDeltaTexts-same delta (set_cookie_texts e.response) texts same are);
         agrees = agrees;
         request = request;
+        arrived = next;
         next = λ fits name.
             let is : IsHeaderOf client header = told client header (exchange.agreement.named (held.named (exchange.fit fits))) refl read in
             ap (λ jar. value_of (view jar name)) (next ∙ ap jar_for (ap cookie_header request ∙ one_field header (IsUtf8-header_text client)))

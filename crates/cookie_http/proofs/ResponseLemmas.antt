@@ -158,7 +158,7 @@ ContainsKey-with (text ∷ texts) m c = ContainsKey-with texts (append m name (p
 lacks : (texts : List (List ℕ)) (m : Entries FieldValue) (n : ℕ) → suc (length texts) ≤ n → RefusesAppend (with_set_cookies texts m) name → LacksRoom n m
 lacks texts m n more (inl full) = inr (omega (arith, full, count-with texts m))
 lacks texts m n more (inr (new, inr full)) = inr (omega (arith, full, count-with texts m))
-lacks [] m n more (inr (new, inl many)) = inl (new, many)
+lacks [] m n more (inr (new, inl many)) = inl (omega (arith, more), new, many)
 lacks (text ∷ texts) m n more (inr (new, inl many)) =
     absurd (new (ContainsKey-with texts (append m name (plain_value text)) (ContainsKey-append m name (plain_value text))))
 

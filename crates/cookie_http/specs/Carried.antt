@@ -9,9 +9,9 @@ use Rattle.cookie_client.specs.Agreement.{value_of}
 use Rattle.cookie_client.specs.Calls.{IsFitCall}
 use Rattle.cookie_client.specs.Client.{after_texts, header_text}
 use Rattle.cookie_client.specs.Exchange.{IsExchange, accepted_calls, changes_by}
-use Rattle.cookie_client.specs.Originals.{holds_originals}
+use Rattle.cookie_client.specs.Originals.{holds_originals, jar_for}
 use Rattle.cookie_client.specs.declared.call.JarCall.{JarCall}
-use Rattle.cookie_http.specs.Fields.{set_cookie_texts}
+use Rattle.cookie_http.specs.Fields.{cookie_header, set_cookie_texts}
 use Rattle.cookie_http.specs.Response.{AddsDelta}
 use Rattle.cookie_http.specs.declared.carried.Exchanged.{Exchanged}
 
@@ -35,6 +35,8 @@ pub record IsCarried (now : DateTime) (calls : List JarCall) (e : Exchanged) : T
       → get e.played.client name ≡ value_of (view e.played.jar name)
   -- its next request has the one field `Cookie`
   pub request : e.request ≡ (codes "cookie", plain_value (header_text e.played.client) ∷ []) ∷ []
+  -- the jar of that request is that of its fields, whether the calls are fit or not
+  pub arrived : e.next ≡ jar_for (cookie_header e.request)
   -- and where they are fit, the jar of that request shows at each name what the client holds
   pub next : All (IsFitCall now) (accepted_calls calls e.played) → (name : Name)
       → value_of (view e.next name) ≡ get e.played.client name

@@ -1,5 +1,5 @@
 -- The `Set-Cookie` fields that a response gets of a jar's delta (RFC 6265 3, RFC 9110 5.5).
-use Rattle.std.specs.Prelude.{◌≡◌, ◌≤◌, ◌+◌, ◌^◌, ◌⊎◌, ◌++◌, ℕ, true, false, List, map, length, codes, Some, option_map, IfSome}
+use Rattle.std.specs.Prelude.{◌≡◌, ◌<◌, ◌≤◌, ◌+◌, ◌^◌, ◌⊎◌, ◌++◌, ℕ, true, false, List, map, length, codes, Some, option_map, IfSome}
 use Rattle.std.specs.FinMap.{FinMap, get}
 use Rattle.http_header.specs.FieldValue.{FieldValue, IsFieldValue, plain_value}
 use Rattle.http_header.specs.HeaderMap.{Entries, ContainsKey, append_all, value_count}
@@ -40,7 +40,7 @@ AllFitFields delta =
 -- the map has as many names as it can count, and no `Set-Cookie` field, or it can't count so many more values
 abbrev pub LacksRoom : ℕ → Entries FieldValue → Type 0
 LacksRoom n m =
-    (¬ (ContainsKey m (codes "set-cookie")) × (24576 ≤ length m))
+    ((0 < n) × ¬ (ContainsKey m (codes "set-cookie")) × (24576 ≤ length m))
     ⊎ (2 ^ 64 ≤ value_count m + n)
 
 -- it has no room for the cookies of the delta

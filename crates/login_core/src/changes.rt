@@ -1,6 +1,8 @@
 //! What a page changes in the jar.
 ghost use Rattle.std.specs.Prelude.{◌≡◌, ℕ, List, OnOk};
+ghost use Rattle.cookie.specs.Memory.{Gives};
 ghost use Rattle.cookie.specs.Sealing.{IsNonce};
+ghost use Rattle.cookie.specs.declared.jar_error.JarError.TheVariants as refusal;
 ghost use Rattle.login_core.specs.Changes.{forgets, logged_in, logged_out, removes, seals, shown, signs};
 
 use crate::site::Site;
@@ -19,7 +21,7 @@ pub(crate) fn show(
     visitor: &Visitor,
     now: DateTime,
 ) -> Result<(), JarError>
-    ensures { OnOk result (jar.new ≡ shown site.now now visitor.now jar.old) }
+    ensures { Gives refusal.OutOfMemory result (λ _. jar.new ≡ shown site.now now visitor.now jar.old) }
 {
     if visitor.notice.is_some() {
         remove(alloc, site, jar, SiteCookie::Notice, now)?;
@@ -53,7 +55,7 @@ pub(crate) fn log_out(
     jar: &mut CookieJar,
     now: DateTime,
 ) -> Result<(), JarError>
-    ensures { OnOk result (jar.new ≡ logged_out site.now now jar.old) }
+    ensures { Gives refusal.OutOfMemory result (λ _. jar.new ≡ logged_out site.now now jar.old) }
 {
     forget(alloc, site, jar, now)?;
     sign(alloc, site, jar, SiteCookie::Notice, "You are logged out.")
@@ -66,7 +68,7 @@ fn forget(
     jar: &mut CookieJar,
     now: DateTime,
 ) -> Result<(), JarError>
-    ensures { OnOk result (jar.new ≡ forgets site.now now jar.old) }
+    ensures { Gives refusal.OutOfMemory result (λ _. jar.new ≡ forgets site.now now jar.old) }
 {
     remove(alloc, site, jar, SiteCookie::User, now)?;
     remove(alloc, site, jar, SiteCookie::Visits, now)
@@ -96,7 +98,7 @@ fn sign(
     which: SiteCookie,
     text: &str,
 ) -> Result<(), JarError>
-    ensures { OnOk result (jar.new ≡ signs site.now which text.now jar.old) }
+    ensures { Gives refusal.OutOfMemory result (λ _. jar.new ≡ signs site.now which text.now jar.old) }
 {
     let cookie = which.with_value(alloc, site.is_secure, text)?;
     jar.signed_mut(site.key).add(cookie)?;
@@ -112,7 +114,7 @@ fn remove(
     which: SiteCookie,
     now: DateTime,
 ) -> Result<(), JarError>
-    ensures { OnOk result (jar.new ≡ removes site.now now which jar.old) }
+    ensures { Gives refusal.OutOfMemory result (λ _. jar.new ≡ removes site.now now which jar.old) }
 {
     let cookie = which.with_value(alloc, site.is_secure, "")?;
     jar.remove(cookie, now)?;

@@ -1,12 +1,15 @@
 //! What the site answers a request.
-ghost use Rattle.std.specs.Prelude.{◌≡◌, ◌↔◌, ℕ, List, IfOk, Some, map, string_bytes};
+ghost use Rattle.std.specs.Prelude.{◌≡◌, ◌↔◌, ℕ, List, IfOk, Ok, Some, map, string_bytes};
 ghost use Rattle.cookie.specs.Jar.{JarState};
+ghost use Rattle.cookie.specs.Memory.{Gives};
+ghost use Rattle.cookie.specs.declared.jar_error.JarError.TheVariants as refusal;
 ghost use Rattle.cookie_client.specs.Agreement.{AreDeltaTexts};
 ghost use Rattle.cookie_client.specs.Originals.{jar_for};
 ghost use Rattle.login_core.specs.Answers.{Answers, IsGreeted, LogsIn, LogsOut, Shows};
 ghost use Rattle.login_core.specs.Forms.{credentials_of, credential_texts};
 ghost use Rattle.login_core.specs.Pages.{greeted};
 ghost use Rattle.login_core.specs.Routes.{route_of};
+ghost use Rattle.login_core.specs.declared.routes.Route.TheVariants.{LogIn};
 
 use crate::changes::{log_in, log_out, show};
 use crate::form::{Credentials, read_credentials};
@@ -48,6 +51,11 @@ pub fn answer<R: TryRng>(
         site.now request.now now (jar_for request.now.cookies.now)
         (route_of request.now.method.now request.now.path.now) response.page jar
         × AreDeltaTexts jar.delta (map string_bytes response.cookies.items)) }
+    // Only a request to log in draws from the generator, or fails for more than memory.
+    ensures undrawn { ¬ (route_of request.now.method.now request.now.path.now ≡ Ok LogIn)
+        → rng.new ≡ rng.old }
+    ensures certain { ¬ (route_of request.now.method.now request.now.path.now ≡ Ok LogIn)
+        → Gives refusal.OutOfMemory result (λ _. Unit {0}) }
 {
     let mut jar = request_jar(alloc, state, request.cookies)?;
     respond(alloc, site, request, &mut jar, now, rng)
@@ -55,7 +63,7 @@ pub fn answer<R: TryRng>(
 
 // The jar of the request's cookies.
 fn request_jar(alloc: Global, state: RandomState, header: &str) -> Result<CookieJar, JarError>
-    ensures { IfOk result (λ jar. jar ≡ jar_for header.now) }
+    ensures { Gives refusal.OutOfMemory result (λ jar. jar ≡ jar_for header.now) }
 {
     match with_originals(alloc, CookieJar::with_hasher(alloc, state), header) {
         Ok(jar) => Ok(jar),
@@ -72,11 +80,16 @@ fn respond<R: TryRng>(
     now: DateTime,
     rng: &mut R,
 ) -> Result<Response, JarError>
-    ensures { IfOk result (λ response.
+    ensures answers { IfOk result (λ response.
         Answers (λ nonce. R.may_fill rng.old nonce rng.new)
         site.now request.now now jar.old
         (route_of request.now.method.now request.now.path.now) response.page jar.new
         × AreDeltaTexts jar.new.delta (map string_bytes response.cookies.items)) }
+    // Only a request to log in draws from the generator, or fails for more than memory.
+    ensures undrawn { ¬ (route_of request.now.method.now request.now.path.now ≡ Ok LogIn)
+        → rng.new ≡ rng.old }
+    ensures certain { ¬ (route_of request.now.method.now request.now.path.now ≡ Ok LogIn)
+        → Gives refusal.OutOfMemory result (λ _. Unit {0}) }
 {
     let page = decide(alloc, site, request, jar, now, rng)?;
     let cookies = delta_texts(alloc, jar, &[])?;
@@ -92,9 +105,14 @@ fn decide<R: TryRng>(
     now: DateTime,
     rng: &mut R,
 ) -> Result<Page, JarError>
-    ensures { IfOk result (λ page. Answers (λ nonce. R.may_fill rng.old nonce rng.new)
+    ensures answers { IfOk result (λ page. Answers (λ nonce. R.may_fill rng.old nonce rng.new)
         site.now request.now now jar.old
         (route_of request.now.method.now request.now.path.now) page jar.new) }
+    // Only a request to log in draws from the generator, or fails for more than memory.
+    ensures undrawn { ¬ (route_of request.now.method.now request.now.path.now ≡ Ok LogIn)
+        → rng.new ≡ rng.old }
+    ensures certain { ¬ (route_of request.now.method.now request.now.path.now ≡ Ok LogIn)
+        → Gives refusal.OutOfMemory result (λ _. Unit {0}) }
 {
     match find_route(request.method, request.path) {
         Ok(Route::Home) => home(alloc, site, jar, now),
@@ -111,7 +129,7 @@ fn home(
     jar: &mut CookieJar,
     now: DateTime,
 ) -> Result<Page, JarError>
-    ensures { IfOk result (λ page. Shows site.now now jar.old page jar.new) }
+    ensures { Gives refusal.OutOfMemory result (λ page. Shows site.now now jar.old page jar.new) }
 {
     let visitor = read_visitor(alloc, site, jar)?;
     show(alloc, site, jar, &visitor, now)?;
@@ -161,7 +179,7 @@ fn leave(
     jar: &mut CookieJar,
     now: DateTime,
 ) -> Result<Page, JarError>
-    ensures { IfOk result (λ page. LogsOut site.now now jar.old page jar.new) }
+    ensures { Gives refusal.OutOfMemory result (λ page. LogsOut site.now now jar.old page jar.new) }
 {
     log_out(alloc, site, jar, now)?;
     Ok(Page::Moved)

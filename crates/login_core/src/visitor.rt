@@ -1,5 +1,7 @@
 //! What the cookies of a request say.
 ghost use Rattle.std.specs.Prelude.{◌≡◌, ◌↔◌, ◌^◌, ◌<◌, ◌+◌, ℕ, List, IfOk, Some, option_map, string_bytes};
+ghost use Rattle.cookie.specs.Memory.{Gives};
+ghost use Rattle.cookie.specs.declared.jar_error.JarError.TheVariants as refusal;
 ghost use Rattle.std.specs.Fmt.{decimal};
 ghost use Rattle.login_core.specs.Visitors.{HasSigned, IsLoggedIn, IsVisitor};
 ghost use Rattle.login_core.specs.declared.site_cookie.SiteCookie.TheVariants as which_cookie;
@@ -25,7 +27,7 @@ pub struct Visitor {
 ///
 /// Fails for want of memory alone.
 pub fn read_visitor(alloc: Global, site: &Site<'_>, jar: &CookieJar) -> Result<Visitor, JarError>
-    ensures { IfOk result (IsVisitor site.now jar.now) }
+    ensures { Gives refusal.OutOfMemory result (IsVisitor site.now jar.now) }
 {
     let user = user_of(alloc, site, jar)?;
     let visits = visits_of(alloc, site, jar)?;
@@ -39,7 +41,7 @@ pub fn read_visitor(alloc: Global, site: &Site<'_>, jar: &CookieJar) -> Result<V
 
 // The user who is logged in: exactly the text that was sealed under the key.
 fn user_of(alloc: Global, site: &Site<'_>, jar: &CookieJar) -> Result<Option<String>, JarError>
-    ensures { IfOk result (λ found. (user : List ℕ) → (option_map string_bytes found ≡ Some user)
+    ensures { Gives refusal.OutOfMemory result (λ found. (user : List ℕ) → (option_map string_bytes found ≡ Some user)
         ↔ IsLoggedIn site.now jar.now user) }
 {
     let name = SiteCookie::User.name(site.is_secure);
@@ -54,7 +56,7 @@ fn signed_value(
     jar: &CookieJar,
     which: SiteCookie,
 ) -> Result<Option<String>, JarError>
-    ensures { IfOk result (λ found. (text : List ℕ) → (option_map string_bytes found ≡ Some text)
+    ensures { Gives refusal.OutOfMemory result (λ found. (text : List ℕ) → (option_map string_bytes found ≡ Some text)
         ↔ HasSigned site.now jar.now which text) }
 {
     let cookie = jar.signed(site.key).get(which.name(site.is_secure))?;
@@ -74,7 +76,7 @@ fn value_of(alloc: Global, cookie: Option<&Cookie<'_>>) -> Result<Option<String>
 
 // How many greetings were shown, this one included.
 fn visits_of(alloc: Global, site: &Site<'_>, jar: &CookieJar) -> Result<u64, JarError>
-    ensures { IfOk result (λ visits. (before : ℕ) → before + 1 < 2 ^ 64
+    ensures { Gives refusal.OutOfMemory result (λ visits. (before : ℕ) → before + 1 < 2 ^ 64
         → HasSigned site.now jar.now which_cookie.Visits (decimal before) → visits ≡ before + 1) }
 {
     match signed_value(alloc, site, jar, SiteCookie::Visits)? {

@@ -13,7 +13,7 @@ returns-clause-answers g c =
       c.respond.new.jar,
       subst (λ before. Answers (λ nonce. g.R.TryRng.may_fill c.args.rng.now nonce c.respond.new.rng) c.args.site.now request c.args.now before route response.page c.respond.new.jar) c.in_ok-jar.ensures is.0,
       is.1,
-    )) c.respond.ensures
+    )) c.respond.ensures.answers
 
 pub returns-clause-greeted : goal.returns-clause-greeted
 returns-clause-greeted g c =
