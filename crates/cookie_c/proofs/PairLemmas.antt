@@ -1,24 +1,29 @@
 -- The pieces of a header of bytes, from a place on.
 use Rattle.std.proofs.Common.{◌≡◌, ◌==◌, ℕ, ◌+◌, ◌-◌, ◌<◌, ◌≤◌, List, [], ◌∷◌, ◌++◌, true, false, length, get_or, take, drop, slice_range, ◌⊎◌, Some, None, refl, sym, ap, ◌∙◌, inl, inr, arith, length-drop}
-use Rattle.std.proofs.lemmas.Bool.{cases_lt}
+use Rattle.std.proofs.lemmas.Bool.{cases_lt, and_from, and_left, and_right, cond-true, cond-false, false_from_ne_true}
 use Rattle.std.proofs.lemmas.Bool.Decides.{nat_tests}
 use Rattle.std.proofs.lemmas.List.{get_or-take, get_or-drop, length-take-le, take-append-drop, drop-drop, drop-take, take-take, drop_all, drop_more}
-use Rattle.std.specs.Str.{trim}
-use Rattle.cookie.proofs.ByteLemmas.{Lacks-nil}
+use Rattle.std.proofs.lemmas.Str.{is_utf8-from_IsUtf8, IsUtf8-from_is_utf8, IsUtf8-nil}
+use Rattle.std.specs.Str.{is_utf8, trim, IsUtf8}
 use Rattle.cookie.proofs.GraphicLemmas.{trim-graphic}
-use Rattle.cookie.proofs.PieceLemmas.{pieces-cut, header_texts-blank, header_texts-filled}
-use Rattle.cookie.specs.Header.{header_texts}
+use Rattle.cookie.proofs.PieceLemmas.{pieces-cut}
 use Rattle.cookie.specs.Pieces.{Lacks, pieces}
 use Rattle.cookie.specs.Spans.{StandsIn, span_text}
 use Rattle.cookie.specs.declared.Span.{Span}
-use Rattle.cookie_c.specs.Places.{IsAt, place_behind}
+use Rattle.cookie_c.specs.NextPiece.{IsTextOf}
+use Rattle.cookie_c.specs.Pairs.{HeaderPiece, end_of, is_blank, next_in, next_piece}
+use Rattle.cookie_c.specs.Places.{IsBetween, place_behind}
 use mathlib.Core.Logic.{◌≢◌}
 
 pub length-piece : (h : List ℕ) (s e : ℕ) → s ≤ e → e ≤ length h → length (slice_range h s e) ≡ e - s
 length-piece h s e le last = length-take-le (e - s) (drop s h) (omega (arith, length-drop s h))
 
-no_texts : header_texts [] ≡ []
-no_texts = header_texts-blank [] [] None refl (Lacks-nil 59) (ap (λ t. length t == 0) (trim-graphic [] refl))
+-- a text without a byte is blank
+no_piece : (at : ℕ) → next_in at (pieces []) ≡ None
+no_piece at =
+    let empty : HeaderPiece = record { start = at; bytes = [] } in
+    cond-true (is_blank []) None (Some empty)
+    (and_from (is_utf8 []) (length (trim []) == 0) (is_utf8-from_IsUtf8 [] IsUtf8-nil) (ap (λ t. length t == 0) (trim-graphic [] refl)))
 
 -- no byte of the piece is a semicolon
 piece_apart : (h : List ℕ) (s e : ℕ) → s ≤ e → e ≤ length h → ((i : ℕ) → s ≤ i → i < e → get_or h i 0 ≢ 59) → Lacks 59 (slice_range h s e)
@@ -51,67 +56,96 @@ differs : {n : ℕ} → n ≢ 0 → (n == 0) ≡ false
 differs {n} h = grind (arith, nat_tests)
 
 -- a span of a text that stands in the header
-pub IsAt-behind : (h text : List ℕ) (start : ℕ) (p : Span) → start + length text ≤ length h → take (length text) (drop start h) ≡ text
-    → StandsIn text p → IsAt h (place_behind start p) (span_text text p)
-IsAt-behind h text start p room here (forward, _, end) =
-    let last : p.end ≤ length text = end.0 in (
-      omega arith,
-      sym (within_stands h start (length text) p.start p.end forward last) ∙ ap (λ t. take (p.end - p.start) (drop p.start t)) here,
-    )
+pub IsBetween-behind : (h text : List ℕ) (first start last : ℕ) (p : Span)
+    → IsBetween h first last (record { start = start; length = length text }) text → StandsIn text p
+    → IsBetween h first last (place_behind start p) (span_text text p)
+IsBetween-behind h text first start last p here (forward, _, end) =
+    let within : p.end ≤ length text = end.0 in
+    let room : start + length text ≤ length h = here.bytes.0 in
+    record {
+      bytes = (omega arith, sym (within_stands h start (length text) p.start p.end forward within) ∙ ap (λ t. take (p.end - p.start) (drop p.start t)) here.bytes.1);
+      begins = omega (arith, here.begins);
+      ends = omega (arith, here.ends);
+    }
 
 module _ (h : List ℕ) (s e : ℕ) (le : s ≤ e) (last : e ≤ length h)
     (apart : (i : ℕ) → s ≤ i → i < e → get_or h i 0 ≢ 59) (mark : e < length h → get_or h e 0 ≡ 59) where
-  pub first_piece : (later : List (List ℕ)) × (pieces (drop s h) ≡ slice_range h s e ∷ later)
+  -- the piece that begins here
+  abbrev pub this_piece : HeaderPiece
+  this_piece = record { start = s; bytes = slice_range h s e }
+
+  pub end-this_piece : e ≡ end_of this_piece
+  end-this_piece = omega (arith, length-piece h s e le last)
+
+  -- the pieces from here on are this one and later ones
+  first_piece : (later : List (List ℕ)) × (pieces (drop s h) ≡ this_piece.bytes ∷ later)
+      × (next_in (e + 1) later ≡ next_piece h (e + 1))
+  unfolding next_piece
   first_piece =
+      let lacks = piece_apart h s e le last apart in
       elim (behind_piece h s e le last mark) [
-        | inl more ↦ (pieces (drop (e + 1) h), pieces-cut (drop s h) (slice_range h s e) (Some (drop (e + 1) h)) more (piece_apart h s e le last apart))
-        | inr (all, _) ↦ ([], pieces-cut (drop s h) (slice_range h s e) None all (piece_apart h s e le last apart))
+        | inl more ↦ (pieces (drop (e + 1) h), pieces-cut (drop s h) this_piece.bytes (Some (drop (e + 1) h)) more lacks, refl)
+        | inr (all, none) ↦ ([], pieces-cut (drop s h) this_piece.bytes None all lacks, sym (ap (λ t. next_in (e + 1) (pieces t)) none ∙ no_piece (e + 1)))
       ]
 
-  pub blank_piece : (length (trim (slice_range h s e)) == 0) ≡ true → header_texts (drop s h) ≡ header_texts (drop (e + 1) h)
+  -- this one is passed over if it is blank
+  pub blank_piece : is_blank this_piece.bytes ≡ true → next_piece h s ≡ next_piece h (e + 1)
+  unfolding next_piece
   blank_piece b =
-      elim (behind_piece h s e le last mark) [
-        | inl more ↦ header_texts-blank (drop s h) (slice_range h s e) (Some (drop (e + 1) h)) more (piece_apart h s e le last apart) b
-        | inr (all, none) ↦ header_texts-blank (drop s h) (slice_range h s e) None all (piece_apart h s e le last apart) b ∙ sym (ap header_texts none ∙ no_texts)
-      ]
+      let (later, is, rest) = first_piece in
+      ap (next_in s) is
+      ∙ cond-true (is_blank this_piece.bytes) (next_in (s + length this_piece.bytes + 1) later) (Some this_piece) b
+      ∙ ap (λ n. next_in (n + 1) later) (sym end-this_piece)
+      ∙ rest
 
-  pub filled_piece : (length (trim (slice_range h s e)) == 0) ≡ false
-      → header_texts (drop s h) ≡ trim (slice_range h s e) ∷ header_texts (drop (e + 1) h)
+  -- and is else the next one
+  pub filled_piece : is_blank this_piece.bytes ≡ false → next_piece h s ≡ Some this_piece
+  unfolding next_piece
   filled_piece b =
-      elim (behind_piece h s e le last mark) [
-        | inl more ↦ header_texts-filled (drop s h) (slice_range h s e) (Some (drop (e + 1) h)) more (piece_apart h s e le last apart) b
-        | inr (all, none) ↦
-            header_texts-filled (drop s h) (slice_range h s e) None all (piece_apart h s e le last apart) b
-            ∙ ap (λ ts. trim (slice_range h s e) ∷ ts) (sym (ap header_texts none ∙ no_texts))
-      ]
+      let (later, is, rest) = first_piece in
+      ap (next_in s) is
+      ∙ cond-false (is_blank this_piece.bytes) (next_in (s + length this_piece.bytes + 1) later) (Some this_piece) b
+
+  -- as it is where it isn't UTF-8
+  pub other_piece : ¬ (IsUtf8 this_piece.bytes) → next_piece h s ≡ Some this_piece
+  other_piece not_utf8 =
+      filled_piece (and_left (is_utf8 this_piece.bytes) (length (trim this_piece.bytes) == 0)
+      (false_from_ne_true (is_utf8 this_piece.bytes) (λ utf8. not_utf8 (IsUtf8-from_is_utf8 this_piece.bytes utf8))))
 
   -- what a part of the piece is that is the whole of it, trimmed
-  module _ (piece : List ℕ) (a b : ℕ) (is : piece ≡ slice_range h s e) (trimmed : slice_range piece a b ≡ trim piece)
-      (within : b ≤ length piece) where
-    size : a ≤ b → length (trim (slice_range h s e)) ≡ b - a
+  module _ (piece : List ℕ) (a b : ℕ) (is : piece ≡ this_piece.bytes) (utf8 : IsUtf8 this_piece.bytes)
+      (trimmed : slice_range piece a b ≡ trim piece) (within : b ≤ length piece) where
+    size : a ≤ b → length (trim this_piece.bytes) ≡ b - a
     size forward = ap (λ t. length (trim t)) (sym is) ∙ ap length (sym trimmed) ∙ length-piece piece a b forward within
 
     -- it is blank
-    pub passed_piece : a ≤ b → b ≤ a → header_texts (drop s h) ≡ header_texts (drop (e + 1) h)
+    pub passed_piece : a ≤ b → b ≤ a → next_piece h s ≡ next_piece h (e + 1)
     passed_piece forward back =
-        let none : length (trim (slice_range h s e)) ≡ 0 = size forward ∙ omega arith in
-        blank_piece (ap (λ n. n == 0) none)
+        let none : length (trim this_piece.bytes) ≡ 0 = size forward ∙ omega arith in
+        blank_piece (and_from (is_utf8 this_piece.bytes) (length (trim this_piece.bytes) == 0) (is_utf8-from_IsUtf8 this_piece.bytes utf8) (ap (λ n. n == 0) none))
 
-    -- or it is the next text, and stands there
+    -- or it is the text of the next piece
     pub next_text : (text : List ℕ) → text ≡ slice_range piece a b → a < b
-        → (header_texts (drop s h) ≡ text ∷ header_texts (drop (e + 1) h))
-        × (s + a + length text ≤ length h) × (take (length text) (drop (s + a) h) ≡ text)
+        → (next_piece h s ≡ Some this_piece) × IsTextOf h this_piece text (s + a) (e + 1)
     next_text text same lt =
         let forward : a ≤ b = omega arith in
-        let some : length (trim (slice_range h s e)) ≢ 0 = λ none. omega (arith, size forward, none) in
+        let some : length (trim this_piece.bytes) ≢ 0 = λ none. omega (arith, size forward, none) in
         let wide : length piece ≡ e - s = ap length is ∙ length-piece h s e le last in
-        let here : text ≡ slice_range (slice_range h s e) a b = same ∙ ap (λ t. slice_range t a b) is in
+        let here : text ≡ slice_range this_piece.bytes a b = same ∙ ap (λ t. slice_range t a b) is in
         let long : length text ≡ b - a = ap length same ∙ length-piece piece a b forward within in (
-          filled_piece (differs some) ∙ ap (λ t. t ∷ header_texts (drop (e + 1) h)) (ap trim (sym is) ∙ sym trimmed ∙ sym same),
-          omega arith,
-          ap (λ n. take n (drop (s + a) h)) long ∙ sym (within_stands h s (e - s) a b forward (omega arith)) ∙ sym here,
+          filled_piece (and_right (is_utf8 this_piece.bytes) (length (trim this_piece.bytes) == 0) (differs some)),
+          record {
+            trimmed = same ∙ trimmed ∙ ap trim is;
+            place = record {
+              bytes = (omega arith, ap (λ n. take n (drop (s + a) h)) long ∙ sym (within_stands h s (e - s) a b forward (omega arith)) ∙ sym here);
+              begins = omega arith;
+              ends = omega (arith, end-this_piece);
+            };
+            next = ap (λ n. n + 1) end-this_piece;
+          },
         )
 
--- behind the end of the header there is no text
-pub none_behind : (h : List ℕ) (s : ℕ) → length h < s → header_texts (drop s h) ≡ []
-none_behind h s lt = ap header_texts (drop_all s h (omega arith)) ∙ no_texts
+-- after the end of the header there is no piece
+pub none_behind : (h : List ℕ) (s : ℕ) → length h < s → next_piece h s ≡ None
+unfolding next_piece
+none_behind h s lt = ap (λ t. next_in s (pieces t)) (drop_all s h (omega arith)) ∙ no_piece s

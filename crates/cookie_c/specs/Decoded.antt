@@ -1,6 +1,7 @@
 -- Names and values without their escapes, in the caller's buffer (RFC 6265 5.2, RFC 3986 2.1): `old` is the buffer at
 -- the call and `new` at the return.
 use Rattle.std.specs.Prelude.{◌≡◌, ℕ, ◌⊎◌, List, ◌++◌, length, Some, Err, true}
+use Rattle.std.specs.Str.{trim}
 use Rattle.cookie.specs.CookieOf.{cookie_of}
 use Rattle.cookie.specs.Decoding.{ReadsInMemory, IsCertain}
 use Rattle.cookie.specs.Record.{Record}
@@ -8,7 +9,7 @@ use Rattle.cookie.specs.declared.ParseError.{ParseError}
 use Rattle.cookie_c.specs.Answers.{IsGiven}
 use Rattle.cookie_c.specs.Codes.{refusal_status}
 use Rattle.cookie_c.specs.Numbers.{numbers_of}
-use Rattle.cookie_c.specs.Pairs.{IsNext, refused_pair}
+use Rattle.cookie_c.specs.Pairs.{HeaderPiece, refused_pair, rest_after}
 use Rattle.cookie_c.specs.Places.{IsOptionalAt}
 use Rattle.cookie_c.specs.Readings.{refused_reading}
 use Rattle.cookie_c.specs.declared.pair.Pair.{Pair}
@@ -59,15 +60,10 @@ IsDecodedReadingOf text answer old new =
     ⊎ ((why : ParseError) × IsDecodingRefusal text why
     × IsRefusedReading (refusal_status why) answer old new)
 
--- the same of a text of a header
-abbrev pub IsDecodedPairOf : List ℕ → ℕ → Pair → List ℕ → List ℕ → Type 0
-IsDecodedPairOf text next answer old new =
-    ((r : Record) × (cookie_of true text ≡ Some r) × GivesPair r next answer old new)
-    ⊎ ((why : ParseError) × IsDecodingRefusal text why
-    × IsRefusedPair (refusal_status why) next answer old new)
-
--- what comes next in the header from the place on, decoded
-abbrev pub IsNextDecodedPair : List ℕ → ℕ → Pair → List ℕ → List ℕ → Type 0
-IsNextDecodedPair header from answer old new =
-    IsNext (λ why next. IsRefusedPair why next answer old new)
-    (λ text next. IsDecodedPairOf text next answer old new) header from
+-- the same of a piece of a header, trimmed
+abbrev pub IsDecodedPairOf : HeaderPiece → Pair → List ℕ → List ℕ → Type 0
+IsDecodedPairOf piece answer old new =
+    ((r : Record) × (cookie_of true (trim piece.bytes) ≡ Some r)
+    × GivesPair r (rest_after piece) answer old new)
+    ⊎ ((why : ParseError) × IsDecodingRefusal (trim piece.bytes) why
+    × IsRefusedPair (refusal_status why) (rest_after piece) answer old new)

@@ -1,14 +1,24 @@
 -- Mirrors private code: what comes next in a header from a place on (RFC 6265 4.2.1).
-use Rattle.std.specs.Prelude.{ℕ, List, length}
-use Rattle.cookie_c.specs.Pairs.{IsAtEnd, IsAtText, IsAtOther}
-use Rattle.cookie_c.specs.Places.{IsAt}
+use Rattle.std.specs.Prelude.{◌≡◌, ℕ, List, length, IsUtf8, Some, None}
+use Rattle.std.specs.Str.{trim}
+use Rattle.cookie_c.specs.Pairs.{HeaderPiece, end_of, next_piece, rest_after}
+use Rattle.cookie_c.specs.Places.{IsBetween}
 use Rattle.cookie_c.specs.declared.next_piece.NextPiece.{NextPiece}
 use Rattle.cookie_c.specs.declared.next_piece.NextPiece.TheVariants as piece
 
--- it is what comes next; a text stands there in the header
+-- the text is that of the piece, trimmed, and stands there in the header
+pub record IsTextOf (header : List ℕ) (p : HeaderPiece) (text : List ℕ) (start rest : ℕ)
+    : Type 0 where
+  pub trimmed : text ≡ trim p.bytes
+  pub place : IsBetween header p.start (end_of p) (record { start = start; length = length text }) text
+  pub next : rest ≡ rest_after p
+
+-- it is what comes next
 abbrev pub IsNextPiece : List ℕ → ℕ → NextPiece → Type 0
-IsNextPiece header from piece.End = IsAtEnd header from
-IsNextPiece header from (piece.Other next) = IsAtOther header from next
+IsNextPiece header from piece.End = next_piece header from ≡ None
+IsNextPiece header from (piece.Other next) =
+    (p : HeaderPiece) × (next_piece header from ≡ Some p) × (¬ (IsUtf8 p.bytes))
+    × (next ≡ rest_after p)
 IsNextPiece header from (piece.Text text start next) =
-    IsAtText header from text.now next
-    × IsAt header (record { start = start; length = length text.now }) text.now
+    (p : HeaderPiece) × (next_piece header from ≡ Some p) × IsUtf8 p.bytes
+    × IsTextOf header p text.now start next

@@ -8,6 +8,13 @@ abbrev pub IsAt : List ℕ → Place → List ℕ → Type 0
 IsAt text place part =
     (place.start + place.length ≤ length text) × (take place.length (drop place.start text) ≡ part)
 
+-- the part stands there in the text, between these two offsets
+pub record IsBetween (text : List ℕ) (first last : ℕ) (place : Place) (part : List ℕ)
+    : Type 0 where
+  pub bytes : IsAt text place part
+  pub begins : first ≤ place.start
+  pub ends : place.start + place.length ≤ last
+
 -- the place of no text
 abbrev pub no_place : Place
 no_place = record { start = 0; length = 0 }

@@ -1,9 +1,11 @@
 //! Reading with decoding for C: names and values without their escapes (RFC 6265 5.2, RFC 3986 2.1).
-ghost use Rattle.std.specs.Prelude.{◌≡◌, ◌++◌, Some, false, IsUtf8};
+ghost use Rattle.std.specs.Prelude.{◌≡◌, ◌++◌, Some, None, false, IsUtf8};
+ghost use Rattle.std.specs.Str.{trim};
 ghost use Rattle.cookie.specs.CookieOf.{cookie_of};
 ghost use Rattle.cookie.specs.Layout.{layout_record, IsLayoutIn};
 ghost use Rattle.cookie_c.specs.Answers.{IsGiven};
-ghost use Rattle.cookie_c.specs.Decoded.{AreGiven, IsRefusedReading, IsDecodedReadingOf, IsDecodedPairOf, IsNextDecodedPair};
+ghost use Rattle.cookie_c.specs.Decoded.{AreGiven, IsRefusedPair, IsRefusedReading, IsDecodedReadingOf, IsDecodedPairOf};
+ghost use Rattle.cookie_c.specs.Pairs.{HeaderPiece, next_piece, rest_after};
 ghost use Rattle.cookie_c.specs.declared.status.Status.TheVariants as status;
 
 use crate::answer::Answer;
@@ -37,13 +39,13 @@ pub extern "C" fn cookie_read_decoded(alloc: Global, text: &[u8], out: &mut [u8]
     }
 }
 
-/// The next pair of a header that begins at `from` or behind it, as `Cookie::split_parse_encoded` reads it: pieces that
-/// are white space alone are passed over. The name and the value, decoded, are for the buffer, the value right behind
-/// the name, and their places are those there. Where the buffer is too short for both, nothing is written, and all but
-/// the status, which is `Status::BufferTooShort`, is as it would be.
+/// The next pair of a header, from the offset `from` on (RFC 6265 4.2.1), as `Cookie::split_parse_encoded` reads it. A
+/// piece that is UTF-8 and white space only is skipped. The name and the value, decoded, are for the buffer, the value
+/// right after the name, and their places are those there. Where the buffer is too short for both, nothing is written,
+/// and all but the status, which is `Status::BufferTooShort`, is as it would be.
 ///
-/// Refuses as `cookie_next_pair` does, and then a name or a value whose bytes, decoded, aren't UTF-8. It takes memory,
-/// and may fail for want of it, only where the name or the value has an escape.
+/// Refuses as `cookie_next_pair` does, and then a name or a value whose bytes, decoded, aren't UTF-8. It allocates, and
+/// may run out of memory, only where the name or the value has an escape.
 #[unsafe(no_mangle)]
 pub extern "C" fn cookie_next_pair_decoded(
     alloc: Global,
@@ -51,7 +53,13 @@ pub extern "C" fn cookie_next_pair_decoded(
     from: usize,
     out: &mut [u8],
 ) -> Pair
-    ensures { IsNextDecodedPair header.now from result out.old out.new }
+    ensures no_pair { next_piece header.now from ≡ None
+        → IsRefusedPair status.NoPair 0 result out.old out.new }
+    ensures not_utf8 { (piece : HeaderPiece) → next_piece header.now from ≡ Some piece
+        → ¬ IsUtf8 piece.bytes
+        → IsRefusedPair status.NotUtf8 (rest_after piece) result out.old out.new }
+    ensures read { (piece : HeaderPiece) → next_piece header.now from ≡ Some piece
+        → IsUtf8 piece.bytes → IsDecodedPairOf piece result out.old out.new }
 {
     match NextPiece::of(header, from) {
         NextPiece::End => Pair::refusal(Status::NoPair, 0),
@@ -80,9 +88,10 @@ fn give_cookie(alloc: Global, text: &str, layout: Layout, out: &mut [u8]) -> Rea
     }
 }
 
-// The pair that the text is, decoded.
+// The pair that a piece's text is, decoded.
 fn give_next(alloc: Global, text: &str, next: usize, out: &mut [u8]) -> Pair
-    ensures { IsDecodedPairOf text.now next result out.old out.new }
+    ensures { (piece : HeaderPiece) → text.now ≡ trim piece.bytes → next ≡ rest_after piece
+        → IsDecodedPairOf piece result out.old out.new }
 {
     match Cookie::parse_encoded(alloc, text) {
         Ok(cookie) => give_pair(cookie.name(), cookie.value(), next, out),

@@ -1,6 +1,8 @@
 //! The pairs of a `Cookie` header for C (RFC 6265 4.2.1, 5.4).
-ghost use Rattle.std.specs.Prelude.{◌≡◌, ◌+◌, ◌^◌, ◌≤◌, ◌<◌, ℕ, List, length, take, drop};
-ghost use Rattle.cookie_c.specs.Pairs.{refused_pair, IsPairOf, IsNextPair};
+ghost use Rattle.std.specs.Prelude.{◌≡◌, ◌+◌, ◌^◌, ◌<◌, ℕ, List, Some, None, IsUtf8, length};
+ghost use Rattle.cookie_c.specs.NextPiece.{IsTextOf};
+ghost use Rattle.cookie_c.specs.Pairs.{HeaderPiece, IsPairOf, next_piece, refused_pair, rest_after};
+ghost use Rattle.cookie_c.specs.declared.status.Status.TheVariants as status;
 
 use crate::next_piece::NextPiece;
 use crate::place::Place;
@@ -33,12 +35,11 @@ impl Pair {
         }
     }
 
-    // The pair of this text, which stands behind so many bytes of a header.
+    // The pair of a piece's text, which begins at this offset of a header.
     fn of(text: &str, start: usize, next: usize) -> Pair
         requires { start + length text.now < 2 ^ 64 }
-        ensures { (header : List ℕ) → start + length text.now ≤ length header
-            → take (length text.now) (drop start header) ≡ text.now
-            → IsPairOf header text.now next result }
+        ensures { (header : List ℕ) → (piece : HeaderPiece)
+            → IsTextOf header piece text.now start next → IsPairOf header piece result }
     {
         match Layout::of(text) {
             Ok(layout) => Pair {
@@ -52,14 +53,18 @@ impl Pair {
     }
 }
 
-/// The next pair of a header that begins at `from` or behind it, read as `Cookie::split_parse` does: pieces that are
-/// white space alone are passed over. It takes no memory.
+/// The next pair of a header, from the offset `from` on (RFC 6265 4.2.1), read as `Cookie::split_parse` reads it. A piece
+/// that is UTF-8 and white space only is skipped. It doesn't allocate.
 ///
-/// Refuses a piece that isn't UTF-8, one with no `=`, and one with an empty name, each with the place behind it, from
-/// which one goes on. Where there is no further piece it answers `Status::NoPair`.
+/// Refuses a piece that isn't UTF-8, one with no `=`, and one with an empty name. `next` is the offset after the piece
+/// and its semicolon, also where the piece is refused. Without a further piece the status is `Status::NoPair`.
 #[unsafe(no_mangle)]
 pub extern "C" fn cookie_next_pair(header: &[u8], from: usize) -> Pair
-    ensures { IsNextPair header.now from result }
+    ensures no_pair { next_piece header.now from ≡ None → result ≡ refused_pair status.NoPair 0 }
+    ensures not_utf8 { (piece : HeaderPiece) → next_piece header.now from ≡ Some piece
+        → ¬ IsUtf8 piece.bytes → result ≡ refused_pair status.NotUtf8 (rest_after piece) }
+    ensures read { (piece : HeaderPiece) → next_piece header.now from ≡ Some piece
+        → IsUtf8 piece.bytes → IsPairOf header.now piece result }
 {
     match NextPiece::of(header, from) {
         NextPiece::End => Pair::refusal(Status::NoPair, 0),

@@ -2,6 +2,7 @@
 //! too short.
 mod decoded;
 mod jars;
+mod pairs;
 mod prints;
 
 use crate::answer::Answer;
