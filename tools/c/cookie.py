@@ -94,6 +94,7 @@ JAR_NEW = declare("jar_new", [ctypes.c_uint64] * 2 + HANDLE, ctypes.c_uint32)
 JAR_ADD_ORIGINALS = declare("jar_add_originals", HANDLE + TEXT, ctypes.c_uint32)
 JAR_ADD = declare("jar_add", HANDLE + TEXT, ctypes.c_uint32)
 JAR_REMOVE = declare("jar_remove", HANDLE + TEXT * 2, ctypes.c_uint32)
+JAR_REMOVE_SCOPED = declare("jar_remove_scoped", HANDLE + TEXT * 4, ctypes.c_uint32)
 JAR_GET = declare("jar_get", HANDLE + TEXT * 2, Answer)
 JAR_DELTA = declare("jar_delta", HANDLE + TEXT, Answer)
 JAR_FREE = declare("jar_free", HANDLE, None)
@@ -319,10 +320,11 @@ class Jar:
         """Adds the cookie in a `Set-Cookie` header's value."""
         done(JAR_ADD, self.handle, text)
 
-    def remove(self, name, moment=None):
-        """Removes the cookie of that name, now or at the moment. The client is told without a path or a domain."""
+    def remove(self, name, moment=None, path="", domain=""):
+        """Removes the cookie of that name, now or at the moment. The client is told to drop the one that was set with
+        this path and this domain."""
         moment = moment or datetime.datetime.now(datetime.timezone.utc)
-        done(JAR_REMOVE, self.handle, print_date(moment), name)
+        done(JAR_REMOVE_SCOPED, self.handle, print_date(moment), name, path, domain)
 
     def get(self, name):
         """The value of the cookie of that name, or None."""

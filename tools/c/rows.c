@@ -139,10 +139,23 @@ static void sort_lines(uint8_t *bytes, size_t length) {
     }
 }
 
+/* The lines of a text that has `count`. One that is empty is a null pointer. */
+static void cut_lines(text all, text *lines, size_t count) {
+    for (size_t i = 0; i < count; i++) {
+        uint8_t *end = i + 1 < count ? memchr(all.bytes, '\n', all.length) : all.bytes + all.length;
+        size_t length = (size_t)(end - all.bytes);
+        lines[i] = (text){length > 0 ? all.bytes : NULL, length};
+        if (i + 1 < count)
+            all = (text){end + 1, all.length - length - 1};
+    }
+}
+
+#define IN(i) in[i].bytes, in[i].length
+
 static cookie_answer of_status(uint32_t status) { return (cookie_answer){status, 0}; }
 
 static cookie_answer play_step(cookie_jar *jar, text step, uint8_t *out, size_t length) {
-    text rest;
+    text rest, in[4];
     if (is_step("new", step, &rest))
         return of_status(cookie_jar_new(1, 2, jar));
     if (is_step("originals", step, &rest))
@@ -150,9 +163,12 @@ static cookie_answer play_step(cookie_jar *jar, text step, uint8_t *out, size_t 
     if (is_step("add", step, &rest))
         return of_status(cookie_jar_add(jar, rest.bytes, rest.length));
     if (is_step("remove", step, &rest)) {
-        uint8_t *name = memchr(rest.bytes, '\n', rest.length);
-        size_t moment_length = (size_t)(name++ - rest.bytes), name_length = rest.length - moment_length - 1;
-        return of_status(cookie_jar_remove(jar, rest.bytes, moment_length, name_length > 0 ? name : NULL, name_length));
+        cut_lines(rest, in, 2);
+        return of_status(cookie_jar_remove(jar, IN(0), IN(1)));
+    }
+    if (is_step("scoped", step, &rest)) {
+        cut_lines(rest, in, 4);
+        return of_status(cookie_jar_remove_scoped(jar, IN(0), IN(1), IN(2), IN(3)));
     }
     if (is_step("get", step, &rest))
         return cookie_jar_get(jar, rest.bytes, rest.length, out, length);
@@ -182,8 +198,6 @@ static cookie_answer play_jar(const text *steps, uint8_t *out, size_t length) {
     cookie_jar_free(&jar);
     return answer;
 }
-
-#define IN(i) in[i].bytes, in[i].length
 
 /* The cookie of a row's name, value, path and domain, its attributes as numbers, and whether it is escaped. */
 static cookie_answer print_cookie(const text *in, uint8_t *out, size_t length) {
@@ -419,7 +433,8 @@ static size_t look(cookie_jar *jar, uint8_t *out, size_t length) {
  * as it was, and once none is refused it is done. */
 static void starve(void) {
     static char steps[][60] = {"new", "originals name=val; n=x%20y", "add a=1; Path=/",
-                               "remove Wed, 21 Oct 2015 07:28:00 GMT\nname", "delta"};
+                               "remove Wed, 21 Oct 2015 07:28:00 GMT\nname",
+                               "scoped Wed, 21 Oct 2015 07:28:00 GMT\nn\n/p\n.b.c", "delta"};
     cookie_jar jar = {0};
     int refused = 0;
     for (size_t i = 0; i < sizeof steps / sizeof *steps; i++)

@@ -42,7 +42,8 @@ def numbers_of_pair(pair):
 def step(handle, text, out, length):
     """Plays a step of a jar's row: its word, a blank and its text, which is null where it is empty."""
     word, _, rest = text.partition(b" ")
-    rest = [part for value in rest.split(b"\n", word == b"remove") for part in (value or None, len(value))]
+    cuts = {b"remove": 1, b"scoped": 3}.get(word, 0)
+    rest = [part for value in rest.split(b"\n", cuts) for part in (value or None, len(value))]
     if word == b"new":
         return cookie.Answer(cookie.JAR_NEW(1, 2, handle), 0)
     if word == b"get":
@@ -52,7 +53,8 @@ def step(handle, text, out, length):
     if word == b"free":
         cookie.JAR_FREE(handle)
         return cookie.Answer(cookie.DONE, 0)
-    calls = {b"originals": cookie.JAR_ADD_ORIGINALS, b"add": cookie.JAR_ADD, b"remove": cookie.JAR_REMOVE}
+    calls = {b"originals": cookie.JAR_ADD_ORIGINALS, b"add": cookie.JAR_ADD, b"remove": cookie.JAR_REMOVE,
+             b"scoped": cookie.JAR_REMOVE_SCOPED}
     return cookie.Answer(calls[word](handle, *rest), 0)
 
 
@@ -192,9 +194,11 @@ def use():
         assert jar["name"] == http.cookies.SimpleCookie("name=val; n=x%20y")["name"].value
         assert "a" in jar and "b" not in jar and lacks(jar, "b")
         jar.remove("name", moment)
-        assert jar.get("name") is None
+        jar.remove("n", moment, path="/p", domain=".b.c")
+        assert jar.get("name") is None and jar.get("n") is None
         assert sorted(jar.delta()) == [
             "Set-Cookie: a=1; Path=/",
+            "Set-Cookie: n=; Path=/p; Domain=b.c; Max-Age=0; Expires=Tue, 21 Oct 2014 07:28:00 GMT",
             "Set-Cookie: name=; Max-Age=0; Expires=Tue, 21 Oct 2014 07:28:00 GMT",
         ]
     for wrong, status in ((lambda: cookie.sign(b"short", "a", "b"), cookie.KEY_TOO_SHORT),

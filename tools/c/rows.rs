@@ -95,6 +95,7 @@ unsafe extern "C" {
     fn cookie_jar_add_originals(jar: &mut Jar, header: Text, header_length: usize) -> u32;
     fn cookie_jar_add(jar: &mut Jar, text: Text, text_length: usize) -> u32;
     fn cookie_jar_remove(jar: &mut Jar, moment: Text, moment_length: usize, name: Text, name_length: usize) -> u32;
+    fn cookie_jar_remove_scoped(jar: &mut Jar, moment: Text, moment_length: usize, name: Text, name_length: usize, path: Text, path_length: usize, domain: Text, domain_length: usize) -> u32;
     fn cookie_jar_get(jar: &mut Jar, name: Text, name_length: usize, out: *mut u8, out_length: usize) -> Answer;
     fn cookie_jar_delta(jar: &mut Jar, out: *mut u8, out_length: usize) -> Answer;
     fn cookie_jar_free(jar: &mut Jar);
@@ -133,6 +134,11 @@ fn play_step(jar: &mut Jar, step: &[u8], out: *mut u8, length: usize) -> Answer 
                 let end = rest.iter().position(|byte| *byte == b'\n').expect("a moment and a name");
                 let (moment, name) = (&rest[..end], &rest[end + 1..]);
                 of_status(cookie_jar_remove(jar, place(moment), moment.len(), place(name), name.len()))
+            }
+            b"scoped" => {
+                let parts: Vec<&[u8]> = rest.splitn(4, |byte| *byte == b'\n').collect();
+                let [moment, name, path, domain] = parts[..] else { panic!("no moment, name, path and domain") };
+                of_status(cookie_jar_remove_scoped(jar, place(moment), moment.len(), place(name), name.len(), place(path), path.len(), place(domain), domain.len()))
             }
             b"get" => cookie_jar_get(jar, place(rest), rest.len(), out, length),
             b"delta" => cookie_jar_delta(jar, out, length),

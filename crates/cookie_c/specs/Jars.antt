@@ -3,10 +3,10 @@
 use Rattle.std.specs.Prelude.{◌≡◌, ℕ, ◌⊎◌, true, false, List, [], map, IsUtf8, Option, Some, None, option_map}
 use Rattle.std.specs.FinMap.{FinMap, get}
 use Rattle.jiff.specs.Types.{DateTime}
-use Rattle.cookie.specs.CookieOf.{cookie_of, header_cookies}
+use Rattle.cookie.specs.CookieOf.{cookie_of, header_cookies, unless_empty}
 use Rattle.cookie.specs.Jar.{Add, JarState, Marked, Remove, after, name_cmp, view}
 use Rattle.cookie.specs.Moments.{date_of}
-use Rattle.cookie.specs.Record.{Record, plain}
+use Rattle.cookie.specs.Record.{Record, plain, without_leading_dot}
 use Rattle.cookie.specs.Text.{cookie_text}
 use Rattle.cookie.specs.Walk.{Walks}
 use Rattle.cookie.specs.declared.ParseError.{ParseError}
@@ -42,13 +42,23 @@ pub record IsAdded (text : List ℕ) (answer : Status) (old new : JarState) : Ty
       ⊎ ((why : ParseError) × IsDecodingRefusal text why
       × IsKept (refusal_status why) answer old new)
 
--- the cookie of the name was removed, at the date and time that a text stands for
-pub record IsRemoved (moment name : List ℕ) (answer : Status) (old new : JarState) : Type 0 where
-  pub not_utf8 : ¬ (IsUtf8 moment × IsUtf8 name) → IsKept status.NotUtf8 answer old new
-  pub no_date : IsUtf8 moment → IsUtf8 name → date_of moment ≡ None
+-- the cookie of this name, with this path and this domain, of which an empty one says nothing (RFC 6265 5.2.3, 5.2.4)
+abbrev pub scoped_record : List ℕ → List ℕ → List ℕ → Record
+scoped_record name path domain =
+    record (plain name []) {
+      path = unless_empty path;
+      domain = option_map without_leading_dot (unless_empty domain);
+    }
+
+-- The cookie was removed, at the date and time that a text stands for. `AreTexts` says that what the cookie is made of
+-- is UTF-8.
+pub record IsRemoved (moment : List ℕ) (AreTexts : Type 0) (cookie : Record) (answer : Status)
+    (old new : JarState) : Type 0 where
+  pub not_utf8 : ¬ (IsUtf8 moment × AreTexts) → IsKept status.NotUtf8 answer old new
+  pub no_date : IsUtf8 moment → AreTexts → date_of moment ≡ None
       → IsKept status.NoDate answer old new
-  pub removed : (now : DateTime) → IsUtf8 moment → IsUtf8 name → date_of moment ≡ Some now
-      → IsChanged (after (Remove (plain name []) now)) answer old new
+  pub removed : (now : DateTime) → IsUtf8 moment → AreTexts → date_of moment ≡ Some now
+      → IsChanged (after (Remove cookie now)) answer old new
 
 -- the value is given that the jar shows under the name
 pub record IsShown (name : List ℕ) (jar : JarState) (answer : Answer) (old new : List ℕ)

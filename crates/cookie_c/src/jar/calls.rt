@@ -1,10 +1,13 @@
 //! The calls that change a jar behind a handle.
-ghost use Rattle.std.specs.Prelude.{◌≡◌, ◌⊎◌, Some, None, IfOk, true};
+ghost use Rattle.std.specs.Prelude.{◌≡◌, ◌⊎◌, [], Some, None, IfOk, IsUtf8, true};
+ghost use Rattle.jiff.specs.Types.{DateTime};
 ghost use Rattle.cookie.specs.CookieOf.{header_cookies};
-ghost use Rattle.cookie.specs.Jar.{Add, after, empty_jar};
+ghost use Rattle.cookie.specs.Jar.{Add, Remove, after, empty_jar};
+ghost use Rattle.cookie.specs.Moments.{date_of};
+ghost use Rattle.cookie.specs.Record.{plain};
 ghost use Rattle.cookie_client.specs.Originals.{with_originals};
 ghost use Rattle.cookie_c.specs.Codes.{code_of};
-ghost use Rattle.cookie_c.specs.Jars.{AtJar, HasOriginals, IsAdded, IsChanged, IsRemoved};
+ghost use Rattle.cookie_c.specs.Jars.{AtJar, HasOriginals, IsAdded, IsChanged, IsKept, IsRemoved, scoped_record};
 ghost use Rattle.cookie_c.specs.declared.status.Status.TheVariants as status;
 
 use super::Jar;
@@ -79,12 +82,39 @@ pub extern "C" fn cookie_jar_add(alloc: Global, jar: &mut Jar, text: &[u8]) -> u
 #[tactic(auto, using(crate::proofs::JarLemmas::at_none, crate::proofs::JarLemmas::at_some))]
 #[unsafe(no_mangle)]
 pub extern "C" fn cookie_jar_remove(alloc: Global, jar: &mut Jar, moment: &[u8], name: &[u8]) -> u32
-    ensures { AtJar (IsRemoved moment.now name.now) result jar.old.held.jar jar.new.held.jar }
+    ensures { AtJar (IsRemoved moment.now (IsUtf8 name.now) (plain name.now []))
+        result jar.old.held.jar jar.new.held.jar }
 {
     let Some(mut held) = jar.take(alloc) else {
         return Status::NoJar.code();
     };
     let answer = remove(alloc, held.as_mut(), moment, name);
+    jar.put(held);
+    answer.code()
+}
+
+/// Removes the cookie of the name, as `cookie_jar_remove` does, but tells the client to drop the one that was set with
+/// this path and this domain. An empty path or domain is none, and one leading dot of the domain doesn't count.
+///
+/// Refuses a handle without a jar, then a moment, a name, a path or a domain that isn't UTF-8, and then a moment that
+/// isn't a date. It may also run out of memory. After a refusal the jar is as before.
+#[tactic(auto, using(crate::proofs::JarLemmas::at_none, crate::proofs::JarLemmas::at_some))]
+#[unsafe(no_mangle)]
+pub extern "C" fn cookie_jar_remove_scoped(
+    alloc: Global,
+    jar: &mut Jar,
+    moment: &[u8],
+    name: &[u8],
+    path: &[u8],
+    domain: &[u8],
+) -> u32
+    ensures { AtJar (IsRemoved moment.now (IsUtf8 name.now × IsUtf8 path.now × IsUtf8 domain.now)
+        (scoped_record name.now path.now domain.now)) result jar.old.held.jar jar.new.held.jar }
+{
+    let Some(mut held) = jar.take(alloc) else {
+        return Status::NoJar.code();
+    };
+    let answer = remove_scoped(alloc, held.as_mut(), moment, name, path, domain);
     jar.put(held);
     answer.code()
 }
@@ -149,18 +179,61 @@ fn add_copy(alloc: Global, jar: &mut CookieJar, cookie: Cookie<'_>) -> Status
 }
 
 fn remove(alloc: Global, jar: &mut CookieJar, moment: &[u8], name: &[u8]) -> Status
-    ensures { IsRemoved moment.now name.now result jar.old jar.new }
+    ensures { IsRemoved moment.now (IsUtf8 name.now) (plain name.now []) result jar.old jar.new }
 {
     let (Ok(moment), Ok(name)) = (str::from_utf8(moment), str::from_utf8(name)) else {
         return Status::NotUtf8;
     };
+    remove_at(alloc, jar, moment, Cookie::named(name))
+}
+
+fn remove_scoped(
+    alloc: Global,
+    jar: &mut CookieJar,
+    moment: &[u8],
+    name: &[u8],
+    path: &[u8],
+    domain: &[u8],
+) -> Status
+    ensures { IsRemoved moment.now (IsUtf8 name.now × IsUtf8 path.now × IsUtf8 domain.now)
+        (scoped_record name.now path.now domain.now) result jar.old jar.new }
+{
+    let (Ok(moment), Ok(name)) = (str::from_utf8(moment), str::from_utf8(name)) else {
+        return Status::NotUtf8;
+    };
+    let (Ok(path), Ok(domain)) = (str::from_utf8(path), str::from_utf8(domain)) else {
+        return Status::NotUtf8;
+    };
+    remove_at(alloc, jar, moment, scoped_cookie(name, path, domain))
+}
+
+// The cookie of the name, with the path and the domain where they aren't empty.
+fn scoped_cookie<'t>(name: &'t str, path: &'t str, domain: &'t str) -> Cookie<'t>
+    ensures { result.fields ≡ scoped_record name.now path.now domain.now }
+{
+    let mut cookie = Cookie::named(name);
+    if !path.is_empty() {
+        cookie.set_path(path);
+    }
+    if !domain.is_empty() {
+        cookie.set_domain(domain);
+    }
+    cookie
+}
+
+// Removes the cookie, at the date and time that the text stands for.
+fn remove_at(alloc: Global, jar: &mut CookieJar, moment: &str, cookie: Cookie<'_>) -> Status
+    ensures no_date { date_of moment.now ≡ None → IsKept status.NoDate result jar.old jar.new }
+    ensures removed { (now : DateTime) → date_of moment.now ≡ Some now
+        → IsChanged (after (Remove cookie.entry.fields now)) result jar.old jar.new }
+{
     let Some(now) = read_date(moment) else {
         return Status::NoDate;
     };
-    let Ok(named) = Cookie::named(name).into_owned(alloc) else {
+    let Ok(cookie) = cookie.into_owned(alloc) else {
         return Status::OutOfMemory;
     };
-    match jar.remove(named, now) {
+    match jar.remove(cookie, now) {
         Ok(()) => Status::Done,
         Err(_) => Status::OutOfMemory,
     }
