@@ -30,6 +30,7 @@ pub use Rattle.cookie_core.proofs.JoinLemmas
 pub use Rattle.cookie_core.proofs.LawLemmas
 pub use Rattle.cookie_core.proofs.NormalFormLemmas
 pub use Rattle.cookie_core.proofs.NormalLemmas
+pub use Rattle.cookie_core.proofs.OffsetLemmas
 pub use Rattle.cookie_core.proofs.OutcomeLemmas
 pub use Rattle.cookie_core.proofs.PartLemmas
 pub use Rattle.cookie_core.proofs.PieceLemmas

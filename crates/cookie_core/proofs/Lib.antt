@@ -16,6 +16,7 @@ pub mod JoinLemmas
 pub mod LawLemmas
 pub mod NormalFormLemmas
 pub mod NormalLemmas
+pub mod OffsetLemmas
 pub mod OutcomeLemmas
 pub mod PartLemmas
 pub mod PieceLemmas

@@ -1,10 +1,11 @@
 -- Spans of a text, and spans within them.
 use Rattle.std.proofs.Common.{◌≡◌, ℕ, ◌+◌, ◌-◌, ◌<◌, ◌≤◌, List, ◌∷◌, ◌++◌, length, get_or, take, drop, slice_range, suc, Option, Some, None, IfSome, MatchOption, option_map, refl, sym, ap, ◌∙◌, subst, inl, inr, arith, length-drop, length-append}
 use Rattle.std.proofs.lemmas.Bool.{cases_lt}
-use Rattle.std.proofs.lemmas.List.{length-take, length-take-le, get_or-take, take-take, drop-take, drop-drop, drop_all}
+use Rattle.std.proofs.lemmas.List.{length-take, length-take-le, get_or-take, take-take, drop-take, drop-drop, drop_all, take_all}
 use Rattle.std.proofs.lemmas.Str.{IsCharBoundary-start, IsCharBoundary-end, IsCharBoundary-from_drop, IsCharBoundary-from_take, IsCharBoundary-from_rest}
 use Rattle.std.proofs.Math.Seq.{drop-length}
-use Rattle.std.specs.Str.{IsUtf8, IsCharBoundary, IsTrimStart, IsTrimEnd}
+use Rattle.std.specs.Char.{is_not_whitespace}
+use Rattle.std.specs.Str.{IsUtf8, IsCharBoundary, IsTrimStart, IsTrimEnd, NoCharPasses}
 use mathlib.Core.Logic.{◌≢◌}
 use Rattle.cookie_core.specs.Pieces.{Lacks}
 use Rattle.cookie_core.specs.Parts.{part_text, IsPartOf, IsOptionalPartOf}
@@ -19,7 +20,7 @@ abbrev pub span : ℕ → ℕ → Span
 span i j = record { start = i; end = j }
 
 -- a span's text is as long as the span
-length-span_text : (s : List ℕ) (p : Span) → StandsIn s p → length (span_text s p) ≡ p.end - p.start
+pub length-span_text : (s : List ℕ) (p : Span) → StandsIn s p → length (span_text s p) ≡ p.end - p.start
 length-span_text s p (le, a, b) =
     let last : p.end ≤ length s = b.0 in
     length-take-le (p.end - p.start) (drop p.start s) (omega (arith, length-drop p.start s))
@@ -53,7 +54,7 @@ span_text-within s p q h k =
 pub StandsIn-all : (t : List ℕ) → IsUtf8 t → StandsIn t (span 0 (length t))
 StandsIn-all t u = (omega arith, IsCharBoundary-start t u, IsCharBoundary-end t)
 
-slice_range-front : (t : List ℕ) (n : ℕ) → slice_range t 0 n ≡ take n t
+pub slice_range-front : (t : List ℕ) (n : ℕ) → slice_range t 0 n ≡ take n t
 slice_range-front t n = let z : n - 0 ≡ n = omega arith in rw z refl
 
 pub Lacks-front : (c : ℕ) (t : List ℕ) (n : ℕ) (r : List ℕ) → r ≡ take n t → ((i : ℕ) → i < n → get_or t i 0 ≢ c) → Lacks c r
@@ -72,6 +73,17 @@ drop_by_length t n r e =
     elim (cases_lt n (length t)) [
       | inl lt ↦ let m : length t - length r ≡ n = omega arith in rw m e
       | inr ge ↦ let m : length t - length r ≡ length t = omega arith in rw (m, drop-length t) (e ∙ drop_all n t ge)
+    ]
+
+-- what was cut off the front is white space
+pub white_before : (t kept : List ℕ) → IsTrimStart t kept → NoCharPasses is_not_whitespace (take (length t - length kept) t)
+white_before t kept (n, e, white, _, bound) =
+    let k : length kept ≡ length t - n = ap length e ∙ length-drop n t in
+    elim (cases_lt n (length t)) [
+      | inl lt ↦ let m : n ≡ length t - length kept = omega arith in subst (λ i. NoCharPasses is_not_whitespace (take i t)) m white
+      | inr ge ↦
+          let low : length t ≤ length t - length kept = omega arith in
+          subst (NoCharPasses is_not_whitespace) (take_all n t ge ∙ sym (take_all (length t - length kept) t low)) white
     ]
 
 -- what is left of t where what is left of its front is `kept`, and what is left of that is r

@@ -1,7 +1,8 @@
 -- Where the parts of a cookie's text stand, and what they are (RFC 6265 5.2).
-use Rattle.std.specs.Prelude.{ℕ, List, [], Result, option_map, IfSome}
+use Rattle.std.specs.Prelude.{◌<◌, ◌≤◌, ℕ, List, [], Result, option_map, IfSome}
 use Rattle.std.specs.Result.{result_map_both}
 use Rattle.jiff.specs.Words.{signed_nanos}
+use Rattle.cookie_core.specs.Pieces.{offset_of}
 use Rattle.cookie_core.specs.Record.{Record, without_leading_dot}
 use Rattle.cookie_core.specs.Spans.{StandsIn, span_text}
 use Rattle.cookie_core.specs.declared.attributes.Attributes.{Attributes}
@@ -36,10 +37,14 @@ layout_record s l =
 abbrev pub AreIn : List ℕ → Attributes → Type 0
 AreIn s a = IfSome a.path (StandsIn s) × IfSome a.domain (StandsIn s)
 
--- the spans of the layout stand in the text s
+-- the spans of the layout stand in the text s: the name before the first `=`, and the value after it and before the
+-- first `;`
 pub record IsLayoutIn (s : List ℕ) (l : Layout) : Type 0 where
   pub name : StandsIn s l.name
   pub value : StandsIn s l.value
+  pub before : l.name.end ≤ offset_of 61 s
+  pub after : offset_of 61 s < l.value.start
+  pub within : l.value.end ≤ offset_of 59 s
   pub attributes : AreIn s l.attributes
 
 -- the record of the layout in the text s, or the refusal

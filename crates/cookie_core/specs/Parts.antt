@@ -1,7 +1,8 @@
 -- Mirrors private code: parts of a text.
-use Rattle.std.specs.Prelude.{◌≡◌, ℕ, List, Option, IfSome}
+use Rattle.std.specs.Prelude.{◌≡◌, ◌+◌, ℕ, List, Option, Some, None, IfSome}
 use Rattle.cookie_core.specs.Spans.{span_text}
 use Rattle.cookie_core.specs.declared.part.Part.{Part}
+use Rattle.cookie_core.specs.declared.span.Span.{Span}
 
 -- the bytes of the part
 abbrev pub part_text : Part → List ℕ
@@ -14,3 +15,10 @@ IsPartOf s p = p.whole.now ≡ s
 -- the same of a part that may be missing
 abbrev pub IsOptionalPartOf : List ℕ → Option Part → Type 0
 IsOptionalPartOf s o = IfSome o (IsPartOf s)
+
+-- the span is cut in two at a byte, or stays whole
+abbrev pub IsCut : Span → Span → Option Part → Type 0
+IsCut whole first None = first ≡ whole
+IsCut whole first (Some after) =
+    (first.start ≡ whole.start) × (after.span.start ≡ first.end + 1)
+    × (after.span.end ≡ whole.end)

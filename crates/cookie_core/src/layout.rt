@@ -4,7 +4,7 @@ ghost use Rattle.std.specs.Result.{result_ok};
 ghost use Rattle.cookie_core.specs.CookieOf.{cookie_of};
 ghost use Rattle.cookie_core.specs.Layout.{laid_out, IsLayoutIn};
 ghost use Rattle.cookie_core.specs.Parts.{part_text, IsOptionalPartOf};
-ghost use Rattle.cookie_core.specs.Pieces.{Lacks};
+ghost use Rattle.cookie_core.specs.Pieces.{Lacks, offset_of};
 ghost use Rattle.cookie_core.specs.Reads.{Reads};
 ghost use Rattle.cookie_core.specs.Walk.{behind};
 
@@ -49,6 +49,8 @@ impl Layout {
     #[inline(always)]
     fn of_pieces(first: Part<'_>, later: Option<Part<'_>>) -> Result<Layout, ParseError>
         requires apart { Lacks 59 (part_text first) }
+        requires start { first.span.start ≡ 0 }
+        requires end { first.span.end ≡ offset_of 59 first.whole.now }
         requires place { IsOptionalPartOf first.whole.now later }
         ensures reads { (t : List ℕ)
             → t ≡ part_text first.entry ++ behind (option_map part_text later.entry)

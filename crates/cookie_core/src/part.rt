@@ -1,5 +1,5 @@
 //! Parts of a text.
-ghost use Rattle.std.specs.Prelude.{◌≡◌, ◌<◌, ◌≤◌, ◌++◌, ◌∷◌, List, ℕ, length, MatchOption, option_map};
+ghost use Rattle.std.specs.Prelude.{◌≡◌, ◌<◌, ◌≤◌, ◌+◌, ◌++◌, ◌∷◌, List, ℕ, length, MatchOption, option_map};
 ghost use Rattle.std.specs.Str.{trim};
 ghost use Rattle.cookie_core.specs.Pieces.{Lacks};
 ghost use Rattle.cookie_core.specs.Spans.{StandsIn, span_text};
@@ -16,12 +16,13 @@ pub(crate) struct Part<'t> {
 }
 
 impl<'t> Part<'t> {
-    ghost use Rattle.cookie_core.specs.Parts.{part_text, IsPartOf, IsOptionalPartOf};
+    ghost use Rattle.cookie_core.specs.Parts.{part_text, IsCut, IsPartOf, IsOptionalPartOf};
 
     // All of the text.
     pub(crate) fn all(text: &'t str) -> Part<'t>
         ensures place { IsPartOf text.now result }
         ensures text { part_text result ≡ text.now }
+        ensures span { (result.span.start ≡ 0) × (result.span.end ≡ length text.now) }
     {
         let span = Span {
             start: 0,
@@ -57,6 +58,8 @@ impl<'t> Part<'t> {
         requires { StandsIn (part_text self) span }
         ensures place { IsPartOf self.entry.whole.now result }
         ensures text { part_text result ≡ span_text (part_text self.entry) span }
+        ensures start { result.span.start ≡ self.entry.span.start + span.start }
+        ensures end { result.span.end ≡ self.entry.span.start + span.end }
     {
         let start = self.span.start;
         let span = Span {
@@ -75,6 +78,7 @@ impl<'t> Part<'t> {
         ensures cut { MatchOption result.1 (part_text result.0 ≡ part_text self.entry)
             (λ after. part_text self.entry ≡ part_text result.0 ++ mark ∷ part_text after) }
         ensures before { Lacks mark (part_text result.0) }
+        ensures spans { IsCut self.entry.span result.0.span result.1 }
         ensures place { IsPartOf self.entry.whole.now result.0 }
         ensures after_place { IsOptionalPartOf self.entry.whole.now result.1 }
     {
@@ -94,6 +98,8 @@ impl<'t> Part<'t> {
     pub(crate) fn trim(self) -> Part<'t>
         ensures text { part_text result ≡ trim (part_text self.entry) }
         ensures trimmed { IsTrimmed (part_text self.entry) (part_text result) }
+        ensures start { self.entry.span.start ≤ result.span.start }
+        ensures end { result.span.end ≤ self.entry.span.end }
         ensures place { IsPartOf self.entry.whole.now result }
     {
         self.inner(Span::trim(self.text()))

@@ -1,6 +1,7 @@
 //! Where a part of a text stands.
-ghost use Rattle.std.specs.Prelude.{◌≡◌, ◌≤◌, List, ℕ, length};
-ghost use Rattle.std.specs.Str.{trim};
+ghost use Rattle.std.specs.Prelude.{◌≡◌, ◌≤◌, List, ℕ, length, take};
+ghost use Rattle.std.specs.Char.{is_not_whitespace};
+ghost use Rattle.std.specs.Str.{NoCharPasses, trim};
 ghost use Rattle.cookie_core.specs.Spans.{StandsIn, span_text};
 ghost use Rattle.cookie_core.specs.Trim.{IsTrimmed, IsBarePart};
 
@@ -18,6 +19,7 @@ impl Span {
     pub fn trim(text: &str) -> Span
         ensures stands { StandsIn text.now result }
         ensures text { span_text text.now result ≡ trim text.now }
+        ensures before { NoCharPasses is_not_whitespace (take result.start text.now) }
         ensures trimmed { IsTrimmed text.now (span_text text.now result) }
         ensures only { (part : List ℕ) → IsTrimmed text.now part
             → part ≡ span_text text.now result }

@@ -1,12 +1,17 @@
-use Rattle.std.proofs.Common.{IfOk, false, sym, subst, ◌∙◌}
+use Rattle.std.proofs.Common.{IfOk, false, sym, ap, subst, ◌∙◌}
 use Rattle.std.proofs.lemmas.List.{append-nil}
 use Rattle.cookie_core.specs.Layout.{laid_out, IsLayoutIn}
-use Rattle.cookie_core.specs.Pieces.{Lacks}
+use Rattle.cookie_core.specs.Pieces.{Lacks, offset_of}
 use Rattle.cookie_core.specs.Reads.{Reads}
+use Rattle.cookie_core.proofs.OffsetLemmas.{offset_of-none}
 use Rattle.cookie_core.proofs.layout.Layout.of_pair.Goals as goal
 
 pub of_pieces-requires-clause-apart : goal.of_pieces-requires-clause-apart
 of_pieces-requires-clause-apart c = subst (Lacks 59) (sym c.all.ensures.text) c.requires
+
+pub of_pieces-requires-clause-end : goal.of_pieces-requires-clause-end
+of_pieces-requires-clause-end c =
+    c.all.ensures.span.1 ∙ sym (offset_of-none 59 c.args.text.now c.requires) ∙ ap (offset_of 59) (sym c.all.ensures.place)
 
 pub returns-clause-reads : goal.returns-clause-reads
 returns-clause-reads c =

@@ -1,11 +1,13 @@
-use Rattle.std.proofs.Common.{◌≡◌, ◌==◌, List, [], ℕ, None, false, length, refl, sym, ap, subst, ◌∙◌, arith}
+use Rattle.std.proofs.Common.{◌≡◌, ◌==◌, List, [], ℕ, Some, None, false, length, refl, sym, ap, subst, ◌∙◌, arith}
 use Rattle.std.proofs.lemmas.Bool.{false≢true}
 use Rattle.std.proofs.lemmas.Bool.Decides.{nat_tests}
 use Rattle.std.proofs.lemmas.List.{nil_from_length}
 use Rattle.cookie_core.specs.Layout.{attributes_of}
-use Rattle.cookie_core.specs.Parts.{part_text, IsPartOf}
+use Rattle.cookie_core.specs.Parts.{part_text, IsCut, IsPartOf}
+use Rattle.cookie_core.specs.Pieces.{offset_of}
 use Rattle.cookie_core.specs.Walk.{HasRead}
 use Rattle.cookie_core.proofs.ReadingLemmas.{Reads-no_pair, Reads-empty_name, Reads-record}
+use Rattle.cookie_core.proofs.OffsetLemmas.{offset_of-front}
 use Rattle.cookie_core.proofs.SpanLemmas.{rest-part, StandsIn-part, span_text-part}
 use Rattle.cookie_core.proofs.layout.Layout.of_pieces.Goals as goal
 
@@ -38,8 +40,15 @@ pub returns-clause-place : goal.returns-clause-place
 returns-clause-place c =
     let whole = c.args.first.whole.now in
     let value_place : IsPartOf whole c.in-Some.value = rw c.in-Some.is at c.cut.ensures.after_place in
+    let cut : IsCut c.args.first.span c.cut.result.0.span (Some c.in-Some.value) = rw c.in-Some.is at c.cut.ensures.spans in
+    let start : c.cut.result.0.span.start ≡ 0 = cut.0 ∙ c.requires.start in
+    let mark : offset_of 61 whole ≡ c.cut.result.0.span.end =
+    offset_of-front 61 whole c.args.first c.cut.result.0 (part_text c.in-Some.value) refl c.cut.ensures.place c.requires.start start (rw c.in-Some.is at c.cut.ensures.cut) c.cut.ensures.before in
     record {
       name = StandsIn-part whole c.trim-name.result (c.trim-name.ensures.place ∙ c.cut.ensures.place);
       value = StandsIn-part whole c.trim.result (c.trim.ensures.place ∙ value_place);
+      before = omega (arith, mark, c.trim-name.ensures.end);
+      after = omega (arith, mark, cut.1, c.trim.ensures.start);
+      within = omega (arith, cut.2, c.trim.ensures.end, c.requires.end);
       attributes = c.read.ensures.place;
     }

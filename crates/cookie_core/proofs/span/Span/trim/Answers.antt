@@ -2,7 +2,7 @@ use Rattle.std.proofs.Common.{◌≡◌, sym, ap, subst, ◌∙◌}
 use Rattle.std.specs.Str.{trim, trim_end}
 use Rattle.cookie_core.specs.Spans.{span_text}
 use Rattle.cookie_core.specs.Trim.{IsTrimmed}
-use Rattle.cookie_core.proofs.SpanLemmas.{span, StandsIn-trimmed, span_text-trimmed}
+use Rattle.cookie_core.proofs.SpanLemmas.{span, StandsIn-trimmed, span_text-trimmed, white_before}
 use Rattle.cookie_core.proofs.TrimLemmas.{exactly, trims, longest}
 use Rattle.cookie_core.proofs.span.Span.trim.Goals as goal
 use Rattle.cookie_core.proofs.span.Span.trim.Goals.{After-trim_end}
@@ -17,6 +17,9 @@ is_trim c =
 pub returns-clause-stands : goal.returns-clause-stands
 returns-clause-stands c =
     StandsIn-trimmed c.args.text.now c.trim_start-kept.result.now c.trim_end.result.now c.trim_start-kept.ensures.value c.trim_start-kept.utf8 c.trim_end.ensures.value c.trim_end.utf8
+
+pub returns-clause-before : goal.returns-clause-before
+returns-clause-before c = white_before c.args.text.now c.trim_start-kept.result.now c.trim_start-kept.ensures.value
 
 pub returns-clause-text : goal.returns-clause-text
 returns-clause-text c = is_trim (goal.at.returns-clause-text c).After-trim_end
