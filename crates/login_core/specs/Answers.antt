@@ -1,13 +1,17 @@
 -- What the site answers a request.
-use Rattle.std.specs.Prelude.{◌≡◌, ℕ, List, Option, Some, None, Result, Ok, Err}
+use Rattle.std.specs.Prelude.{◌≡◌, ◌↔◌, ℕ, true, List, Option, Some, None, Result, Ok, Err}
 use Rattle.std.specs.Bool.{MatchBool}
 use Rattle.jiff.specs.Types.{DateTime}
 use Rattle.cookie.specs.Jar.{JarState}
-use Rattle.cookie.specs.Sealing.{IsNonce}
+use Rattle.cookie.specs.Memory.{Gives}
+use Rattle.cookie.specs.Sealing.{CanSeal, IsNonce}
+use Rattle.cookie.specs.declared.jar_error.JarError.{JarError}
+use Rattle.cookie.specs.declared.jar_error.JarError.TheVariants as failure
 use Rattle.cookie_client.specs.Originals.{jar_for}
 use Rattle.login_core.specs.Changes.{logged_in, logged_out, shown}
 use Rattle.login_core.specs.Forms.{credentials_of}
 use Rattle.login_core.specs.Routes.{route_of}
+use Rattle.login_core.specs.SiteCookies.{kept}
 use Rattle.login_core.specs.Users.{is_known}
 use Rattle.login_core.specs.Visitors.{IsLoggedIn, IsVisitor}
 use Rattle.login_core.specs.declared.page.Page.{Page}
@@ -18,6 +22,7 @@ use Rattle.login_core.specs.declared.request.Request.{Request}
 use Rattle.login_core.specs.declared.routes.Route.{Route}
 use Rattle.login_core.specs.declared.routes.Route.TheVariants.{Home, LogIn, LogOut}
 use Rattle.login_core.specs.declared.site.Site.{Site}
+use Rattle.login_core.specs.declared.site_cookie.SiteCookie.TheVariants.{User}
 use Rattle.login_core.specs.declared.visitor.Visitor.{Visitor}
 
 -- the request asks for the home page, and carries a cookie that is sealed for the user under the key
@@ -62,3 +67,33 @@ Answers IsDrawn site request now before (Ok LogIn) page after =
     LogsIn IsDrawn site (credentials_of request.form.now) before page after
 Answers IsDrawn site request now before (Ok LogOut) page after = LogsOut site now before page after
 Answers IsDrawn site request now before (Err refusal) page after = Refuses refusal before page after
+
+-- the name and the password are those of a user of the site
+abbrev pub NamesUser : Site → Option (List ℕ × List ℕ) → List ℕ → Type 0
+NamesUser site None user = ⊥
+NamesUser site (Some (name, password)) user =
+    (name ≡ user) × (is_known name password site.users.now ≡ true)
+
+-- the request is one to log in, and its form names the user with the right password
+abbrev pub IsLetIn : Site → Request → List ℕ → Type 0
+IsLetIn site request user =
+    (route_of request.method.now request.path.now ≡ Ok LogIn)
+    × NamesUser site (credentials_of request.form.now) user
+
+-- a user is let in whose name is too long to be sealed
+abbrev pub IsTooLong : Site → (List ℕ → Type 0) → Type 0
+IsTooLong site IsIn =
+    (user : List ℕ) × IsIn user × ¬ (CanSeal (kept site.is_secure User user))
+
+-- How a call fails that logs a user in, if one is let in. `CanFail` says that the generator can fail.
+pub record FailsOnlyFor {T : Type 0} (site : Site) (IsIn : List ℕ → Type 0) (CanFail : Type 0)
+    (result : Result T JarError)
+    : Type 0 where
+  -- with nobody to let in, only out of memory
+  pub certain : ((user : List ℕ) → ¬ (IsIn user))
+      → Gives failure.OutOfMemory result (λ _. Unit {0})
+  -- the generator fails only for a user who is let in
+  pub generator : result ≡ Err failure.Generator → CanFail × ((user : List ℕ) × IsIn user)
+  -- unless memory runs out, the refusal is `TooLong` exactly where the name is too long
+  pub too_long : ¬ (result ≡ Err failure.OutOfMemory)
+      → (result ≡ Err failure.TooLong) ↔ IsTooLong site IsIn

@@ -31,5 +31,7 @@ pub record IsVisitor (site : Site) (jar : JarState) (visitor : Visitor) : Type 0
   -- one more greeting than the client was told of
   pub visits : (before : ℕ) → before + 1 < 2 ^ 64
       → HasSigned site jar Visits (decimal before) → visitor.visits ≡ before + 1
+  -- the first greeting, if the client has no signed number
+  pub first : ((text : List ℕ) → ¬ (HasSigned site jar Visits text)) → visitor.visits ≡ 1
   pub notice : (text : List ℕ)
       → (option_map string_bytes visitor.notice ≡ Some text) ↔ HasSigned site jar Notice text

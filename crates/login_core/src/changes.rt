@@ -3,6 +3,7 @@ ghost use Rattle.std.specs.Prelude.{◌≡◌, ℕ, List, OnOk};
 ghost use Rattle.cookie.specs.Memory.{Gives};
 ghost use Rattle.cookie.specs.Sealing.{IsNonce};
 ghost use Rattle.cookie.specs.declared.jar_error.JarError.TheVariants as refusal;
+ghost use Rattle.login_core.specs.Answers.{FailsOnlyFor};
 ghost use Rattle.login_core.specs.Changes.{forgets, logged_in, logged_out, removes, seals, shown, signs};
 
 use crate::site::Site;
@@ -41,8 +42,10 @@ pub(crate) fn log_in<R: TryRng>(
     user: &str,
     rng: &mut R,
 ) -> Result<(), JarError>
-    ensures { OnOk result ((nonce : List ℕ) × IsNonce nonce × R.may_fill rng.old nonce rng.new
+    ensures stored { OnOk result ((nonce : List ℕ) × IsNonce nonce
+        × R.may_fill rng.old nonce rng.new
         × (jar.new ≡ logged_in site.now nonce user.now jar.old)) }
+    ensures fails { FailsOnlyFor site.now (λ known. user.now ≡ known) R.Error result }
 {
     seal(alloc, site, jar, user, rng)?;
     sign(alloc, site, jar, SiteCookie::Notice, "You are logged in.")
@@ -82,8 +85,10 @@ fn seal<R: TryRng>(
     user: &str,
     rng: &mut R,
 ) -> Result<(), JarError>
-    ensures { OnOk result ((nonce : List ℕ) × IsNonce nonce × R.may_fill rng.old nonce rng.new
+    ensures stored { OnOk result ((nonce : List ℕ) × IsNonce nonce
+        × R.may_fill rng.old nonce rng.new
         × (jar.new ≡ seals site.now nonce user.now jar.old)) }
+    ensures fails { FailsOnlyFor site.now (λ known. user.now ≡ known) R.Error result }
 {
     let cookie = SiteCookie::User.with_value(alloc, site.is_secure, user)?;
     jar.private_mut(site.key).add(cookie, rng)?;

@@ -1,15 +1,14 @@
 //! What the site answers a request.
-ghost use Rattle.std.specs.Prelude.{◌≡◌, ◌↔◌, ℕ, List, IfOk, Ok, Some, map, string_bytes};
+ghost use Rattle.std.specs.Prelude.{◌≡◌, ◌↔◌, ℕ, List, IfOk, Err, Some, map, string_bytes};
 ghost use Rattle.cookie.specs.Jar.{JarState};
 ghost use Rattle.cookie.specs.Memory.{Gives};
 ghost use Rattle.cookie.specs.declared.jar_error.JarError.TheVariants as refusal;
 ghost use Rattle.cookie_client.specs.Agreement.{AreDeltaTexts};
 ghost use Rattle.cookie_client.specs.Originals.{jar_for};
-ghost use Rattle.login_core.specs.Answers.{Answers, IsGreeted, LogsIn, LogsOut, Shows};
+ghost use Rattle.login_core.specs.Answers.{Answers, FailsOnlyFor, IsGreeted, IsLetIn, IsTooLong, LogsIn, LogsOut, NamesUser, Shows};
 ghost use Rattle.login_core.specs.Forms.{credentials_of, credential_texts};
 ghost use Rattle.login_core.specs.Pages.{greeted};
 ghost use Rattle.login_core.specs.Routes.{route_of};
-ghost use Rattle.login_core.specs.declared.routes.Route.TheVariants.{LogIn};
 
 use crate::changes::{log_in, log_out, show};
 use crate::form::{Credentials, read_credentials};
@@ -51,11 +50,18 @@ pub fn answer<R: TryRng>(
         site.now request.now now (jar_for request.now.cookies.now)
         (route_of request.now.method.now request.now.path.now) response.page jar
         × AreDeltaTexts jar.delta (map string_bytes response.cookies.items)) }
-    // Only a request to log in draws from the generator, or fails for more than memory.
-    ensures undrawn { ¬ (route_of request.now.method.now request.now.path.now ≡ Ok LogIn)
+
+    // Only a request that lets a user in draws from the generator, or fails for more than memory.
+    ensures undrawn { ((user : List ℕ) → ¬ (IsLetIn site.now request.now user))
         → rng.new ≡ rng.old }
-    ensures certain { ¬ (route_of request.now.method.now request.now.path.now ≡ Ok LogIn)
+    ensures certain { ((user : List ℕ) → ¬ (IsLetIn site.now request.now user))
         → Gives refusal.OutOfMemory result (λ _. Unit {0}) }
+    ensures generator { result ≡ Err refusal.Generator
+        → R.Error × ((user : List ℕ) × IsLetIn site.now request.now user) }
+
+    // A name that is too long to be sealed is refused as such, unless memory runs out.
+    ensures too_long { ¬ (result ≡ Err refusal.OutOfMemory)
+        → (result ≡ Err refusal.TooLong) ↔ IsTooLong site.now (IsLetIn site.now request.now) }
 {
     let mut jar = request_jar(alloc, state, request.cookies)?;
     respond(alloc, site, request, &mut jar, now, rng)
@@ -85,11 +91,9 @@ fn respond<R: TryRng>(
         site.now request.now now jar.old
         (route_of request.now.method.now request.now.path.now) response.page jar.new
         × AreDeltaTexts jar.new.delta (map string_bytes response.cookies.items)) }
-    // Only a request to log in draws from the generator, or fails for more than memory.
-    ensures undrawn { ¬ (route_of request.now.method.now request.now.path.now ≡ Ok LogIn)
+    ensures undrawn { ((user : List ℕ) → ¬ (IsLetIn site.now request.now user))
         → rng.new ≡ rng.old }
-    ensures certain { ¬ (route_of request.now.method.now request.now.path.now ≡ Ok LogIn)
-        → Gives refusal.OutOfMemory result (λ _. Unit {0}) }
+    ensures fails { FailsOnlyFor site.now (IsLetIn site.now request.now) R.Error result }
 {
     let page = decide(alloc, site, request, jar, now, rng)?;
     let cookies = delta_texts(alloc, jar, &[])?;
@@ -108,11 +112,9 @@ fn decide<R: TryRng>(
     ensures answers { IfOk result (λ page. Answers (λ nonce. R.may_fill rng.old nonce rng.new)
         site.now request.now now jar.old
         (route_of request.now.method.now request.now.path.now) page jar.new) }
-    // Only a request to log in draws from the generator, or fails for more than memory.
-    ensures undrawn { ¬ (route_of request.now.method.now request.now.path.now ≡ Ok LogIn)
+    ensures undrawn { ((user : List ℕ) → ¬ (IsLetIn site.now request.now user))
         → rng.new ≡ rng.old }
-    ensures certain { ¬ (route_of request.now.method.now request.now.path.now ≡ Ok LogIn)
-        → Gives refusal.OutOfMemory result (λ _. Unit {0}) }
+    ensures fails { FailsOnlyFor site.now (IsLetIn site.now request.now) R.Error result }
 {
     match find_route(request.method, request.path) {
         Ok(Route::Home) => home(alloc, site, jar, now),
@@ -144,8 +146,12 @@ fn enter<R: TryRng>(
     jar: &mut CookieJar,
     rng: &mut R,
 ) -> Result<Page, JarError>
-    ensures { IfOk result (λ page. LogsIn (λ nonce. R.may_fill rng.old nonce rng.new)
+    ensures answers { IfOk result (λ page. LogsIn (λ nonce. R.may_fill rng.old nonce rng.new)
         site.now (credentials_of form.now) jar.old page jar.new) }
+    ensures undrawn { ((user : List ℕ) → ¬ (NamesUser site.now (credentials_of form.now) user))
+        → rng.new ≡ rng.old }
+    ensures fails { FailsOnlyFor site.now (NamesUser site.now (credentials_of form.now))
+        R.Error result }
 {
     match read_credentials(alloc, form)? {
         Some(found) => admit(alloc, site, &found, jar, rng),
@@ -161,8 +167,13 @@ fn admit<R: TryRng>(
     jar: &mut CookieJar,
     rng: &mut R,
 ) -> Result<Page, JarError>
-    ensures { IfOk result (λ page. LogsIn (λ nonce. R.may_fill rng.old nonce rng.new)
+    ensures answers { IfOk result (λ page. LogsIn (λ nonce. R.may_fill rng.old nonce rng.new)
         site.now (Some (credential_texts found.now)) jar.old page jar.new) }
+    ensures undrawn { ((user : List ℕ)
+        → ¬ (NamesUser site.now (Some (credential_texts found.now)) user))
+        → rng.new ≡ rng.old }
+    ensures fails { FailsOnlyFor site.now (NamesUser site.now (Some (credential_texts found.now)))
+        R.Error result }
 {
     let user = found.user.as_str();
     if !is_known(site.users, user, found.password.as_str()) {

@@ -76,8 +76,11 @@ fn value_of(alloc: Global, cookie: Option<&Cookie<'_>>) -> Result<Option<String>
 
 // How many greetings were shown, this one included.
 fn visits_of(alloc: Global, site: &Site<'_>, jar: &CookieJar) -> Result<u64, JarError>
-    ensures { Gives refusal.OutOfMemory result (λ visits. (before : ℕ) → before + 1 < 2 ^ 64
+    ensures more { Gives refusal.OutOfMemory result (λ visits. (before : ℕ) → before + 1 < 2 ^ 64
         → HasSigned site.now jar.now which_cookie.Visits (decimal before) → visits ≡ before + 1) }
+    ensures first { IfOk result (λ visits.
+        ((text : List ℕ) → ¬ (HasSigned site.now jar.now which_cookie.Visits text))
+        → visits ≡ 1) }
 {
     match signed_value(alloc, site, jar, SiteCookie::Visits)? {
         Some(text) => Ok(one_more(text.as_str())),
