@@ -3,6 +3,7 @@ ghost use Rattle.std.specs.Prelude.{◌≡◌, ℕ, List, OnOk, OnErr, IfOk};
 ghost use Rattle.std.specs.FinMap as map;
 ghost use Rattle.std.specs.Option.{option_map};
 ghost use Rattle.std.specs.String.{string_bytes};
+ghost use Rattle.indexmap.specs.IndexMap.{hasher_of};
 ghost use Rattle.cookie.specs.Table.{by_name, delta_mark, original_fields, IsKeyedByName};
 ghost use Rattle.cookie_core.specs.Record.{Record};
 ghost use Rattle.cookie.specs.Jar.{Marked};
@@ -85,7 +86,7 @@ pub(crate) fn find<'a, X: Entry>(
     table.get(name)
 }
 
-// Puts an entry at its name. On an error the table stays as it was.
+// Puts an entry at its name. On an error the table stays as it was. It hashes names as before, whatever the answer.
 pub(crate) fn put<X: Entry>(
     table: &mut IndexMap<String, X, NameHash>,
     entry: X,
@@ -97,6 +98,7 @@ pub(crate) fn put<X: Entry>(
         ≡ by_name X.shows table.old.entries) }
     ensures named { IsKeyedByName X.name_of (by_name X.shows table.old.entries)
         → IsKeyedByName X.name_of (by_name X.shows table.new.entries) }
+    ensures hash { hasher_of table.new ≡ hasher_of table.old }
 {
     let key = String::from_str(*table.allocator(), entry.own_name())?;
     make_room(table)?;
@@ -107,7 +109,8 @@ pub(crate) fn put<X: Entry>(
 // Makes room in a full table: for some entries at first, and then for four times as many as there are, since each step
 // moves them all.
 fn make_room<X: Entry>(table: &mut IndexMap<String, X, NameHash>) -> Result<(), AllocError>
-    ensures { by_name X.shows table.new.entries ≡ by_name X.shows table.old.entries }
+    ensures same { by_name X.shows table.new.entries ≡ by_name X.shows table.old.entries }
+    ensures hash { hasher_of table.new ≡ hasher_of table.old }
 {
     if table.len() == table.capacity() {
         table.reserve(table.len().saturating_mul(3).max(FIRST_ROOM))?;
@@ -125,6 +128,7 @@ fn set<X: Entry>(
         ≡ map.insert (by_name X.shows table.old.entries) (string_bytes key) (X.shows entry)) }
     ensures err { OnErr result (by_name X.shows table.new.entries
         ≡ by_name X.shows table.old.entries) }
+    ensures hash { hasher_of table.new ≡ hasher_of table.old }
 {
     table.insert(key, entry)?;
     Ok(())
@@ -136,17 +140,19 @@ pub(crate) fn discard<X: Entry>(table: &mut IndexMap<String, X, NameHash>, name:
         ≡ map.remove (by_name X.shows table.old.entries) name.now }
     ensures named { IsKeyedByName X.name_of (by_name X.shows table.old.entries)
         → IsKeyedByName X.name_of (by_name X.shows table.new.entries) }
+    ensures hash { hasher_of table.new ≡ hasher_of table.old }
 {
     table.swap_remove(name);
 }
 
-// A table that shows the same.
+// A table that shows the same, and hashes names alike.
 pub(crate) fn copy<X: Entry>(
     table: &IndexMap<String, X, NameHash>,
     alloc: Global,
 ) -> Result<IndexMap<String, X, NameHash>, AllocError>
-    ensures { IfOk result (λ made.
+    ensures shows { IfOk result (λ made.
         by_name X.shows made.entries ≡ by_name X.shows table.now.entries) }
+    ensures hash { IfOk result (λ made. hasher_of made ≡ hasher_of table.now) }
 {
     let mut made = IndexMap::with_capacity_and_hasher(alloc, table.len(), *table.hasher())?;
     for (key, entry) in table {

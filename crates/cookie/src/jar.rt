@@ -31,6 +31,8 @@ pub struct CookieJar {
 
 // Contracts see the jar as two finite maps from names to the records of cookies.
 impl Model for CookieJar {
+    ghost use Rattle.std.specs.Prelude.{◌≡◌};
+    ghost use Rattle.indexmap.specs.IndexMap.{hasher_of};
     ghost use Rattle.cookie.specs.Jar.{JarState, jar_code};
     ghost use Rattle.cookie.specs.Table.{AreNamed, by_name, delta_mark, original_fields};
 
@@ -43,11 +45,11 @@ impl Model for CookieJar {
       delta = by_name delta_mark a.delta.entries;
     } };
 
-    // Each key is its cookie's name.
+    // Each key is its cookie's name, and both tables hash names alike.
     ghost invariant = { λ a. AreNamed (record {
       originals = by_name original_fields a.originals.entries;
       delta = by_name delta_mark a.delta.entries;
-    }) };
+    }) × (hasher_of a.originals ≡ hasher_of a.delta) };
 }
 
 impl CookieJar {

@@ -7,7 +7,7 @@ use Rattle.cookie.proofs.entry.put.Goals as goal
 pub returns-clause-ok : goal.returns-clause-ok
 returns-clause-ok g c =
     c.in_ok-set.ensures.ok
-    ∙ ap (λ m. insert m (string_bytes c.in_ok-key.key) (g.X.Entry.shows c.args.entry)) c.in_ok-make_room.ensures
+    ∙ ap (λ m. insert m (string_bytes c.in_ok-key.key) (g.X.Entry.shows c.args.entry)) c.in_ok-make_room.ensures.same
     ∙ ap (λ k. insert (by_name g.X.Entry.shows c.args.table.now.entries) k (g.X.Entry.shows c.args.entry)) (c.in_ok-key.ensures.ok ∙ c.own_name.ensures)
 
 pub returns-clause-named : goal.returns-clause-named

@@ -19,11 +19,11 @@ returns-clause-walks c =
     rw c.new.ensures (
     subst (λ (s : JarState). Walks (view s) (additions (map delta_mark (values_of delta)) ++ uncovered (by_name delta_mark delta) (map original_fields (values_of originals)))) c.self.view_is (
     walks_shown (by_name delta_mark delta) (by_name original_fields originals) (map delta_mark (values_of delta)) (map original_fields (values_of originals))
-    (λ n. values_found delta_mark (λ m. m) (λ m. m.cookie.name) delta delta_once c.self.invariant.delta n ∙ option_map-itself (get (by_name delta_mark delta) n))
-    (values_once delta_mark (λ m. m) (λ m. m.cookie.name) delta delta_once c.self.invariant.delta)
+    (λ n. values_found delta_mark (λ m. m) (λ m. m.cookie.name) delta delta_once c.self.invariant.0.delta n ∙ option_map-itself (get (by_name delta_mark delta) n))
+    (values_once delta_mark (λ m. m) (λ m. m.cookie.name) delta delta_once c.self.invariant.0.delta)
     (record {
-      found = λ n. values_found original_fields (λ r. r) (λ r. r.name) originals originals_once c.self.invariant.originals n ∙ option_map-itself (get (by_name original_fields originals) n);
-      once = values_once original_fields (λ r. r) (λ r. r.name) originals originals_once c.self.invariant.originals;
+      found = λ n. values_found original_fields (λ r. r) (λ r. r.name) originals originals_once c.self.invariant.0.originals n ∙ option_map-itself (get (by_name original_fields originals) n);
+      once = values_once original_fields (λ r. r) (λ r. r.name) originals originals_once c.self.invariant.0.originals;
     })))
 
 pub returns-clause-fits : goal.returns-clause-fits

@@ -1,4 +1,4 @@
-use Rattle.std.proofs.Common.{Global, [], ap, ◌∙◌}
+use Rattle.std.proofs.Common.{Global, [], ap, sym, ◌∙◌}
 use Rattle.std.specs.FinMap.{get}
 use Rattle.cookie.specs.Jar.{JarState, overlay}
 use Rattle.cookie.specs.Table.{by_name, delta_mark, original_fields}
@@ -6,10 +6,13 @@ use Rattle.cookie.proofs.NameLemmas.{IsKeyedByName-empty, get-by_name}
 use Rattle.cookie.proofs.jar.CookieJar.reset_delta.Goals as goal
 
 pub invariant_of-self : goal.invariant_of-self
-invariant_of-self c = record {
-  originals = c.self.invariant.originals;
-  delta = rw c.truncate.ensures.entries (IsKeyedByName-empty _);
-}
+invariant_of-self c = (
+  record {
+    originals = c.self.invariant.0.originals;
+    delta = rw c.truncate.ensures.entries (IsKeyedByName-empty _);
+  },
+  c.self.invariant.1 ∙ sym c.truncate.ensures.room.1,
+)
 
 pub returns-clause-originals : goal.returns-clause-originals
 returns-clause-originals c = λ name.
