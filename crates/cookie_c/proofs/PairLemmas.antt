@@ -1,18 +1,22 @@
 -- The pieces of a header of bytes, from a place on.
-use Rattle.std.proofs.Common.{◌≡◌, ◌==◌, ℕ, ◌+◌, ◌-◌, ◌<◌, ◌≤◌, List, [], ◌∷◌, ◌++◌, true, false, length, get_or, take, drop, slice_range, ◌⊎◌, Some, None, refl, sym, ap, ◌∙◌, inl, inr, arith, length-drop}
+use Rattle.std.proofs.Common.{◌≡◌, ◌==◌, ℕ, ◌+◌, ◌-◌, ◌<◌, ◌≤◌, List, [], ◌∷◌, ◌++◌, true, false, length, get_or, take, drop, slice_range, ◌⊎◌, Some, None, refl, sym, ap, subst, ◌∙◌, inl, inr, arith, length-drop}
 use Rattle.std.proofs.lemmas.Bool.{cases_lt, and_from, and_left, and_right, cond-true, cond-false, false_from_ne_true}
 use Rattle.std.proofs.lemmas.Bool.Decides.{nat_tests}
 use Rattle.std.proofs.lemmas.List.{get_or-take, get_or-drop, length-take-le, take-append-drop, drop-drop, drop-take, take-take, drop_all, drop_more}
 use Rattle.std.proofs.lemmas.Str.{is_utf8-from_IsUtf8, IsUtf8-from_is_utf8, IsUtf8-nil}
-use Rattle.std.specs.Str.{is_utf8, trim, IsUtf8}
+use Rattle.std.specs.Char.{is_not_whitespace}
+use Rattle.std.specs.Str.{is_utf8, trim, IsUtf8, NoCharPasses}
 use Rattle.cookie.proofs.GraphicLemmas.{trim-graphic}
 use Rattle.cookie.proofs.PieceLemmas.{pieces-cut}
-use Rattle.cookie.specs.Pieces.{Lacks, pieces}
+use Rattle.cookie.proofs.OffsetLemmas.{offset_of-within, white-Lacks}
+use Rattle.cookie.specs.Layout.{IsLayoutIn}
+use Rattle.cookie.specs.Pieces.{Lacks, offset_of, pieces}
 use Rattle.cookie.specs.Spans.{StandsIn, span_text}
+use Rattle.cookie.specs.declared.Layout.{Layout}
 use Rattle.cookie.specs.declared.Span.{Span}
 use Rattle.cookie_c.specs.NextPiece.{IsTextOf}
-use Rattle.cookie_c.specs.Pairs.{HeaderPiece, end_of, is_blank, next_in, next_piece}
-use Rattle.cookie_c.specs.Places.{IsBetween, place_behind}
+use Rattle.cookie_c.specs.Pairs.{HeaderPiece, end_of, is_blank, mark_of, next_in, next_piece}
+use Rattle.cookie_c.specs.Places.{IsAt, IsBetween, place_behind}
 use mathlib.Core.Logic.{◌≢◌}
 
 pub length-piece : (h : List ℕ) (s e : ℕ) → s ≤ e → e ≤ length h → length (slice_range h s e) ≡ e - s
@@ -55,18 +59,34 @@ within_stands h s n a b forward within =
 differs : {n : ℕ} → n ≢ 0 → (n == 0) ≡ false
 differs {n} h = grind (arith, nat_tests)
 
--- a span of a text that stands in the header
+-- a span of a text that stands in the header, between two offsets
 pub IsBetween-behind : (h text : List ℕ) (first start last : ℕ) (p : Span)
-    → IsBetween h first last (record { start = start; length = length text }) text → StandsIn text p
-    → IsBetween h first last (place_behind start p) (span_text text p)
-IsBetween-behind h text first start last p here (forward, _, end) =
+    → IsAt h (record { start = start; length = length text }) text → StandsIn text p
+    → first ≤ start + p.start → start + p.end ≤ last → IsBetween h first last (place_behind start p) (span_text text p)
+IsBetween-behind h text first start last p (room, here) (forward, _, end) begins ends =
     let within : p.end ≤ length text = end.0 in
-    let room : start + length text ≤ length h = here.bytes.0 in
+    let width : start + p.start + (p.end - p.start) ≡ start + p.end = omega arith in
     record {
-      bytes = (omega arith, sym (within_stands h start (length text) p.start p.end forward within) ∙ ap (λ t. take (p.end - p.start) (drop p.start t)) here.bytes.1);
-      begins = omega (arith, here.begins);
-      ends = omega (arith, here.ends);
+      bytes = (omega arith, sym (within_stands h start (length text) p.start p.end forward within) ∙ ap (λ t. take (p.end - p.start) (drop p.start t)) here);
+      begins = begins;
+      ends = omega (arith, width, ends);
     }
+
+-- the places of a pair's layout in the header
+module _ (h : List ℕ) (p : HeaderPiece) (text : List ℕ) (start next : ℕ) (is : IsTextOf h p text start next)
+    (layout : Layout) (place : IsLayoutIn text layout) where
+  mark : mark_of p ≡ start + offset_of 61 text
+  mark = is.mark (omega (arith, place.after, place.value.0, place.value.2.0))
+
+  pub name_place : IsBetween h p.start (mark_of p) (place_behind start layout.name) (span_text text layout.name)
+  name_place =
+      IsBetween-behind h text p.start start (mark_of p) layout.name is.place.bytes place.name
+      (omega (arith, is.place.begins)) (omega (arith, mark, place.before))
+
+  pub value_place : IsBetween h (mark_of p + 1) (end_of p) (place_behind start layout.value) (span_text text layout.value)
+  value_place =
+      IsBetween-behind h text (mark_of p + 1) start (end_of p) layout.value is.place.bytes place.value
+      (omega (arith, mark, place.after)) (omega (arith, is.place.ends, place.value.2.0))
 
 module _ (h : List ℕ) (s e : ℕ) (le : s ≤ e) (last : e ≤ length h)
     (apart : (i : ℕ) → s ≤ i → i < e → get_or h i 0 ≢ 59) (mark : e < length h → get_or h e 0 ≡ 59) where
@@ -114,7 +134,7 @@ module _ (h : List ℕ) (s e : ℕ) (le : s ≤ e) (last : e ≤ length h)
 
   -- what a part of the piece is that is the whole of it, trimmed
   module _ (piece : List ℕ) (a b : ℕ) (is : piece ≡ this_piece.bytes) (utf8 : IsUtf8 this_piece.bytes)
-      (trimmed : slice_range piece a b ≡ trim piece) (within : b ≤ length piece) where
+      (trimmed : slice_range piece a b ≡ trim piece) (white : NoCharPasses is_not_whitespace (take a piece)) (within : b ≤ length piece) where
     size : a ≤ b → length (trim this_piece.bytes) ≡ b - a
     size forward = ap (λ t. length (trim t)) (sym is) ∙ ap length (sym trimmed) ∙ length-piece piece a b forward within
 
@@ -141,6 +161,9 @@ module _ (h : List ℕ) (s e : ℕ) (le : s ≤ e) (last : e ≤ length h)
               begins = omega arith;
               ends = omega (arith, end-this_piece);
             };
+            mark = λ found.
+                let in_piece = offset_of-within 61 piece a b within (white-Lacks 61 (omega arith) refl (take a piece) white) (subst (λ t. offset_of 61 t < length t) same found) in
+                omega (arith, ap (offset_of 61) (sym is) ∙ in_piece, ap (offset_of 61) same);
             next = ap (λ n. n + 1) end-this_piece;
           },
         )

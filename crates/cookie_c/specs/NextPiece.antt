@@ -1,16 +1,18 @@
 -- Mirrors private code: what comes next in a header from a place on (RFC 6265 4.2.1).
-use Rattle.std.specs.Prelude.{◌≡◌, ℕ, List, length, IsUtf8, Some, None}
+use Rattle.std.specs.Prelude.{◌≡◌, ◌<◌, ◌+◌, ℕ, List, length, IsUtf8, Some, None}
 use Rattle.std.specs.Str.{trim}
-use Rattle.cookie_c.specs.Pairs.{HeaderPiece, end_of, next_piece, rest_after}
+use Rattle.cookie.specs.Pieces.{offset_of}
+use Rattle.cookie_c.specs.Pairs.{HeaderPiece, end_of, mark_of, next_piece, rest_after}
 use Rattle.cookie_c.specs.Places.{IsBetween}
 use Rattle.cookie_c.specs.declared.next_piece.NextPiece.{NextPiece}
 use Rattle.cookie_c.specs.declared.next_piece.NextPiece.TheVariants as piece
 
--- the text is that of the piece, trimmed, and stands there in the header
+-- the text is that of the piece, trimmed, and stands there in the header; its first `=`, if it has one, is the piece's
 pub record IsTextOf (header : List ℕ) (p : HeaderPiece) (text : List ℕ) (start rest : ℕ)
     : Type 0 where
   pub trimmed : text ≡ trim p.bytes
   pub place : IsBetween header p.start (end_of p) (record { start = start; length = length text }) text
+  pub mark : offset_of 61 text < length text → mark_of p ≡ start + offset_of 61 text
   pub next : rest ≡ rest_after p
 
 -- it is what comes next

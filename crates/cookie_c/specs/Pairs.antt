@@ -3,7 +3,7 @@
 use Rattle.std.specs.Prelude.{◌≡◌, ℕ, ◌+◌, ◌&&◌, ◌==◌, ◌⊎◌, Bool, List, [], ◌∷◌, length, drop, Option, Some, None, Err, false, if◌then◌else◌}
 use Rattle.std.specs.Str.{is_utf8, trim}
 use Rattle.cookie.specs.CookieOf.{cookie_of}
-use Rattle.cookie.specs.Pieces.{pieces}
+use Rattle.cookie.specs.Pieces.{offset_of, pieces}
 use Rattle.cookie.specs.Reads.{Reads}
 use Rattle.cookie.specs.Record.{Record}
 use Rattle.cookie.specs.declared.ParseError.{ParseError}
@@ -21,6 +21,10 @@ pub record HeaderPiece : Type 0 where
 -- the offset of the byte after the piece
 abbrev pub end_of : HeaderPiece → ℕ
 end_of piece = piece.start + length piece.bytes
+
+-- the offset of the piece's first `=`, or its end
+abbrev pub mark_of : HeaderPiece → ℕ
+mark_of piece = piece.start + offset_of 61 piece.bytes
 
 -- where the rest of the header begins: after the piece and its semicolon
 abbrev pub rest_after : HeaderPiece → ℕ
@@ -46,12 +50,13 @@ abbrev pub refused_pair : Status → ℕ → Pair
 refused_pair why next =
     record { status = code_of why; name = no_place; value = no_place; next = next }
 
--- the name and the value of the record stand at the pair's places, which lie in the piece
+-- the name and the value of the record stand at the pair's places, the name before the piece's first `=` and the value
+-- after it
 pub record ShowsPair (header : List ℕ) (piece : HeaderPiece) (r : Record) (answer : Pair)
     : Type 0 where
   pub status : answer.status ≡ code_of status.Done
-  pub name : IsBetween header piece.start (end_of piece) answer.name r.name
-  pub value : IsBetween header piece.start (end_of piece) answer.value r.value
+  pub name : IsBetween header piece.start (mark_of piece) answer.name r.name
+  pub value : IsBetween header (mark_of piece + 1) (end_of piece) answer.value r.value
   pub next : answer.next ≡ rest_after piece
 
 -- the pair is what this piece of the header is read as, trimmed, or tells why it is refused

@@ -1,12 +1,13 @@
 -- A cookie that was read for C: the places of its texts, and its attributes as numbers (RFC 6265 5.2).
-use Rattle.std.specs.Prelude.{◌≡◌, ℕ, ◌⊎◌, List, Some, Err, false}
+use Rattle.std.specs.Prelude.{◌≡◌, ℕ, ◌+◌, ◌⊎◌, List, Some, Err, false}
 use Rattle.cookie.specs.CookieOf.{cookie_of}
+use Rattle.cookie.specs.Pieces.{offset_of}
 use Rattle.cookie.specs.Reads.{Reads}
 use Rattle.cookie.specs.Record.{Record}
 use Rattle.cookie.specs.declared.ParseError.{ParseError}
 use Rattle.cookie_c.specs.Codes.{code_of, refusal_status}
 use Rattle.cookie_c.specs.Numbers.{numbers_of, no_numbers}
-use Rattle.cookie_c.specs.Places.{IsAt, IsOptionalAt, no_place}
+use Rattle.cookie_c.specs.Places.{IsBetween, IsOptionalAt, no_place}
 use Rattle.cookie_c.specs.declared.reading.Reading.{Reading}
 use Rattle.cookie_c.specs.declared.status.Status.{Status}
 use Rattle.cookie_c.specs.declared.status.Status.TheVariants as status
@@ -23,11 +24,12 @@ refused_reading why =
       attributes = no_numbers;
     }
 
--- the record's texts stand at the answer's places in the text, and its attributes have the answer's numbers
+-- the record's texts stand at the answer's places in the text, the name before the first `=` and the value between it
+-- and the first `;`, and its attributes have the answer's numbers
 pub record ShowsCookie (text : List ℕ) (r : Record) (answer : Reading) : Type 0 where
   pub status : answer.status ≡ code_of status.Done
-  pub name : IsAt text answer.name r.name
-  pub value : IsAt text answer.value r.value
+  pub name : IsBetween text 0 (offset_of 61 text) answer.name r.name
+  pub value : IsBetween text (offset_of 61 text + 1) (offset_of 59 text) answer.value r.value
   pub path : IsOptionalAt text answer.path r.path
   pub domain : IsOptionalAt text answer.domain r.domain
   pub attributes : answer.attributes ≡ numbers_of r

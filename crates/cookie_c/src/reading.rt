@@ -45,7 +45,7 @@ impl Reading {
         }
     }
 
-    #[tactic(auto, using(crate::proofs::ReadingLemmas::span_is_at))]
+    #[tactic(auto, using(crate::proofs::ReadingLemmas::name_is_between, crate::proofs::ReadingLemmas::value_is_between))]
     pub(crate) fn of(text: &str, layout: Layout) -> Reading
         requires { IsLayoutIn text.now layout }
         ensures { ShowsCookie text.now (layout_record text.now layout) result }

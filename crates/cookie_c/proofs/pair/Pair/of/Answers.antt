@@ -2,7 +2,7 @@ use Rattle.std.proofs.Common.{◌≡◌, ◌∙◌, ap, false, Some, Err, sym, i
 use Rattle.cookie.specs.CookieOf.{cookie_of}
 use Rattle.cookie.specs.Layout.{layout_record}
 use Rattle.cookie.specs.Reads.{Reads}
-use Rattle.cookie_c.proofs.PairLemmas.{IsBetween-behind}
+use Rattle.cookie_c.proofs.PairLemmas.{name_place, value_place}
 use Rattle.cookie_c.proofs.pair.Pair.of.Goals as goal
 
 pub returns-in-Ok : goal.returns-in-Ok
@@ -14,8 +14,8 @@ returns-in-Ok c header piece is =
       ap (cookie_of false) (sym is.trimmed) ∙ sym c.in-Ok.ensures.value,
       record {
         status = c.code.ensures;
-        name = rw c.behind.ensures (IsBetween-behind header text _ c.args.start _ layout.name is.place c.in-Ok.ensures.place.name);
-        value = rw c.behind-in-Ok.ensures (IsBetween-behind header text _ c.args.start _ layout.value is.place c.in-Ok.ensures.place.value);
+        name = rw c.behind.ensures (name_place header piece text c.args.start c.args.next is layout c.in-Ok.ensures.place);
+        value = rw c.behind-in-Ok.ensures (value_place header piece text c.args.start c.args.next is layout c.in-Ok.ensures.place);
         next = is.next;
       },
     )
