@@ -13,7 +13,7 @@ use Rattle.cookie_agent.specs.Calls.{IsScopedChange}
 use Rattle.cookie_agent.specs.Scopes.{ScopeView}
 use Rattle.cookie_agent.specs.Sent.{IsHeader, IsOrderedHeader}
 use Rattle.cookie_agent.specs.Store.{Store, standard_key, after_texts}
-use Rattle.cookie_agent.specs.Visits.{IsVisited, AreScoped, AreVisited, AreAllScoped, AllAgree, AllAgreeOn}
+use Rattle.cookie_agent.specs.Visits.{IsVisited, AreScoped, AreVisited, AreAllScoped, AllAgree, AgreesOn, AllAgreeOn}
 use Rattle.cookie_agent.specs.declared.request.AgentRequest.{AgentRequest}
 use Rattle.cookie_agent.specs.declared.visited.Visited.{Visited}
 use Rattle.cookie_agent.proofs.AlikeLemmas.{header_alike}
@@ -83,20 +83,23 @@ pub all_agree : (requests : List AgentRequest) (visits : List Visited) → AreVi
     → (scopes : Name → ScopeView) → AreAllScoped scopes requests visits → AllAgree requests visits
 all_agree requests visits are scopes scoped = agree_from scopes [] (none_stored scopes) requests visits are scoped
 
+-- what a request comes to agrees on
+pub agrees_on : (scopes : Name → ScopeView) (before : Store) → IsOurStore scopes before → (request : AgentRequest) (visited : Visited)
+    → IsVisited before request visited → AreScoped scopes request visited → AgreesOn scopes request visited
+agrees_on scopes before ours request visited is scoped other later alike header h =
+    let (texts, deltas, read) = is.read in
+    is.agrees scopes ours scoped texts deltas header
+    (subst (λ store. IsHeader request.site.now request.moment store header) read
+    (header_alike scopes visited.agent request.site.now other request.moment later (is.ours scopes ours scoped).each alike header h))
+
 agree_on : (scopes : Name → ScopeView) (before : Store) → IsOurStore scopes before → (requests : List AgentRequest) (visits : List Visited)
     → AreVisited before requests visits → AreAllScoped scopes requests visits → AllAgreeOn scopes requests visits
 agree_on scopes before ours [] visits are scoped = tt
 agree_on scopes before ours (request ∷ requests) [] are scoped = tt
-agree_on scopes before ours (request ∷ requests) (visited ∷ visits) are scoped =
-    let is = are.0 in
-    let (texts, deltas, read) = is.read in
-    let after : IsOurStore scopes visited.agent = is.ours scopes ours scoped.0 in (
-      λ other later alike header h.
-          is.agrees scopes ours scoped.0 texts deltas header
-          (subst (λ store. IsHeader request.site.now request.moment store header) read
-          (header_alike scopes visited.agent request.site.now other request.moment later after.each alike header h)),
-      agree_on scopes visited.agent after requests visits are.1 scoped.1,
-    )
+agree_on scopes before ours (request ∷ requests) (visited ∷ visits) are scoped = (
+  agrees_on scopes before ours request visited are.0 scoped.0,
+  agree_on scopes visited.agent (are.0.ours scopes ours scoped.0) requests visits are.1 scoped.1,
+)
 
 pub all_agree_on : (requests : List AgentRequest) (visits : List Visited) → AreVisited [] requests visits
     → (scopes : Name → ScopeView) → AreAllScoped scopes requests visits → AllAgreeOn scopes requests visits

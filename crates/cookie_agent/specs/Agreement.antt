@@ -25,7 +25,7 @@ use Rattle.cookie_agent.specs.Store.{SameKey, Stored, Store, is_unexpired, after
 abbrev pub lacks_controls : List ℕ → Bool
 lacks_controls text = list_all (λ b. nat_lt 31 b && not (b == 127)) text
 
--- a path that is read as it was printed, and that a browser accepts
+-- a path that is read as it was printed, and that holds no control character
 pub record IsScopedPath (path : List ℕ) : Type 0 where
   pub plain : IsPlainText path
   pub graphic : lacks_controls path ≡ true

@@ -37,7 +37,8 @@ meets_host cookie =
 abbrev pub host_scope : SiteView → ScopeView
 host_scope site = record { domain = site.host; is_host_only = true; path = codes "/" }
 
--- The text of a cookie is read as one that a browser accepts, for the whole host of the site and no other.
+-- The text of a cookie is read as one that meets the terms of both prefixes, for the whole host of the site and no
+-- other.
 pub record IsHostBound (site : SiteView) (cookie : Record) : Type 0 where
   pub read : Record
   pub is : cookie_of false (cookie_text true false cookie) ≡ Some read

@@ -19,7 +19,7 @@ lacks_semicolons text = list_all (λ b. not (b == 59)) text
 abbrev pub is_trimmed : List ℕ → Bool
 is_trimmed text = bytes_eq (trim text) text
 
--- a text that is read as it was printed, and that a browser accepts
+-- a text that is read as it was printed, and that holds no control character
 abbrev pub is_plain : List ℕ → Bool
 is_plain text = lacks_semicolons text && (is_trimmed text && lacks_controls text)
 

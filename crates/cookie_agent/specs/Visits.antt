@@ -72,12 +72,17 @@ AllAgree (request ∷ requests) (visited ∷ visits) =
     ((header : List ℕ) → IsHeader request.site.now request.moment visited.agent header
     → SiteAgrees visited.jar header) × AllAgree requests visits
 
--- and so is whatever header it sends to a site that is alike, as the next request has it until something expires
+-- whatever header its agent sends to a site that is alike is read as what its jar shows, as the next request has it
+-- until something expires
+abbrev pub AgreesOn : (Name → ScopeView) → AgentRequest → Visited → Type 0
+AgreesOn scopes request visited =
+    (other : SiteView) (later : DateTime)
+    → AreAlike scopes visited.agent request.site.now other request.moment later
+    → (header : List ℕ) → IsHeader other later visited.agent header → SiteAgrees visited.jar header
+
+-- so it is after each request
 abbrev pub AllAgreeOn : (Name → ScopeView) → List AgentRequest → List Visited → Type 0
 AllAgreeOn scopes [] visits = Unit {0}
 AllAgreeOn scopes (request ∷ requests) [] = Unit {0}
 AllAgreeOn scopes (request ∷ requests) (visited ∷ visits) =
-    ((other : SiteView) (later : DateTime)
-    → AreAlike scopes visited.agent request.site.now other request.moment later
-    → (header : List ℕ) → IsHeader other later visited.agent header → SiteAgrees visited.jar header)
-    × AllAgreeOn scopes requests visits
+    AgreesOn scopes request visited × AllAgreeOn scopes requests visits

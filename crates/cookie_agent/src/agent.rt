@@ -1,10 +1,13 @@
 //! A user agent (RFC 6265 5.3, 5.4).
 ghost use Rattle.std.specs.Prelude.{◌≡◌, [], false, Some, IfOk, OnOk, OnErr, is_some, string_bytes};
 ghost use Rattle.cookie.specs.CookieOf.{cookie_of};
+ghost use Rattle.cookie.specs.Jar.{Name};
 ghost use Rattle.cookie.specs.Memory.{Gives};
+ghost use Rattle.cookie_agent.specs.Agreement.{IsOurStore};
 ghost use Rattle.cookie_agent.specs.Apart.{IsApart};
 ghost use Rattle.cookie_agent.specs.Keys.{IsFollowedByAnyKey};
 ghost use Rattle.cookie_agent.specs.Removals.{IsMissed};
+ghost use Rattle.cookie_agent.specs.Scopes.{ScopeView};
 ghost use Rattle.cookie_agent.specs.Sent.{IsOrderedHeader};
 ghost use Rattle.cookie_agent.specs.Store.{IsKey, after_cookie, after_text, browser_key, put, standard_key, unexpired};
 ghost use Rattle.cookie_agent.specs.declared.agent_error.AgentError.TheVariants as refusal;
@@ -40,6 +43,7 @@ impl Agent {
     /// A user agent that stores nothing.
     pub fn new(alloc: Global) -> Agent
         ensures empty { result ≡ [] }
+        ensures ours { (scopes : Name → ScopeView) → IsOurStore scopes result }
         ensures keys { IsKey standard_key × IsKey browser_key }
         ensures any_key { IsFollowedByAnyKey }
     {

@@ -17,7 +17,7 @@ mod visited;
 pub use agent::Agent;
 pub use agent_error::AgentError;
 pub use request::AgentRequest;
-pub use requests::visits;
+pub use requests::{visit, visits};
 pub use scope::Scope;
 pub use scoped::is_scoped;
 pub use site::Site;

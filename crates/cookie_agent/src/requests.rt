@@ -2,9 +2,10 @@
 ghost use Rattle.std.specs.Prelude.{◌≡◌, ℕ, List, [], length, map, IfOk, OnOk, string_bytes};
 ghost use Rattle.cookie.specs.Jar.{Name};
 ghost use Rattle.cookie_client.specs.Agreement.{AreDeltaTexts};
+ghost use Rattle.cookie_agent.specs.Agreement.{IsOurStore};
 ghost use Rattle.cookie_agent.specs.Scopes.{ScopeView};
 ghost use Rattle.cookie_agent.specs.Store.{after_texts, standard_key};
-ghost use Rattle.cookie_agent.specs.Visits.{AllAgree, AllAgreeOn, AreAllScoped, AreVisited, IsVisited};
+ghost use Rattle.cookie_agent.specs.Visits.{AgreesOn, AllAgree, AllAgreeOn, AreAllScoped, AreScoped, AreVisited, IsVisited};
 
 use crate::agent::Agent;
 use crate::agent_error::AgentError;
@@ -46,14 +47,21 @@ pub fn visits(
     Ok(visited)
 }
 
-// Makes one request.
-fn visit(
+/// Makes one request with a user agent, as [`visits`] makes each of its own. The agent itself stays as it is: `agent` of
+/// the returned `Visited` is the one that has read the response.
+///
+/// So a test plays requests one after the other, each made after it has looked at the one before. Fails only with
+/// `AgentError::OutOfMemory`.
+pub fn visit(
     alloc: Global,
     agent: &Agent,
     request: &AgentRequest<'_, '_>,
     pick: &[usize],
 ) -> Result<Visited, AgentError>
-    ensures { IfOk result (λ visited. IsVisited agent.now request.now visited) }
+    ensures visit { IfOk result (λ visited. IsVisited agent.now request.now visited) }
+    ensures alike { (scopes : Name → ScopeView) → IfOk result (λ visited.
+        IsOurStore scopes agent.now → AreScoped scopes request.now visited
+        → AgreesOn scopes request.now visited) }
 {
     known_calls(request.calls);
     let header = agent.header(request.site, request.moment)?;

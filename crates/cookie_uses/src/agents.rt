@@ -7,8 +7,8 @@ use cookie_agent::{Agent, AgentError, Site};
 use jiff::civil::DateTime;
 use std::alloc::Global;
 
-/// The `Cookie` header that a browser sends a site right after the site's response with this `Set-Cookie` text. `now`
-/// is in UTC.
+/// The `Cookie` header that a user agent sends a site right after the site's response with this `Set-Cookie` text
+/// (RFC 6265 5). `now` is in UTC.
 pub fn next_header(
     alloc: Global,
     site: &Site,

@@ -6,11 +6,11 @@ use Rattle.cookie.specs.Jar.{Change, JarState}
 use Rattle.cookie_client.specs.Calls.{changes_of}
 use Rattle.cookie_client.specs.Originals.{jar_for, with_originals}
 use Rattle.cookie_agent.specs.Store.{after_texts, standard_key}
-use Rattle.cookie_agent.proofs.VisitedLemmas.{is_visited}
+use Rattle.cookie_agent.proofs.VisitedLemmas.{agrees_on, is_visited}
 use Rattle.cookie_agent.proofs.requests.visit.Goals as goal
 
-pub returns : goal.returns
-returns c =
+pub returns-clause-visit : goal.returns-clause-visit
+returns-clause-visit c =
     let request = c.args.request.now in
     let before = c.args.agent.now in
     let outcomes = c.in_ok-outcomes.outcomes.items in
@@ -37,3 +37,7 @@ returns c =
       are = c.in_ok-texts.ensures.each;
       read = read;
     })
+
+pub returns-clause-alike : goal.returns-clause-alike
+returns-clause-alike c scopes ours scoped =
+    agrees_on scopes c.args.agent.now ours c.args.request.now _ (returns-clause-visit c) scoped

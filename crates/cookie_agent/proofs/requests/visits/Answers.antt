@@ -11,7 +11,7 @@ loop-request-preserved c =
     let one = c.in_ok-one.one in
     let requests = c.args.requests.now in
     let later = drop (c.loop-request.request-index + 1) requests in
-    let this : IsVisited before c.request-item.result one = c.in_ok-one.ensures in
+    let this : IsVisited before c.request-item.result one = c.in_ok-one.ensures.visit in
     let first : drop c.loop-request.request-index requests ≡ c.request-item.result ∷ later =
     drop_more requests c.loop-request.request-index c.request-item.result c.loop-request-test.true ∙ ap (λ r. r ∷ later) (sym c.request-item.is) in
     λ rest h.
