@@ -1,7 +1,9 @@
 //! Rows whose answers come from the crate `cookie`, from OpenSSL and from Python's hmac.
+mod flags;
 mod generators;
 mod keys;
 mod private;
+mod raw_forms;
 mod refusals;
 mod secrets;
 mod signed;

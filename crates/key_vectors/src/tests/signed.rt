@@ -1,7 +1,9 @@
 //! Signed jars: values with their signatures.
 use super::steps::moment;
 use super::{is_answer, is_taken, is_whole, with_all_fields};
+use base64::engine::general_purpose::STANDARD;
 use cookie::{Cookie, CookieJar, Key};
+use std::alloc::Global;
 
 // Whether the signed jar of the key answers this value, or none, and so does the one that can be changed.
 fn answers(jar: &mut CookieJar, key: &Key, name: &str, wanted: Option<&str>) -> bool {
@@ -143,3 +145,30 @@ no_value_is_verified_at_another_name: signed refuses =cMcV8FaG/z/JS4bYk1VWqDagQ9
     signed refuses idd=cMcV8FaG/z/JS4bYk1VWqDagQ9aCoYD675qpIOI2XKU=Tamper-proof; \
     signed refuses ID=cMcV8FaG/z/JS4bYk1VWqDagQ9aCoYD675qpIOI2XKU=Tamper-proof; \
     signed refuses encrypted_with_ring016=cMcV8FaG/z/JS4bYk1VWqDagQ9aCoYD675qpIOI2XKU=Tamper-proof";
+
+// Texts and their base64 (RFC 4648 10).
+const BASE64: &str = "\
+=
+f=Zg==
+fo=Zm8=
+foo=Zm9v
+foob=Zm9vYg==
+fooba=Zm9vYmE=
+foobar=Zm9vYmFy";
+
+// Whether the text of the row is encoded as what follows its first `=`.
+fn is_encoded(alloc: Global, row: &str) -> bool {
+    let (text, wanted) = row.split_once('=').unwrap_or((row, ""));
+    match STANDARD.encode(alloc, text.as_bytes()) {
+        Ok(encoded) => encoded.as_str() == wanted,
+        Err(_) => false,
+    }
+}
+
+#[test]
+fn base64_is_that_of_the_standard(rt: HostRuntime) {
+    for row in BASE64.lines() {
+        assert!(rt; is_encoded(rt.alloc(), row), "{row}");
+    }
+    assert!(rt; !is_encoded(rt.alloc(), "foobar=Zm9vYmFz"));
+}
