@@ -1,4 +1,6 @@
 //! Rows whose answers come from the crate `cookie` and from the standards.
+mod collisions;
+mod flags;
 mod jars;
 mod prefixes;
 mod refusals;
