@@ -1,14 +1,13 @@
 -- The agreement of a client and a jar, carried over header maps.
-use Rattle.std.proofs.Common.{◌≡◌, ℕ, true, false, cond, codes, List, [], ◌∷◌, map, All, Contains, None, Some, refl, sym, ap, subst, ◌∙◌}
+use Rattle.std.proofs.Common.{◌≡◌, ℕ, true, false, codes, List, [], ◌∷◌, map, All, Contains, None, Some, refl, sym, ap, subst, ◌∙◌}
 use Rattle.std.proofs.lemmas.List.{append-nil}
 use Rattle.std.proofs.lemmas.List.Elements.{All-contains, All-weaker}
-use Rattle.std.proofs.lemmas.Str.{is_utf8-from_IsUtf8}
 use Rattle.std.specs.FinMap.{FinMap, entries, get, get-empty}
 use Rattle.std.specs.Str.{IsUtf8}
 use Rattle.jiff.specs.Types.{DateTime}
 use Rattle.http_header.specs.FieldValue.{plain_value}
 use Rattle.cookie.specs.CookieOf.{cookie_of}
-use Rattle.cookie.specs.Header.{header_texts, joined_texts}
+use Rattle.cookie.specs.Header.{header_texts}
 use Rattle.cookie.specs.History.{is_forced}
 use Rattle.cookie.specs.Jar.{Marked, Name, empty_jar, name_cmp, overlay, view}
 use Rattle.cookie.specs.Record.{plain}
@@ -23,10 +22,11 @@ use Rattle.cookie_client.specs.declared.call.JarCall.{JarCall}
 use Rattle.cookie_client.proofs.DeltaTextLemmas.{AreDeltaTexts-walk}
 use Rattle.cookie_client.proofs.RoundLemmas.{fresh, held_again, holds_header, told}
 use Rattle.cookie_http.specs.Carried.{AreSameTexts, IsCarried}
-use Rattle.cookie_http.specs.Fields.{cookie_header, set_cookie_texts}
+use Rattle.cookie_http.specs.Fields.{cookie_header, readable, set_cookie_texts}
 use Rattle.cookie_http.specs.Response.{AddsDelta}
 use Rattle.cookie_http.specs.declared.carried.Exchanged.{Exchanged}
 use Rattle.cookie_http.proofs.FieldTextLemmas.{IsUtf8-header_text}
+use Rattle.cookie_http.proofs.PieceLemmas.{readable-utf8}
 
 -- texts that are the same are those of one delta
 AreDeltaTexts-same : (delta : FinMap name_cmp Marked) (texts others : List (List ℕ)) → AreSameTexts texts others → AreDeltaTexts delta texts → AreDeltaTexts delta others
@@ -38,7 +38,7 @@ AreDeltaTexts-same delta texts others same are =
 
 -- the header of a request with one field
 one_field : (header : List ℕ) → IsUtf8 header → cookie_header ((codes "cookie", plain_value header ∷ []) ∷ []) ≡ header
-one_field header utf8 = ap (λ b. joined_texts (cond b (header ∷ []) [])) (is_utf8-from_IsUtf8 header utf8) ∙ append-nil header
+one_field header utf8 = append-nil (readable header) ∙ readable-utf8 header utf8
 
 -- the jar for a client's header shows what the client holds
 shown : (client : Values) (header : List ℕ) → IsHeaderOf client header → (name : Name) → value_of (view (jar_for header) name) ≡ get client name

@@ -1,7 +1,7 @@
 -- The text of a cookie whose path and domain can stand in a field is UTF-8 and a field value (RFC 9110 5.5).
 use Rattle.std.proofs.Common.{◌≡◌, Bool, true, false, ℕ, ℤ, arith, codes, List, [], ◌∷◌, ◌++◌, map, Option, Some, None, option_map, IfSome, IsTrue, refl}
 use Rattle.std.proofs.lemmas.Bool.Decides.{nat_tests}
-use Rattle.std.proofs.lemmas.List.Elements.{All-append}
+use Rattle.std.proofs.lemmas.List.Elements.{All-append, All-weaker}
 use Rattle.std.proofs.lemmas.Str.{IsUtf8-append}
 use Rattle.std.specs.FinMap.{entries}
 use Rattle.std.specs.List.{list_all}
@@ -23,7 +23,7 @@ use Rattle.cookie.proofs.ByteLemmas.{all-weaker}
 use Rattle.cookie.proofs.DateTextLemmas.{date_passes, is_date_byte}
 use Rattle.cookie.proofs.EscapeTextLemmas.{escape_is_tokens, is_token}
 use Rattle.cookie_client.specs.Client.{Values, header_text, pair_text}
-use Rattle.cookie_http.specs.Response.{FitsField}
+use Rattle.cookie_http.specs.Response.{FitsField, IsAttributeValue, is_attribute_byte}
 
 token_is_shown : (b : ℕ) → is_token b ≡ true → is_visible_or_blank b ≡ true
 token_is_shown b h = grind (arith, nat_tests)
@@ -115,9 +115,18 @@ module _ (P : List ℕ → Type 0) (join : (a b : List ℕ) → P a → P b → 
 join_values : (a b : List ℕ) → IsFieldValue a → IsFieldValue b → IsFieldValue (a ++ b)
 join_values a b = All-append (λ c. IsTrue (is_value_byte c)) a b
 
--- the text of each cookie whose path and domain are field values is one
+value_byte : (b : ℕ) → IsTrue (is_attribute_byte b) → IsTrue (is_value_byte b)
+value_byte b h = grind (arith, nat_tests)
+
+-- what can be the value of an attribute is a field value
+field_value : (o : Option (List ℕ)) → IfSome o IsAttributeValue → IfSome o IsFieldValue
+field_value (Some t) h = All-weaker (λ b. IsTrue (is_attribute_byte b)) (λ b. IsTrue (is_value_byte b)) value_byte t h
+field_value None h = tt
+
+-- the text of each cookie whose path and domain can stand in a field is a field value
 pub IsFieldValue-cookie_text : (r : Record) → IsCookie r → FitsField r → IsFieldValue (cookie_text true false r)
-IsFieldValue-cookie_text r known fits = cookie IsFieldValue join_values IsFieldValue-from_visible r known.max_age fits.path fits.domain
+IsFieldValue-cookie_text r known fits =
+    cookie IsFieldValue join_values IsFieldValue-from_visible r known.max_age (field_value r.path fits.path) (field_value r.domain fits.domain)
 
 -- the text of each cookie is UTF-8
 pub IsUtf8-cookie_text : (r : Record) → IsCookie r → IsUtf8 (cookie_text true false r)

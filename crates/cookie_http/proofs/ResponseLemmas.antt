@@ -1,23 +1,30 @@
 -- `Set-Cookie` fields that are appended, one for each cookie of a delta.
-use Rattle.std.proofs.Common.{◌≡◌, ◌+◌, ◌≤◌, inl, inr, ℕ, Bool, true, false, cond, suc, codes, List, [], ◌∷◌, ◌++◌, map, length, bytes_eq, All, Option, Some, None, option_map, Result, Ok, Err, true≢false, refl, sym, ap, subst, ◌∙◌, arith, ◌↔◌, zero}
+use Rattle.std.proofs.Common.{◌≡◌, ◌+◌, ◌≤◌, inl, inr, ℕ, Bool, true, false, cond, suc, codes, List, [], ◌∷◌, ◌++◌, map, length, bytes_eq, All, Option, Some, None, is_some, option_map, ◌||◌, Result, Ok, Err, refl, sym, ap, subst, ◌∙◌, arith, ◌↔◌, zero}
 use Rattle.std.proofs.lemmas.List.{append-nil, append_assoc, length-append, length-map, map-append}
 use Rattle.std.proofs.lemmas.List.Elements.{All-append, All-cons, All-contains, All-head, All-nil, All-tail, All-weaker, Contains-append_right, filter-append}
 use Rattle.std.proofs.lemmas.List.Sums.{sum_by-cons}
+use Rattle.std.proofs.lemmas.Map.Made.{length-le_from_is_member}
 use Rattle.std.proofs.lemmas.Option.{none-some, same_Some}
 use Rattle.std.proofs.lemmas.Slice.Eq.{bytes_eq-Decides}
 use Rattle.std.proofs.lemmas.Str.{is_utf8-from_IsUtf8}
+use Rattle.std.specs.Cmp.Lexicographic.{nat_list_eq_equiv}
 use Rattle.std.specs.FinMap.{FinMap, get}
-use Rattle.std.specs.List.{AllZip, filter}
+use Rattle.std.specs.List.{AllZip, filter, find, list_any}
 use Rattle.std.specs.Result.{IsErrAnd, IsErrOf}
 use Rattle.std.specs.Str.{IsUtf8, is_utf8}
 use Rattle.http_header.specs.FieldValue.{FieldValue, plain_value}
+use Rattle.http_header.specs.declared.map.HeaderMapError.{HeaderMapError}
+use Rattle.http_header.specs.declared.map.HeaderMapError.TheVariants as full
 use Rattle.http_header.specs.HeaderMap.{ContainsKey, Entries, IsMapClone, RefusesAppend, append, get_all, keys, value_count}
 use Rattle.http_header.proofs.HeaderMapLemmas.{get_all-append_same}
 use Rattle.cookie.specs.Jar.{Marked, Name, name_cmp}
+use Rattle.cookie.specs.Memory.{Gives}
 use Rattle.cookie.specs.Record.{Record}
 use Rattle.cookie.specs.Text.{cookie_text}
+use Rattle.cookie.specs.Walk.{Walks}
 use Rattle.cookie.proofs.MetLemmas.{meets_each, meets_only}
 use Rattle.cookie_http.specs.Fields.{set_cookie_texts}
+use Rattle.cookie_http.specs.HttpError.{refusal_of}
 use Rattle.cookie_http.specs.declared.http_error.HttpError.{HttpError}
 use Rattle.cookie_http.specs.declared.http_error.HttpError.TheVariants as refusal
 use Rattle.cookie_http.specs.Response.{AddsDelta, AllFitFields, FitsField, LacksRoom, LacksRoomFor, WalksDelta, with_set_cookies}
@@ -138,10 +145,6 @@ count-append (e ∷ m) n v = by (bytes_eq e.0 n) (count-append m n v)
     by true later = omega (arith, count_cons (e.0, e.1 ++ v ∷ []) m, count_cons e m, length-append e.1 (v ∷ []))
     by false later = omega (arith, count_cons e (append m n v), count_cons e m, later)
 
-count-with : (texts : List (List ℕ)) (m : Entries FieldValue) → value_count (with_set_cookies texts m) ≡ value_count m + length texts
-count-with [] m = omega arith
-count-with (text ∷ texts) m = omega (arith, count-with texts (append m name (plain_value text)), count-append m name (plain_value text))
-
 ContainsKey-append : (m : Entries FieldValue) (n : List ℕ) (v : FieldValue) → ContainsKey (append m n v) n
 ContainsKey-append [] n v = (zero, omega arith, refl)
 ContainsKey-append (e ∷ m) n v = by (bytes_eq e.0 n) refl (ContainsKey-append m n v)
@@ -150,24 +153,41 @@ ContainsKey-append (e ∷ m) n v = by (bytes_eq e.0 n) refl (ContainsKey-append 
     by true t later = (zero, omega arith, (bytes_eq-Decides e.0 n).0 t)
     by false f later = Contains-append_right (e.0 ∷ []) (keys (append m n v)) n later
 
-ContainsKey-with : (texts : List (List ℕ)) (m : Entries FieldValue) → ContainsKey m name → ContainsKey (with_set_cookies texts m) name
-ContainsKey-with [] m c = c
-ContainsKey-with (text ∷ texts) m c = ContainsKey-with texts (append m name (plain_value text)) (ContainsKey-append m name (plain_value text))
+-- a map that refuses a text lacks room for it and for more
+pub LacksRoom-refused : (n : ℕ) (m : Entries FieldValue) → RefusesAppend m name → LacksRoom (suc n) m
+LacksRoom-refused n m (inl full) = inr (omega (arith, full))
+LacksRoom-refused n m (inr (new, inl many)) = inl (omega arith, new, many)
+LacksRoom-refused n m (inr (new, inr full)) = inr (omega (arith, full))
 
--- a map that refuses one more text lacks room for so many
-lacks : (texts : List (List ℕ)) (m : Entries FieldValue) (n : ℕ) → suc (length texts) ≤ n → RefusesAppend (with_set_cookies texts m) name → LacksRoom n m
-lacks texts m n more (inl full) = inr (omega (arith, full, count-with texts m))
-lacks texts m n more (inr (new, inr full)) = inr (omega (arith, full, count-with texts m))
-lacks [] m n more (inr (new, inl many)) = inl (omega (arith, more), new, many)
-lacks (text ∷ texts) m n more (inr (new, inl many)) =
-    absurd (new (ContainsKey-with texts (append m name (plain_value text)) (ContainsKey-append m name (plain_value text))))
+-- a map that lacks room after a text lacked room for it and the others
+pub LacksRoom-append : (n : ℕ) (m : Entries FieldValue) (v : FieldValue) → LacksRoom n (append m name v) → LacksRoom (suc n) m
+LacksRoom-append n m v (inl (some, new, many)) = absurd (new (ContainsKey-append m name v))
+LacksRoom-append n m v (inr full) = inr (omega (arith, full, count-append m name v))
 
-pub LacksRoomFor-written : (delta : FinMap name_cmp Marked) (old made : Entries FieldValue) (cookie : Record) (left : List Record) → IsWritten delta old made (cookie ∷ left)
-    → RefusesAppend made name → LacksRoomFor delta old
-LacksRoomFor-written delta old made cookie left w refuses =
-    let cookies = w.done ++ cookie ∷ left in
-    let more : suc (length (map text_of w.done)) ≤ length cookies = omega (arith, length-append w.done (cookie ∷ left), length-map w.done text_of) in
-    (cookies, w.are, lacks (map text_of w.done) old (length cookies) more (subst (λ m. RefusesAppend m name) w.fields refuses))
+-- ---- how many cookies a delta has
+
+found_member : (n : Name) (cookies : List Record) → is_some (find (λ c. bytes_eq n c.name) cookies) ≡ list_any (bytes_eq n) (map (λ c. c.name) cookies)
+found_member n [] = refl
+found_member n (c ∷ cookies) = by (bytes_eq n c.name) (found_member n cookies)
+  where
+    by : (b : Bool) → is_some (find (λ d. bytes_eq n d.name) cookies) ≡ list_any (bytes_eq n) (map (λ d. d.name) cookies)
+        → is_some (cond b (Some c) (find (λ d. bytes_eq n d.name) cookies)) ≡ (b || list_any (bytes_eq n) (map (λ d. d.name) cookies))
+    by true later = refl
+    by false later = later
+
+walk_not_longer : (at : Name → Option Record) (xs ys : List Record) → Walks at xs → Walks at ys → length xs ≤ length ys
+walk_not_longer at xs ys walks others =
+    let names : List Record → List Name = λ cookies. map (λ c. c.name) cookies in
+    omega (arith, length-map xs (λ c. c.name), length-map ys (λ c. c.name),
+    length-le_from_is_member nat_list_eq_equiv (names xs) (names ys) walks.once
+    (λ n inside. sym (found_member n ys) ∙ ap is_some (others.found n ∙ sym (walks.found n)) ∙ found_member n xs ∙ inside))
+
+-- any walk over the delta tells whether the map lacks room
+pub LacksRoomFor-walk : (delta : FinMap name_cmp Marked) (cookies : List Record) (m : Entries FieldValue) → WalksDelta delta cookies → LacksRoomFor delta m → LacksRoom (length cookies) m
+LacksRoomFor-walk delta cookies m walks (others, met, lacks) =
+    let at : Name → Option Record = λ n. option_map (λ entry. entry.cookie) (get delta n) in
+    let same : length others ≡ length cookies = omega (arith, walk_not_longer at others cookies met walks, walk_not_longer at cookies others walks met) in
+    subst (λ n. LacksRoom n m) same lacks
 
 -- ---- refusals
 
@@ -179,16 +199,40 @@ abbrev error_or : {T : Type 0} → HttpError → Result T HttpError → HttpErro
 error_or other (Ok x) = other
 error_or other (Err e) = e
 
-abbrev is_invalid : HttpError → Bool
-is_invalid refusal.InvalidValue = true
-is_invalid refusal.OutOfMemory = false
-is_invalid refusal.TooManyFields = false
-
--- want of memory is no bad value
-pub apart : refusal.OutOfMemory ≡ refusal.InvalidValue → ⊥
-apart e = true≢false (sym (ap is_invalid e))
-
 -- an error that is passed on is the one of the result
 pub refused_same : {T : Type 0} (r : Result T HttpError) (x y : HttpError) → IsErrAnd r (λ e. e ≡ x) → IsErrOf r y → x ≡ y
 refused_same (Ok v) x y h is = ap (error_or x) is
 refused_same (Err e) x y h is = sym h ∙ ap (error_or x) is
+
+-- out of memory is no other refusal
+pub not_invalid : {T : Type 0} (r : Result T HttpError) → IsErrAnd r (λ e. e ≡ refusal.OutOfMemory) → ¬ (IsErrOf r refusal.InvalidValue)
+not_invalid r h is = let same : refusal.OutOfMemory ≡ refusal.InvalidValue = refused_same r refusal.OutOfMemory refusal.InvalidValue h is in cc
+
+pub not_full : {T : Type 0} (r : Result T HttpError) → IsErrAnd r (λ e. e ≡ refusal.OutOfMemory) → ¬ (IsErrOf r refusal.TooManyFields)
+not_full r h is = let same : refusal.OutOfMemory ≡ refusal.TooManyFields = refused_same r refusal.OutOfMemory refusal.TooManyFields h is in cc
+
+pub other_refusal : {T : Type 0} (r : Result T HttpError) → r ≡ Err refusal.TooManyFields → r ≡ Err refusal.InvalidValue → ⊥
+other_refusal r is other = cc
+
+-- a map that refuses a value, but for room, is out of memory
+pub gives_memory : {T U : Type 0} (r : Result T HeaderMapError) (s : Result U HttpError) (e : HeaderMapError) (P : U → Type 0) → r ≡ Err e
+    → ¬ (r ≡ Err full.MaxSizeReached) → IsErrAnd s (λ x. x ≡ refusal_of e) → Gives refusal.OutOfMemory s P
+gives_memory r s full.MaxSizeReached P is room h = absurd (room is)
+gives_memory r (Ok u) full.OutOfMemory P is room h = absurd h
+gives_memory r (Err x) full.OutOfMemory P is room h = h
+
+-- an empty map takes a value
+pub empty_takes : (m : Entries FieldValue) (n : List ℕ) → m ≡ [] → ¬ (RefusesAppend m n)
+empty_takes [] n empty (inl many) = omega (arith, many)
+empty_takes [] n empty (inr (new, inl many)) = omega (arith, many)
+empty_takes [] n empty (inr (new, inr many)) = omega (arith, many)
+empty_takes (e ∷ m) n empty refuses = cc
+
+-- what fails out of memory fails with no other refusal
+pub memory_not_invalid : {T : Type 0} (r : Result T HttpError) (P : T → Type 0) → Gives refusal.OutOfMemory r P → ¬ (IsErrOf r refusal.InvalidValue)
+memory_not_invalid (Ok x) P h is = cc
+memory_not_invalid (Err e) P h is = cc
+
+pub memory_not_full : {T : Type 0} (r : Result T HttpError) (P : T → Type 0) → Gives refusal.OutOfMemory r P → ¬ (IsErrOf r refusal.TooManyFields)
+memory_not_full (Ok x) P h is = cc
+memory_not_full (Err e) P h is = cc

@@ -11,8 +11,9 @@ use Rattle.cookie_client.specs.Client.{after_texts, header_text}
 use Rattle.cookie_client.specs.Exchange.{IsExchange, accepted_calls, changes_by}
 use Rattle.cookie_client.specs.Originals.{holds_originals, jar_for}
 use Rattle.cookie_client.specs.declared.call.JarCall.{JarCall}
+use Rattle.cookie_client.specs.declared.exchange.Played.{Played}
 use Rattle.cookie_http.specs.Fields.{cookie_header, set_cookie_texts}
-use Rattle.cookie_http.specs.Response.{AddsDelta}
+use Rattle.cookie_http.specs.Response.{AddsDelta, AllFitFields}
 use Rattle.cookie_http.specs.declared.carried.Exchanged.{Exchanged}
 
 -- the same texts, in any order and with any repetition
@@ -40,3 +41,10 @@ pub record IsCarried (now : DateTime) (calls : List JarCall) (e : Exchanged) : T
   -- and where they are fit, the jar of that request shows at each name what the client holds
   pub next : All (IsFitCall now) (accepted_calls calls e.played) → (name : Name)
       → value_of (view e.next name) ≡ get e.played.client name
+
+-- in the jar that comes of the calls a cookie of the delta doesn't fit a field
+abbrev pub HasUnfitDelta : DateTime → List JarCall → Type 0
+HasUnfitDelta now calls =
+    (played : Played)
+    × IsExchange now empty_jar (holds_originals (changes_by calls played)) calls played
+    × ¬ (AllFitFields played.jar.delta)

@@ -8,7 +8,7 @@ use Rattle.cookie_http.specs.declared.http_error.HttpError.TheVariants as refusa
 -- the text of a refusal
 abbrev pub http_refusal_text : HttpError → List ℕ
 http_refusal_text refusal.OutOfMemory = codes "out of memory"
-http_refusal_text refusal.InvalidValue = codes "a cookie's path or domain is no field value"
+http_refusal_text refusal.InvalidValue = codes "a cookie's path or domain is no attribute value"
 http_refusal_text refusal.TooManyFields = codes "too many header fields"
 
 -- a header map's refusal, as one of carrying cookies

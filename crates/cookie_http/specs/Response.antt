@@ -1,8 +1,9 @@
 -- The `Set-Cookie` fields that a response gets of a jar's delta (RFC 6265 3, RFC 9110 5.5).
-use Rattle.std.specs.Prelude.{◌≡◌, ◌<◌, ◌≤◌, ◌+◌, ◌^◌, ◌⊎◌, ◌++◌, ℕ, true, false, List, map, length, codes, Some, option_map, IfSome}
+use Rattle.std.specs.Prelude.{◌≡◌, ◌<◌, ◌≤◌, ◌+◌, ◌^◌, ◌⊎◌, ◌++◌, ◌==◌, ◌&&◌, not, ℕ, Bool, true, false, List, map, length, codes, Some, option_map, IfSome}
 use Rattle.std.specs.FinMap.{FinMap, get}
-use Rattle.http_header.specs.FieldValue.{FieldValue, IsFieldValue, plain_value}
+use Rattle.http_header.specs.FieldValue.{FieldValue, plain_value}
 use Rattle.http_header.specs.HeaderMap.{Entries, ContainsKey, append_all, value_count}
+use Rattle.http_header.specs.Token.{AllPass, is_value_byte}
 use Rattle.cookie.specs.Jar.{Name, name_cmp, Marked}
 use Rattle.cookie.specs.Record.{Record}
 use Rattle.cookie.specs.Text.{cookie_text}
@@ -27,10 +28,18 @@ pub record AddsDelta (delta : FinMap name_cmp Marked) (old new : Entries FieldVa
   -- which a client reads
   pub read : set_cookie_texts new ≡ set_cookie_texts old ++ map (cookie_text true false) cookies
 
--- the cookie's path and domain hold only bytes that a field value may hold: no CR, LF or NUL (RFC 9110 5.5)
+-- a byte that the value of an attribute may hold: one of a field value (RFC 9110 5.5), and no `;` (RFC 6265 4.1.1)
+abbrev pub is_attribute_byte : ℕ → Bool
+is_attribute_byte b = is_value_byte b && not (b == 59)
+
+-- the text can be the value of an attribute: it ends neither the field nor the attribute
+abbrev pub IsAttributeValue : List ℕ → Type 0
+IsAttributeValue text = AllPass is_attribute_byte text
+
+-- the cookie's path and domain can be the values of attributes
 pub record FitsField (cookie : Record) : Type 0 where
-  pub path : IfSome cookie.path IsFieldValue
-  pub domain : IfSome cookie.domain IsFieldValue
+  pub path : IfSome cookie.path IsAttributeValue
+  pub domain : IfSome cookie.domain IsAttributeValue
 
 -- each cookie of the delta does
 abbrev pub AllFitFields : FinMap name_cmp Marked → Type 0

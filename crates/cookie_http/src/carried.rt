@@ -1,6 +1,7 @@
 //! A jar's response, and the request of the client that read it.
-ghost use Rattle.std.specs.Prelude.{IfOk};
-ghost use Rattle.cookie_http.specs.Carried.{IsCarried};
+ghost use Rattle.std.specs.Prelude.{IfOk, IsErrOf};
+ghost use Rattle.cookie_http.specs.Carried.{HasUnfitDelta, IsCarried};
+ghost use Rattle.cookie_http.specs.declared.http_error.HttpError.TheVariants as refusal;
 
 use crate::client::cookie_of_client;
 use crate::http_error::HttpError;
@@ -29,9 +30,12 @@ pub struct Exchanged {
 /// fields of a response, which a client reads that held each name's last original, and what it then sends to the jar
 /// of its next request. `now` is in UTC.
 ///
-/// It fails for want of memory, or with `InvalidValue` where `append_delta` does; its contract speaks of no refusal.
+/// Fails with `InvalidValue` if a cookie of the delta doesn't fit a field (`append_delta`), else only with
+/// `OutOfMemory`.
 pub fn exchange(alloc: Global, calls: &[JarCall<'_>], now: DateTime) -> Result<Exchanged, HttpError>
-    ensures { IfOk result (IsCarried now calls.now) }
+    ensures carried { IfOk result (IsCarried now calls.now) }
+    ensures invalid { IsErrOf result refusal.InvalidValue → HasUnfitDelta now calls.now }
+    ensures room { ¬ (IsErrOf result refusal.TooManyFields) }
 {
     let played = mirror(alloc, calls, &[], now)?;
     let mut response = HeaderMap::new(alloc);

@@ -13,7 +13,8 @@ use std::fmt;
 pub enum HttpError {
     /// Memory ran out.
     OutOfMemory,
-    /// A cookie's path or domain holds a byte that no field value may hold, as a line break (RFC 9110 5.5).
+    /// A cookie's path or domain holds a byte that no field value may hold, as a line break (RFC 9110 5.5), or a `;`
+    /// (RFC 6265 4.1.1).
     InvalidValue,
     /// The map has no room: it has 24,576 names, or as many values as it can count.
     TooManyFields,
@@ -24,11 +25,12 @@ impl fmt::Display for HttpError {
     ghost use Rattle.cookie_http.specs.HttpError.{http_refusal_text};
 
     ghost output = { λ e. Some (http_refusal_text e) };
+    ghost styled_output = { λ e _. Some (http_refusal_text e) };
 
     fn fmt<W: fmt::Write>(&self, f: &mut fmt::Formatter<W>) -> fmt::Result {
         f.write_str(match self {
             HttpError::OutOfMemory => "out of memory",
-            HttpError::InvalidValue => "a cookie's path or domain is no field value",
+            HttpError::InvalidValue => "a cookie's path or domain is no attribute value",
             HttpError::TooManyFields => "too many header fields",
         })
     }

@@ -1,10 +1,10 @@
 //! The cookies of a response (RFC 6265 3, 4.1).
-ghost use Rattle.std.specs.Prelude.{◌≡◌, ◌∷◌, [], ◌↔◌, true, false, IsTrue, IfSome, OnOk, OnErr, IsErrOf, IsUtf8, codes, option_map};
+ghost use Rattle.std.specs.Prelude.{◌≡◌, ◌∷◌, [], ◌↔◌, true, false, List, IsTrue, IfSome, OnOk, OnErr, IsErrOf, IsUtf8, codes, length, option_map};
+ghost use Rattle.cookie.specs.Memory.{Gives};
+ghost use Rattle.cookie.specs.Record.{Record};
 ghost use Rattle.cookie.specs.Text.{cookie_text};
-ghost use Rattle.http_header.specs.FieldValue.{IsFieldValue};
 ghost use Rattle.http_header.specs.HeaderMap.{RefusesAppend};
-ghost use Rattle.http_header.specs.Token.{is_value_byte};
-ghost use Rattle.cookie_http.specs.Response.{AddsDelta, AllFitFields, FitsField, LacksRoomFor, with_set_cookies};
+ghost use Rattle.cookie_http.specs.Response.{AddsDelta, AllFitFields, FitsField, IsAttributeValue, LacksRoom, LacksRoomFor, WalksDelta, is_attribute_byte, with_set_cookies};
 ghost use Rattle.cookie_http.specs.declared.http_error.HttpError.TheVariants as refusal;
 
 use crate::http_error::HttpError;
@@ -13,15 +13,18 @@ use cookie::{Cookie, CookieJar};
 use http_header::{HeaderMap, HeaderValue};
 use std::alloc::Global;
 
-/// Appends a `Set-Cookie` field for each cookie of the jar's delta, behind the fields that are there: its encoded text
+// How many names a header map may have.
+const MOST_NAMES: usize = 24_576;
+
+/// Appends a `Set-Cookie` field for each cookie of the jar's delta, after the fields that are there: its encoded text
 /// (RFC 6265 4.1.1).
 ///
-/// Names and values are escaped, and a path and a domain aren't. So it refuses a delta with a cookie whose path or
-/// domain holds a byte that no field value may hold, as a line break, which would split the response (RFC 9110 5.5):
-/// that is `InvalidValue`. A `;` there isn't refused, and begins another attribute (RFC 6265 5.2).
+/// Names and values are escaped, and a path and a domain aren't. So the delta is refused as `InvalidValue` if a path or
+/// a domain in it holds a byte that no field value may hold, as a line break, which would split the response
+/// (RFC 9110 5.5), or a `;`, which would begin another attribute (RFC 6265 5.2).
 ///
-/// Else it fails for want of memory, or with `TooManyFields` where the map has no room. After any refusal the map is as
-/// before.
+/// If the map has no room, it is refused as `TooManyFields`. Both come before anything is allocated. Else it fails only
+/// with `OutOfMemory`. After any refusal the map is as before.
 pub fn append_delta(
     alloc: Global,
     jar: &CookieJar,
@@ -29,11 +32,18 @@ pub fn append_delta(
 ) -> Result<(), HttpError>
     ensures ok { OnOk result (AddsDelta jar.now.delta headers.old headers.new) }
     ensures invalid { IsErrOf result refusal.InvalidValue ↔ ¬ (AllFitFields jar.now.delta) }
-    ensures full { IsErrOf result refusal.TooManyFields → LacksRoomFor jar.now.delta headers.old }
+    ensures full { IsErrOf result refusal.TooManyFields
+        ↔ (AllFitFields jar.now.delta × LacksRoomFor jar.now.delta headers.old) }
+
+    // An empty map has room for any delta.
+    ensures empty { headers.old ≡ [] → ¬ (IsErrOf result refusal.TooManyFields) }
     ensures err { OnErr result (headers.new ≡ headers.old) }
 {
     if !all_fit(jar) {
         return Err(HttpError::InvalidValue);
+    }
+    if lacks_room(jar, headers) {
+        return Err(HttpError::TooManyFields);
     }
     let mut made = headers.clone()?;
     for cookie in jar.delta() {
@@ -49,13 +59,11 @@ fn append_cookie(
     cookie: &Cookie<'_>,
     headers: &mut HeaderMap,
 ) -> Result<(), HttpError>
-    requires { FitsField cookie.now.fields }
-    ensures ok { OnOk result (headers.new
+    requires fits { FitsField cookie.now.fields }
+    requires room { ¬ (RefusesAppend headers.old (codes "set-cookie")) }
+    ensures gives { Gives refusal.OutOfMemory result (λ _. headers.new
         ≡ with_set_cookies (cookie_text true false cookie.now.fields ∷ []) headers.old) }
     ensures text { IsUtf8 (cookie_text true false cookie.now.fields) }
-    ensures valid { ¬ (IsErrOf result refusal.InvalidValue) }
-    ensures full { IsErrOf result refusal.TooManyFields
-        → RefusesAppend headers.old (codes "set-cookie") }
 {
     cookie.known();
     let text = cookie.encoded().to_string(alloc)?;
@@ -64,7 +72,38 @@ fn append_cookie(
     Ok(())
 }
 
-// Whether all cookies of the delta can stand in a field.
+// Whether the map lacks room for a field for each cookie of the delta.
+fn lacks_room(jar: &CookieJar, headers: &HeaderMap) -> bool
+    ensures lacks { IsTrue result ↔ LacksRoomFor jar.now.delta headers.now }
+    ensures empty { headers.now ≡ [] → ¬ (IsTrue result) }
+{
+    lacks_room_for(count(jar), headers)
+}
+
+// How many cookies the delta has.
+fn count(jar: &CookieJar) -> usize
+    ensures { (cookies : List Record) × WalksDelta jar.now.delta cookies
+        × (result ≡ length cookies) }
+{
+    let mut count = 0;
+    for _cookie in jar.delta() {
+        count += 1;
+    }
+    count
+}
+
+// Whether the map lacks room for so many more `Set-Cookie` fields.
+fn lacks_room_for(count: usize, headers: &HeaderMap) -> bool
+    ensures lacks { IsTrue result ↔ LacksRoom count headers.now }
+    ensures empty { headers.now ≡ [] → ¬ (IsTrue result) }
+{
+    if count > 0 && headers.keys_len() >= MOST_NAMES && !headers.contains_key("set-cookie") {
+        return true;
+    }
+    headers.len().checked_add(count).is_none()
+}
+
+// Whether each cookie of the delta can stand in a field.
 fn all_fit(jar: &CookieJar) -> bool
     ensures { IsTrue result ↔ AllFitFields jar.now.delta }
 {
@@ -80,22 +119,22 @@ fn all_fit(jar: &CookieJar) -> bool
 fn fits_field(cookie: &Cookie<'_>) -> bool
     ensures { IsTrue result ↔ FitsField cookie.now.fields }
 {
-    is_field_value(cookie.path()) && is_field_value(cookie.domain())
+    is_attribute_value(cookie.path()) && is_attribute_value(cookie.domain())
 }
 
-// Whether the text, if there is one, holds only bytes that a field value may hold.
-fn is_field_value(text: Option<&str>) -> bool
-    ensures { IsTrue result ↔ IfSome (option_map (λ t. t.now) text.entry) IsFieldValue }
+// Whether the text, if there is one, can be the value of an attribute.
+fn is_attribute_value(text: Option<&str>) -> bool
+    ensures { IsTrue result ↔ IfSome (option_map (λ t. t.now) text.entry) IsAttributeValue }
 {
     match text {
-        Some(text) => text.as_bytes().iter().all(|byte| is_value_byte(*byte)),
+        Some(text) => text.as_bytes().iter().all(|byte| is_attribute_byte(*byte)),
         None => true,
     }
 }
 
-// A tab, or no control character (RFC 9110 5.5).
-fn is_value_byte(byte: u8) -> bool
-    ensures { result ≡ is_value_byte byte }
+// A tab, or no control character (RFC 9110 5.5), and no `;` (RFC 6265 4.1.1).
+fn is_attribute_byte(byte: u8) -> bool
+    ensures { result ≡ is_attribute_byte byte }
 {
-    byte == b'\t' || (byte >= b' ' && byte != 127)
+    (byte == b'\t' || (byte >= b' ' && byte != 127)) && byte != b';'
 }

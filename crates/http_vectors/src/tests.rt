@@ -1,6 +1,7 @@
 mod answers;
 mod clients;
 mod exchanges;
+mod flags;
 mod requests;
 mod responses;
 mod rows;

@@ -74,7 +74,31 @@ Cookie: a=1
 Cookie: b=<FF>; c=2
 Cookie: d=3
 shows a=1
+shows c=2
 shows d=3
+
+RFC 9113 8.2.3, in one field as HTTP/1 has it:
+Cookie: a=1; b=<FF>; c=2
+shows a=1
+shows c=2
+
+and in a field for each pair:
+Cookie: a=1
+Cookie: b=<FF>
+Cookie: c=2
+shows a=1
+shows c=2
+
+at both ends:
+Cookie: <FF>=1; a=2; <FF>
+shows a=2
+
+a letter that a semicolon cuts:
+Cookie: a=<C3>; <A9>=2; c=3
+shows c=3
+
+no other piece:
+Cookie: a=<FF>
 
 escapes, and one of bytes that are no text:
 Cookie: a=%3B%20%2C; b=%FF

@@ -56,10 +56,11 @@ fn is_text_told(alloc: Global, row: &'static str) -> bool {
 }
 
 const TEXTS: &str =
-    "taken / | taken /a b | taken /\t | taken /\u{e9} | refused /\r\nSet-Cookie: b=2 | refused /\n | refused /\r | \
-refused /\0 | refused /\u{1} | refused /\u{b} | refused /\u{1f} | refused /\u{7f}";
+    "taken / | taken /a b | taken /\t | taken /\u{e9} | taken /a=b,c | refused /\r\nSet-Cookie: b=2 | refused /\n | refused /\r | \
+refused /\0 | refused /\u{1} | refused /\u{b} | refused /\u{1f} | refused /\u{7f} | refused ; | refused /; | \
+refused /; Domain=example.org | refused /a;b";
 
-// RFC 9110 5.5: a field value holds no control character but the tab.
+// RFC 9110 5.5: a field value holds no control character but the tab. RFC 6265 4.1.1: an attribute's value holds no `;`.
 #[test]
 fn no_field_is_split(rt: HostRuntime) {
     for row in TEXTS.split(" | ") {
@@ -145,6 +146,17 @@ fn is_full(alloc: Global, jar: &CookieJar) -> bool {
     }
 }
 
+// Whether such a map takes a jar without changes, which needs no room.
+fn takes_nothing(alloc: Global) -> bool {
+    match full_map(alloc, 24_576) {
+        Some(mut headers) => {
+            append_delta(alloc, &CookieJar::new(alloc), &mut headers).is_ok()
+                && headers.len() == 24_576
+        }
+        None => false,
+    }
+}
+
 // Whether a map that has room for one more name takes the jar twice.
 fn has_room(alloc: Global, jar: &CookieJar) -> bool {
     match full_map(alloc, 24_575) {
@@ -157,10 +169,13 @@ fn has_room(alloc: Global, jar: &CookieJar) -> bool {
     }
 }
 
-// Whether the full map refuses a jar with one cookie, and the other takes it.
+// Whether the full map refuses a jar with one cookie and takes one without, and the other takes it.
 fn are_told(alloc: Global) -> bool {
     let mut jar = CookieJar::new(alloc);
-    jar.add(Cookie::new("a", "1")).is_ok() && is_full(alloc, &jar) && has_room(alloc, &jar)
+    jar.add(Cookie::new("a", "1")).is_ok()
+        && is_full(alloc, &jar)
+        && takes_nothing(alloc)
+        && has_room(alloc, &jar)
 }
 
 // A map holds 24,576 names at most.
@@ -206,7 +221,7 @@ fn is_text(alloc: Global, error: HttpError, wanted: &str) -> bool {
 
 #[test]
 fn a_refusal_has_its_text(rt: HostRuntime) {
-    let value = "a cookie's path or domain is no field value";
+    let value = "a cookie's path or domain is no attribute value";
     assert!(rt; is_text(rt.alloc(), HttpError::OutOfMemory, "out of memory"));
     assert!(rt; is_text(rt.alloc(), HttpError::InvalidValue, value));
     assert!(rt;

@@ -14,6 +14,7 @@ pub loop-value-preserved : goal.loop-value-preserved
 loop-value-preserved c =
     let left = flat_map (λ v. cookies_of v.bytes) c.next.new.self in
     ap (with_originals left) c.in_ok-jar.ensures
+    ∙ ap (λ bytes. with_originals left (with_originals (cookies_of bytes) c.loop-value.jar)) c.as_bytes.ensures.value
     ∙ with_originals-more (cookies_of c.in-Some.value.now.bytes) left c.loop-value.jar
     ∙ ap (λ values. with_originals (flat_map (λ v. cookies_of v.bytes) values) c.loop-value.jar) (sym c.in-Some.ensures.steps)
     ∙ c.loop-value.invariant

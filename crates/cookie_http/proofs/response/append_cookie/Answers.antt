@@ -14,7 +14,7 @@ pub from_known_valid-value-requires : goal.from_known_valid-value-requires
 from_known_valid-value-requires c =
     let cookie = c.args.cookie.now.fields in
     let is : c.in_ok-from_string.field-0 ≡ cookie_text true false cookie = search rules in
-    subst IsFieldValue (sym is) (IsFieldValue-cookie_text cookie c.known.ensures.cookie c.requires)
+    subst IsFieldValue (sym is) (IsFieldValue-cookie_text cookie c.known.ensures.cookie c.requires.fits)
 
 pub returns-in_err-append-clause-text : goal.returns-in_err-append-clause-text
 returns-in_err-append-clause-text c = IsUtf8-cookie_text c.args.cookie.now.fields c.known.ensures.cookie
