@@ -1,34 +1,47 @@
 //! `cookiejar MOMENT`: plays a session over the standard input, and writes its text.
 #![tactic(auto)]
 
-use cookie_client::RunError;
+ghost use Rattle.std.specs.Prelude.{◌≡◌, None, Err};
+ghost use Rattle.cookie_client.specs.Session.{moment_of};
+ghost use Rattle.cookie_client.specs.declared.run_error.RunError.TheVariants as refusal;
+
+use cookie_client::{RunError, moment_of, run_with_hasher};
 use std::env;
 use std::hash::RandomState;
 use std::process::ExitCode;
 
-// Runs with the one argument, the moment. The input is a stranger's, so names are hashed with keys that are drawn.
-fn play(rt: &HostRuntime) -> Result<(), RunError> {
+// The one argument, the moment.
+fn argument(rt: &HostRuntime) -> Result<String, RunError> {
     let Ok(mut arguments) = env::args(rt) else {
         return Err(RunError::BadMoment);
     };
     let _program = arguments.next();
-    let (Some(moment), None) = (arguments.next(), arguments.next()) else {
+    match (arguments.next(), arguments.next()) {
+        (Some(moment), None) => Ok(moment),
+        _ => Err(RunError::BadMoment),
+    }
+}
+
+// Plays the session. The input is a stranger's, so names are hashed with keys that are drawn. The moment is looked at
+// before that, so a bad one has its own fault even when no keys can be drawn.
+fn play(rt: &HostRuntime, moment: &str) -> Result<(), RunError>
+    ensures { moment_of moment.now ≡ None → result ≡ Err refusal.BadMoment }
+{
+    if moment_of(moment).is_none() {
         return Err(RunError::BadMoment);
-    };
+    }
     let Ok(state) = RandomState::new(rt) else {
         return Err(RunError::Input);
     };
-    cookie_client::run_with_hasher(
-        rt.alloc(),
-        state,
-        moment.as_str(),
-        &mut rt.stdin(),
-        &mut rt.stdout(),
-    )
+    run_with_hasher(rt.alloc(), state, moment, &mut rt.stdin(), &mut rt.stdout())
 }
 
 fn main(rt: HostRuntime) -> ExitCode {
-    match play(&rt) {
+    let played = match argument(&rt) {
+        Ok(moment) => play(&rt, moment.as_str()),
+        Err(error) => Err(error),
+    };
+    match played {
         Ok(()) => ExitCode::SUCCESS,
         Err(error) => {
             let _ = eprintln!(rt; "{error}");
