@@ -3,6 +3,7 @@ mod clients;
 mod comparison;
 mod devices;
 mod exchanges;
+mod flags;
 mod flat_jar;
 mod forms;
 mod judged;

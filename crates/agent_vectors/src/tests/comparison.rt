@@ -1,7 +1,7 @@
 //! The user agent against a second body of it, over requests that are drawn.
 use super::at;
 use super::draws::{Drawing, Draws, NAMES, SPOTS, Spot};
-use super::owned_request::{OwnedRequest, visit_each};
+use super::owned_request::{OwnedRequest, visit_all};
 use super::plain_agent::PlainAgent;
 use super::plain_jar::{PlainJar, find};
 use super::sites::site_of;
@@ -18,7 +18,7 @@ fn play(alloc: Global, drawings: &[Drawing], pick: Pick) -> Option<Vec<Visited>>
         let request = OwnedRequest::of(alloc, one.spot.url, one.second, &one.moves)?;
         requests.push(request).ok()?;
     }
-    visit_each(alloc, &requests, &pick)
+    visit_all(alloc, &requests, &pick)
 }
 
 // Puts the name that the number chooses of those from the place on in that place.

@@ -2,7 +2,7 @@
 use super::at;
 use super::moves::Move;
 use super::sites::site_of;
-use cookie_agent::{AgentRequest, Site, Visited, visits};
+use cookie_agent::{Agent, AgentRequest, Site, Visited, visit, visits};
 use cookie_client::JarCall;
 use jiff::civil::DateTime;
 use std::alloc::Global;
@@ -36,13 +36,7 @@ impl OwnedRequest {
     }
 }
 
-// The request with the number, or the blank one where there are fewer.
-fn lend<'a>(
-    requests: &'a [OwnedRequest],
-    number: usize,
-    blank: &'a OwnedRequest,
-) -> AgentRequest<'a, 'static> {
-    let request = requests.get(number).unwrap_or(blank);
+fn lend(request: &OwnedRequest) -> AgentRequest<'_, 'static> {
     AgentRequest {
         site: &request.site,
         calls: &request.calls,
@@ -50,20 +44,45 @@ fn lend<'a>(
     }
 }
 
-/// What comes of up to five requests. A list of requests that are lent can't be made one by one here, so five are lent,
-/// and those that are there are made.
+/// What comes of the requests, which one agent makes one after the other, as a server's test plays them.
 pub(super) fn visit_each(
+    alloc: Global,
+    requests: &[OwnedRequest],
+    pick: &[usize],
+) -> Option<Vec<Visited>> {
+    let mut agent = Agent::new(alloc);
+    let mut visited = Vec::new(alloc);
+    for request in requests {
+        let one = visit(alloc, &agent, &lend(request), pick).ok()?;
+        agent = one.agent.clone().ok()?;
+        visited.push(one).ok()?;
+    }
+    Some(visited)
+}
+
+// The request with the number, or the blank one where there are fewer.
+fn lend_number<'a>(
+    requests: &'a [OwnedRequest],
+    number: usize,
+    blank: &'a OwnedRequest,
+) -> AgentRequest<'a, 'static> {
+    lend(requests.get(number).unwrap_or(blank))
+}
+
+/// What comes of up to five requests in one list. A list of requests that are lent can't be made one by one here, so
+/// five are lent, and those that are there are made.
+pub(super) fn visit_all(
     alloc: Global,
     requests: &[OwnedRequest],
     pick: &[usize],
 ) -> Option<Vec<Visited>> {
     let blank = OwnedRequest::of(alloc, "http://example.com/", 0, &[])?;
     let lent = [
-        lend(requests, 0, &blank),
-        lend(requests, 1, &blank),
-        lend(requests, 2, &blank),
-        lend(requests, 3, &blank),
-        lend(requests, 4, &blank),
+        lend_number(requests, 0, &blank),
+        lend_number(requests, 1, &blank),
+        lend_number(requests, 2, &blank),
+        lend_number(requests, 3, &blank),
+        lend_number(requests, 4, &blank),
     ];
     visits(alloc, lent.get(..requests.len())?, pick).ok()
 }

@@ -108,23 +108,14 @@ fn a_client_follows_what_it_holds_and_reads(rt: HostRuntime) {
     assert!(rt; wrong.is_empty(), "{wrong}");
 }
 
-fn is_refusal_plain(alloc: Global, shown: ClientError) -> bool {
-    let wanted = "out of memory|out of memory|out of memory|out of memory|out of memory";
-    match format!(in alloc; "{shown}|{shown:>60}|{shown:*^+60}|{shown:060}|{shown:.3}") {
-        Ok(text) => text.as_str() == wanted,
-        Err(_) => false,
-    }
-}
-
-// Whether a copy is the same, and has the text at any width and precision.
-fn is_refusal_right(alloc: Global, refusal: ClientError) -> bool {
+fn is_copy_alike(refusal: ClientError) -> bool {
     match refusal.clone() {
-        Ok(copy) => copy == refusal && is_refusal_plain(alloc, copy),
+        Ok(copy) => copy == refusal,
         Err(_) => false,
     }
 }
 
 #[test]
-fn a_refusal_has_its_text_at_any_width_and_precision(rt: HostRuntime) {
-    assert!(rt; is_refusal_right(rt.alloc(), ClientError::OutOfMemory));
+fn a_copy_of_a_refusal_is_the_same(rt: HostRuntime) {
+    assert!(rt; is_copy_alike(ClientError::OutOfMemory));
 }
