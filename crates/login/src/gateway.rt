@@ -1,9 +1,11 @@
 //! The request, as a web server hands it over (RFC 3875 4).
 use anyhow::Result;
 use login_core::Request;
+use std::alloc::AllocError;
 use std::env;
-use std::env::VarError;
+use std::env::{FillError, VarError};
 use std::io::Read;
+use std::rt::Env;
 
 // How many bytes a form may have.
 const MOST: usize = 4096;
@@ -19,7 +21,7 @@ pub struct Gateway {
     pub is_secure: bool,
     method: String,
     path: String,
-    cookies: String,
+    cookies: Vec<u8>,
     form: Vec<u8>,
 }
 
@@ -33,7 +35,7 @@ impl Gateway {
                 self.method.as_str()
             },
             path: self.path.as_str(),
-            cookies: self.cookies.as_str(),
+            cookies: &self.cookies,
             form: &self.form,
         }
     }
@@ -44,7 +46,7 @@ pub fn read(rt: &HostRuntime) -> Result<Option<Gateway>> {
     let Some(form) = form(rt)? else {
         return Ok(None);
     };
-    let (Some(base), Some(cookies)) = (text(rt, "SCRIPT_NAME")?, text(rt, "HTTP_COOKIE")?) else {
+    let Some(base) = text(rt, "SCRIPT_NAME")? else {
         return Ok(None);
     };
     let (Some(method), Some(path)) = (text(rt, "REQUEST_METHOD")?, text(rt, "PATH_INFO")?) else {
@@ -59,7 +61,7 @@ pub fn read(rt: &HostRuntime) -> Result<Option<Gateway>> {
         is_secure: is_secure(rt)?,
         method,
         path,
-        cookies,
+        cookies: bytes(rt, "HTTP_COOKIE")?,
         form,
     }))
 }
@@ -85,6 +87,25 @@ fn text(rt: &HostRuntime, name: &str) -> Result<Option<String>> {
         Err(VarError::NotUnicode) => Ok(None),
         Err(error) => Err(error.into()),
     }
+}
+
+// The variable's bytes, which needn't be UTF-8: none where it isn't set.
+fn bytes(rt: &HostRuntime, name: &str) -> Result<Vec<u8>> {
+    let mut bytes = vec![in rt.alloc(); 0; 256]?;
+    for _ in 0..usize::BITS {
+        match rt.var(name, &mut bytes) {
+            Ok(length) => {
+                bytes.truncate(length);
+                return Ok(bytes);
+            }
+            Err(FillError::NotPresent) => return Ok(Vec::new(rt.alloc())),
+            Err(FillError::TooLong) => {
+                let doubled = bytes.len().saturating_mul(2);
+                bytes.resize(doubled, 0)?;
+            }
+        }
+    }
+    Err(AllocError.into())
 }
 
 // The content, or `None` where it is too long or ends too early.

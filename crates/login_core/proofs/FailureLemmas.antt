@@ -5,7 +5,7 @@ use Rattle.cookie.specs.Memory.{Gives}
 use Rattle.cookie.specs.Sealing.{CanSeal}
 use Rattle.cookie.specs.declared.jar_error.JarError.{JarError}
 use Rattle.cookie.specs.declared.jar_error.JarError.TheVariants as failure
-use Rattle.login_core.specs.Answers.{FailsOnlyFor, IsTooLong}
+use Rattle.login_core.specs.Answers.{FailsOnlyFor}
 use Rattle.login_core.specs.SiteCookies.{kept}
 use Rattle.login_core.specs.declared.site.Site.{Site}
 use Rattle.login_core.specs.declared.site_cookie.SiteCookie.TheVariants.{User}

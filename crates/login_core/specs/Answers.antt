@@ -8,6 +8,7 @@ use Rattle.cookie.specs.Sealing.{CanSeal, IsNonce}
 use Rattle.cookie.specs.declared.jar_error.JarError.{JarError}
 use Rattle.cookie.specs.declared.jar_error.JarError.TheVariants as failure
 use Rattle.cookie_client.specs.Originals.{jar_for}
+use Rattle.cookie_http.specs.Fields.{readable}
 use Rattle.login_core.specs.Changes.{logged_in, logged_out, shown}
 use Rattle.login_core.specs.Forms.{credentials_of}
 use Rattle.login_core.specs.Routes.{route_of}
@@ -29,7 +30,7 @@ use Rattle.login_core.specs.declared.visitor.Visitor.{Visitor}
 abbrev pub IsGreeted : Site → Request → List ℕ → Type 0
 IsGreeted site request user =
     (route_of request.method.now request.path.now ≡ Ok Home)
-    × IsLoggedIn site (jar_for request.cookies.now) user
+    × IsLoggedIn site (jar_for (readable request.cookies.now)) user
 
 -- the home page shows what the cookies say, and the jar is changed by that
 abbrev pub Shows : Site → DateTime → JarState → Page → JarState → Type 0

@@ -5,6 +5,7 @@ ghost use Rattle.cookie.specs.Memory.{Gives};
 ghost use Rattle.cookie.specs.declared.jar_error.JarError.TheVariants as refusal;
 ghost use Rattle.cookie_client.specs.Agreement.{AreDeltaTexts};
 ghost use Rattle.cookie_client.specs.Originals.{jar_for};
+ghost use Rattle.cookie_http.specs.Fields.{readable};
 ghost use Rattle.login_core.specs.Answers.{Answers, FailsOnlyFor, IsGreeted, IsLetIn, IsTooLong, LogsIn, LogsOut, NamesUser, Shows};
 ghost use Rattle.login_core.specs.Forms.{credentials_of, credential_texts};
 ghost use Rattle.login_core.specs.Pages.{greeted};
@@ -21,7 +22,8 @@ use crate::site::Site;
 use crate::user::is_known;
 use crate::visitor::read_visitor;
 use cookie::{CookieJar, JarError};
-use cookie_client::{ClientError, delta_texts, with_originals};
+use cookie_client::delta_texts;
+use cookie_http::{HttpError, with_field};
 use jiff::civil::DateTime;
 use rand_core::TryRng;
 use std::alloc::Global;
@@ -47,7 +49,7 @@ pub fn answer<R: TryRng>(
     // The page is the route's, and its `Set-Cookie` fields are the changes that the page makes.
     ensures answers { IfOk result (λ response. (jar : JarState)
         × Answers (λ nonce. R.may_fill rng.old nonce rng.new)
-        site.now request.now now (jar_for request.now.cookies.now)
+        site.now request.now now (jar_for (readable request.now.cookies.now))
         (route_of request.now.method.now request.now.path.now) response.page jar
         × AreDeltaTexts jar.delta (map string_bytes response.cookies.items)) }
 
@@ -68,12 +70,13 @@ pub fn answer<R: TryRng>(
 }
 
 // The jar of the request's cookies.
-fn request_jar(alloc: Global, state: RandomState, header: &str) -> Result<CookieJar, JarError>
-    ensures { Gives refusal.OutOfMemory result (λ jar. jar ≡ jar_for header.now) }
+fn request_jar(alloc: Global, state: RandomState, field: &[u8]) -> Result<CookieJar, JarError>
+    ensures { Gives refusal.OutOfMemory result (λ jar. jar ≡ jar_for (readable field.now)) }
 {
-    match with_originals(alloc, CookieJar::with_hasher(alloc, state), header) {
+    match with_field(alloc, CookieJar::with_hasher(alloc, state), field) {
         Ok(jar) => Ok(jar),
-        Err(ClientError::OutOfMemory) => Err(JarError::OutOfMemory),
+        Err(HttpError::OutOfMemory) => Err(JarError::OutOfMemory),
+        Err(HttpError::InvalidValue | HttpError::TooManyFields) => unreachable!(),
     }
 }
 

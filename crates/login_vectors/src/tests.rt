@@ -1,5 +1,6 @@
 //! Requests as rows, and what the site has to answer.
 mod entering;
+mod flags;
 mod greeting;
 mod refusals;
 mod sevens;
@@ -113,6 +114,16 @@ fn is_answered(alloc: Global, row: &str, response: &Response) -> bool {
         && has_text(alloc, row, response)
 }
 
+// The bytes of a `Cookie` field. `<FF>` stands for a byte that stands in no text.
+fn field_of(text: &str) -> &[u8] {
+    match text {
+        "x=<FF>; ann" => b"x=\xff; __Host-user=BwcHBwcHBwcHBwcH0e62VErjlKMSyUcYcYWUm4/brQ==",
+        "ann; <FF>" => b"__Host-user=BwcHBwcHBwcHBwcH0e62VErjlKMSyUcYcYWUm4/brQ==;\xff",
+        "ann<FF>" => b"__Host-user=BwcHBwcHBwcHBwcH0e62VErjlKMSyUcYcYWUm4/brQ==\xff",
+        _ => text.as_bytes(),
+    }
+}
+
 // Whether the row's request over such a connection is answered as it says.
 fn is_right_over(alloc: Global, state: RandomState, is_secure: bool, row: &str) -> bool {
     let (head, _) = row.split_once('\n').unwrap_or((row, ""));
@@ -120,7 +131,7 @@ fn is_right_over(alloc: Global, state: RandomState, is_secure: bool, row: &str) 
     let request = Request {
         method,
         path,
-        cookies: part(row, "cookies "),
+        cookies: field_of(part(row, "cookies ")),
         form: part(row, "form ").as_bytes(),
     };
     match play(alloc, state, is_secure, &request, 12) {

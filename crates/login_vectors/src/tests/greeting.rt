@@ -109,6 +109,36 @@ fn a_sealed_user_is_greeted(rt: HostRuntime) -> Result<(), Fail> {
     Ok(())
 }
 
+// A byte in another piece, which stands in no text (RFC 9113 8.2.3: one field is read as its pieces are, each in a field).
+const BESIDE: &str = "\
+GET /
+cookies x=<FF>; ann
+is 200
+greets ann
+sets __Host-visits=dAoA+SvfjV0oeNjozrb6okE0h8%2FlOMQXpbtido68vHQ%3D1; HttpOnly; SameSite=Lax; Secure; Path=/
+has <h1>Hello, ann.</h1>
+
+GET /
+cookies ann; <FF>
+is 200
+greets ann
+sets __Host-visits=dAoA+SvfjV0oeNjozrb6okE0h8%2FlOMQXpbtido68vHQ%3D1; HttpOnly; SameSite=Lax; Secure; Path=/
+has <h1>Hello, ann.</h1>
+
+GET /
+cookies ann<FF>
+is 200
+has <h1>Who are you?</h1>";
+
+#[test]
+fn a_bad_byte_logs_nobody_out(rt: HostRuntime) -> Result<(), Fail> {
+    let state = RandomState::new(&rt)?;
+    for row in BESIDE.split("\n\n") {
+        assert!(rt; is_right(rt.alloc(), state, row), "{row}");
+    }
+    Ok(())
+}
+
 // Sealed for another name, under another key, one character changed, signed, and the bare name; the cookie of a
 // connection that isn't secure, and the last of two.
 const NOT_GREETED: &str = "\

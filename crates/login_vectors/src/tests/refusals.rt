@@ -72,7 +72,7 @@ fn is_told(alloc: Global, state: RandomState, left: usize) -> bool {
     let request = Request {
         method: "POST",
         path: "/login",
-        cookies: "",
+        cookies: b"",
         form: b"user=ann&password=open+sesame",
     };
     match play(alloc, state, true, &request, left) {

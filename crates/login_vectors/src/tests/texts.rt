@@ -61,7 +61,7 @@ fn are_fields_first(alloc: Global, state: RandomState) -> bool {
     let request = Request {
         method: "POST",
         path: "/logout",
-        cookies: "",
+        cookies: b"",
         form: b"",
     };
     match play(alloc, state, true, &request, 0) {
