@@ -2,6 +2,7 @@
 use Rattle.std.proofs.Common.{◌≡◌, ℕ, true, false, codes, List, [], ◌∷◌, map, All, Contains, None, Some, refl, sym, ap, subst, ◌∙◌}
 use Rattle.std.proofs.lemmas.List.{append-nil}
 use Rattle.std.proofs.lemmas.List.Elements.{All-contains, All-weaker}
+use Rattle.std.proofs.lemmas.List.Sorted.{IsPermutation-refl}
 use Rattle.std.specs.FinMap.{FinMap, entries, get, get-empty}
 use Rattle.std.specs.Str.{IsUtf8}
 use Rattle.jiff.specs.Types.{DateTime}
@@ -19,7 +20,7 @@ use Rattle.cookie_client.specs.Exchange.{IsExchange, accepted_calls, changes_by}
 use Rattle.cookie_client.specs.Originals.{holds_originals, jar_for}
 use Rattle.cookie_client.specs.ExchangeCode.{IsHeaderOf}
 use Rattle.cookie_client.specs.declared.call.JarCall.{JarCall}
-use Rattle.cookie_client.proofs.DeltaTextLemmas.{AreDeltaTexts-walk}
+use Rattle.cookie_client.proofs.DeltaTextLemmas.{AreDeltaTexts-once}
 use Rattle.cookie_client.proofs.RoundLemmas.{fresh, held_again, holds_header, told}
 use Rattle.cookie_http.specs.Carried.{AreSameTexts, IsCarried}
 use Rattle.cookie_http.specs.Fields.{cookie_header, readable, set_cookie_texts}
@@ -68,7 +69,9 @@ module _ (now : DateTime) (calls : List JarCall) (e : Exchanged) where
       let client = e.played.client in
       let header = header_text client in
       let are : AreDeltaTexts delta (set_cookie_texts e.response) =
-      subst (AreDeltaTexts delta) (sym response.read) (AreDeltaTexts-walk delta response.cookies response.are) in
+      subst (AreDeltaTexts delta) (sym response.read)
+      (AreDeltaTexts-once delta (map (cookie_text true false) response.cookies)
+      (record { cookies = response.cookies; are = response.are; written = IsPermutation-refl (map (cookie_text true false) response.cookies) })) in
       record {
         exchange = exchange;
         response = response;
