@@ -3,7 +3,7 @@ ghost use Rattle.std.specs.Prelude.{◌≡◌, ◌↔◌, ℕ, List, IfOk, Err, 
 ghost use Rattle.cookie.specs.Jar.{JarState};
 ghost use Rattle.cookie.specs.Memory.{Gives};
 ghost use Rattle.cookie.specs.declared.jar_error.JarError.TheVariants as refusal;
-ghost use Rattle.cookie_client.specs.Agreement.{AreDeltaTexts};
+ghost use Rattle.cookie_client.specs.Agreement.{AreDeltaTextsOnce};
 ghost use Rattle.cookie_client.specs.Originals.{jar_for};
 ghost use Rattle.cookie_http.specs.Fields.{readable};
 ghost use Rattle.login_core.specs.Answers.{Answers, FailsOnlyFor, IsGreeted, IsLetIn, IsTooLong, LogsIn, LogsOut, NamesUser, Shows};
@@ -46,12 +46,12 @@ pub fn answer<R: TryRng>(
     ensures greeted { IfOk result (λ response. (user : List ℕ)
         → (greeted response.page ≡ Some user) ↔ IsGreeted site.now request.now user) }
 
-    // The page is the route's, and its `Set-Cookie` fields are the changes that the page makes.
+    // The page is the route's, and its `Set-Cookie` fields are the changes that the page makes, each once.
     ensures answers { IfOk result (λ response. (jar : JarState)
         × Answers (λ nonce. R.may_fill rng.old nonce rng.new)
         site.now request.now now (jar_for (readable request.now.cookies.now))
         (route_of request.now.method.now request.now.path.now) response.page jar
-        × AreDeltaTexts jar.delta (map string_bytes response.cookies.items)) }
+        × AreDeltaTextsOnce jar.delta (map string_bytes response.cookies.items)) }
 
     // Only a request that lets a user in draws from the generator, or fails for more than memory.
     ensures undrawn { ((user : List ℕ) → ¬ (IsLetIn site.now request.now user))
@@ -93,7 +93,7 @@ fn respond<R: TryRng>(
         Answers (λ nonce. R.may_fill rng.old nonce rng.new)
         site.now request.now now jar.old
         (route_of request.now.method.now request.now.path.now) response.page jar.new
-        × AreDeltaTexts jar.new.delta (map string_bytes response.cookies.items)) }
+        × AreDeltaTextsOnce jar.new.delta (map string_bytes response.cookies.items)) }
     ensures undrawn { ((user : List ℕ) → ¬ (IsLetIn site.now request.now user))
         → rng.new ≡ rng.old }
     ensures fails { FailsOnlyFor site.now (IsLetIn site.now request.now) R.Error result }
