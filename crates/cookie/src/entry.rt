@@ -154,7 +154,8 @@ pub(crate) fn copy<X: Entry>(
         by_name X.shows made.entries ≡ by_name X.shows table.now.entries) }
     ensures hash { IfOk result (λ made. hasher_of made ≡ hasher_of table.now) }
 {
-    let mut made = IndexMap::with_capacity_and_hasher(alloc, table.len(), *table.hasher())?;
+    let hash = *table.hasher();
+    let mut made = IndexMap::with_capacity_and_hasher(alloc, table.len(), hash)?;
     for (key, entry) in table {
         let key = String::from_str(alloc, key.as_str())?;
         set(&mut made, key, entry.copy(alloc)?)?;

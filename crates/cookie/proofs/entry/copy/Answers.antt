@@ -10,7 +10,7 @@ pub loop-key-init : goal.loop-key-init
 loop-key-init g c = (
   none_copied g.X.Entry.shows c.args.table.now.entries c.into_iter-key-iterator.result c.in_ok-made.made.entries
       c.in_ok-made.ensures.empty c.into_iter-key-iterator.ensures.into_iter_gives.0,
-  c.in_ok-made.ensures.hasher ∙ c.hasher.ensures,
+  c.in_ok-made.ensures.hasher ∙ c.hasher-hash.ensures,
 )
 
 pub loop-key-preserved : goal.loop-key-preserved
