@@ -1,7 +1,6 @@
-use Rattle.std.proofs.Common.{◌≡◌, ◌∙◌, ap, false, Some, Err, sym, inl, inr, subst}
+use Rattle.std.proofs.Common.{◌∙◌, ap, false, sym, inl}
 use Rattle.cookie.specs.CookieOf.{cookie_of}
 use Rattle.cookie.specs.Layout.{layout_record}
-use Rattle.cookie.specs.Reads.{Reads}
 use Rattle.cookie_c.proofs.PairLemmas.{name_place, value_place}
 use Rattle.cookie_c.proofs.pair.Pair.of.Goals as goal
 
