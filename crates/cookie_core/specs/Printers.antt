@@ -1,9 +1,7 @@
 -- Mirrors private code: what the small printers write.
-use Rattle.std.specs.Prelude.{ℕ, Bool, List, [], ◌++◌, Option, Some, None, if◌then◌else◌}
+use Rattle.std.specs.Prelude.{ℕ, List, [], ◌++◌, Option, Some, None}
 use Rattle.cookie_date.specs.Text.{moment_text}
 use Rattle.cookie_date.specs.declared.text.DateText.{DateText}
-use Rattle.cookie_core.specs.Text.{attributes_text}
-use Rattle.cookie_core.specs.Record.{Record}
 
 -- what a label and a value print, where the value's text is known
 abbrev pub labelled_output : List ℕ → Option (Option (List ℕ)) → Option (List ℕ)
@@ -14,7 +12,3 @@ labelled_output l (Some (Some t)) = Some (l ++ t)
 -- the text of a date-time of an expiry
 abbrev pub moment_text_of : DateText → List ℕ
 moment_text_of d = moment_text d.0
-
--- the attributes, unless they are stripped
-abbrev pub printed_attributes : Bool → Record → List ℕ
-printed_attributes is_stripped r = if is_stripped then [] else attributes_text r

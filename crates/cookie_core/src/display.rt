@@ -1,9 +1,10 @@
 //! The text of a cookie (RFC 6265 4.1.1).
-ghost use Rattle.std.specs.Prelude.{◌≡◌, Some, None, option_map, true, false, List, ℕ};
+ghost use Rattle.std.specs.Prelude.{◌≡◌, Some, None, option_map, true, false, codes, List, ℕ};
+ghost use Rattle.std.specs.Fmt.{DisplaysOnOk};
 ghost use Rattle.cookie_core.specs.Display.{DisplayView};
 ghost use Rattle.cookie_core.specs.Escapes.{printed_form};
-ghost use Rattle.cookie_core.specs.Text.{is_true, prints_secure, is_same_site_none, cookie_text, flag_text, scope_text, place_text, lifetime_text, seconds_text, expiry_text};
-ghost use Rattle.cookie_core.specs.Printers.{labelled_output, printed_attributes, moment_text_of};
+ghost use Rattle.cookie_core.specs.Text.{is_true, prints_secure, is_same_site_none, cookie_text, flag_text, scope_text, place_text, lifetime_text, attribute_text, seconds_text, expiry_text};
+ghost use Rattle.cookie_core.specs.Printers.{labelled_output, moment_text_of};
 
 use crate::cookie::Cookie;
 use crate::encoding::encode;
@@ -12,63 +13,40 @@ use cookie_date::DateText;
 use std::fmt;
 use std::marker::Model;
 
-/// A flag's text, where it is shown.
-#[derive(Clone, Copy)]
-struct Flag<'a> {
-    text: &'a str,
-    is_shown: bool,
-}
-
-impl<'a> fmt::Display for Flag<'a> {
-    ghost output = { λ p. Some (flag_text p.text.now p.is_shown) };
-
-    fn fmt<W: fmt::Write>(&self, f: &mut fmt::Formatter<W>) -> fmt::Result {
-        let text = self.text;
-        if self.is_shown {
-            write!(f, "{text}")
-        } else {
-            Ok(())
-        }
+// Writes a flag's text, where it is shown.
+fn write_flag<W: fmt::Write>(f: &mut fmt::Formatter<W>, text: &str, is_shown: bool) -> fmt::Result
+    ensures { DisplaysOnOk W.write_str_gives f.old result (Some (flag_text text.now is_shown)) f.new }
+{
+    if is_shown {
+        f.write_str(text)?;
     }
+    Ok(())
 }
 
-/// A name or a value, escaped where asked for.
-#[derive(Clone, Copy)]
-struct Written<'a> {
-    text: &'a str,
-    is_encoded: bool,
-}
-
-impl<'a> fmt::Display for Written<'a> {
-    ghost output = { λ p. Some (printed_form p.is_encoded p.text.now) };
-
-    fn fmt<W: fmt::Write>(&self, f: &mut fmt::Formatter<W>) -> fmt::Result {
-        let text = self.text;
-        if self.is_encoded {
-            let text = encode(text);
-            write!(f, "{text}")
-        } else {
-            write!(f, "{text}")
-        }
-    }
-}
-
-/// A label and a value, where there is one.
-#[derive(Drop)]
-struct Labelled<'a, V> {
-    label: &'a str,
+// Writes a label and a value, where there is one.
+fn write_labelled<W: fmt::Write, V: fmt::Display + Drop>(
+    f: &mut fmt::Formatter<W>,
+    label: &str,
     value: Option<V>,
+) -> fmt::Result
+    ensures { DisplaysOnOk W.write_str_gives f.old result
+        (labelled_output label.now (option_map V.output value)) f.new }
+{
+    match value {
+        Some(value) => write!(f, "{label}{value}"),
+        None => Ok(()),
+    }
 }
 
-impl<'a, V: fmt::Display> fmt::Display for Labelled<'a, V> {
-    ghost output = { λ p. labelled_output p.label.now (option_map V.output p.value) };
-
-    fn fmt<W: fmt::Write>(&self, f: &mut fmt::Formatter<W>) -> fmt::Result {
-        let label = self.label;
-        match &self.value {
-            Some(value) => write!(f, "{label}{value}"),
-            None => Ok(()),
-        }
+// Writes a name or a value, escaped where asked for.
+fn write_text<W: fmt::Write>(f: &mut fmt::Formatter<W>, text: &str, is_encoded: bool) -> fmt::Result
+    ensures { DisplaysOnOk W.write_str_gives f.old result (Some (printed_form is_encoded text.now)) f.new }
+{
+    if is_encoded {
+        let text = encode(text);
+        write!(f, "{text}")
+    } else {
+        f.write_str(text)
     }
 }
 
@@ -109,103 +87,68 @@ impl<'c> Cookie<'c> {
     }
 }
 
-/// To which requests a cookie is shown.
-#[derive(Clone, Copy)]
-struct ScopeOf<'a, 'c> {
-    cookie: &'a Cookie<'c>,
+// Writes to which requests the cookie is shown.
+fn write_scope<W: fmt::Write>(f: &mut fmt::Formatter<W>, cookie: &Cookie<'_>) -> fmt::Result
+    ensures { DisplaysOnOk W.write_str_gives f.old result (Some (scope_text cookie.now.fields)) f.new }
+{
+    write_flag(f, "; HttpOnly", cookie.is_http_only())?;
+    write_labelled(f, "; SameSite=", cookie.same_site())?;
+    write_flag(f, "; Partitioned", cookie.is_partitioned())?;
+    write_flag(f, "; Secure", cookie.shows_secure())
 }
 
-impl<'a, 'c> fmt::Display for ScopeOf<'a, 'c> {
-    ghost output = { λ p. Some (scope_text p.cookie.now.fields) };
-
-    fn fmt<W: fmt::Write>(&self, f: &mut fmt::Formatter<W>) -> fmt::Result {
-        let cookie = self.cookie;
-        let http_only = Flag {
-            text: "; HttpOnly",
-            is_shown: cookie.is_http_only(),
-        };
-        let same_site = Labelled {
-            label: "; SameSite=",
-            value: cookie.same_site(),
-        };
-        let partitioned = Flag {
-            text: "; Partitioned",
-            is_shown: cookie.is_partitioned(),
-        };
-        let secure = Flag {
-            text: "; Secure",
-            is_shown: cookie.shows_secure(),
-        };
-        write!(f, "{http_only}{same_site}{partitioned}{secure}")
-    }
+// Writes the path and the domain of the cookie.
+fn write_place<W: fmt::Write>(f: &mut fmt::Formatter<W>, cookie: &Cookie<'_>) -> fmt::Result
+    ensures { DisplaysOnOk W.write_str_gives f.old result (Some (place_text cookie.now.fields)) f.new }
+{
+    write_labelled(f, "; Path=", cookie.path())?;
+    write_labelled(f, "; Domain=", cookie.domain())
 }
 
-/// The path and the domain of a cookie.
-#[derive(Clone, Copy)]
-struct PlaceOf<'a, 'c> {
-    cookie: &'a Cookie<'c>,
+// Writes the age of the cookie, in whole seconds.
+fn write_max_age<W: fmt::Write>(f: &mut fmt::Formatter<W>, cookie: &Cookie<'_>) -> fmt::Result
+    ensures { DisplaysOnOk W.write_str_gives f.old result
+        (Some (attribute_text (codes "; Max-Age=") (option_map seconds_text cookie.now.fields.max_age)))
+        f.new }
+{
+    write_labelled(f, "; Max-Age=", cookie.whole_seconds())
 }
 
-impl<'a, 'c> fmt::Display for PlaceOf<'a, 'c> {
-    ghost output = { λ p. Some (place_text p.cookie.now.fields) };
-
-    fn fmt<W: fmt::Write>(&self, f: &mut fmt::Formatter<W>) -> fmt::Result {
-        let cookie = self.cookie;
-        let path = Labelled {
-            label: "; Path=",
-            value: cookie.path(),
-        };
-        let domain = Labelled {
-            label: "; Domain=",
-            value: cookie.domain(),
-        };
-        write!(f, "{path}{domain}")
-    }
+// Writes the expiry of the cookie, if it is a date-time.
+fn write_expires<W: fmt::Write>(f: &mut fmt::Formatter<W>, cookie: &Cookie<'_>) -> fmt::Result
+    ensures { DisplaysOnOk W.write_str_gives f.old result
+        (Some (attribute_text (codes "; Expires=") (expiry_text cookie.now.fields.expires))) f.new }
+{
+    write_labelled(f, "; Expires=", cookie.expiry_text())
 }
 
-/// The age and the expiry of a cookie.
-#[derive(Clone, Copy)]
-struct LifetimeOf<'a, 'c> {
-    cookie: &'a Cookie<'c>,
+// Writes how long the cookie is kept.
+fn write_lifetime<W: fmt::Write>(f: &mut fmt::Formatter<W>, cookie: &Cookie<'_>) -> fmt::Result
+    ensures { DisplaysOnOk W.write_str_gives f.old result (Some (lifetime_text cookie.now.fields)) f.new }
+{
+    write_max_age(f, cookie)?;
+    write_expires(f, cookie)
 }
 
-impl<'a, 'c> fmt::Display for LifetimeOf<'a, 'c> {
-    ghost output = { λ p. Some (lifetime_text p.cookie.now.fields) };
-
-    fn fmt<W: fmt::Write>(&self, f: &mut fmt::Formatter<W>) -> fmt::Result {
-        let cookie = self.cookie;
-        let max_age = Labelled {
-            label: "; Max-Age=",
-            value: cookie.whole_seconds(),
-        };
-        let expires = Labelled {
-            label: "; Expires=",
-            value: cookie.expiry_text(),
-        };
-        write!(f, "{max_age}{expires}")
-    }
-}
-
-/// The attributes of a cookie, unless they are stripped.
-#[derive(Clone, Copy)]
-struct AttributesOf<'a, 'c> {
-    cookie: &'a Cookie<'c>,
+// Writes the cookie, its name and value escaped and its attributes left out where asked for.
+fn write_cookie<W: fmt::Write>(
+    f: &mut fmt::Formatter<W>,
+    cookie: &Cookie<'_>,
+    is_encoded: bool,
     is_stripped: bool,
-}
-
-impl<'a, 'c> fmt::Display for AttributesOf<'a, 'c> {
-    ghost output = { λ p. Some (printed_attributes p.is_stripped p.cookie.now.fields) };
-
-    fn fmt<W: fmt::Write>(&self, f: &mut fmt::Formatter<W>) -> fmt::Result {
-        if self.is_stripped {
-            return Ok(());
-        }
-        let cookie = self.cookie;
-        let scope = ScopeOf { cookie };
-        let place = PlaceOf { cookie };
-        let lifetime = LifetimeOf { cookie };
-        write!(f, "{scope}{place}{lifetime}")
+) -> fmt::Result
+    ensures { DisplaysOnOk W.write_str_gives f.old result
+        (Some (cookie_text is_encoded is_stripped cookie.now.fields)) f.new }
+{
+    write_text(f, cookie.name(), is_encoded)?;
+    f.write_str("=")?;
+    write_text(f, cookie.value(), is_encoded)?;
+    if is_stripped {
+        return Ok(());
     }
+    write_scope(f, cookie)?;
+    write_place(f, cookie)?;
+    write_lifetime(f, cookie)
 }
 
 /// A cookie as it is printed: its name and value escaped or as they are, and with its attributes or without
@@ -291,22 +234,7 @@ impl<'a, 'c> fmt::Display for Display<'a, 'c> {
     ghost output = { λ d. Some (cookie_text d.is_encoded d.is_stripped d.fields) };
 
     fn fmt<W: fmt::Write>(&self, f: &mut fmt::Formatter<W>) -> fmt::Result {
-        let cookie = self.cookie;
-        let is_encoded = self.is_encoded;
-        let is_stripped = self.is_stripped;
-        let name = Written {
-            text: cookie.name(),
-            is_encoded,
-        };
-        let value = Written {
-            text: cookie.value(),
-            is_encoded,
-        };
-        let attributes = AttributesOf {
-            cookie,
-            is_stripped,
-        };
-        write!(f, "{name}={value}{attributes}")
+        write_cookie(f, self.cookie, self.is_encoded, self.is_stripped)
     }
 }
 
@@ -316,12 +244,6 @@ impl<'c> fmt::Display for Cookie<'c> {
     ghost output = { λ c. Some (cookie_text false false c.fields) };
 
     fn fmt<W: fmt::Write>(&self, f: &mut fmt::Formatter<W>) -> fmt::Result {
-        let name = self.name();
-        let value = self.value();
-        let attributes = AttributesOf {
-            cookie: self,
-            is_stripped: false,
-        };
-        write!(f, "{name}={value}{attributes}")
+        write_cookie(f, self, false, false)
     }
 }
