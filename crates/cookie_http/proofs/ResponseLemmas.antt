@@ -178,9 +178,13 @@ found_member n (c ∷ cookies) = by (bytes_eq n c.name) (found_member n cookies)
 walk_not_longer : (at : Name → Option Record) (xs ys : List Record) → Walks at xs → Walks at ys → length xs ≤ length ys
 walk_not_longer at xs ys walks others =
     let names : List Record → List Name = λ cookies. map (λ c. c.name) cookies in
-    omega (arith, length-map xs (λ c. c.name), length-map ys (λ c. c.name),
-    length-le_from_is_member nat_list_eq_equiv (names xs) (names ys) walks.once
-    (λ n inside. sym (found_member n ys) ∙ ap is_some (others.found n ∙ sym (walks.found n)) ∙ found_member n xs ∙ inside))
+    omega (
+      arith,
+      length-map xs (λ c. c.name),
+      length-map ys (λ c. c.name),
+      length-le_from_is_member nat_list_eq_equiv (names xs) (names ys) walks.once
+          (λ n inside. sym (found_member n ys) ∙ ap is_some (others.found n ∙ sym (walks.found n)) ∙ found_member n xs ∙ inside),
+    )
 
 -- any walk over the delta tells whether the map lacks room
 pub LacksRoomFor-walk : (delta : FinMap name_cmp Marked) (cookies : List Record) (m : Entries FieldValue) → WalksDelta delta cookies → LacksRoomFor delta m → LacksRoom (length cookies) m

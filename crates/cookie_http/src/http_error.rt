@@ -25,6 +25,7 @@ impl fmt::Display for HttpError {
     ghost use Rattle.cookie_http.specs.HttpError.{http_refusal_text};
 
     ghost output = { λ e. Some (http_refusal_text e) };
+
     ghost styled_output = { λ e _. Some (http_refusal_text e) };
 
     fn fmt<W: fmt::Write>(&self, f: &mut fmt::Formatter<W>) -> fmt::Result {

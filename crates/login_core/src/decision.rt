@@ -32,8 +32,8 @@ use std::hash::RandomState;
 /// Answers a request at the moment `now` in UTC. The keys of `state` were drawn, so that nobody can choose names that
 /// make the jar slow. `rng` must be a cryptographic generator.
 ///
-/// Fails for want of memory, where the generator fails (`Generator`), or where the user's name is too long to be sealed
-/// (`TooLong`). The contract speaks of the other answers alone.
+/// Only a request that lets a user in can fail for more than memory: with `TooLong` if the user's name is too long to be
+/// sealed, before anything is drawn, and with `Generator` if the generator fails.
 pub fn answer<R: TryRng>(
     alloc: Global,
     state: RandomState,

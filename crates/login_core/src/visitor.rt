@@ -16,8 +16,8 @@ use std::alloc::{AllocError, Global};
 pub struct Visitor {
     /// Who is logged in.
     pub user: Option<String>,
-    /// How many greetings were shown since the last logout, this one included, whoever was greeted; 1 where no number
-    /// is signed.
+    /// How many greetings were shown since the last logout, this one included, whoever was greeted; 1 if no number is
+    /// signed.
     pub visits: u64,
     /// The message that is to be shown now.
     pub notice: Option<String>,
@@ -25,7 +25,7 @@ pub struct Visitor {
 
 /// Reads what the jar's cookies say. One that isn't sealed or signed under the site's key counts as none.
 ///
-/// Fails for want of memory alone.
+/// Fails only out of memory.
 pub fn read_visitor(alloc: Global, site: &Site<'_>, jar: &CookieJar) -> Result<Visitor, JarError>
     ensures { Gives refusal.OutOfMemory result (IsVisitor site.now jar.now) }
 {
@@ -41,8 +41,8 @@ pub fn read_visitor(alloc: Global, site: &Site<'_>, jar: &CookieJar) -> Result<V
 
 // The user who is logged in: exactly the text that was sealed under the key.
 fn user_of(alloc: Global, site: &Site<'_>, jar: &CookieJar) -> Result<Option<String>, JarError>
-    ensures { Gives refusal.OutOfMemory result (λ found. (user : List ℕ) → (option_map string_bytes found ≡ Some user)
-        ↔ IsLoggedIn site.now jar.now user) }
+    ensures { Gives refusal.OutOfMemory result (λ found. (user : List ℕ)
+        → (option_map string_bytes found ≡ Some user) ↔ IsLoggedIn site.now jar.now user) }
 {
     let name = SiteCookie::User.name(site.is_secure);
     let cookie = jar.private(site.key).get(name)?;
@@ -56,8 +56,8 @@ fn signed_value(
     jar: &CookieJar,
     which: SiteCookie,
 ) -> Result<Option<String>, JarError>
-    ensures { Gives refusal.OutOfMemory result (λ found. (text : List ℕ) → (option_map string_bytes found ≡ Some text)
-        ↔ HasSigned site.now jar.now which text) }
+    ensures { Gives refusal.OutOfMemory result (λ found. (text : List ℕ)
+        → (option_map string_bytes found ≡ Some text) ↔ HasSigned site.now jar.now which text) }
 {
     let cookie = jar.signed(site.key).get(which.name(site.is_secure))?;
     Ok(value_of(alloc, cookie.as_ref())?)

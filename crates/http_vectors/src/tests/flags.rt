@@ -10,7 +10,9 @@ fn are_eight(text: &str, wanted: &str) -> bool {
 // Whether the refusal's text is that without a flag, and under a width, a fill, a sign, zeros in front, a precision, `#`,
 // and all of them.
 fn is_printed_alike(alloc: Global, error: HttpError, wanted: &str) -> bool {
-    match format!(in alloc; "{error}|{error:>60}|{error:*^60}|{error:+}|{error:060}|{error:.3}|{error:#}|{error:*<+#060.3}") {
+    match format!(in alloc;
+        "{error}|{error:>60}|{error:*^60}|{error:+}|{error:060}|{error:.3}|{error:#}|{error:*<+#060.3}"
+    ) {
         Ok(text) => are_eight(text.as_str(), wanted),
         Err(_) => false,
     }
@@ -18,7 +20,9 @@ fn is_printed_alike(alloc: Global, error: HttpError, wanted: &str) -> bool {
 
 // The same of its debug text.
 fn is_debugged_alike(alloc: Global, error: HttpError, wanted: &str) -> bool {
-    match format!(in alloc; "{error:?}|{error:>60?}|{error:*^60?}|{error:+?}|{error:060?}|{error:.3?}|{error:#?}|{error:*<+#060.3?}") {
+    match format!(in alloc;
+        "{error:?}|{error:>60?}|{error:*^60?}|{error:+?}|{error:060?}|{error:.3?}|{error:#?}|{error:*<+#060.3?}"
+    ) {
         Ok(text) => are_eight(text.as_str(), wanted),
         Err(_) => false,
     }

@@ -12,7 +12,9 @@ fn are_eight(text: &str, wanted: &str) -> bool {
 // Whether the debug text is that without a flag, and under a width, a fill, a sign, zeros in front, a precision, `#`, and
 // all of them.
 fn is_debugged_alike<T: fmt::Debug>(alloc: Global, value: &T, wanted: &str) -> bool {
-    match format!(in alloc; "{value:?}|{value:>60?}|{value:*^60?}|{value:+?}|{value:060?}|{value:.3?}|{value:#?}|{value:*<+#060.3?}") {
+    match format!(in alloc;
+        "{value:?}|{value:>60?}|{value:*^60?}|{value:+?}|{value:060?}|{value:.3?}|{value:#?}|{value:*<+#060.3?}"
+    ) {
         Ok(text) => are_eight(text.as_str(), wanted),
         Err(_) => false,
     }

@@ -82,8 +82,7 @@ returns-then-lacks_room-clause-full c =
 
 pub returns-in_err-append_cookie-clause-invalid : goal.returns-in_err-append_cookie-clause-invalid
 returns-in_err-append_cookie-clause-invalid c =
-    let yes : IsTrue c.all_fit.result = search rules in
-    (
+    let yes : IsTrue c.all_fit.result = search rules in (
       λ invalid fit. not_invalid c.from_residual-in_err-append_cookie.result
           (subst (λ x. IsErrAnd c.from_residual-in_err-append_cookie.result (λ e. e ≡ x)) c.in_err-append_cookie.ensures.gives c.from_residual-in_err-append_cookie.ensures.1) invalid,
       λ unfit. absurd (unfit (c.all_fit.ensures.0 yes)),
