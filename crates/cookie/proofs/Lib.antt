@@ -1,10 +1,13 @@
 pub mod AnswerLemmas
+pub mod DeltaTextLemmas
+pub mod FieldLemmas
 pub mod HistoryLemmas
 pub mod JarLemmas
 pub mod KeyLemmas
 pub mod MetLemmas
 pub mod NameHashLemmas
 pub mod NameLemmas
+pub mod OriginalLemmas
 pub mod PrefixLemmas
 pub mod SealingLemmas
 pub mod ShownLemmas

@@ -1,7 +1,9 @@
 pub mod AnswersExactly
 pub mod ChildJars
 pub mod Clipped
+pub mod DeltaTexts
 pub mod Error
+pub mod FieldPieces
 pub mod History
 pub mod Jar
 pub mod JarError
@@ -10,6 +12,7 @@ pub mod KeyedJars
 pub mod Keys
 pub mod NameHash
 pub mod Opening
+pub mod Originals
 pub mod Prefixes
 pub mod Sealing
 pub mod Shown

@@ -1,5 +1,5 @@
 //! The jar: original cookies, and the changes since.
-ghost use Rattle.std.specs.Prelude.{◌≡◌, ◌<◌, ◌^◌, List, None, OnErr, IsOk, length, reverse};
+ghost use Rattle.std.specs.Prelude.{◌≡◌, ◌<◌, ◌^◌, List, None, OnOk, OnErr, IsOk, length, reverse};
 ghost use Rattle.std.specs.FinMap.{get};
 ghost use Rattle.std.specs.Option.{option_map};
 ghost use Rattle.cookie_core.specs.Memory.{Gives};
@@ -17,7 +17,7 @@ use crate::original::Original;
 use cookie_core::Cookie;
 use indexmap::IndexMap;
 use jiff::civil::DateTime;
-use std::alloc::Global;
+use std::alloc::{AllocError, Global};
 use std::fmt;
 use std::hash::RandomState;
 use std::marker::Model;
@@ -115,8 +115,16 @@ impl CookieJar {
             self.new ≡ after (AddOriginal cookie.entry.fields) self.old) }
         ensures err { OnErr result (self.new ≡ self.old) }
     {
-        put(&mut self.originals, Original { cookie })?;
+        self.put_original(cookie)?;
         Ok(())
+    }
+
+    // Puts a cookie among the originals. On an error the jar stays as it was.
+    pub(crate) fn put_original(&mut self, cookie: Cookie<'static>) -> Result<(), AllocError>
+        ensures ok { OnOk result (self.new ≡ after (AddOriginal cookie.entry.fields) self.old) }
+        ensures err { OnErr result (self.new ≡ self.old) }
+    {
+        put(&mut self.originals, Original { cookie })
     }
 
     /// Adds a cookie, in the place of the one that the jar shows under its name.

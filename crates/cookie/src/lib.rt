@@ -3,8 +3,10 @@
 
 mod child;
 mod delta;
+mod delta_texts;
 mod entry;
 mod error;
+mod header;
 mod iter;
 mod jar;
 mod jar_error;

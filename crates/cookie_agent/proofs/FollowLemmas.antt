@@ -17,7 +17,8 @@ use Rattle.cookie.specs.Text.{cookie_text, prints_secure, is_true}
 use Rattle.cookie.specs.Normal.{shown}
 use Rattle.cookie.proofs.EscapeTextLemmas.{unescape-escape, utf8_is_bytes}
 use Rattle.cookie.proofs.ExpiryTextLemmas.{read_expiry-is}
-use Rattle.cookie_client.specs.Agreement.{value_of, IsDeltaText, AreDeltaTexts}
+use Rattle.cookie.specs.DeltaTexts.{IsDeltaText, AreDeltaTexts}
+use Rattle.cookie_client.specs.Agreement.{value_of}
 use Rattle.cookie_agent.specs.Agreement.{IsOurs, seen, Mirrors, IsScopedEntry, IsScopedDelta, IsFollowed}
 use Rattle.cookie_agent.specs.Site.{SiteView}
 use Rattle.cookie_agent.specs.Scopes.{ScopeView, scope_of, scope_by}

@@ -24,7 +24,7 @@ use Rattle.cookie.specs.History.{after_all}
 use Rattle.cookie_client.proofs.EntryLemmas.{chosen, AreEntries-empty}
 use Rattle.cookie_agent.proofs.VisitLemmas.{IsFollowable, agreed, stays, none_stored}
 use Rattle.cookie_agent.specs.Sent.{is_visible, visible, IsHeader}
-use Rattle.cookie_client.specs.Originals.{with_originals}
+use Rattle.cookie.specs.Originals.{with_originals}
 use Rattle.cookie_agent.proofs.CallLemmas.{scoped_delta, originals_stay}
 use Rattle.cookie_agent.proofs.HeaderLemmas.{plain_of, named_of, texts_same, plain_same}
 

@@ -17,8 +17,9 @@ use Rattle.cookie.specs.Record.{Record}
 use Rattle.cookie.specs.Text.{cookie_text}
 use Rattle.cookie.proofs.HeaderLemmas.{header_form}
 use Rattle.cookie.proofs.NameLemmas.{get_inserted}
-use Rattle.cookie_client.specs.Originals.{with_originals}
-use Rattle.cookie_client.specs.Agreement.{value_of, IsDeltaText, AreDeltaTexts}
+use Rattle.cookie.specs.Originals.{with_originals}
+use Rattle.cookie.specs.DeltaTexts.{IsDeltaText, AreDeltaTexts}
+use Rattle.cookie_client.specs.Agreement.{value_of}
 use Rattle.cookie_agent.specs.Agreement.{IsOurs, IsOurStore, IsKnownView, IsScopedStore, seen, Mirrors, values_of, IsScopedEntry, IsScopedDelta, SiteAgrees}
 use Rattle.cookie_agent.specs.Site.{SiteView}
 use Rattle.cookie_agent.specs.Scopes.{ScopeView}

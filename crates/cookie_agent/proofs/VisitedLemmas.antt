@@ -4,9 +4,9 @@ use Rattle.std.proofs.lemmas.List.Elements.{All-map}
 use Rattle.std.specs.List.{AllZip}
 use Rattle.cookie.specs.History.{accepted_items, after_all}
 use Rattle.cookie.specs.Jar.{Name}
-use Rattle.cookie_client.specs.Agreement.{AreDeltaTexts}
+use Rattle.cookie.specs.DeltaTexts.{AreDeltaTexts}
 use Rattle.cookie_client.specs.Calls.{IsKnownChange, IsOutcome, change_of, changes_of}
-use Rattle.cookie_client.specs.Originals.{jar_for}
+use Rattle.cookie.specs.Originals.{jar_for}
 use Rattle.cookie_client.proofs.ChangeLemmas.{known_changes}
 use Rattle.cookie_agent.specs.Agreement.{IsOurStore}
 use Rattle.cookie_agent.specs.Calls.{IsScopedChange}

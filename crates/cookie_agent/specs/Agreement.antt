@@ -12,7 +12,8 @@ use Rattle.cookie.specs.Jar.{Name, name_cmp, Marked, JarState, view}
 use Rattle.cookie.specs.Normal.{IsPlainText, IsPlainDomain, IsNamed}
 use Rattle.cookie.specs.Record.{Record, plain}
 use Rattle.cookie.specs.Text.{prints_secure}
-use Rattle.cookie_client.specs.Agreement.{value_of, AreDeltaTexts}
+use Rattle.cookie.specs.DeltaTexts.{AreDeltaTexts}
+use Rattle.cookie_client.specs.Agreement.{value_of}
 use Rattle.cookie_client.specs.Live.{is_live}
 use Rattle.cookie_agent.specs.Scopes.{ScopeView, scope_of, reaches}
 use Rattle.cookie_agent.specs.Sent.{is_visible, IsHeader}

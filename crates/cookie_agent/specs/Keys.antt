@@ -3,9 +3,9 @@ use Rattle.std.specs.Prelude.{ℕ, List, [], ◌∷◌, All}
 use Rattle.jiff.specs.Types.{DateTime}
 use Rattle.cookie.specs.History.{after_all}
 use Rattle.cookie.specs.Jar.{Name, JarState, Change}
-use Rattle.cookie_client.specs.Agreement.{AreDeltaTexts}
+use Rattle.cookie.specs.DeltaTexts.{AreDeltaTexts}
 use Rattle.cookie_client.specs.Calls.{IsKnownChange}
-use Rattle.cookie_client.specs.Originals.{jar_for}
+use Rattle.cookie.specs.Originals.{jar_for}
 use Rattle.cookie_agent.specs.Agreement.{SiteAgrees}
 use Rattle.cookie_agent.specs.Calls.{IsScopedChange}
 use Rattle.cookie_agent.specs.Scopes.{ScopeView}

@@ -4,9 +4,9 @@ use Rattle.std.specs.List.{AllZip}
 use Rattle.jiff.specs.Types.{DateTime}
 use Rattle.cookie.specs.History.{accepted_items, after_all}
 use Rattle.cookie.specs.Jar.{Name}
-use Rattle.cookie_client.specs.Agreement.{AreDeltaTexts}
+use Rattle.cookie.specs.DeltaTexts.{AreDeltaTexts}
 use Rattle.cookie_client.specs.Calls.{IsOutcome, changes_of}
-use Rattle.cookie_client.specs.Originals.{jar_for}
+use Rattle.cookie.specs.Originals.{jar_for}
 use Rattle.cookie_agent.specs.Agreement.{IsOurStore, SiteAgrees, AreAlike}
 use Rattle.cookie_agent.specs.Calls.{IsScopedCall}
 use Rattle.cookie_agent.specs.Scopes.{ScopeView}

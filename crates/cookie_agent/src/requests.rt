@@ -1,7 +1,7 @@
 //! Many requests of one user agent.
 ghost use Rattle.std.specs.Prelude.{◌≡◌, ℕ, List, [], length, map, IfOk, OnOk, string_bytes};
 ghost use Rattle.cookie.specs.Jar.{Name};
-ghost use Rattle.cookie_client.specs.Agreement.{AreDeltaTexts};
+ghost use Rattle.cookie.specs.DeltaTexts.{AreDeltaTexts};
 ghost use Rattle.cookie_agent.specs.Agreement.{IsOurStore};
 ghost use Rattle.cookie_agent.specs.Scopes.{ScopeView};
 ghost use Rattle.cookie_agent.specs.Store.{after_texts, standard_key};
@@ -13,7 +13,7 @@ use crate::request::AgentRequest;
 use crate::site::Site;
 use crate::visited::Visited;
 use cookie::CookieJar;
-use cookie_client::{delta_texts, known_calls, replay, with_originals};
+use cookie_client::{delta_texts, known_calls, replay};
 use jiff::civil::DateTime;
 use std::alloc::Global;
 
@@ -65,7 +65,7 @@ pub fn visit(
 {
     known_calls(request.calls);
     let header = agent.header(request.site, request.moment)?;
-    let mut jar = with_originals(alloc, CookieJar::new(alloc), header.as_str())?;
+    let mut jar = CookieJar::new(alloc).with_originals(header.as_str())?;
     let outcomes = replay(alloc, &mut jar, request.calls)?;
     let texts = delta_texts(alloc, &jar, pick)?;
     let mut agent = agent.clone()?;

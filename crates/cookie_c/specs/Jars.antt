@@ -10,7 +10,7 @@ use Rattle.cookie.specs.Record.{Record, plain, without_leading_dot}
 use Rattle.cookie.specs.Text.{cookie_text}
 use Rattle.cookie.specs.Walk.{Walks}
 use Rattle.cookie.specs.declared.ParseError.{ParseError}
-use Rattle.cookie_client.specs.Originals.{with_originals}
+use Rattle.cookie.specs.Originals.{with_originals}
 use Rattle.cookie_client.specs.Session.{set_cookie_lines}
 use Rattle.cookie_c.specs.Answers.{IsGiven, IsRefused}
 use Rattle.cookie_c.specs.Codes.{code_of, refusal_status}

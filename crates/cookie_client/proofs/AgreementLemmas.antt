@@ -15,7 +15,8 @@ use Rattle.cookie.specs.Record.{Record}
 use Rattle.cookie.proofs.HistoryLemmas.{looks_back}
 use Rattle.cookie.proofs.NameLemmas.{get_inserted, get_removed}
 use Rattle.cookie.proofs.OutcomeLemmas.{nameless_outcome}
-use Rattle.cookie_client.specs.Agreement.{Agrees, AreDeltaTexts, HoldsOriginals, alters_original, value_of}
+use Rattle.cookie.specs.DeltaTexts.{AreDeltaTexts}
+use Rattle.cookie_client.specs.Agreement.{Agrees, HoldsOriginals, alters_original, value_of}
 use Rattle.cookie_client.specs.Calls.{IsFit, IsKnownChange}
 use Rattle.cookie_client.specs.Client.{Values, after_texts}
 use Rattle.cookie_client.specs.Originals.{holding, holds_originals}

@@ -12,7 +12,7 @@ use Rattle.std.specs.declared.cmp.Ordering.{Ordering}
 use Rattle.std.specs.declared.cmp.Ordering.TheVariants.{Less, Equal, Greater}
 use Rattle.cookie.specs.Jar.{JarState, Marked, Name, name_cmp}
 use Rattle.cookie.specs.Text.{cookie_text}
-use Rattle.cookie_client.specs.Agreement.{AreDeltaTexts, IsDeltaText}
+use Rattle.cookie.specs.DeltaTexts.{AreDeltaTexts, IsDeltaText}
 use Rattle.cookie_client.specs.Session.{delta_texts}
 use Rattle.cookie_client.proofs.EntryLemmas.{chosen}
 

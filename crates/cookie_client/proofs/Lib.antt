@@ -1,7 +1,6 @@
 pub mod AgreementLemmas
 pub mod CallLemmas
 pub mod ChangeLemmas
-pub mod DeltaTextLemmas
 pub mod EntriesLemmas
 pub mod EntryLemmas
 pub mod FitLemmas

@@ -3,22 +3,14 @@ use Rattle.std.proofs.Common.{◌≡◌, ℕ, List, [], ◌∷◌, cond, Option,
 use Rattle.std.proofs.lemmas.Result.{on_ok_weaker}
 use Rattle.std.proofs.lemmas.Slice.Eq.{bytes_eq-Decides}
 use Rattle.std.specs.FinMap.{get}
-use Rattle.std.specs.List.{filter_map, cons_option}
 use Rattle.std.specs.Option.{option_to_list}
 use Rattle.cookie.specs.History.{originals_of}
 use Rattle.cookie.specs.Jar.{Name, JarState, Change, AddOriginal, after}
 use Rattle.cookie.specs.Record.{Record}
 use Rattle.cookie.proofs.NameLemmas.{get_inserted}
 use Rattle.cookie_client.specs.Client.{Values}
-use Rattle.cookie_client.specs.Originals.{holding, with_originals}
+use Rattle.cookie_client.specs.Originals.{holding}
 use Rattle.cookie_client.specs.ExchangeCode.{HoldsAdded}
-
-module _ (reading : List ℕ → Option Record) where
-  -- one text's cookie first, and then the others'
-  pub with_originals-next : (t : List ℕ) (ts : List (List ℕ)) (o : Option Record) (jar : JarState) → o ≡ reading t
-      → with_originals (filter_map reading ts) (with_originals (option_to_list o) jar) ≡ with_originals (filter_map reading (t ∷ ts)) jar
-  with_originals-next t ts None jar e = ap (λ o. with_originals (cons_option o (filter_map reading ts)) jar) e
-  with_originals-next t ts (Some c) jar e = ap (λ o. with_originals (cons_option o (filter_map reading ts)) jar) e
 
 -- what the jar has as the original of a name, once a cookie of that name was added
 held_original : (cookie : Record) (before jar : JarState) (name : Name) → jar ≡ after (AddOriginal cookie) before → name ≡ cookie.name

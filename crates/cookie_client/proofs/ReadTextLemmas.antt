@@ -12,7 +12,7 @@ use Rattle.cookie.specs.Record.{Record, IsCookie}
 use Rattle.cookie.specs.Text.{cookie_text}
 use Rattle.cookie.proofs.NameLemmas.{get_inserted, get_removed, names_apart}
 use Rattle.cookie.proofs.OutcomeLemmas.{same_name}
-use Rattle.cookie_client.specs.Agreement.{IsDeltaText, AreDeltaTexts}
+use Rattle.cookie.specs.DeltaTexts.{IsDeltaText, AreDeltaTexts}
 use Rattle.cookie_client.specs.Client.{Values, after_cookie, after_text, after_texts}
 use Rattle.cookie_client.specs.Live.{is_live}
 use Rattle.cookie_client.proofs.EntryLemmas.{AreEntries}

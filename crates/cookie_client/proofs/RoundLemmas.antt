@@ -20,7 +20,8 @@ use Rattle.cookie_client.specs.Agreement.{HoldsOriginal, alters_original, value_
 use Rattle.cookie_client.specs.Calls.{change_of, is_change, IsFitCall}
 use Rattle.cookie_client.specs.Client.{Values, header_text}
 use Rattle.cookie_client.specs.Exchange.{IsExchange, accepted_calls, changes_by}
-use Rattle.cookie_client.specs.Originals.{client_for, holding, jar_for, with_originals}
+use Rattle.cookie.specs.Originals.{jar_for, with_originals}
+use Rattle.cookie_client.specs.Originals.{client_for, holding}
 use Rattle.cookie_client.specs.Rounds.{IsFitChange, IsRound, AreRounds}
 use Rattle.cookie_client.specs.ExchangeCode.{IsHeaderOf}
 use Rattle.cookie_client.specs.declared.call.JarCall.{JarCall}

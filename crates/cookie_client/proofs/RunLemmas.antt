@@ -17,7 +17,8 @@ use Rattle.cookie_client.specs.Calls.{IsOutcome, change_of, changes_of}
 use Rattle.cookie_client.specs.Client.{ReadsBack, after_texts}
 use Rattle.cookie_client.specs.Lines.{lines_of}
 use Rattle.cookie_client.specs.Exchange.{IsExchange}
-use Rattle.cookie_client.specs.Originals.{client_for, jar_for}
+use Rattle.cookie.specs.Originals.{jar_for}
+use Rattle.cookie_client.specs.Originals.{client_for}
 use Rattle.cookie_client.specs.Run.{IsOfAgreement, IsPlayed, Refuses, changes_in, header_line}
 use Rattle.cookie_client.specs.Session.{Fault, BadMoment, BadInput, cookie_line, delta_texts, session_end, moment_of, session_of_lines, session_of_bytes, session, set_cookie_lines, session_text}
 use Rattle.cookie_client.specs.declared.call.JarCall.{JarCall}

@@ -1,38 +1,17 @@
 -- The client half of the main theorem: after any list of jar calls, a client that held each name's last accepted
 -- original and has read the delta's encoded texts, in any order and with any repetition, agrees with the jar. A call
 -- that was refused counts as not made: nothing is asked of it.
-use Rattle.std.specs.Prelude.{◌≡◌, ℕ, Bool, true, false, List, [], reverse, Option, Some, None, option_map, All, Contains, map, IsPermutation}
-use Rattle.std.specs.FinMap.{FinMap, get}
+use Rattle.std.specs.Prelude.{◌≡◌, ℕ, Bool, true, false, List, [], reverse, Option, Some, None, option_map, All}
+use Rattle.std.specs.FinMap.{get}
 use Rattle.std.specs.Str.{bytes_eq}
 use Rattle.jiff.specs.Types.{DateTime}
 use Rattle.cookie.specs.History.{last_original, is_forced}
-use Rattle.cookie.specs.Jar.{Name, name_cmp, Marked, JarState, Change, AddOriginal, ForceRemove, view}
+use Rattle.cookie.specs.DeltaTexts.{AreDeltaTexts}
+use Rattle.cookie.specs.Jar.{Name, JarState, Change, AddOriginal, ForceRemove, view}
 use Rattle.cookie.specs.Record.{Record}
-use Rattle.cookie.specs.Text.{cookie_text}
-use Rattle.cookie.specs.Walk.{Walks}
 use Rattle.cookie_client.specs.Calls.{IsFit}
 use Rattle.cookie_client.specs.Client.{Values, after_texts}
 use Rattle.cookie_client.specs.Originals.{holds_originals}
-
--- the text is that of a cookie of the delta, encoded
-pub record IsDeltaText (delta : FinMap name_cmp Marked) (text : List ℕ) : Type 0 where
-  pub name : Name
-  pub entry : Marked
-  pub stands : get delta name ≡ Some entry
-  pub is : text ≡ cookie_text true false entry.cookie
-
--- the texts are those of the delta's cookies, each at least once, in any order
-pub record AreDeltaTexts (delta : FinMap name_cmp Marked) (texts : List (List ℕ)) : Type 0 where
-  pub each : (name : Name) (entry : Marked) → get delta name ≡ Some entry
-      → Contains texts (cookie_text true false entry.cookie)
-  pub only : All (IsDeltaText delta) texts
-
--- the texts are those of the delta's cookies, each once, in any order
-pub record AreDeltaTextsOnce (delta : FinMap name_cmp Marked) (texts : List (List ℕ))
-    : Type 0 where
-  pub cookies : List Record
-  pub are : Walks (λ name. option_map (λ entry. entry.cookie) (get delta name)) cookies
-  pub written : IsPermutation (map (cookie_text true false) cookies) texts
 
 -- the value of a cookie, where there is one
 abbrev pub value_of : Option Record → Option (List ℕ)

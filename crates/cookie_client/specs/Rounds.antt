@@ -9,7 +9,7 @@ use Rattle.cookie_client.specs.Agreement.{HoldsOriginal, alters_original, value_
 use Rattle.cookie_client.specs.Calls.{IsFitCall, change_of, is_change}
 use Rattle.cookie_client.specs.Client.{Values, header_text}
 use Rattle.cookie_client.specs.Exchange.{IsExchange, accepted_calls, changes_by}
-use Rattle.cookie_client.specs.Originals.{jar_for}
+use Rattle.cookie.specs.Originals.{jar_for}
 use Rattle.cookie_client.specs.declared.call.JarCall.{JarCall}
 use Rattle.cookie_client.specs.declared.exchange.Played.{Played}
 use Rattle.cookie_client.specs.declared.request.Request.{Request}

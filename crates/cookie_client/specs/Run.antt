@@ -10,7 +10,8 @@ use Rattle.cookie.specs.Jar.{Name, JarState, Change}
 use Rattle.cookie_client.specs.Agreement.{Agrees, HoldsOriginal, alters_original}
 use Rattle.cookie_client.specs.Client.{ReadsBack, Values}
 use Rattle.cookie_client.specs.Lines.{lines_of}
-use Rattle.cookie_client.specs.Originals.{client_for, jar_for}
+use Rattle.cookie.specs.Originals.{jar_for}
+use Rattle.cookie_client.specs.Originals.{client_for}
 use Rattle.cookie_client.specs.Session.{Fault, BadMoment, BadInput, BadLine, call_of, cookie_line, delta_texts, moment_of, session, set_cookie_lines}
 use Rattle.cookie_client.specs.declared.run_error.RunError.{RunError}
 use Rattle.cookie_client.specs.declared.run_error.RunError.TheVariants as refusal

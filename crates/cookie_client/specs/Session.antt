@@ -15,7 +15,8 @@ use Rattle.cookie.specs.Record.{plain}
 use Rattle.cookie.specs.Text.{cookie_text}
 use Rattle.cookie_client.specs.Client.{Values, after_texts, header_text}
 use Rattle.cookie_client.specs.Lines.{lines_of}
-use Rattle.cookie_client.specs.Originals.{client_for, jar_for}
+use Rattle.cookie.specs.Originals.{jar_for}
+use Rattle.cookie_client.specs.Originals.{client_for}
 
 -- why a session has no text; lines are counted from 1
 pub data Fault : Type 0 where

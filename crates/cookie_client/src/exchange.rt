@@ -3,7 +3,8 @@ ghost use Rattle.std.specs.Prelude.{◌≡◌, false, ℕ, List, map, reverse, A
 ghost use Rattle.std.specs.FinMap.{empty, get};
 ghost use Rattle.cookie.specs.History.{is_forced, LooksBack};
 ghost use Rattle.cookie.specs.Jar.{Name, empty_jar, view};
-ghost use Rattle.cookie_client.specs.Agreement.{AreDeltaTexts, HoldsOriginals, value_of};
+ghost use Rattle.cookie.specs.DeltaTexts.{AreDeltaTexts};
+ghost use Rattle.cookie_client.specs.Agreement.{HoldsOriginals, value_of};
 ghost use Rattle.cookie_client.specs.Calls.{IsFitCall};
 ghost use Rattle.cookie_client.specs.Client.{after_texts};
 ghost use Rattle.cookie_client.specs.Exchange.{IsExchange, accepted_calls, changes_by};

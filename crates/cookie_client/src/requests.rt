@@ -5,7 +5,8 @@ ghost use Rattle.cookie.specs.Jar.{Name, empty_jar, view};
 ghost use Rattle.cookie.specs.Memory.{Gives};
 ghost use Rattle.cookie_client.specs.Agreement.{value_of};
 ghost use Rattle.cookie_client.specs.Exchange.{IsExchange};
-ghost use Rattle.cookie_client.specs.Originals.{client_for, jar_for};
+ghost use Rattle.cookie.specs.Originals.{jar_for};
+ghost use Rattle.cookie_client.specs.Originals.{client_for};
 ghost use Rattle.cookie_client.specs.Rounds.{AreRounds};
 ghost use Rattle.cookie_client.specs.declared.client_error.ClientError.TheVariants as refusal;
 
@@ -13,7 +14,6 @@ use crate::call::JarCall;
 use crate::client::Client;
 use crate::client_error::ClientError;
 use crate::exchange::{Played, exchange};
-use crate::header::with_originals;
 use crate::originals::Originals;
 use crate::request::Request;
 use cookie::CookieJar;
@@ -66,7 +66,7 @@ pub(crate) fn visit(
     ensures { IfOk result (λ p.
         IsExchange now (jar_for header.now) (client_for header.now) calls.now p) }
 {
-    let jar = with_originals(alloc, jar, header)?;
+    let jar = jar.with_originals(header)?;
     let client = client_of(alloc, &jar)?;
     exchange(alloc, jar, client, calls, Originals::Untold, pick, now)
 }

@@ -13,21 +13,23 @@ use Rattle.cookie.specs.History.{is_forced}
 use Rattle.cookie.specs.Jar.{Marked, Name, empty_jar, name_cmp, overlay, view}
 use Rattle.cookie.specs.Record.{plain}
 use Rattle.cookie.specs.Text.{cookie_text}
-use Rattle.cookie_client.specs.Agreement.{AreDeltaTexts, HoldsOriginals, IsDeltaText, value_of}
+use Rattle.cookie.specs.DeltaTexts.{AreDeltaTexts, IsDeltaText}
+use Rattle.cookie_client.specs.Agreement.{HoldsOriginals, value_of}
 use Rattle.cookie_client.specs.Calls.{IsFitCall}
 use Rattle.cookie_client.specs.Client.{Values, header_text}
 use Rattle.cookie_client.specs.Exchange.{IsExchange, accepted_calls, changes_by}
-use Rattle.cookie_client.specs.Originals.{holds_originals, jar_for}
+use Rattle.cookie.specs.Originals.{jar_for, readable}
+use Rattle.cookie_client.specs.Originals.{holds_originals}
 use Rattle.cookie_client.specs.ExchangeCode.{IsHeaderOf}
 use Rattle.cookie_client.specs.declared.call.JarCall.{JarCall}
-use Rattle.cookie_client.proofs.DeltaTextLemmas.{AreDeltaTexts-once}
+use Rattle.cookie.proofs.DeltaTextLemmas.{AreDeltaTexts-once}
 use Rattle.cookie_client.proofs.RoundLemmas.{fresh, held_again, holds_header, told}
 use Rattle.cookie_http.specs.Carried.{AreSameTexts, IsCarried}
-use Rattle.cookie_http.specs.Fields.{cookie_header, readable, set_cookie_texts}
+use Rattle.cookie_http.specs.Fields.{cookie_header, set_cookie_texts}
 use Rattle.cookie_http.specs.Response.{AddsDelta}
 use Rattle.cookie_http.specs.declared.carried.Exchanged.{Exchanged}
 use Rattle.cookie_http.proofs.FieldTextLemmas.{IsUtf8-header_text}
-use Rattle.cookie_http.proofs.PieceLemmas.{readable-utf8}
+use Rattle.cookie.proofs.FieldLemmas.{readable-utf8}
 
 -- texts that are the same are those of one delta
 AreDeltaTexts-same : (delta : FinMap name_cmp Marked) (texts others : List (List ℕ)) → AreSameTexts texts others → AreDeltaTexts delta texts → AreDeltaTexts delta others

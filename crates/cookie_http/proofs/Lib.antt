@@ -1,6 +1,5 @@
 pub mod CarriedLemmas
 pub mod FieldTextLemmas
-pub mod PieceLemmas
 pub mod ReadLemmas
 pub mod RequestLemmas
 pub mod ResponseLemmas

@@ -9,7 +9,8 @@ use Rattle.cookie_client.specs.Agreement.{value_of}
 use Rattle.cookie_client.specs.Calls.{IsFitCall}
 use Rattle.cookie_client.specs.Client.{after_texts, header_text}
 use Rattle.cookie_client.specs.Exchange.{IsExchange, accepted_calls, changes_by}
-use Rattle.cookie_client.specs.Originals.{holds_originals, jar_for}
+use Rattle.cookie.specs.Originals.{jar_for}
+use Rattle.cookie_client.specs.Originals.{holds_originals}
 use Rattle.cookie_client.specs.declared.call.JarCall.{JarCall}
 use Rattle.cookie_client.specs.declared.exchange.Played.{Played}
 use Rattle.cookie_http.specs.Fields.{cookie_header, set_cookie_texts}

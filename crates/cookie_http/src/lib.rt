@@ -12,5 +12,5 @@ pub use carried::{Exchanged, exchange};
 pub use client::{cookie_of_client, read_response};
 pub use http_error::HttpError;
 pub use removal::remove_as_set;
-pub use request::{jar_from_headers, with_field, with_headers};
+pub use request::{jar_from_headers, with_headers};
 pub use response::append_delta;

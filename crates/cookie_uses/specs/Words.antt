@@ -13,12 +13,6 @@ use Rattle.cookie.specs.Walk.{Walks}
 abbrev pub change_at : JarState → Name → Option Record
 change_at jar name = option_map (λ entry. entry.cookie) (get jar.delta name)
 
--- the texts are those of the jar's changes, one for each name (RFC 6265 4.1)
-abbrev pub AreResponse : JarState → List (List ℕ) → Type 0
-AreResponse jar texts =
-    (cookies : List Record) × Walks (change_at jar) cookies
-    × (texts ≡ map (cookie_text true false) cookies)
-
 -- so many cookies stand at the names, each counted once
 abbrev pub AreCounted : (Name → Option Record) → ℕ → Type 0
 AreCounted at count = (cookies : List Record) × Walks at cookies × (count ≡ length cookies)

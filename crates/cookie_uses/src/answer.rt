@@ -1,9 +1,9 @@
 //! A request and its response, from end to end.
 use anyhow::Result;
-use cookie::{Cookie, CookieJar, Key};
+use cookie::{Cookie, CookieBuilder, CookieJar, Key};
 use jiff::civil::DateTime;
 use rand_core::TryRng;
-use std::alloc::Global;
+use std::hash::RandomState;
 
 /// Reads a `Cookie` header, changes the jar, and prints the response's `Set-Cookie` lines. `now` is in UTC.
 pub fn answer<R: TryRng>(
@@ -13,29 +13,15 @@ pub fn answer<R: TryRng>(
     now: DateTime,
     rng: &mut R,
 ) -> Result<()> {
-    let mut jar = read(rt.alloc(), header)?;
-    change(&mut jar, key, now, rng)?;
-    print_changes(rt, &jar)
-}
+    let jar = CookieJar::with_hasher(rt.alloc(), RandomState::new(rt)?);
+    let mut jar = jar.with_originals(header)?;
 
-fn read(alloc: Global, header: &str) -> Result<CookieJar> {
-    let mut jar = CookieJar::new(alloc);
-    for cookie in Cookie::split_parse_encoded(alloc, header) {
-        jar.add_original(cookie?.into_owned(alloc)?)?;
-    }
-    Ok(jar)
-}
-
-fn change<R: TryRng>(jar: &mut CookieJar, key: &Key, now: DateTime, rng: &mut R) -> Result<()> {
-    jar.add(Cookie::new("theme", "dark"))?;
-    jar.remove(Cookie::named("notice"), now)?;
+    jar.add(CookieBuilder::new("theme", "dark").path("/").build())?;
+    jar.remove(CookieBuilder::new("notice", "").path("/").build(), now)?;
     jar.private_mut(key).add(Cookie::new("user", "ann"), rng)?;
-    Ok(())
-}
 
-fn print_changes(rt: &HostRuntime, jar: &CookieJar) -> Result<()> {
-    for cookie in jar.delta() {
-        println!(rt; "Set-Cookie: {}", cookie.encoded())?;
+    for text in &jar.set_cookie_texts()? {
+        println!(rt; "Set-Cookie: {text}")?;
     }
     Ok(())
 }

@@ -1,7 +1,7 @@
 //! A request's header map.
 ghost use Rattle.std.specs.Prelude.{◌≡◌};
 ghost use Rattle.cookie.specs.Memory.{Gives};
-ghost use Rattle.cookie_client.specs.Originals.{jar_for};
+ghost use Rattle.cookie.specs.Originals.{jar_for};
 ghost use Rattle.cookie_http.specs.Fields.{cookie_header};
 ghost use Rattle.cookie_http.specs.declared.http_error.HttpError.TheVariants as refusal;
 
@@ -20,5 +20,5 @@ pub fn jar_of(
 ) -> Result<CookieJar, HttpError>
     ensures { Gives refusal.OutOfMemory result (λ jar. jar ≡ jar_for (cookie_header request.now)) }
 {
-    with_headers(alloc, CookieJar::with_hasher(alloc, state), request)
+    with_headers(CookieJar::with_hasher(alloc, state), request)
 }

@@ -165,7 +165,7 @@ fn print_held(rt: &HostRuntime, client: &Client) -> Result<()> {
 }
 
 fn print_delta(rt: &HostRuntime, jar: &CookieJar) -> Result<()> {
-    let texts = requests::response(rt.alloc(), jar)?;
+    let texts = jar.set_cookie_texts()?;
     print_texts(rt, &texts)
 }
 

@@ -4,4 +4,5 @@ mod flags;
 mod jars;
 mod prefixes;
 mod refusals;
+mod requests;
 mod steps;

@@ -7,8 +7,7 @@ use Rattle.cookie.specs.Memory.{Gives}
 use Rattle.cookie.specs.Sealing.{CanSeal, IsNonce}
 use Rattle.cookie.specs.declared.jar_error.JarError.{JarError}
 use Rattle.cookie.specs.declared.jar_error.JarError.TheVariants as failure
-use Rattle.cookie_client.specs.Originals.{jar_for}
-use Rattle.cookie_http.specs.Fields.{readable}
+use Rattle.cookie.specs.Originals.{jar_for, readable}
 use Rattle.login_core.specs.Changes.{logged_in, logged_out, shown}
 use Rattle.login_core.specs.Forms.{credentials_of}
 use Rattle.login_core.specs.Routes.{route_of}

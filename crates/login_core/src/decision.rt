@@ -3,9 +3,8 @@ ghost use Rattle.std.specs.Prelude.{◌≡◌, ◌↔◌, ℕ, List, IfOk, Err, 
 ghost use Rattle.cookie.specs.Jar.{JarState};
 ghost use Rattle.cookie.specs.Memory.{Gives};
 ghost use Rattle.cookie.specs.declared.jar_error.JarError.TheVariants as refusal;
-ghost use Rattle.cookie_client.specs.Agreement.{AreDeltaTextsOnce};
-ghost use Rattle.cookie_client.specs.Originals.{jar_for};
-ghost use Rattle.cookie_http.specs.Fields.{readable};
+ghost use Rattle.cookie.specs.DeltaTexts.{AreDeltaTextsOnce};
+ghost use Rattle.cookie.specs.Originals.{jar_for, readable};
 ghost use Rattle.login_core.specs.Answers.{Answers, FailsOnlyFor, IsGreeted, IsLetIn, IsTooLong, LogsIn, LogsOut, NamesUser, Shows};
 ghost use Rattle.login_core.specs.Forms.{credentials_of, credential_texts};
 ghost use Rattle.login_core.specs.Pages.{greeted};
@@ -22,8 +21,6 @@ use crate::site::Site;
 use crate::user::is_known;
 use crate::visitor::read_visitor;
 use cookie::{CookieJar, JarError};
-use cookie_client::delta_texts;
-use cookie_http::{HttpError, with_field};
 use jiff::civil::DateTime;
 use rand_core::TryRng;
 use std::alloc::Global;
@@ -73,11 +70,7 @@ pub fn answer<R: TryRng>(
 fn request_jar(alloc: Global, state: RandomState, field: &[u8]) -> Result<CookieJar, JarError>
     ensures { Gives refusal.OutOfMemory result (λ jar. jar ≡ jar_for (readable field.now)) }
 {
-    match with_field(alloc, CookieJar::with_hasher(alloc, state), field) {
-        Ok(jar) => Ok(jar),
-        Err(HttpError::OutOfMemory) => Err(JarError::OutOfMemory),
-        Err(HttpError::InvalidValue | HttpError::TooManyFields) => unreachable!(),
-    }
+    Ok(CookieJar::with_hasher(alloc, state).with_field(field)?)
 }
 
 // The page, and the texts of what it changes.
@@ -99,7 +92,7 @@ fn respond<R: TryRng>(
     ensures fails { FailsOnlyFor site.now (IsLetIn site.now request.now) R.Error result }
 {
     let page = decide(alloc, site, request, jar, now, rng)?;
-    let cookies = delta_texts(alloc, jar, &[])?;
+    let cookies = jar.set_cookie_texts()?;
     Ok(Response { page, cookies })
 }
 

@@ -5,7 +5,7 @@ ghost use Rattle.cookie.specs.CookieOf.{header_cookies};
 ghost use Rattle.cookie.specs.Jar.{Add, Remove, after, empty_jar};
 ghost use Rattle.cookie.specs.Moments.{date_of};
 ghost use Rattle.cookie.specs.Record.{plain};
-ghost use Rattle.cookie_client.specs.Originals.{with_originals};
+ghost use Rattle.cookie.specs.Originals.{with_originals};
 ghost use Rattle.cookie_c.specs.Codes.{code_of};
 ghost use Rattle.cookie_c.specs.Jars.{AtJar, HasOriginals, IsAdded, IsChanged, IsKept, IsRemoved, scoped_record};
 ghost use Rattle.cookie_c.specs.declared.status.Status.TheVariants as status;
@@ -14,8 +14,7 @@ use super::Jar;
 use crate::session::Seed;
 use crate::status::Status;
 use cookie::{Cookie, CookieJar, read_date};
-use cookie_client::{ClientError, with_originals};
-use std::alloc::Global;
+use std::alloc::{AllocError, Global};
 use std::hash::RandomState;
 
 /// Puts a jar with no cookie into the handle, and frees the one that it had, if it had one. The two seeds are random;
@@ -133,7 +132,7 @@ fn add_originals(alloc: Global, jar: &mut CookieJar, header: &[u8]) -> Status
     let Ok(header) = str::from_utf8(header) else {
         return Status::NotUtf8;
     };
-    match copy_with(alloc, jar, header) {
+    match copy_with(jar, header) {
         Ok(made) => {
             *jar = made;
             Status::Done
@@ -143,13 +142,13 @@ fn add_originals(alloc: Global, jar: &mut CookieJar, header: &[u8]) -> Status
 }
 
 // A copy of the jar, with the header's cookies as originals.
-fn copy_with(alloc: Global, jar: &CookieJar, header: &str) -> Result<CookieJar, ClientError>
+fn copy_with(jar: &CookieJar, header: &str) -> Result<CookieJar, AllocError>
     ensures { IfOk result (λ made.
         made ≡ with_originals (header_cookies true header.now) jar.now) }
 {
     match jar.clone() {
-        Ok(copy) => with_originals(alloc, copy, header),
-        Err(_) => Err(ClientError::OutOfMemory),
+        Ok(copy) => copy.with_originals(header),
+        Err(_) => Err(AllocError),
     }
 }
 

@@ -14,7 +14,7 @@ fn answer(
     response: &mut HeaderMap,
 ) -> Result<(), Fail> {
     let jar = CookieJar::with_hasher(alloc, state);
-    let mut jar = with_headers(alloc, jar, request)?;
+    let mut jar = with_headers(jar, request)?;
     jar.add(Cookie::new("theme", "dark"))?;
     append_delta(alloc, &jar, response)?;
     Ok(())

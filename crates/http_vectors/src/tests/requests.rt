@@ -186,7 +186,7 @@ fn large_request(alloc: Global, fields: usize, in_field: usize) -> Option<Header
 
 // How many cookies the jar of the request has, whose hash has drawn keys.
 fn count_of(alloc: Global, state: RandomState, headers: &HeaderMap) -> usize {
-    match with_headers(alloc, CookieJar::with_hasher(alloc, state), headers) {
+    match with_headers(CookieJar::with_hasher(alloc, state), headers) {
         Ok(jar) => count(&jar),
         Err(_) => 0,
     }
@@ -223,7 +223,7 @@ fn fill(jar: &mut CookieJar) -> bool {
 
 // Whether the jar shows what the lines say, once it has what a request has.
 fn has_more(alloc: Global, jar: CookieJar, headers: &HeaderMap, lines: &str) -> bool {
-    match with_headers(alloc, jar, headers) {
+    match with_headers(jar, headers) {
         Ok(jar) => shows(&jar, lines),
         Err(_) => false,
     }

@@ -4,7 +4,7 @@ use Rattle.cookie.specs.CookieOf.{header_cookies}
 use Rattle.cookie.specs.History.{after_all}
 use Rattle.cookie.specs.Jar.{Change, JarState}
 use Rattle.cookie_client.specs.Calls.{changes_of}
-use Rattle.cookie_client.specs.Originals.{jar_for, with_originals}
+use Rattle.cookie.specs.Originals.{jar_for, with_originals}
 use Rattle.cookie_agent.specs.Store.{after_texts, standard_key}
 use Rattle.cookie_agent.proofs.VisitedLemmas.{agrees_on, is_visited}
 use Rattle.cookie_agent.proofs.requests.visit.Goals as goal

@@ -4,7 +4,8 @@ use Rattle.cookie.specs.CookieOf.{header_cookies}
 use Rattle.cookie.specs.Jar.{JarState, view}
 use Rattle.cookie_client.specs.Agreement.{value_of}
 use Rattle.cookie_client.specs.Exchange.{IsExchange}
-use Rattle.cookie_client.specs.Originals.{client_for, jar_for, with_originals}
+use Rattle.cookie.specs.Originals.{jar_for, with_originals}
+use Rattle.cookie_client.specs.Originals.{client_for}
 use Rattle.cookie_client.proofs.RoundLemmas.{client_shown, fresh}
 use Rattle.cookie_client.proofs.requests.visit.Goals as goal
 

@@ -6,7 +6,8 @@ use Rattle.std.specs.String.{string_bytes}
 use Rattle.cookie_client.specs.Client.{ReadsBack}
 use Rattle.cookie_client.specs.Exchange.{IsExchange}
 use Rattle.cookie_client.specs.Lines.{lines_of}
-use Rattle.cookie_client.specs.Originals.{client_for, jar_for}
+use Rattle.cookie.specs.Originals.{jar_for}
+use Rattle.cookie_client.specs.Originals.{client_for}
 use Rattle.cookie_client.specs.Run.{IsOfAgreement, Refuses, changes_in, header_line}
 use Rattle.cookie_client.specs.Session.{cookie_line, delta_texts, session_of_lines, set_cookie_lines}
 use Rattle.cookie_client.specs.declared.call.JarCall.{JarCall}

@@ -1,8 +1,9 @@
 use Rattle.std.proofs.Common.{ap, sym, ◌∙◌}
 use Rattle.std.specs.List.{flat_map}
-use Rattle.cookie_client.specs.Originals.{with_originals}
-use Rattle.cookie_http.specs.Fields.{cookies_of}
-use Rattle.cookie_http.proofs.RequestLemmas.{cookie_header-fields, with_originals-more}
+use Rattle.cookie.specs.Originals.{with_originals}
+use Rattle.cookie.specs.FieldPieces.{cookies_of}
+use Rattle.cookie.proofs.OriginalLemmas.{with_originals-more}
+use Rattle.cookie_http.proofs.RequestLemmas.{cookie_header-fields}
 use Rattle.cookie_http.proofs.request.with_headers.Goals as goal
 
 pub loop-value-init : goal.loop-value-init

@@ -1,8 +1,9 @@
 use Rattle.std.proofs.Common.{◌≡◌, true}
 use Rattle.std.specs.List.{flat_map}
 use Rattle.cookie.specs.CookieOf.{header_cookies}
-use Rattle.cookie_client.specs.Originals.{with_originals}
-use Rattle.cookie_http.specs.Fields.{cookie_header, cookies_of}
+use Rattle.cookie.specs.Originals.{with_originals}
+use Rattle.cookie.specs.FieldPieces.{cookies_of}
+use Rattle.cookie_http.specs.Fields.{cookie_header}
 use Rattle.cookie_http.proofs.request.with_headers.Given as goal
 
 -- the jar so far, with the cookies of the fields that are left, is the whole

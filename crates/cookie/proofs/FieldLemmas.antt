@@ -2,26 +2,26 @@
 use Rattle.std.proofs.Common.{◌≡◌, ◌==◌, ◌<◌, ◌≤◌, ◌+◌, ◌-◌, Bool, true, false, cond, not, ℕ, List, [], ◌∷◌, ◌++◌, map, length, take, take_all, drop, length-drop, get_or, All, Some, None, refl, sym, ap, subst, ◌∙◌, arith}
 use Rattle.std.proofs.Math.Dec.{ltb}
 use Rattle.std.proofs.Math.Seq.{take-append_seam, drop-append-add, get_or-append_seam}
-use Rattle.std.proofs.lemmas.Bool.{ltb-true}
+use Rattle.std.proofs.lemmas.Bool.{false_from_ne_true, ltb-true}
 use Rattle.std.proofs.lemmas.Bool.Decides.{nat_tests}
 use Rattle.std.proofs.lemmas.List.{append-nil, length-append}
 use Rattle.std.proofs.lemmas.List.Elements.{All-cons, All-filter, All-head, All-tail, filter-append, filter_map-append}
 use Rattle.std.proofs.lemmas.List.Splits.{slice_split_first, slice_split_none, join_with_byte-slice_split}
 use Rattle.std.proofs.lemmas.List.Sums.{fails_before_first}
 use Rattle.std.proofs.lemmas.Option.{none-some, same_Some}
-use Rattle.std.proofs.lemmas.Str.{IsCharBoundary-after_ascii, IsCharBoundary-before_ascii, IsUtf8-drop, IsUtf8-take, is_utf8-from_IsUtf8}
+use Rattle.std.proofs.lemmas.Str.{IsCharBoundary-after_ascii, IsCharBoundary-before_ascii, IsUtf8-drop, IsUtf8-from_is_utf8, IsUtf8-take, is_utf8-from_IsUtf8}
 use Rattle.std.specs.List.{filter, filter_map, flat_map, join_with_byte, position, position_or_len}
 use Rattle.std.specs.Str.{IsUtf8, is_utf8, trim}
-use Rattle.cookie.specs.CookieOf.{cookie_of, header_cookies}
-use Rattle.cookie.specs.Header.{kept_texts}
-use Rattle.cookie.specs.Pieces.{Lacks, pieces}
-use Rattle.cookie.specs.Record.{Record}
+use Rattle.cookie_core.specs.CookieOf.{cookie_of, header_cookies}
+use Rattle.cookie_core.specs.Header.{kept_texts}
+use Rattle.cookie_core.specs.Pieces.{Lacks, pieces}
+use Rattle.cookie_core.specs.Record.{Record}
 use Rattle.cookie.specs.Jar.{JarState}
-use Rattle.cookie.proofs.JoinLemmas.{header_cookies-joined}
-use Rattle.cookie.proofs.PieceLemmas.{IsHeaderTexts-header_texts, IsPieces-pieces, pieces-cut}
-use Rattle.cookie_client.specs.Originals.{with_originals}
-use Rattle.cookie_http.specs.Fields.{cookies_of, cookies_of_piece, readable}
-use Rattle.cookie_http.proofs.RequestLemmas.{with_originals-more}
+use Rattle.cookie_core.proofs.JoinLemmas.{header_cookies-joined}
+use Rattle.cookie_core.proofs.PieceLemmas.{IsHeaderTexts-header_texts, IsPieces-pieces, pieces-cut}
+use Rattle.cookie.specs.FieldPieces.{cookies_of, cookies_of_piece}
+use Rattle.cookie.specs.Originals.{readable, with_originals}
+use Rattle.cookie.proofs.OriginalLemmas.{with_originals-more}
 
 not_below : (a b : ℕ) → ltb a b ≡ false → b ≤ a
 not_below a b h = grind (arith, nat_tests)
@@ -79,7 +79,7 @@ header_cookies-pieces t = refl
 header_cookies-piece : (p : List ℕ) → Lacks 59 p → header_cookies true p ≡ cookies_in (p ∷ [])
 header_cookies-piece p lacks = header_cookies-pieces p ∙ ap cookies_in (pieces-cut p p None (sym (append-nil p)) lacks)
 
--- and more behind its `;`
+-- and more after its `;`
 header_cookies-cut : (p rest : List ℕ) → Lacks 59 p → header_cookies true (p ++ 59 ∷ rest) ≡ header_cookies true p ++ header_cookies true rest
 header_cookies-cut p rest lacks =
     header_cookies-pieces (p ++ 59 ∷ rest) ∙ ap cookies_in (pieces-cut (p ++ 59 ∷ rest) p (Some rest) refl lacks) ∙ cookies_in-cons p (pieces rest)
@@ -113,6 +113,14 @@ cookies_of-pieces value =
     header_cookies-join (filter is_utf8 (pieces value)) (All-filter is_utf8 (Lacks 59) (pieces value) (pieces_lack value)) ∙ kept_pieces (pieces value)
 
 -- ---- the walk over the pieces of a field
+
+-- the cookies of a piece that is UTF-8
+pub text_cookies : (piece : List ℕ) → IsUtf8 piece → header_cookies true piece ≡ cookies_of_piece piece
+text_cookies piece utf8 = sym (ap (λ b. cond b (header_cookies true piece) []) (is_utf8-from_IsUtf8 piece utf8))
+
+-- and of another
+pub no_cookies : (piece : List ℕ) → ¬ (IsUtf8 piece) → [] ≡ cookies_of_piece piece
+no_cookies piece bad = sym (ap (λ b. cond b (header_cookies true piece) []) (false_from_ne_true (is_utf8 piece) (λ e. bad (IsUtf8-from_is_utf8 piece e))))
 
 -- once the first piece is read, the others are left
 pub cookies_left : (value rest : List ℕ) (end : ℕ) (start jar made : JarState) → position is_mark rest ≡ Some end

@@ -6,11 +6,11 @@ use Rattle.std.proofs.lemmas.Option.{none-some, same_Some}
 use Rattle.std.specs.FinMap.{FinMap, get}
 use Rattle.std.specs.List.Sorted.{IsPermutation}
 use Rattle.cookie.specs.Jar.{name_cmp, Marked}
-use Rattle.cookie.specs.Record.{Record}
-use Rattle.cookie.specs.Text.{cookie_text}
+use Rattle.cookie_core.specs.Record.{Record}
+use Rattle.cookie_core.specs.Text.{cookie_text}
 use Rattle.cookie.specs.Walk.{Walks}
 use Rattle.cookie.proofs.MetLemmas.{meets_each, meets_only}
-use Rattle.cookie_client.specs.Agreement.{IsDeltaText, AreDeltaTexts, AreDeltaTextsOnce}
+use Rattle.cookie.specs.DeltaTexts.{IsDeltaText, AreDeltaTexts, AreDeltaTextsOnce}
 
 -- the encoded text of a cookie
 abbrev text_of : Record → List ℕ
