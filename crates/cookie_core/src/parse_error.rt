@@ -42,6 +42,7 @@ impl fmt::Display for ParseError {
     ghost use Rattle.cookie_core.specs.ParseError.{error_text};
 
     ghost output = { λ e. Some (error_text e) };
+
     ghost styled_output = { λ e _. Some (error_text e) };
 
     fn fmt<W: fmt::Write>(&self, f: &mut fmt::Formatter<W>) -> fmt::Result {

@@ -43,6 +43,7 @@ impl fmt::Display for SameSite {
     ghost use Rattle.cookie_core.specs.SameSite.{same_site_text};
 
     ghost output = { λ s. Some (same_site_text s) };
+
     ghost styled_output = { λ s _. Some (same_site_text s) };
 
     fn fmt<W: fmt::Write>(&self, f: &mut fmt::Formatter<W>) -> fmt::Result {

@@ -7,7 +7,9 @@ use std::fmt;
 
 // The value's text without a flag, and under a width, a fill, a sign, zeros in front, a precision, `#`, and all of them.
 fn is_printed_alike<T: fmt::Display>(alloc: Global, shown: &T, wanted: &str) -> bool {
-    let text = format!(in alloc; "{shown}|{shown:>60}|{shown:*^60}|{shown:+}|{shown:060}|{shown:.3}|{shown:#}|{shown:*<+#060.3}");
+    let text = format!(in alloc;
+        "{shown}|{shown:>60}|{shown:*^60}|{shown:+}|{shown:060}|{shown:.3}|{shown:#}|{shown:*<+#060.3}"
+    );
     match text {
         Ok(text) => are_eight(text.as_str(), wanted),
         Err(_) => false,
@@ -44,6 +46,7 @@ fn are_values_printed_alike(alloc: Global) -> bool {
 
 const LONG: &str =
     "id=x y; HttpOnly; SameSite=Lax; Secure; Path=/; Domain=b.c; Max-Age=90; Expires=Wed, 21 Oct 2015 07:28:00 GMT";
+
 const LONG_ENCODED: &str =
     "id=x%20y; HttpOnly; SameSite=Lax; Secure; Path=/; Domain=b.c; Max-Age=90; Expires=Wed, 21 Oct 2015 07:28:00 GMT";
 
@@ -143,9 +146,33 @@ fn debug_texts_are_those_of_derives(rt: HostRuntime) {
     let alloc = rt.alloc();
     assert!(rt; is_cookie_spread(alloc));
     assert!(rt; is_spread(alloc, &Cookie::build(Cookie::new("a", "b")), SPREAD_BUILDER));
-    assert!(rt; is_spread(alloc, &Held { held: SameSite::Lax }, "Held {\n    held: Lax,\n}"));
-    assert!(rt; is_debugged(alloc, &Held { held: SameSite::Lax }, "Held { held: Lax }"));
-    assert!(rt; is_spread(alloc, &Held { held: ParseError::EmptyName }, "Held {\n    held: EmptyName,\n}"));
+    assert!(rt;
+        is_spread(
+            alloc,
+            &Held {
+                held: SameSite::Lax
+            },
+            "Held {\n    held: Lax,\n}"
+        )
+    );
+    assert!(rt;
+        is_debugged(
+            alloc,
+            &Held {
+                held: SameSite::Lax
+            },
+            "Held { held: Lax }"
+        )
+    );
+    assert!(rt;
+        is_spread(
+            alloc,
+            &Held {
+                held: ParseError::EmptyName
+            },
+            "Held {\n    held: EmptyName,\n}"
+        )
+    );
     assert!(rt; is_spread(alloc, &Expiration::Session, "Session"));
     let expiry = Expiration::DateTime(datetime(2015, 10, 21, 7, 28, 0, 0));
     assert!(rt; is_debugged(alloc, &expiry, "DateTime(2015-10-21T07:28:00)"));

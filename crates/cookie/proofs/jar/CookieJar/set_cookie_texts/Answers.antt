@@ -11,6 +11,6 @@ loop-cookie-init c =
       cookies = c.delta-cookie-items.result;
       are = c.delta-cookie-items.ensures.walks;
       written = subst (IsPermutation all) (sym (
-        ap (λ ts. map string_bytes ts ++ map (cookie_text true false) c.into_iter-cookie-iterator.result) c.new-texts.ensures.items
-        ∙ ap (λ cookies. map (cookie_text true false) cookies) c.into_iter-cookie-iterator.ensures.into_iter_gives)) (IsPermutation-refl all);
+          ap (λ ts. map string_bytes ts ++ map (cookie_text true false) c.into_iter-cookie-iterator.result) c.new-texts.ensures.items
+          ∙ ap (λ cookies. map (cookie_text true false) cookies) c.into_iter-cookie-iterator.ensures.into_iter_gives)) (IsPermutation-refl all);
     }
