@@ -19,9 +19,14 @@ pub record AreDeltaTexts (delta : FinMap name_cmp Marked) (texts : List (List �
       → Contains texts (cookie_text true false entry.cookie)
   pub only : All (IsDeltaText delta) texts
 
+-- the cookies of a delta, each once, in any order
+abbrev pub WalksDelta : FinMap name_cmp Marked → List Record → Type 0
+WalksDelta delta cookies =
+    Walks (λ name. option_map (λ entry. entry.cookie) (get delta name)) cookies
+
 -- the texts are those of the delta's cookies, each once, in any order
 pub record AreDeltaTextsOnce (delta : FinMap name_cmp Marked) (texts : List (List ℕ))
     : Type 0 where
   pub cookies : List Record
-  pub are : Walks (λ name. option_map (λ entry. entry.cookie) (get delta name)) cookies
+  pub are : WalksDelta delta cookies
   pub written : IsPermutation (map (cookie_text true false) cookies) texts

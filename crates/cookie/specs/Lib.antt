@@ -8,12 +8,14 @@ pub mod History
 pub mod Jar
 pub mod JarError
 pub mod KeyError
+pub mod KeyHalves
 pub mod KeyedJars
 pub mod Keys
 pub mod NameHash
 pub mod Opening
 pub mod Originals
 pub mod Prefixes
+pub mod SealedAdditions
 pub mod Sealing
 pub mod Shown
 pub mod Signing

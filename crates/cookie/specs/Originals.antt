@@ -16,6 +16,6 @@ with_originals cookies jar = after_all (map AddOriginal cookies) jar
 abbrev pub jar_for : List ℕ → JarState
 jar_for header = with_originals (header_cookies true header) empty_jar
 
--- a `Cookie` field without those of its pieces, between semicolons, that aren't UTF-8
+-- a `Cookie` field without those of its pieces, between semicolons, that aren't UTF-8 (RFC 6265 4.2.1)
 abbrev pub readable : List ℕ → List ℕ
 readable field = join_with_byte 59 (filter is_utf8 (pieces field))

@@ -6,8 +6,8 @@ use crate::jar::CookieJar;
 use std::alloc::AllocError;
 
 impl CookieJar {
-    /// The encoded texts of the delta's cookies, one for each, in the order of the delta's walk. A response sends each
-    /// in a `Set-Cookie` header (RFC 6265 4.1.1).
+    /// The encoded texts of the delta's cookies, one for each. Their order isn't promised. A response sends each in a
+    /// `Set-Cookie` header (RFC 6265 4.1.1).
     ///
     /// Fails only if out of memory.
     pub fn set_cookie_texts(&self) -> Result<Vec<String>, AllocError>

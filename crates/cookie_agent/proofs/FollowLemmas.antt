@@ -14,16 +14,16 @@ use Rattle.cookie.specs.Escapes.{escape, unescape}
 use Rattle.cookie.specs.Jar.{Name, name_cmp, Marked, JarState, view, overlay}
 use Rattle.cookie.specs.Record.{Record}
 use Rattle.cookie.specs.Text.{cookie_text, prints_secure, is_true}
-use Rattle.cookie.specs.Normal.{shown}
 use Rattle.cookie.proofs.EscapeTextLemmas.{unescape-escape, utf8_is_bytes}
 use Rattle.cookie.proofs.ExpiryTextLemmas.{read_expiry-is}
+use Rattle.cookie.proofs.NormalLemmas.{is_true-true_or_unset}
 use Rattle.cookie.specs.DeltaTexts.{IsDeltaText, AreDeltaTexts}
 use Rattle.cookie_client.specs.Agreement.{value_of}
 use Rattle.cookie_agent.specs.Agreement.{IsOurs, seen, Mirrors, IsScopedEntry, IsScopedDelta, IsFollowed}
 use Rattle.cookie_agent.specs.Site.{SiteView}
 use Rattle.cookie_agent.specs.Scopes.{ScopeView, scope_of, scope_by}
 use Rattle.cookie_agent.specs.Sent.{is_visible}
-use Rattle.cookie_agent.specs.Store.{SameKey, IsKey, Stored, Store, stored_in, is_unexpired, unexpired, put, after_stored, after_cookie, after_text, after_texts}
+use Rattle.cookie_agent.specs.Store.{SameKey, IsKey, Stored, Store, stored_in, is_unexpired, unexpired, put, after_stored, store_after_cookie, store_after_text, store_after_texts}
 use Rattle.cookie_agent.proofs.AgeLemmas.{unexpired_kept, expired_kept}
 use Rattle.cookie_agent.proofs.PutLemmas.{All-put}
 use Rattle.cookie_agent.proofs.PlainTextLemmas.{raw_record, plain_form, uncut, path_same, domain_same}
@@ -32,10 +32,6 @@ use Rattle.cookie_agent.proofs.StoreLemmas.{seen-unexpired, seen-put_own, seen-p
 -- a name is known by its escaped form
 pub escape_injective : (a b : List ℕ) → IsUtf8 a → IsUtf8 b → escape a ≡ escape b → a ≡ b
 escape_injective a b u v e = sym (unescape-escape a (utf8_is_bytes a u)) ∙ ap unescape e ∙ unescape-escape b (utf8_is_bytes b v)
-
-true_shown : (b : Bool) → is_true (shown b) ≡ b
-true_shown true = refl
-true_shown false = refl
 
 and_true : (b : Bool) → b && true ≡ b
 and_true true = refl
@@ -74,16 +70,16 @@ module _ (same : SameKey) (key : IsKey same) (site : SiteView) (now : DateTime) 
         ∙ ap (λ p. scope_by site entry.cookie.domain p) (path_same entry.cookie.path is.scoped.path)
         ∙ is.scoped.scope
 
-    pub text_stored : (store : Store) → after_text same site now (cookie_text true false entry.cookie) store ≡ unexpired now (put same x (unexpired now store))
+    pub text_stored : (store : Store) → store_after_text same site now (cookie_text true false entry.cookie) store ≡ unexpired now (put same x (unexpired now store))
     text_stored store =
-        ap (λ o. after_cookie same site now o store) (plain_form entry.cookie is.cookie (uncut entry.cookie is.scoped.path is.scoped.domain))
+        ap (λ o. store_after_cookie same site now o store) (plain_form entry.cookie is.cookie (uncut entry.cookie is.scoped.path is.scoped.domain))
         ∙ ap (λ s. after_stored same now s (raw_record entry.cookie) store) scope_read
 
     -- it reaches the site, and is not expired where it is an addition
     visible_if : is_visible site now x ≡ is_unexpired x.expiry now
     visible_if =
         ap (λ b. is_unexpired x.expiry now && (b && (site.is_secure || not x.is_secure_only))) is.scoped.reaches
-        ∙ ap (λ b. is_unexpired x.expiry now && (site.is_secure || not b)) (true_shown (prints_secure entry.cookie))
+        ∙ ap (λ b. is_unexpired x.expiry now && (site.is_secure || not b)) (is_true-true_or_unset (prints_secure entry.cookie))
         ∙ ap (λ b. is_unexpired x.expiry now && b) is.scoped.secure
         ∙ and_true (is_unexpired x.expiry now)
 
@@ -109,12 +105,12 @@ module _ (same : SameKey) (key : IsKey same) (site : SiteView) (now : DateTime) 
     all_alone : (store : Store) → All Ours store → IsAlone (is_visible site now) same key x store
     all_alone store all = All-weaker Ours (λ d. is_visible site now d ≡ true → d.name ≡ x.name → same d x ≡ true) alone_one store all
 
-    text_ours : (store : Store) → All Ours store → All Ours (after_text same site now (cookie_text true false entry.cookie) store)
+    text_ours : (store : Store) → All Ours store → All Ours (store_after_text same site now (cookie_text true false entry.cookie) store)
     text_ours store all =
         subst (All Ours) (sym (text_stored store))
         (All-unexpired (put same x (unexpired now store)) (All-put same Ours x (λ _. is_ours) (unexpired now store) (All-unexpired store all)))
 
-    text_own : (store : Store) → All Ours store → seen site now (after_text same site now (cookie_text true false entry.cookie) store) (escape entry.cookie.name) ≡ fate_of entry
+    text_own : (store : Store) → All Ours store → seen site now (store_after_text same site now (cookie_text true false entry.cookie) store) (escape entry.cookie.name) ≡ fate_of entry
     text_own store all =
         ap (λ s. seen site now s (escape entry.cookie.name)) (text_stored store)
         ∙ seen-unexpired site now (escape entry.cookie.name) (put same x (unexpired now store))
@@ -122,7 +118,7 @@ module _ (same : SameKey) (key : IsKey same) (site : SiteView) (now : DateTime) 
         ∙ seen_one x (not entry.removed) (visible_if ∙ kept_fate)
         ∙ turned entry.removed (escape entry.cookie.value ∷ []) []
 
-    text_other : (store : Store) (other : List ℕ) → escape entry.cookie.name ≢ other → seen site now (after_text same site now (cookie_text true false entry.cookie) store) other ≡ seen site now store other
+    text_other : (store : Store) (other : List ℕ) → escape entry.cookie.name ≢ other → seen site now (store_after_text same site now (cookie_text true false entry.cookie) store) other ≡ seen site now store other
     text_other store other apart =
         ap (λ s. seen site now s other) (text_stored store)
         ∙ seen-unexpired site now other (put same x (unexpired now store))
@@ -130,21 +126,21 @@ module _ (same : SameKey) (key : IsKey same) (site : SiteView) (now : DateTime) 
         ∙ seen-unexpired site now other store
 
   module _ (delta : FinMap name_cmp Marked) (scoped : IsScopedDelta site now scopes delta) where
-    step_ours : (text : List ℕ) → IsDeltaText delta text → (store : Store) → All Ours store → All Ours (after_text same site now text store)
+    step_ours : (text : List ℕ) → IsDeltaText delta text → (store : Store) → All Ours store → All Ours (store_after_text same site now text store)
     step_ours text is store all =
-        subst (λ t. All Ours (after_text same site now t store)) (sym is.is) (text_ours is.name is.entry (scoped is.name is.entry is.stands) store all)
+        subst (λ t. All Ours (store_after_text same site now t store)) (sym is.is) (text_ours is.name is.entry (scoped is.name is.entry is.stands) store all)
 
-    step_own : (text : List ℕ) (is : IsDeltaText delta text) (store : Store) → All Ours store → seen site now (after_text same site now text store) (escape is.name) ≡ fate_of is.entry
+    step_own : (text : List ℕ) (is : IsDeltaText delta text) (store : Store) → All Ours store → seen site now (store_after_text same site now text store) (escape is.name) ≡ fate_of is.entry
     step_own text is store all =
         let h = scoped is.name is.entry is.stands in
-        ap (λ t. seen site now (after_text same site now t store) (escape is.name)) is.is
-        ∙ ap (λ n. seen site now (after_text same site now (cookie_text true false is.entry.cookie) store) (escape n)) (sym h.key)
+        ap (λ t. seen site now (store_after_text same site now t store) (escape is.name)) is.is
+        ∙ ap (λ n. seen site now (store_after_text same site now (cookie_text true false is.entry.cookie) store) (escape n)) (sym h.key)
         ∙ text_own is.name is.entry h store all
 
-    step_other : (text : List ℕ) (is : IsDeltaText delta text) (store : Store) (other : List ℕ) → escape is.name ≢ other → seen site now (after_text same site now text store) other ≡ seen site now store other
+    step_other : (text : List ℕ) (is : IsDeltaText delta text) (store : Store) (other : List ℕ) → escape is.name ≢ other → seen site now (store_after_text same site now text store) other ≡ seen site now store other
     step_other text is store other apart =
         let h = scoped is.name is.entry is.stands in
-        ap (λ t. seen site now (after_text same site now t store) other) is.is
+        ap (λ t. seen site now (store_after_text same site now t store) other) is.is
         ∙ text_other is.name is.entry h store other (λ e. apart (ap escape (sym h.key) ∙ e))
 
     -- a text of the delta is that of the name, or leaves it
@@ -158,52 +154,52 @@ module _ (same : SameKey) (key : IsKey same) (site : SiteView) (now : DateTime) 
             let v : IsUtf8 is.name = subst IsUtf8 h.key h.cookie.cookie.name in
             inr (λ f. false≢true (sym e ∙ (bytes_eq-Decides is.name name).1 (escape_injective is.name name v u f)))
 
-    texts_ours : (texts : List (List ℕ)) → All (IsDeltaText delta) texts → (store : Store) → All Ours store → All Ours (after_texts same site now texts store)
+    texts_ours : (texts : List (List ℕ)) → All (IsDeltaText delta) texts → (store : Store) → All Ours store → All Ours (store_after_texts same site now texts store)
     texts_ours [] are store all = all
     texts_ours (text ∷ texts) are store all =
-        texts_ours texts (All-tail (IsDeltaText delta) text texts are) (after_text same site now text store)
+        texts_ours texts (All-tail (IsDeltaText delta) text texts are) (store_after_text same site now text store)
         (step_ours text (All-head (IsDeltaText delta) text texts are) store all)
 
     module _ (name : Name) (u : IsUtf8 name) where
       unchanged : get delta name ≡ None → (texts : List (List ℕ)) → All (IsDeltaText delta) texts → (store : Store) → All Ours store
-          → seen site now (after_texts same site now texts store) (escape name) ≡ seen site now store (escape name)
+          → seen site now (store_after_texts same site now texts store) (escape name) ≡ seen site now store (escape name)
       unchanged none [] are store all = refl
       unchanged none (text ∷ texts) are store all =
           let is = All-head (IsDeltaText delta) text texts are in
-          unchanged none texts (All-tail (IsDeltaText delta) text texts are) (after_text same site now text store) (step_ours text is store all)
+          unchanged none texts (All-tail (IsDeltaText delta) text texts are) (store_after_text same site now text store) (step_ours text is store all)
           ∙ ⊎_elim
           (λ e. absurd (none-some is.entry (sym none ∙ ap (get delta) (sym e) ∙ is.stands)))
           (λ apart. step_other text is store (escape name) apart)
           (own_or_other text is name u)
 
       own_step : (entry : Marked) → get delta name ≡ Some entry → (text : List ℕ) (is : IsDeltaText delta text) → is.name ≡ name → (store : Store) → All Ours store
-          → seen site now (after_text same site now text store) (escape name) ≡ fate_of entry
+          → seen site now (store_after_text same site now text store) (escape name) ≡ fate_of entry
       own_step entry stands text is e store all =
-          ap (λ n. seen site now (after_text same site now text store) (escape n)) (sym e) ∙ step_own text is store all
+          ap (λ n. seen site now (store_after_text same site now text store) (escape n)) (sym e) ∙ step_own text is store all
           ∙ ap fate_of (same_Some is.entry entry (sym is.stands ∙ ap (get delta) e ∙ stands))
 
       stays : (entry : Marked) → get delta name ≡ Some entry → (texts : List (List ℕ)) → All (IsDeltaText delta) texts → (store : Store) → All Ours store
-          → seen site now store (escape name) ≡ fate_of entry → seen site now (after_texts same site now texts store) (escape name) ≡ fate_of entry
+          → seen site now store (escape name) ≡ fate_of entry → seen site now (store_after_texts same site now texts store) (escape name) ≡ fate_of entry
       stays entry stands [] are store all settled = settled
       stays entry stands (text ∷ texts) are store all settled =
           let is = All-head (IsDeltaText delta) text texts are in
-          stays entry stands texts (All-tail (IsDeltaText delta) text texts are) (after_text same site now text store) (step_ours text is store all)
+          stays entry stands texts (All-tail (IsDeltaText delta) text texts are) (store_after_text same site now text store) (step_ours text is store all)
           (⊎_elim
           (λ e. own_step entry stands text is e store all)
           (λ apart. step_other text is store (escape name) apart ∙ settled)
           (own_or_other text is name u))
 
       reached : (entry : Marked) → get delta name ≡ Some entry → (texts : List (List ℕ)) → All (IsDeltaText delta) texts → (store : Store) → All Ours store
-          → Contains texts (cookie_text true false entry.cookie) → seen site now (after_texts same site now texts store) (escape name) ≡ fate_of entry
+          → Contains texts (cookie_text true false entry.cookie) → seen site now (store_after_texts same site now texts store) (escape name) ≡ fate_of entry
       reached entry stands [] are store all (k, l, e) = absurd (omega arith)
       reached entry stands (text ∷ texts) are store all among =
           let is = All-head (IsDeltaText delta) text texts are in
           let rest = All-tail (IsDeltaText delta) text texts are in
           let next = step_ours text is store all in
           ⊎_elim
-          (λ e. stays entry stands texts rest (after_text same site now text store) next
+          (λ e. stays entry stands texts rest (store_after_text same site now text store) next
           (own_step entry stands text (record { name = name; entry = entry; stands = stands; is = e }) refl store all))
-          (λ later. reached entry stands texts rest (after_text same site now text store) next later)
+          (λ later. reached entry stands texts rest (store_after_text same site now text store) next later)
           (Contains-first text texts (cookie_text true false entry.cookie) among)
 
   fate_shown : (entry : Marked) (original : Option Record) → fate_of entry ≡ option_to_list (option_map escape (value_of (overlay (Some entry) original)))
@@ -216,11 +212,11 @@ module _ (same : SameKey) (key : IsKey same) (site : SiteView) (now : DateTime) 
   -- what is seen at each name is what the jar shows there
   seen_as_shown : (store : Store) (jar : JarState) (texts : List (List ℕ)) → All Ours store → IsScopedDelta site now scopes jar.delta
       → Mirrors site now store (λ name. value_of (get jar.originals name)) → AreDeltaTexts jar.delta texts
-      → Mirrors site now (after_texts same site now texts store) (λ name. value_of (view jar name))
+      → Mirrors site now (store_after_texts same site now texts store) (λ name. value_of (view jar name))
   seen_as_shown store jar texts all scoped known are name u = by (get jar.delta name) refl
     where
       by : (o : Option Marked) → get jar.delta name ≡ o
-          → seen site now (after_texts same site now texts store) (escape name) ≡ option_to_list (option_map escape (value_of (overlay o (get jar.originals name))))
+          → seen site now (store_after_texts same site now texts store) (escape name) ≡ option_to_list (option_map escape (value_of (overlay o (get jar.originals name))))
       by None none = unchanged jar.delta scoped name u none texts are.only store all ∙ known name u
       by (Some entry) stands = reached jar.delta scoped name u entry stands texts are.only store all (are.each name entry stands) ∙ fate_shown entry (get jar.originals name)
 

@@ -29,7 +29,7 @@ unexpired-twice now (c ∷ xs) = by (unexpired-twice now xs) (is_unexpired c.exp
     by rest false e = rest
 
 module _ (now : DateTime) (x : Stored) where
-  -- an expired one is passed over
+  -- an expired one is skipped
   past : (c : Stored) (xs ys : Store) → unexpired now (put standard_key x (unexpired now xs)) ≡ unexpired now ys → gives_place x now c ≡ false
       → unexpired now (put standard_key x (unexpired now (c ∷ xs))) ≡ unexpired now (c ∷ ys)
   past c xs ys rest none = by (is_unexpired c.expiry now) refl none

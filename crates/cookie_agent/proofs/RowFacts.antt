@@ -5,7 +5,7 @@ use Rattle.jiff.specs.Types.{DateTime}
 use Rattle.cookie.specs.Record.{Record, plain}
 use Rattle.cookie_agent.specs.Sent.{visible, sent_pair}
 use Rattle.cookie_agent.specs.Site.{SiteView, domain_matches, default_path, path_matches}
-use Rattle.cookie_agent.specs.Store.{Store, standard_key, after_cookie}
+use Rattle.cookie_agent.specs.Store.{Store, standard_key, store_after_cookie}
 
 -- ---- domains and paths
 
@@ -108,7 +108,7 @@ scoped name value path domain = record (plain name value) { path = path; domain 
 -- the store once the site set the cookies, the first one first
 abbrev set_by : SiteView → DateTime → List Record → Store → Store
 set_by site now [] store = store
-set_by site now (cookie ∷ cookies) store = set_by site now cookies (after_cookie standard_key site now (Some cookie) store)
+set_by site now (cookie ∷ cookies) store = set_by site now cookies (store_after_cookie standard_key site now (Some cookie) store)
 
 -- what the site sees
 abbrev shown : SiteView → DateTime → Store → List (List ℕ)

@@ -24,7 +24,7 @@ use Rattle.cookie_agent.specs.Agreement.{IsOurs, IsOurStore, IsKnownView, IsScop
 use Rattle.cookie_agent.specs.Site.{SiteView}
 use Rattle.cookie_agent.specs.Scopes.{ScopeView}
 use Rattle.cookie_agent.specs.Sent.{is_visible, visible, IsHeader}
-use Rattle.cookie_agent.specs.Store.{SameKey, IsKey, Stored, Store, is_unexpired, unexpired, put, after_text, after_texts}
+use Rattle.cookie_agent.specs.Store.{SameKey, IsKey, Stored, Store, is_unexpired, unexpired, put, store_after_text, store_after_texts}
 use Rattle.cookie_agent.proofs.FollowLemmas.{escape_injective, is_ours, text_stored, x, followed}
 use Rattle.cookie_agent.proofs.KeyLemmas.{turned_test}
 use Rattle.cookie_agent.proofs.PutLemmas.{All-put}
@@ -94,7 +94,7 @@ Once-put same key scopes y alone store ours once name = by (bytes_eq y.name name
 
 module _ (same : SameKey) (key : IsKey same) (site : SiteView) (now : DateTime) (scopes : Name → ScopeView) where
   ours_after : (name : Name) (entry : Marked) (is : IsScopedEntry site now scopes name entry) (store : Store) → IsOurStore scopes store
-      → IsOurStore scopes (after_text same site now (cookie_text true false entry.cookie) store)
+      → IsOurStore scopes (store_after_text same site now (cookie_text true false entry.cookie) store)
   ours_after name entry is store ours =
       let y : Stored = x same key site now scopes name entry is in
       let alone = λ (d : Stored) (o : IsOurs scopes d) (e : d.name ≡ escape entry.cookie.name).
@@ -108,12 +108,12 @@ module _ (same : SameKey) (key : IsKey same) (site : SiteView) (now : DateTime) 
       })
 
   all_after : (jar : JarState) → IsScopedDelta site now scopes jar.delta → (texts : List (List ℕ)) → All (IsDeltaText jar.delta) texts → (store : Store) → IsOurStore scopes store
-      → IsOurStore scopes (after_texts same site now texts store)
+      → IsOurStore scopes (store_after_texts same site now texts store)
   all_after jar scoped [] are store ours = ours
   all_after jar scoped (text ∷ texts) are store ours =
       let is = All-head (IsDeltaText jar.delta) text texts are in
-      all_after jar scoped texts (All-tail (IsDeltaText jar.delta) text texts are) (after_text same site now text store)
-      (subst (λ t. IsOurStore scopes (after_text same site now t store)) (sym is.is) (ours_after is.name is.entry (scoped is.name is.entry is.stands) store ours))
+      all_after jar scoped texts (All-tail (IsDeltaText jar.delta) text texts are) (store_after_text same site now text store)
+      (subst (λ t. IsOurStore scopes (store_after_text same site now t store)) (sym is.is) (ours_after is.name is.entry (scoped is.name is.entry is.stands) store ours))
 
 -- ---- the jar's originals are what the site sees
 
@@ -205,13 +205,13 @@ module _ (same : SameKey) (key : IsKey same) (scopes : Name → ScopeView) (befo
       escaped_value : (c : Stored) → IsOurs scopes c → escape (unescape c.value) ≡ c.value
       escaped_value c o = ap escape (back o.value c.value o.named.cookie.value o.values) ∙ sym o.values
 
-  pub agreed : (texts : List (List ℕ)) → AreDeltaTexts jar.delta texts → (next : List ℕ) → IsHeader site now (after_texts same site now texts before) next → SiteAgrees jar next
+  pub agreed : (texts : List (List ℕ)) → AreDeltaTexts jar.delta texts → (next : List ℕ) → IsHeader site now (store_after_texts same site now texts before) next → SiteAgrees jar next
   agreed texts are next h =
       let scoped : IsScopedStore site now scopes before = All-weaker (IsOurs scopes) (λ c. is_visible site now c ≡ true → IsOurs scopes c) (λ c o _. o) before ours.each in
       let (kept, mirrors) = followed same key site now scopes before jar texts scoped is.scoped (record { known = originals_known }) are in
-      sent site now scopes (after_texts same site now texts before) jar next is.known kept mirrors h
+      sent site now scopes (store_after_texts same site now texts before) jar next is.known kept mirrors h
 
-  pub stays : (texts : List (List ℕ)) → AreDeltaTexts jar.delta texts → IsOurStore scopes (after_texts same site now texts before)
+  pub stays : (texts : List (List ℕ)) → AreDeltaTexts jar.delta texts → IsOurStore scopes (store_after_texts same site now texts before)
   stays texts are = all_after same key site now scopes jar is.scoped texts are.only before ours
 
 pub none_stored : (scopes : Name → ScopeView) → IsOurStore scopes []

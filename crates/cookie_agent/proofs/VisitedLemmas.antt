@@ -5,14 +5,14 @@ use Rattle.std.specs.List.{AllZip}
 use Rattle.cookie.specs.History.{accepted_items, after_all}
 use Rattle.cookie.specs.Jar.{Name}
 use Rattle.cookie.specs.DeltaTexts.{AreDeltaTexts}
-use Rattle.cookie_client.specs.Calls.{IsKnownChange, IsOutcome, change_of, changes_of}
+use Rattle.cookie_client.specs.Calls.{IsOutcome, change_of, changes_of}
 use Rattle.cookie.specs.Originals.{jar_for}
 use Rattle.cookie_client.proofs.ChangeLemmas.{known_changes}
 use Rattle.cookie_agent.specs.Agreement.{IsOurStore}
 use Rattle.cookie_agent.specs.Calls.{IsScopedChange}
 use Rattle.cookie_agent.specs.Scopes.{ScopeView}
 use Rattle.cookie_agent.specs.Sent.{IsHeader, IsOrderedHeader}
-use Rattle.cookie_agent.specs.Store.{Store, standard_key, after_texts}
+use Rattle.cookie_agent.specs.Store.{Store, standard_key, store_after_texts}
 use Rattle.cookie_agent.specs.Visits.{IsVisited, AreScoped, AreVisited, AreAllScoped, AllAgree, AgreesOn, AllAgreeOn}
 use Rattle.cookie_agent.specs.declared.request.AgentRequest.{AgentRequest}
 use Rattle.cookie_agent.specs.declared.visited.Visited.{Visited}
@@ -25,12 +25,11 @@ use Rattle.cookie_agent.proofs.VisitLemmas.{IsFollowable, agreed, stays, none_st
 pub record IsPlayed (before : Store) (request : AgentRequest) (visited : Visited) : Type 0 where
   pub count : length visited.outcomes.items ≡ length request.calls.now
   pub outcomes : AllZip IsOutcome request.calls.now visited.outcomes.items
-  pub known : All (λ call. IsKnownChange (change_of call)) request.calls.now
   pub sent : IsOrderedHeader request.site.now request.moment before (string_bytes visited.header)
   pub jar : visited.jar ≡ after_all (changes_of visited.outcomes.items request.calls.now) (jar_for (string_bytes visited.header))
   pub texts : List (List ℕ)
   pub are : AreDeltaTexts visited.jar.delta texts
-  pub read : visited.agent ≡ after_texts standard_key request.site.now request.moment texts before
+  pub read : visited.agent ≡ store_after_texts standard_key request.site.now request.moment texts before
 
 module _ (before : Store) (request : AgentRequest) (visited : Visited) (is : IsPlayed before request visited) where
   abbrev header : List ℕ
@@ -40,7 +39,7 @@ module _ (before : Store) (request : AgentRequest) (visited : Visited) (is : IsP
   can_follow scopes ours scoped =
       subst (IsFollowable scopes before request.site.now request.moment header) (sym is.jar)
       (followable scopes before ours request.site.now request.moment header is.sent.is (changes_of visited.outcomes.items request.calls.now)
-      (known_changes visited.outcomes.items request.calls.now is.known)
+      (known_changes visited.outcomes.items request.calls.now is.outcomes)
       (All-map (IsScopedChange request.site.now request.moment scopes) change_of (accepted_items visited.outcomes.items request.calls.now) scoped))
 
   pub is_visited : IsVisited before request visited

@@ -18,7 +18,7 @@ use Rattle.cookie_client.specs.Live.{is_live}
 use Rattle.cookie_agent.specs.Scopes.{ScopeView, scope_of, reaches}
 use Rattle.cookie_agent.specs.Sent.{is_visible, IsHeader}
 use Rattle.cookie_agent.specs.Site.{SiteView}
-use Rattle.cookie_agent.specs.Store.{SameKey, Stored, Store, is_unexpired, after_texts}
+use Rattle.cookie_agent.specs.Store.{SameKey, Stored, Store, is_unexpired, store_after_texts}
 
 -- ---- the premise
 
@@ -119,8 +119,9 @@ IsFollowed same =
     (texts : List (List ℕ))
     → IsScopedStore site now scopes store → IsScopedDelta site now scopes jar.delta
     → IsKnown site now store jar → AreDeltaTexts jar.delta texts
-    → IsScopedStore site now scopes (after_texts same site now texts store)
-    × Mirrors site now (after_texts same site now texts store) (λ name. value_of (view jar name))
+    → IsScopedStore site now scopes (store_after_texts same site now texts store)
+    × Mirrors site now (store_after_texts same site now texts store)
+    (λ name. value_of (view jar name))
 
 -- the values that a jar shows are texts
 abbrev pub IsKnownView : JarState → Type 0

@@ -11,7 +11,7 @@ use Rattle.cookie_agent.specs.Calls.{IsScopedChange}
 use Rattle.cookie_agent.specs.Scopes.{ScopeView}
 use Rattle.cookie_agent.specs.Sent.{IsHeader}
 use Rattle.cookie_agent.specs.Site.{SiteView}
-use Rattle.cookie_agent.specs.Store.{SameKey, IsKey, Store, after_texts}
+use Rattle.cookie_agent.specs.Store.{SameKey, IsKey, Store, store_after_texts}
 
 -- a request to a site with its header, the changes of its jar, and the texts of its response
 pub record Visit : Type 0 where
@@ -35,7 +35,7 @@ pub record IsVisit (scopes : Name → ScopeView) (before : Store) (visit : Visit
 
 -- the agent after the response
 abbrev pub after_visit : SameKey → Visit → Store → Store
-after_visit same visit before = after_texts same visit.site visit.now visit.texts before
+after_visit same visit before = store_after_texts same visit.site visit.now visit.texts before
 
 -- each of them is one, for the agent that the earlier ones left
 abbrev pub AreVisits : SameKey → (Name → ScopeView) → Store → List Visit → Type 0

@@ -99,17 +99,18 @@ after_stored same now (Some scope) cookie store =
     unexpired now (put same (stored_in scope now cookie) (unexpired now store))
 
 -- the store after a cookie that the site sets
-abbrev pub after_cookie : SameKey → SiteView → DateTime → Option Record → Store → Store
-after_cookie same site now None store = unexpired now store
-after_cookie same site now (Some cookie) store =
+abbrev pub store_after_cookie : SameKey → SiteView → DateTime → Option Record → Store → Store
+store_after_cookie same site now None store = unexpired now store
+store_after_cookie same site now (Some cookie) store =
     after_stored same now (scope_of site cookie) cookie store
 
 -- the store after the text of one `Set-Cookie` header, whose name and value are stored as they stand there
-abbrev pub after_text : SameKey → SiteView → DateTime → List ℕ → Store → Store
-after_text same site now text store = after_cookie same site now (cookie_of false text) store
+abbrev pub store_after_text : SameKey → SiteView → DateTime → List ℕ → Store → Store
+store_after_text same site now text store =
+    store_after_cookie same site now (cookie_of false text) store
 
 -- the store after texts, the first one first
-abbrev pub after_texts : SameKey → SiteView → DateTime → List (List ℕ) → Store → Store
-after_texts same site now [] store = store
-after_texts same site now (text ∷ texts) store =
-    after_texts same site now texts (after_text same site now text store)
+abbrev pub store_after_texts : SameKey → SiteView → DateTime → List (List ℕ) → Store → Store
+store_after_texts same site now [] store = store
+store_after_texts same site now (text ∷ texts) store =
+    store_after_texts same site now texts (store_after_text same site now text store)

@@ -12,7 +12,7 @@ use Rattle.cookie_agent.specs.Calls.{IsScopedCall}
 use Rattle.cookie_agent.specs.Scopes.{ScopeView}
 use Rattle.cookie_agent.specs.Site.{SiteView}
 use Rattle.cookie_agent.specs.Sent.{IsHeader, IsOrderedHeader}
-use Rattle.cookie_agent.specs.Store.{Store, standard_key, after_texts}
+use Rattle.cookie_agent.specs.Store.{Store, standard_key, store_after_texts}
 use Rattle.cookie_agent.specs.declared.request.AgentRequest.{AgentRequest}
 use Rattle.cookie_agent.specs.declared.visited.Visited.{Visited}
 
@@ -35,7 +35,8 @@ pub record IsVisited (before : Store) (request : AgentRequest) (visited : Visite
       (jar_for (string_bytes visited.header))
   -- its agent is the one before, which read the delta's texts in some order
   pub read : (texts : List (List ℕ)) × AreDeltaTexts visited.jar.delta texts
-      × (visited.agent ≡ after_texts standard_key request.site.now request.moment texts before)
+      × (visited.agent
+      ≡ store_after_texts standard_key request.site.now request.moment texts before)
   -- where each accepted call is scoped, then whatever the order and the repetition of the delta's texts, each header
   -- that is then sent to the site is read as what the jar shows
   pub agrees : (scopes : Name → ScopeView) → IsOurStore scopes before
@@ -43,7 +44,7 @@ pub record IsVisited (before : Store) (request : AgentRequest) (visited : Visite
       → (texts : List (List ℕ)) → AreDeltaTexts visited.jar.delta texts
       → (header : List ℕ)
       → IsHeader request.site.now request.moment
-      (after_texts standard_key request.site.now request.moment texts before) header
+      (store_after_texts standard_key request.site.now request.moment texts before) header
       → SiteAgrees visited.jar header
   -- and what is stored stays so
   pub ours : (scopes : Name → ScopeView) → IsOurStore scopes before

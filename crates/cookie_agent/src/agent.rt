@@ -2,17 +2,14 @@
 ghost use Rattle.std.specs.Prelude.{◌≡◌, [], false, Some, IfOk, OnOk, OnErr, is_some, string_bytes};
 ghost use Rattle.cookie.specs.CookieOf.{cookie_of};
 ghost use Rattle.cookie.specs.Jar.{Name};
-ghost use Rattle.cookie.specs.Memory.{Gives};
 ghost use Rattle.cookie_agent.specs.Agreement.{IsOurStore};
 ghost use Rattle.cookie_agent.specs.Apart.{IsApart};
 ghost use Rattle.cookie_agent.specs.Keys.{IsFollowedByAnyKey};
 ghost use Rattle.cookie_agent.specs.Removals.{IsMissed};
 ghost use Rattle.cookie_agent.specs.Scopes.{ScopeView};
 ghost use Rattle.cookie_agent.specs.Sent.{IsOrderedHeader};
-ghost use Rattle.cookie_agent.specs.Store.{IsKey, after_cookie, after_text, browser_key, put, standard_key, unexpired};
-ghost use Rattle.cookie_agent.specs.declared.agent_error.AgentError.TheVariants as refusal;
+ghost use Rattle.cookie_agent.specs.Store.{IsKey, store_after_cookie, store_after_text, browser_key, put, standard_key, unexpired};
 
-use crate::agent_error::AgentError;
 use crate::header::{by_path, joined_pairs, visible};
 use crate::site::Site;
 use crate::stored::StoredCookie;
@@ -58,10 +55,10 @@ impl Agent {
     ///
     /// A cookie whose domain the site may set takes the place of the one with its name, domain and path, or comes last,
     /// as it stands there, with nothing decoded; what is expired is dropped, so a cookie that is expired drops the one
-    /// in whose place it comes. Fails with `AgentError::OutOfMemory` alone, and then the agent is as before.
-    pub fn read(&mut self, site: &Site, text: &str, now: DateTime) -> Result<bool, AgentError>
-        ensures gives { Gives refusal.OutOfMemory result (λ is_cookie.
-            (self.new ≡ after_text standard_key site.now now text.now self.old)
+    /// in whose place it comes. Fails only if out of memory, and then the agent is as before.
+    pub fn read(&mut self, site: &Site, text: &str, now: DateTime) -> Result<bool, AllocError>
+        ensures gives { IfOk result (λ is_cookie.
+            (self.new ≡ store_after_text standard_key site.now now text.now self.old)
             × (is_cookie ≡ is_some (cookie_of false text.now))) }
         ensures err { OnErr result (self.new ≡ self.old) }
         ensures missed { OnOk result (
@@ -80,9 +77,9 @@ impl Agent {
     }
 
     // Takes a cookie that was read.
-    fn take(&mut self, site: &Site, cookie: &Cookie<'_>, now: DateTime) -> Result<(), AgentError>
-        ensures gives { Gives refusal.OutOfMemory result (λ _.
-            self.new ≡ after_cookie standard_key site.now now (Some cookie.now.fields) self.old) }
+    fn take(&mut self, site: &Site, cookie: &Cookie<'_>, now: DateTime) -> Result<(), AllocError>
+        ensures gives { IfOk result (λ _. self.new
+            ≡ store_after_cookie standard_key site.now now (Some cookie.now.fields) self.old) }
         ensures err { OnErr result (self.new ≡ self.old) }
     {
         match site.scope(self.alloc, cookie.path(), cookie.domain())? {
@@ -103,19 +100,19 @@ impl Agent {
     }
 
     /// The value of the `Cookie` header of a request to the site at a moment in UTC (RFC 6265 5.4): longer paths first,
-    /// and the earlier creation first among equals. Fails with `AgentError::OutOfMemory` alone.
-    pub fn header(&self, site: &Site, now: DateTime) -> Result<String, AgentError>
-        ensures { Gives refusal.OutOfMemory result (λ header.
+    /// and the earlier creation first among equals. Fails only if out of memory.
+    pub fn header(&self, site: &Site, now: DateTime) -> Result<String, AllocError>
+        ensures { IfOk result (λ header.
             IsOrderedHeader site.now now self.now (string_bytes header)) }
     {
         let sent = visible(self.alloc, &self.cookies, site, now)?;
         let sent = by_path(sent)?;
-        Ok(joined_pairs(self.alloc, &sent)?)
+        joined_pairs(self.alloc, &sent)
     }
 
-    /// A user agent that stores the same. Fails with `AgentError::OutOfMemory` alone.
-    pub fn clone(&self) -> Result<Agent, AgentError>
-        ensures { Gives refusal.OutOfMemory result (λ made. made ≡ self.now) }
+    /// A user agent that stores the same. Fails only if out of memory.
+    pub fn clone(&self) -> Result<Agent, AllocError>
+        ensures { IfOk result (λ made. made ≡ self.now) }
     {
         Ok(Agent {
             alloc: self.alloc,

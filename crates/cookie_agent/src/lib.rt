@@ -2,7 +2,6 @@
 #![tactic(auto)]
 
 mod agent;
-mod agent_error;
 mod expiry;
 mod header;
 mod matching;
@@ -15,7 +14,6 @@ mod stored;
 mod visited;
 
 pub use agent::Agent;
-pub use agent_error::AgentError;
 pub use request::AgentRequest;
 pub use requests::{visit, visits};
 pub use scope::Scope;

@@ -1,7 +1,6 @@
 //! Whether a user agent can follow a call.
 ghost use Rattle.std.specs.Prelude.{◌≡◌, ◌↔◌, true, IsTrue};
 ghost use Rattle.std.specs.Option.{option_copied};
-ghost use Rattle.cookie.specs.Text.{prints_secure};
 ghost use Rattle.cookie_client.specs.Calls.{asked_of_child, change_of, prefixed_by, stored_by, stored_with};
 ghost use Rattle.cookie_client.specs.Live.{is_live};
 ghost use Rattle.cookie_agent.specs.Agreement.{lacks_controls};
@@ -10,7 +9,7 @@ ghost use Rattle.cookie_agent.specs.ScopedCode.{begins_plainly, is_asked, is_nam
 
 use crate::scope::Scope;
 use crate::site::Site;
-use cookie::{Cookie, SameSite};
+use cookie::Cookie;
 use cookie_client::{ChildCall, JarCall, PrefixKind, is_live};
 use jiff::civil::DateTime;
 
@@ -94,7 +93,7 @@ fn is_removal(cookie: &Cookie<'_>, site: &Site, scope: &Scope) -> bool
             scope,
             cookie.domain(),
             cookie.path(),
-            prints_secure(cookie),
+            cookie.prints_secure(),
         )
 }
 
@@ -175,16 +174,4 @@ fn is_name(text: &str) -> bool
     ensures { result ≡ is_name text.now }
 {
     !text.is_empty()
-}
-
-// Whether `Secure` is printed.
-fn prints_secure(cookie: &Cookie<'_>) -> bool
-    ensures { result ≡ prints_secure cookie.now.fields }
-{
-    let is_partitioned = cookie.partitioned() == Some(true);
-    match cookie.secure() {
-        Some(true) => true,
-        Some(false) => is_partitioned,
-        None => is_partitioned || matches!(cookie.same_site(), Some(SameSite::None)),
-    }
 }

@@ -1,14 +1,12 @@
 //! Where a request goes (RFC 6265 5.1.2 to 5.1.4).
-ghost use Rattle.std.specs.Prelude.{◌≡◌, true, false, IfOk, string_bytes};
+ghost use Rattle.std.specs.Prelude.{◌≡◌, true, false, IfOk, codes, eqb, string_bytes};
+ghost use Rattle.std.specs.List.{starts_with};
 ghost use Rattle.std.specs.Option.{option_copied};
-ghost use Rattle.cookie.specs.Memory.{Gives};
 ghost use Rattle.cookie_agent.specs.Prefixes.{AreHostBound, AreSecured, IsScopedWhole, host_scope};
 ghost use Rattle.cookie_agent.specs.Scopes.{own_scope, path_of, reaches, scope_by, wide_scope};
 ghost use Rattle.cookie_agent.specs.ScopedCode.{gives_own, gives_scope, gives_wide};
 ghost use Rattle.cookie_agent.specs.Site.{default_path, domain_matches, path_matches, request_path, site_of};
-ghost use Rattle.cookie_agent.specs.declared.agent_error.AgentError.TheVariants as refusal;
 
-use crate::agent_error::AgentError;
 use crate::matching::{default_path, host_matches, path_matches};
 use crate::scope::Scope;
 use std::alloc::{AllocError, Global};
@@ -45,24 +43,23 @@ impl Model for Site {
 
 impl Site {
     /// The site of a host name, without its port, and of a request's path, without its query. The host is taken in
-    /// lower case; a path that doesn't begin with `/` gets one, so an empty one is `/`. Fails with
-    /// `AgentError::OutOfMemory` alone.
-    pub fn new(alloc: Global, host: &str, path: &str, is_secure: bool) -> Result<Site, AgentError>
-        ensures { Gives refusal.OutOfMemory result (λ site.
+    /// lower case; a path that doesn't begin with `/` gets one, so an empty one is `/`. Fails only if out of memory.
+    pub fn new(alloc: Global, host: &str, path: &str, is_secure: bool) -> Result<Site, AllocError>
+        ensures { IfOk result (λ site.
             site ≡ site_of host.now false path.now is_secure) }
     {
         Site::of_parts(alloc, host, false, path, is_secure)
     }
 
-    /// The same of a host that is an IP address, which no domain but itself matches (RFC 6265 5.1.3). Fails with
-    /// `AgentError::OutOfMemory` alone.
+    /// The same of a host that is an IP address, which no domain but itself matches (RFC 6265 5.1.3). Fails only
+    /// if out of memory.
     pub fn of_address(
         alloc: Global,
         host: &str,
         path: &str,
         is_secure: bool,
-    ) -> Result<Site, AgentError>
-        ensures { Gives refusal.OutOfMemory result (λ site.
+    ) -> Result<Site, AllocError>
+        ensures { IfOk result (λ site.
             site ≡ site_of host.now true path.now is_secure) }
     {
         Site::of_parts(alloc, host, true, path, is_secure)
@@ -74,8 +71,8 @@ impl Site {
         is_address: bool,
         path: &str,
         is_secure: bool,
-    ) -> Result<Site, AgentError>
-        ensures { Gives refusal.OutOfMemory result (λ site.
+    ) -> Result<Site, AllocError>
+        ensures { IfOk result (λ site.
             site ≡ site_of host.now is_address path.now is_secure) }
     {
         Ok(Site {
@@ -108,15 +105,14 @@ impl Site {
     }
 
     /// The scope of a cookie with this path and this domain that is set or removed at the site, if it may have that
-    /// domain, and else `None` (RFC 6265 5.3). An empty domain counts as none. Fails with `AgentError::OutOfMemory`
-    /// alone.
+    /// domain, and else `None` (RFC 6265 5.3). An empty domain counts as none. Fails only if out of memory.
     pub fn scope(
         &self,
         alloc: Global,
         path: Option<&str>,
         domain: Option<&str>,
-    ) -> Result<Option<Scope>, AgentError>
-        ensures { Gives refusal.OutOfMemory result (λ scope.
+    ) -> Result<Option<Scope>, AllocError>
+        ensures { IfOk result (λ scope.
             scope ≡ scope_by self.now (option_copied domain.entry) (option_copied path.entry)) }
     {
         let Some(domain) = domain else {
@@ -125,32 +121,32 @@ impl Site {
         if domain.is_empty() {
             return Ok(Some(self.own_scope(alloc, path)?));
         }
-        Ok(self.wide_scope(alloc, domain, path)?)
+        self.wide_scope(alloc, domain, path)
     }
 
     /// The whole host of the site and no other, which is the scope of each cookie with the path `/` and without a
-    /// domain, and so of all that a jar with the prefix `__Host-` stores and removes (RFC 6265bis 4.1.3). Fails with
-    /// `AgentError::OutOfMemory` alone.
-    pub fn host_scope(&self, alloc: Global) -> Result<Scope, AgentError>
-        ensures { Gives refusal.OutOfMemory result (λ scope. scope ≡ host_scope self.now) }
-    {
-        Ok(self.own_scope(alloc, Some("/"))?)
-    }
+    /// domain, and so of all that a jar with the prefix `__Host-` stores and removes (RFC 6265bis 4.1.3). Fails only if
+    /// out of memory.
+    #[tactic(auto, using(crate::proofs::PrefixLemmas::host_reaches))]
+    pub fn host_scope(&self, alloc: Global) -> Result<Scope, AllocError>
+        ensures value { IfOk result (λ scope. scope ≡ host_scope self.now) }
 
-    /// What holds at every site: it sees its whole host, which is the scope of each cookie with the path `/` and
-    /// without a domain; and what jars with the prefixes `__Host-` and `__Secure-` store and remove meets what a
-    /// browser asks of such names (RFC 6265bis 5.7). It does nothing.
-    pub fn known(&self)
+        // Each site sees its whole host, and each cookie with the path `/` and without a domain has it.
         ensures reaches { reaches self.now (host_scope self.now) ≡ true }
         ensures whole { IsScopedWhole self.now }
+
+        // What jars with the prefixes `__Host-` and `__Secure-` store and remove meets what a browser asks of such
+        // names (RFC 6265bis 5.7).
         ensures host_bound { AreHostBound self.now }
         ensures secured { AreSecured }
     {
-        let _path = self.path.as_str();
+        self.own_scope(alloc, Some("/"))
     }
 
     fn own_scope(&self, alloc: Global, path: Option<&str>) -> Result<Scope, AllocError>
-        ensures { IfOk result (λ scope. scope ≡ own_scope self.now (option_copied path.entry)) }
+        ensures scope { IfOk result (λ scope.
+            scope ≡ own_scope self.now (option_copied path.entry)) }
+        ensures path { starts_with eqb self.now.path (codes "/") ≡ true }
     {
         Ok(Scope {
             domain: String::from_str(alloc, self.host.as_str())?,

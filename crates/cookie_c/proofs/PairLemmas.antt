@@ -108,7 +108,7 @@ module _ (h : List ℕ) (s e : ℕ) (le : s ≤ e) (last : e ≤ length h)
         | inr (all, none) ↦ ([], pieces-cut (drop s h) this_piece.bytes None all lacks, sym (ap (λ t. next_in (e + 1) (pieces t)) none ∙ no_piece (e + 1)))
       ]
 
-  -- this one is passed over if it is blank
+  -- this one is skipped if it is blank
   pub blank_piece : is_blank this_piece.bytes ≡ true → next_piece h s ≡ next_piece h (e + 1)
   unfolding next_piece
   blank_piece b =

@@ -11,7 +11,8 @@ use Rattle.cookie_c.specs.declared.next_piece.NextPiece.TheVariants as piece
 pub record IsTextOf (header : List ℕ) (p : HeaderPiece) (text : List ℕ) (start rest : ℕ)
     : Type 0 where
   pub trimmed : text ≡ trim p.bytes
-  pub place : IsBetween header p.start (end_of p) (record { start = start; length = length text }) text
+  pub place : IsBetween header p.start (end_of p)
+      (record { start = start; length = length text }) text
   pub mark : offset_of 61 text < length text → mark_of p ≡ start + offset_of 61 text
   pub next : rest ≡ rest_after p
 

@@ -1,5 +1,5 @@
--- The pairs of a header for C, and how far they were read (RFC 6265 4.2.1). A header is bytes here: a piece is looked at
--- for UTF-8 before it is trimmed and read, since only a text has white space and a name.
+-- The pairs of a header for C, and how far they were read (RFC 6265 4.2.1). A header is bytes here: whether a piece is
+-- UTF-8 is tested before it is trimmed and read, since only a text has white space and a name.
 use Rattle.std.specs.Prelude.{◌≡◌, ℕ, ◌+◌, ◌&&◌, ◌==◌, ◌⊎◌, Bool, List, [], ◌∷◌, length, drop, Option, Some, None, Err, false, if◌then◌else◌}
 use Rattle.std.specs.Str.{is_utf8, trim}
 use Rattle.cookie.specs.CookieOf.{cookie_of}

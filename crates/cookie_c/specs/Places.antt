@@ -19,7 +19,7 @@ pub record IsBetween (text : List ℕ) (first last : ℕ) (place : Place) (part 
 abbrev pub no_place : Place
 no_place = record { start = 0; length = 0 }
 
--- the place of a span of a text that stands behind so many bytes
+-- the place of a span of a text that stands after this many bytes
 abbrev pub place_behind : ℕ → Span → Place
 place_behind start span = record { start = start + span.start; length = span.end - span.start }
 

@@ -1,4 +1,5 @@
--- A cookie whose parts C hands in (RFC 6265 5.2.1 to 5.2.6): what its numbers say, the other way round than in `Numbers`.
+-- A cookie whose parts C hands in (RFC 6265 5.2.1 to 5.2.6): what its numbers say, the other way round than in
+-- `Numbers`.
 use Rattle.std.specs.Prelude.{◌≡◌, ◌≤◌, ◌==◌, ◌⊎◌, ℕ, pos, Bool, List, Option, Some, None, IsUtf8, if◌then◌else◌}
 use Rattle.jiff.specs.Types.{DateTime}
 use Rattle.jiff.specs.Words.{IsDate, IsTime, IsYmd, IsHms, nanos_of_seconds}
@@ -65,8 +66,8 @@ abbrev pub option_of : {X : Type 0} → ℕ → X → Option X
 option_of number x = if number == 1 then Some x else None
 
 -- the record of these texts and numbers, with its expiry, if it has one, at this date and time
-abbrev pub record_of : List ℕ → List ℕ → List ℕ → List ℕ → Attributes → DateTime → Record
-record_of name value path domain numbers moment =
+abbrev pub record_of_parts : List ℕ → List ℕ → List ℕ → List ℕ → Attributes → DateTime → Record
+record_of_parts name value path domain numbers moment =
     record {
       name = name;
       value = value;

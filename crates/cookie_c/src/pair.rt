@@ -53,8 +53,8 @@ impl Pair {
     }
 }
 
-/// The next pair of a header, from the offset `from` on (RFC 6265 4.2.1), read as `Cookie::split_parse` reads it. A piece
-/// that is UTF-8 and white space only is skipped. It doesn't allocate.
+/// The next pair of a header, from the offset `from` on (RFC 6265 4.2.1), read as `Cookie::split_parse` reads it. A
+/// piece that is UTF-8 and white space only is skipped. It doesn't allocate.
 ///
 /// Refuses a piece that isn't UTF-8, one with no `=`, and one with an empty name. `next` is the offset after the piece
 /// and its semicolon, also where the piece is refused. Without a further piece the status is `Status::NoPair`.

@@ -25,7 +25,7 @@ impl Place {
         }
     }
 
-    // That of a span of a text that stands behind so many bytes.
+    // That of a span of a text that stands after this many bytes.
     pub(crate) fn behind(start: usize, span: Span) -> Place
         requires forward { span.start ≤ span.end }
         requires fits { start + span.end < 2 ^ 64 }

@@ -7,7 +7,7 @@ ghost use Rattle.cookie.specs.Record.{without_leading_dot};
 ghost use Rattle.cookie.specs.Text.{cookie_text};
 ghost use Rattle.cookie.specs.Types.{AtDateTime};
 ghost use Rattle.cookie_c.specs.Answers.{IsGivenInMemory, IsRefused};
-ghost use Rattle.cookie_c.specs.Prints.{AreCodes, IsMoment, IsMomentOf, HasDate, ExpiresAt, AreTexts, IsUnprintable, flag_of, same_site_of, option_of, record_of};
+ghost use Rattle.cookie_c.specs.Prints.{AreCodes, IsMoment, IsMomentOf, HasDate, ExpiresAt, AreTexts, IsUnprintable, flag_of, same_site_of, option_of, record_of_parts};
 ghost use Rattle.cookie_c.specs.declared.status.Status.TheVariants as status;
 
 use crate::answer::Answer;
@@ -46,7 +46,7 @@ pub extern "C" fn cookie_print(
         → ExpiresAt attributes.now moment
         → AreTexts name.now value.now path.now domain.now attributes.now
         → IsGivenInMemory (cookie_text is_escaped false
-        (record_of name.now value.now path.now domain.now attributes.now moment))
+        (record_of_parts name.now value.now path.now domain.now attributes.now moment))
         result out.old out.new }
 {
     match cookie_of(name, value, path, domain, attributes) {
@@ -89,7 +89,8 @@ fn cookie_of<'a>(
         (λ cookie. AreCodes numbers.now × HasDate numbers.now
         × AreTexts name.now value.now path.now domain.now numbers.now
         × ((moment : CivilDateTime) → ExpiresAt numbers.now moment
-        → cookie.fields ≡ record_of name.now value.now path.now domain.now numbers.now moment))
+        → cookie.fields
+        ≡ record_of_parts name.now value.now path.now domain.now numbers.now moment))
         (IsUnprintable name.now value.now path.now domain.now numbers.now) }
 {
     if !are_codes(numbers) {

@@ -1,11 +1,13 @@
 -- What holds of a call as it is handed in holds of the change that it makes, and of what that puts into the delta.
-use Rattle.std.proofs.Common.{Bool, true, false, inl, inr, List, [], ◌∷◌, refl, All}
-use Rattle.std.proofs.lemmas.List.Elements.{All-nil, All-cons, All-head, All-tail, All-map, All-weaker}
+use Rattle.std.proofs.Common.{◌≡◌, Bool, true, false, inl, inr, List, [], ◌∷◌, Result, Ok, Err, OnOk, is_ok, refl, sym, ◌∙◌, All}
+use Rattle.std.proofs.lemmas.Bool.{false≢true}
+use Rattle.std.specs.List.{AllZip}
+use Rattle.std.proofs.lemmas.List.Elements.{All-nil, All-cons, All-map, All-weaker}
 use Rattle.jiff.specs.Types.{DateTime}
 use Rattle.cookie.specs.History.{after_all, accepted_items}
 use Rattle.cookie.specs.Jar.{JarState, Change, AddOriginal, Add, Remove, ForceRemove, ResetDelta}
 use Rattle.cookie.specs.Keys.{encryption_half, signing_half}
-use Rattle.cookie_client.specs.Calls.{Handling, asked_of, change_of, changes_of, handling_of, stored_by, IsFit, IsFitCall, IsKnownChange}
+use Rattle.cookie_client.specs.Calls.{Handling, asked_of, change_of, changes_of, handling_of, stored_by, IsFit, IsFitCall, IsKnownChange, IsOutcome}
 use Rattle.cookie_client.specs.declared.call.JarCall.{JarCall}
 use Rattle.cookie_client.specs.declared.call.JarCall.TheVariants as calls
 use Rattle.cookie_client.proofs.EntryLemmas.{AreEntries, Puts, AreEntries-after_all}
@@ -47,16 +49,19 @@ known_change call known = known_stored (handling_of call) (faithful call) (asked
 fit_change : (now : DateTime) (call : JarCall) → IsFitCall now call → IsFit now (change_of call)
 fit_change now call fit = fit_stored (handling_of call) (faithful call) now (asked_of call) fit
 
-pub All-accepted_items : {X : Type 0} (P : X → Type 0) (outcomes : List Bool) (xs : List X) → All P xs → All P (accepted_items outcomes xs)
-All-accepted_items P [] xs all = All-nil P
-All-accepted_items P (b ∷ bs) [] all = All-nil P
-All-accepted_items P (true ∷ bs) (x ∷ xs) all = All-cons P x (accepted_items bs xs) (All-head P x xs all) (All-accepted_items P bs xs (All-tail P x xs all))
-All-accepted_items P (false ∷ bs) (x ∷ xs) all = All-accepted_items P bs xs (All-tail P x xs all)
+-- a call that was accepted
+pub known_accepted : {T E : Type 0} (call : JarCall) (r : Result T E) (outcome : Bool) → outcome ≡ is_ok r → OnOk r (IsKnownChange (asked_of call)) → outcome ≡ true
+    → IsKnownChange (change_of call)
+known_accepted call (Ok value) outcome is known accepted = known_change call known
+known_accepted call (Err error) outcome is known accepted = absurd (false≢true (sym is ∙ accepted))
 
 -- the changes of the accepted calls
-pub known_changes : (outcomes : List Bool) (cs : List JarCall) → All (λ call. IsKnownChange (change_of call)) cs → All IsKnownChange (changes_of outcomes cs)
-known_changes outcomes cs all =
-    All-map IsKnownChange change_of (accepted_items outcomes cs) (All-accepted_items (λ call. IsKnownChange (change_of call)) outcomes cs all)
+pub known_changes : (outcomes : List Bool) (cs : List JarCall) → AllZip IsOutcome cs outcomes → All IsKnownChange (changes_of outcomes cs)
+known_changes [] cs told = All-nil IsKnownChange
+known_changes (outcome ∷ outcomes) [] told = All-nil IsKnownChange
+known_changes (true ∷ outcomes) (call ∷ cs) told =
+    All-cons IsKnownChange (change_of call) (changes_of outcomes cs) (told.0.known refl) (known_changes outcomes cs told.1)
+known_changes (false ∷ outcomes) (call ∷ cs) told = known_changes outcomes cs told.1
 
 -- what is fit as it was handed in is fit as it is stored
 pub fit_changes : (now : DateTime) (outcomes : List Bool) (cs : List JarCall) → All (IsFitCall now) (accepted_items outcomes cs) → All (IsFit now) (changes_of outcomes cs)

@@ -26,7 +26,7 @@ use Rattle.cookie_client.proofs.ReadTextLemmas.{effect, decided}
 lt_le : (n a b : ℤ) → int_lt n a ≡ true → a ≤ℤ b → int_lt n b ≡ true
 lt_le n a b lt le = grind (arith, signed_arith)
 
-later_kept : (e back : Option Expiration) (now : DateTime) → IsExpiryReadBack e back → is_later e now ≡ true → is_later back now ≡ true
+pub later_kept : (e back : Option Expiration) (now : DateTime) → IsExpiryReadBack e back → is_later e now ≡ true → is_later back now ≡ true
 later_kept None None now is later = refl
 later_kept None (Some x) now is later = absurd is
 later_kept (Some expiration.Session) None now is later = refl

@@ -3,6 +3,7 @@ pub mod CallLemmas
 pub mod ChangeLemmas
 pub mod EntriesLemmas
 pub mod EntryLemmas
+pub mod ExchangeLemmas
 pub mod FitLemmas
 pub mod HeaderLemmas
 pub mod LineLemmas

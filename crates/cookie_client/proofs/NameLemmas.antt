@@ -1,35 +1,23 @@
 -- The cookies of a header have names, so a client that holds them holds nothing under the empty name.
-use Rattle.std.proofs.Common.{◌≡◌, ℕ, Bool, true, false, cond, List, [], ◌∷◌, All, Option, Some, None, refl, sym, ap, ◌∙◌}
+use Rattle.std.proofs.Common.{◌≡◌, ℕ, true, List, [], ◌∷◌, All, Option, Some, None, refl, sym, ◌∙◌}
 use Rattle.std.proofs.lemmas.List.Elements.{All-nil, All-cons}
 use Rattle.std.specs.FinMap.{empty, get, get-empty}
 use Rattle.std.specs.List.{filter_map, cons_option}
 use mathlib.Core.Logic.{◌≢◌}
-use Rattle.percent_encoding.specs.Percent.{percent_decode, is_escape}
 use Rattle.cookie.specs.CookieOf.{cookie_of, header_cookies}
 use Rattle.cookie.specs.Header.{header_texts}
 use Rattle.cookie.specs.Jar.{name_cmp}
 use Rattle.cookie.specs.Record.{Record}
 use Rattle.cookie.proofs.CookieOfLemmas.{cookie_of-Reads}
+use Rattle.cookie.proofs.EscapeTextLemmas.{unescape_some}
 use Rattle.cookie_client.specs.Originals.{client_for}
 use Rattle.cookie_client.proofs.AgreementLemmas.{HasName, held_unnamed}
-
--- a text that isn't empty is decoded to one that isn't
-decode_some : (t : List ℕ) → t ≢ [] → percent_decode t ≢ []
-unfolding percent_decode
-decode_some [] some = some
-decode_some (b ∷ []) some = λ empty. cc
-decode_some (b ∷ c ∷ []) some = λ empty. cc
-decode_some (b ∷ high ∷ low ∷ rest) some = first (is_escape b high low) _ _ _ _
-  where
-    first : (is : Bool) (x y : ℕ) (xs ys : List ℕ) → cond is (x ∷ xs) (y ∷ ys) ≢ []
-    first true x y xs ys = λ empty. cc
-    first false x y xs ys = λ empty. cc
 
 -- what is read has a name
 read_named : (text : List ℕ) (cookie : Record) → cookie_of true text ≡ Some cookie → HasName cookie
 read_named text cookie is =
     let (p, ps, pieces, (n, v, pair, some, name, value, sets)) = (cookie_of-Reads true text cookie).0 is in
-    λ empty. decode_some n some (sym name.0 ∙ empty)
+    λ empty. unescape_some n some (sym name.0 ∙ empty)
 
 -- so have all that are read of texts
 all_read_named : (texts : List (List ℕ)) → All HasName (filter_map (cookie_of true) texts)

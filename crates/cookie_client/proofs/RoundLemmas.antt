@@ -26,7 +26,7 @@ use Rattle.cookie_client.specs.Rounds.{IsFitChange, IsRound, AreRounds}
 use Rattle.cookie_client.specs.ExchangeCode.{IsHeaderOf}
 use Rattle.cookie_client.specs.declared.call.JarCall.{JarCall}
 use Rattle.cookie_client.specs.declared.exchange.Played.{Played}
-use Rattle.cookie_client.specs.declared.request.Request.{Request}
+use Rattle.cookie_client.specs.declared.request.ClientRequest.{ClientRequest}
 use Rattle.cookie_client.proofs.AgreementLemmas.{kept_originals, some_value}
 use Rattle.cookie_client.proofs.EntriesLemmas.{T-true, find_below}
 use Rattle.cookie_client.proofs.HeaderLemmas.{Pair, plain_of}
@@ -188,7 +188,7 @@ round_of now before header cs played is visit =
 
 -- ---- many requests
 
-pub rounds-length : (now : DateTime) (client : Values) (requests : List Request) (played : List Played) → AreRounds now client requests played → length played ≡ length requests
+pub rounds-length : (now : DateTime) (client : Values) (requests : List ClientRequest) (played : List Played) → AreRounds now client requests played → length played ≡ length requests
 rounds-length now client [] [] are = refl
 rounds-length now client [] (one ∷ played) are = absurd are
 rounds-length now client (request ∷ requests) [] are = absurd are

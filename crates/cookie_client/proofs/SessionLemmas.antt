@@ -15,12 +15,11 @@ use Rattle.std.specs.Result.{result_map_both}
 use Rattle.std.specs.Ordering.{is_lt, eq_by_cmp}
 use Rattle.std.specs.Str.{bytes_eq}
 use Rattle.jiff.specs.Types.{DateTime}
-use Rattle.cookie.specs.History.{accepted_items, after_all}
-use Rattle.cookie.specs.Jar.{Change, JarState, Marked, Name, name_cmp, after}
+use Rattle.cookie.specs.History.{accepted_items}
+use Rattle.cookie.specs.Jar.{Change, Marked, Name, name_cmp}
 use Rattle.cookie.specs.Record.{Record}
 use Rattle.cookie_client.specs.Lines.{lines_of, without_return}
-use Rattle.cookie_client.specs.Session.{Fault, BadLine, call_of, jar_after}
-use Rattle.cookie_client.specs.Run.{changes_in}
+use Rattle.cookie_client.specs.Session.{Fault, BadLine, call_of, changes_in}
 
 -- ---- what is made of each of a map's values
 
@@ -131,32 +130,6 @@ more_changes front change (Err fault) = refl
 pub no_changes : (r : Result (List Change) Fault) → result_map_both (λ changes. [] ++ changes) (λ fault. fault) r ≡ r
 no_changes (Ok changes) = refl
 no_changes (Err fault) = refl
-
--- ---- the jar that the lines lead to
-
--- where a line leads, and then the others
-where_next : DateTime → ℕ → List (List ℕ) → Option JarState → Result JarState Fault
-where_next now n lines o = elim o as (λ _. Result JarState Fault) [ None ↦ Err (BadLine n) | Some next ↦ jar_after now (n + 1) lines next ]
-
--- it is what the changes make of it
-pub jar_after-changes : (now : DateTime) (n : ℕ) (lines : List (List ℕ)) (jar : JarState)
-    → jar_after now n lines jar ≡ result_map_both (λ changes. after_all changes jar) (λ fault. fault) (changes_in now n lines)
-unfolding where_next asked_next
-jar_after-changes now n [] jar = refl
-jar_after-changes now n ([] ∷ lines) jar = jar_after-changes now (n + 1) lines jar
-jar_after-changes now n ((c ∷ cs) ∷ lines) jar = by (λ next. jar_after-changes now (n + 1) lines next) (call_of now (c ∷ cs))
-  where
-    through : (change : Change) (r : Result (List Change) Fault)
-        → result_map_both (λ changes. after_all changes (after change jar)) (λ fault. fault) r
-        ≡ result_map_both (λ changes. after_all changes jar) (λ fault. fault) (result_map_both (λ changes. change ∷ changes) (λ fault. fault) r)
-    through change (Ok changes) = refl
-    through change (Err fault) = refl
-
-    by : ((next : JarState) → jar_after now (n + 1) lines next ≡ result_map_both (λ changes. after_all changes next) (λ fault. fault) (changes_in now (n + 1) lines))
-        → (o : Option Change) → where_next now n lines (option_map (λ call. after call jar) o)
-        ≡ result_map_both (λ changes. after_all changes jar) (λ fault. fault) (asked_next now n lines o)
-    by later None = refl
-    by later (Some change) = later (after change jar) ∙ through change (changes_in now (n + 1) lines)
 
 -- all calls were accepted
 pub accepted_items-all : {X : Type 0} (outcomes : List Bool) (xs : List X) → length outcomes ≡ length xs → list_all (λ b. b) outcomes ≡ true → accepted_items outcomes xs ≡ xs

@@ -1,7 +1,7 @@
 -- The client half of the main theorem: after any list of jar calls, a client that held each name's last accepted
 -- original and has read the delta's encoded texts, in any order and with any repetition, agrees with the jar. A call
 -- that was refused counts as not made: nothing is asked of it.
-use Rattle.std.specs.Prelude.{◌≡◌, ℕ, Bool, true, false, List, [], reverse, Option, Some, None, option_map, All}
+use Rattle.std.specs.Prelude.{◌≡◌, ℕ, Bool, false, List, [], reverse, Option, Some, None, option_map, All}
 use Rattle.std.specs.FinMap.{get}
 use Rattle.std.specs.Str.{bytes_eq}
 use Rattle.jiff.specs.Types.{DateTime}

@@ -118,10 +118,12 @@ abbrev pub IsUnsealable : JarCall → Type 0
 IsUnsealable (calls.Private key nonce call) = IsTooLong (asked_of_child call)
 IsUnsealable call = ⊥
 
--- the outcome of a call: true for one that is never refused, false for one that always is
+-- the outcome of a call: true for one that is never refused, false for one that always is; the cookie in the change of
+-- an accepted one is what the type of a cookie says
 pub record IsOutcome (call : JarCall) (outcome : Bool) : Type 0 where
   pub accepted : is_certain (change_of call) ≡ true → outcome ≡ true
   pub refused : IsUnsealable call → outcome ≡ false
+  pub known : outcome ≡ true → IsKnownChange (change_of call)
 
 -- ---- which calls a client can follow
 

@@ -8,13 +8,6 @@ use Rattle.cookie.specs.Jar.{Change, JarState, after}
 use Rattle.cookie.specs.Record.{plain}
 use Rattle.cookie_client.specs.Client.{Values, header_text}
 use Rattle.cookie_client.specs.Originals.{holding}
-use Rattle.cookie_client.specs.declared.originals.Originals.{Originals}
-use Rattle.cookie_client.specs.declared.originals.Originals.TheVariants as originals
-
--- the values that a client holds once the changes were made
-abbrev pub after_originals : Originals → List Change → Values → Values
-after_originals originals.Told changes values = holding (originals_of changes) values
-after_originals originals.Untold changes values = values
 
 -- where the jar is what the change made of one before, the client holds what it added as an original
 abbrev pub HoldsAdded : {T E : Type 0} → Change → JarState → Values → Values → Result T E → Type 0

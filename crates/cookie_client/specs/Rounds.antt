@@ -12,7 +12,7 @@ use Rattle.cookie_client.specs.Exchange.{IsExchange, accepted_calls, changes_by}
 use Rattle.cookie.specs.Originals.{jar_for}
 use Rattle.cookie_client.specs.declared.call.JarCall.{JarCall}
 use Rattle.cookie_client.specs.declared.exchange.Played.{Played}
-use Rattle.cookie_client.specs.declared.request.Request.{Request}
+use Rattle.cookie_client.specs.declared.request.ClientRequest.{ClientRequest}
 
 -- a call that a client can follow, and that is an addition but no original, or a removal
 abbrev pub IsFitChange : DateTime → JarCall → Type 0
@@ -40,7 +40,7 @@ pub record IsRound (now : DateTime) (before : Values) (calls : List JarCall)
   pub named : get played.client [] ≡ None
 
 -- Requests came to this, one after the other. The client of each goes on to the next.
-abbrev pub AreRounds : DateTime → Values → List Request → List Played → Type 0
+abbrev pub AreRounds : DateTime → Values → List ClientRequest → List Played → Type 0
 AreRounds now client [] [] = Unit {0}
 AreRounds now client [] (one ∷ played) = ⊥
 AreRounds now client (request ∷ requests) [] = ⊥

@@ -1,9 +1,8 @@
 -- How what a run answered and wrote fits its session.
-use Rattle.std.specs.Prelude.{◌≡◌, ◌+◌, ℕ, false, List, [], ◌∷◌, ◌++◌, ◌<◌, drop, length, take, Option, Some, None, Result, Ok, Err, OnOk}
+use Rattle.std.specs.Prelude.{◌≡◌, ℕ, false, List, [], ◌++◌, ◌<◌, drop, length, take, Option, Some, None, Result, Ok, Err, OnOk}
 use Rattle.std.specs.FinMap.{get}
 use Rattle.std.specs.Io.KnownBytes.{Keeps, Appends, Consumes, IsAtEnd}
 use Rattle.std.specs.List.{list_any}
-use Rattle.std.specs.Result.{result_map_both}
 use Rattle.jiff.specs.Types.{DateTime}
 use Rattle.cookie.specs.History.{after_all}
 use Rattle.cookie.specs.Jar.{Name, JarState, Change}
@@ -12,7 +11,7 @@ use Rattle.cookie_client.specs.Client.{ReadsBack, Values}
 use Rattle.cookie_client.specs.Lines.{lines_of}
 use Rattle.cookie.specs.Originals.{jar_for}
 use Rattle.cookie_client.specs.Originals.{client_for}
-use Rattle.cookie_client.specs.Session.{Fault, BadMoment, BadInput, BadLine, call_of, cookie_line, delta_texts, moment_of, session, set_cookie_lines}
+use Rattle.cookie_client.specs.Session.{Fault, BadMoment, BadInput, BadLine, changes_in, cookie_line, delta_texts, header_line, moment_of, session, set_cookie_lines}
 use Rattle.cookie_client.specs.declared.run_error.RunError.{RunError}
 use Rattle.cookie_client.specs.declared.run_error.RunError.TheVariants as refusal
 
@@ -52,22 +51,6 @@ IsPlayed moment is_read old new (Err (refusal.BadLine line)) =
 IsPlayed moment is_read old new (Err refusal.OutOfMemory) = Keeps old new
 IsPlayed moment is_read old new (Err refusal.Input) = Keeps old new
 
--- the changes that the lines ask for, of which the first line is number n, or the first bad line
-abbrev pub changes_in : DateTime → ℕ → List (List ℕ) → Result (List Change) Fault
-changes_in now n [] = Ok []
-changes_in now n ([] ∷ lines) = changes_in now (n + 1) lines
-changes_in now n ((c ∷ cs) ∷ lines) =
-    elim (call_of now (c ∷ cs)) as (λ _. Result (List Change) Fault) [
-      | None ↦ Err (BadLine n)
-      | Some change ↦ result_map_both (λ changes. change ∷ changes) (λ fault. fault)
-          (changes_in now (n + 1) lines)
-    ]
-
--- the first line, if there is one
-abbrev pub header_line : List (List ℕ) → List ℕ
-header_line [] = []
-header_line (header ∷ lines) = header
-
 -- The text is the delta of a jar and the header of a client that agrees with it.
 pub record IsOfAgreement (now : DateTime) (lines : List (List ℕ)) (text : List ℕ) : Type 0 where
   -- what the lines behind the first ask for
@@ -94,3 +77,18 @@ abbrev pub IsAgreed : {T : Type 0} → List ℕ → (List ℕ → Type 0) → Op
 IsAgreed moment is_read old new result = OnOk result (
     (now : DateTime) × (moment_of moment ≡ Some now) × (bytes : List ℕ) × is_read bytes
     × (text : List ℕ) × IsOfAgreement now (lines_of bytes) text × Appends old new text)
+
+-- What a run returns, reads and writes. `remaining` is what a reader has left, and `contents` what a writer has got.
+pub record PlaysSession {T I O : Type 0} (moment : List ℕ) (remaining : I → Option (List ℕ))
+    (contents : O → Option (List ℕ)) (input input' : I) (output output' : O)
+    (result : Result T RunError)
+    : Type 0 where
+  -- it returns what the session of the moment and of the input's bytes is, and writes its text
+  pub played : IsPlayed moment (IsRead (remaining input) (remaining input')) (contents output)
+      (contents output') result
+  -- the client whose header is written agrees with the jar whose delta is written
+  pub agreement : IsAgreed moment (IsRead (remaining input) (remaining input')) (contents output)
+      (contents output') result
+  -- a bad moment is reported before anything is read
+  pub bad_moment : moment_of moment ≡ None
+      → (result ≡ Err refusal.BadMoment) × (input' ≡ input) × (output' ≡ output)

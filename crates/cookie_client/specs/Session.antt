@@ -6,10 +6,12 @@
 use Rattle.std.specs.Prelude.{ℕ, ◌+◌, pos, int_lt, true, false, List, [], ◌∷◌, ◌++◌, map, drop, option_and_then, option_map, Option, Some, None, Result, Ok, Err, codes, eqb, if◌then◌else◌}
 use Rattle.std.specs.FinMap.{entries}
 use Rattle.std.specs.List.{starts_with}
+use Rattle.std.specs.Result.{result_map_both}
 use Rattle.std.specs.Str.{trim, is_utf8, bytes_eq}
 use Rattle.jiff.specs.Types.{DateTime}
 use Rattle.cookie.specs.CookieOf.{cookie_of}
-use Rattle.cookie.specs.Jar.{JarState, Change, Add, Remove, ForceRemove, ResetDelta, after}
+use Rattle.cookie.specs.History.{after_all}
+use Rattle.cookie.specs.Jar.{JarState, Change, Add, Remove, ForceRemove, ResetDelta}
 use Rattle.cookie.specs.Moments.{date_of}
 use Rattle.cookie.specs.Record.{plain}
 use Rattle.cookie.specs.Text.{cookie_text}
@@ -48,19 +50,22 @@ call_of now line =
     else if starts_with eqb line (codes "remove ") then removal_of now (trim (drop 7 line))
     else discarding_of line
 
--- the jar after a line: an empty line changes nothing, and another that asks for no call is bad
-abbrev pub jar_after_line : DateTime → List ℕ → JarState → Option JarState
-jar_after_line now [] jar = Some jar
-jar_after_line now (c ∷ cs) jar = option_map (λ call. after call jar) (call_of now (c ∷ cs))
-
--- the jar after the lines, of which the first is number n, or the first bad line
-abbrev pub jar_after : DateTime → ℕ → List (List ℕ) → JarState → Result JarState Fault
-jar_after now n [] jar = Ok jar
-jar_after now n (line ∷ lines) jar =
-    elim (jar_after_line now line jar) as (λ _. Result JarState Fault) [
+-- the changes that the lines ask for, of which the first line is number n, or the first bad line; an empty line asks
+-- for none
+abbrev pub changes_in : DateTime → ℕ → List (List ℕ) → Result (List Change) Fault
+changes_in now n [] = Ok []
+changes_in now n ([] ∷ lines) = changes_in now (n + 1) lines
+changes_in now n ((c ∷ cs) ∷ lines) =
+    elim (call_of now (c ∷ cs)) as (λ _. Result (List Change) Fault) [
       | None ↦ Err (BadLine n)
-      | Some next ↦ jar_after now (n + 1) lines next
+      | Some change ↦ result_map_both (λ changes. change ∷ changes) (λ fault. fault)
+          (changes_in now (n + 1) lines)
     ]
+
+-- the first line, if there is one
+abbrev pub header_line : List (List ℕ) → List ℕ
+header_line [] = []
+header_line (header ∷ lines) = header
 
 -- the texts of the delta's cookies, in byte order of the names
 abbrev pub delta_texts : JarState → List (List ℕ)
@@ -81,20 +86,14 @@ abbrev pub session_text : DateTime → Values → JarState → List ℕ
 session_text now values jar =
     set_cookie_lines (delta_texts jar) ++ cookie_line (after_texts now (delta_texts jar) values)
 
--- the text of a jar's session, or its fault
-abbrev pub session_end : DateTime → Values → Result JarState Fault → Result (List ℕ) Fault
-session_end now values (Ok jar) = Ok (session_text now values jar)
-session_end now values (Err fault) = Err fault
-
--- the session of a header and the lines behind it
-abbrev pub session_of_header : DateTime → List ℕ → List (List ℕ) → Result (List ℕ) Fault
-session_of_header now header lines =
-    session_end now (client_for header) (jar_after now 2 lines (jar_for header))
-
--- the session of lines, of which the first is the header
+-- the session of lines: the first is the header, and the others ask for changes of its jar
 abbrev pub session_of_lines : DateTime → List (List ℕ) → Result (List ℕ) Fault
-session_of_lines now [] = session_of_header now [] []
-session_of_lines now (header ∷ lines) = session_of_header now header lines
+session_of_lines now lines =
+    result_map_both
+    (λ changes. session_text now (client_for (header_line lines))
+    (after_all changes (jar_for (header_line lines))))
+    (λ fault. fault)
+    (changes_in now 2 (drop 1 lines))
 
 -- the session of bytes at a moment, if they are UTF-8
 abbrev pub session_of_bytes : DateTime → List ℕ → Result (List ℕ) Fault

@@ -1,7 +1,7 @@
 //! Calls on a jar, as values.
-ghost use Rattle.std.specs.Prelude.{◌≡◌, ◌≢◌, ◌↔◌, [], All, IsTrue, IfSome, option_map};
+ghost use Rattle.std.specs.Prelude.{◌≡◌, ◌≢◌, ◌↔◌, [], IsTrue, IfSome, option_map};
 ghost use Rattle.cookie.specs.Pieces.{Lacks};
-ghost use Rattle.cookie_client.specs.Calls.{IsFit, IsFitAddition, IsFitCall, IsKnownChange, asked_of, asked_of_child, change_of, is_change};
+ghost use Rattle.cookie_client.specs.Calls.{IsFit, IsFitAddition, IsFitCall, asked_of_child, change_of, is_change};
 
 use crate::child_call::ChildCall;
 use crate::live::is_live;
@@ -59,20 +59,6 @@ impl<'k> JarCall<'k> {
                 { call.is_change() }
         }
     }
-
-    // What holds of the cookie in the call. It does nothing.
-    fn known(&self)
-        ensures { IsKnownChange (asked_of self.now) }
-    {
-        match self {
-            JarCall::AddOriginal(cookie) | JarCall::Add(cookie) | JarCall::Remove(cookie, _) => {
-                cookie.known()
-            }
-            JarCall::ForceRemove(_) | JarCall::ResetDelta => (),
-            JarCall::Prefixed(_, call) | JarCall::Signed(_, call) | JarCall::Private(_, _, call) =>
-                { call.known() }
-        }
-    }
 }
 
 impl ChildCall {
@@ -89,26 +75,6 @@ impl ChildCall {
         ensures { result ≡ is_change (asked_of_child self.now) }
     {
         matches!(self, ChildCall::Add(_) | ChildCall::Remove(_, _))
-    }
-
-    fn known(&self)
-        ensures { IsKnownChange (asked_of_child self.now) }
-    {
-        match self {
-            ChildCall::AddOriginal(cookie)
-            | ChildCall::Add(cookie)
-            | ChildCall::Remove(cookie, _) => cookie.known(),
-        }
-    }
-}
-
-/// What the types of the cookies in the calls say of them as their jar stores them: their texts are UTF-8, and their
-/// ages are a duration's. It does nothing when it runs.
-pub fn known_calls(calls: &[JarCall<'_>])
-    ensures { All (λ call. IsKnownChange (change_of call)) calls.now }
-{
-    for call in calls {
-        call.known();
     }
 }
 

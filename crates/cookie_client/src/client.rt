@@ -154,7 +154,6 @@ fn push_pair(alloc: Global, header: &mut String, name: &str, value: &str) -> Res
     ensures cookie { IsCookie (plain name.now value.now) }
 {
     let cookie = Cookie::new(name, value);
-    cookie.known();
     let pair = cookie.encoded().stripped().to_string(alloc)?;
     header.push_str(pair.as_str())
 }

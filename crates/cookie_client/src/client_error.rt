@@ -42,6 +42,12 @@ impl<T: Drop> From<AllocFailed<T>> for ClientError {
     }
 }
 
+impl From<ClientError> for AllocError {
+    fn from(_error: ClientError) -> AllocError {
+        AllocError
+    }
+}
+
 impl From<ClientError> for cookie::Error {
     ghost from_gives = { λ _ e. e ≡ failure.OutOfMemory };
 

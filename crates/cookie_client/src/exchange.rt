@@ -1,6 +1,6 @@
 //! A jar, and a client that follows it.
 ghost use Rattle.std.specs.Prelude.{◌≡◌, false, ℕ, List, map, reverse, All, IfOk, OnOk, string_bytes};
-ghost use Rattle.std.specs.FinMap.{empty, get};
+ghost use Rattle.std.specs.FinMap.{get};
 ghost use Rattle.cookie.specs.History.{is_forced, LooksBack};
 ghost use Rattle.cookie.specs.Jar.{Name, empty_jar, view};
 ghost use Rattle.cookie.specs.DeltaTexts.{AreDeltaTexts};
@@ -9,12 +9,11 @@ ghost use Rattle.cookie_client.specs.Calls.{IsFitCall};
 ghost use Rattle.cookie_client.specs.Client.{after_texts};
 ghost use Rattle.cookie_client.specs.Exchange.{IsExchange, accepted_calls, changes_by};
 ghost use Rattle.cookie_client.specs.Originals.{holds_originals};
-ghost use Rattle.cookie_client.specs.ExchangeCode.{after_originals};
 
-use crate::call::{JarCall, known_calls};
+use crate::call::JarCall;
 use crate::client::Client;
 use crate::client_error::ClientError;
-use crate::originals::{Originals, replay_before};
+use crate::originals::replay_told;
 use crate::texts::delta_texts;
 use cookie::CookieJar;
 use jiff::civil::DateTime;
@@ -61,29 +60,9 @@ pub fn mirror(
         → (name : Name) → is_forced name (changes_by calls.now p) ≡ false
         → get p.client name ≡ value_of (view p.jar name)) }
 {
-    let jar = CookieJar::new(alloc);
-    let client = Client::new(alloc);
-    exchange(alloc, jar, client, calls, Originals::Told, pick, now)
-}
-
-// Makes the calls on the jar, and has the client read the delta at the moment `now` in UTC, in the order that `pick`
-// asks for. Where it is told of the originals that accepted calls add, it first holds these.
-pub(crate) fn exchange(
-    alloc: Global,
-    jar: CookieJar,
-    client: Client,
-    calls: &[JarCall<'_>],
-    originals: Originals,
-    pick: &[usize],
-    now: DateTime,
-) -> Result<Played, ClientError>
-    ensures { jar.delta ≡ empty → IfOk result (λ p. IsExchange now jar
-        (after_originals originals (changes_by calls.now p) client) calls.now p) }
-{
-    known_calls(calls);
-    let mut jar = jar;
-    let mut client = client;
-    let outcomes = replay_before(alloc, &mut jar, &mut client, calls, originals)?;
+    let mut jar = CookieJar::new(alloc);
+    let mut client = Client::new(alloc);
+    let outcomes = replay_told(alloc, &mut jar, &mut client, calls)?;
     read_delta(alloc, &mut client, &jar, pick, now)?;
     Ok(Played {
         jar,
@@ -93,7 +72,7 @@ pub(crate) fn exchange(
 }
 
 // Has a client read the delta's texts, in the order that `pick` asks for.
-fn read_delta(
+pub(crate) fn read_delta(
     alloc: Global,
     client: &mut Client,
     jar: &CookieJar,

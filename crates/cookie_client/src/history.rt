@@ -4,7 +4,7 @@ ghost use Rattle.std.specs.List.{AllZip};
 ghost use Rattle.cookie.specs.History.{after_all};
 ghost use Rattle.cookie.specs.Jar.{after};
 ghost use Rattle.cookie.specs.Prefixes.{conforming_cookie};
-ghost use Rattle.cookie_client.specs.Calls.{IsOutcome, IsTooLong, IsUnsealable, asked_of_child, change_of, changes_of, is_certain, sealed_by, signed_by, stored_by, handling};
+ghost use Rattle.cookie_client.specs.Calls.{IsKnownChange, IsOutcome, IsTooLong, IsUnsealable, asked_of, asked_of_child, change_of, changes_of, is_certain, sealed_by, signed_by, stored_by, handling};
 
 use crate::call::JarCall;
 use crate::child_call::ChildCall;
@@ -20,6 +20,7 @@ fn play(alloc: Global, jar: &mut CookieJar, call: &JarCall<'_>) -> Result<(), Ja
     ensures err { OnErr result (jar.new ≡ jar.old) }
     ensures certain { is_certain (change_of call.now) ≡ true → IsOk result }
     ensures refused { IsUnsealable call.now → IsErr result }
+    ensures known { OnOk result (IsKnownChange (asked_of call.now)) }
 {
     match call {
         JarCall::AddOriginal(cookie) => jar.add_original(cookie.clone(alloc)?),
@@ -50,6 +51,7 @@ fn play_prefixed<P: Prefix>(
     ensures ok { OnOk result (let stored = conforming_cookie P.PREFIX P.conformed in jar.new ≡ after
         (stored_by (handling stored stored) (asked_of_child call.now)) jar.old) }
     ensures err { OnErr result (jar.new ≡ jar.old) }
+    ensures known { OnOk result (IsKnownChange (asked_of_child call.now)) }
 {
     let mut child = jar.prefixed_mut(prefix);
     match call {
@@ -69,6 +71,7 @@ fn play_signed(
     ensures ok { OnOk result (jar.new ≡ after
         (stored_by (signed_by key.now) (asked_of_child call.now)) jar.old) }
     ensures err { OnErr result (jar.new ≡ jar.old) }
+    ensures known { OnOk result (IsKnownChange (asked_of_child call.now)) }
 {
     let mut signer = jar.signed_mut(key);
     match call {
@@ -90,6 +93,7 @@ fn play_private(
         (stored_by (sealed_by key.now nonce) (asked_of_child call.now)) jar.old) }
     ensures err { OnErr result (jar.new ≡ jar.old) }
     ensures refused { IsTooLong (asked_of_child call.now) → IsErr result }
+    ensures known { OnOk result (IsKnownChange (asked_of_child call.now)) }
 {
     let mut sealer = jar.private_mut(key);
     match call {

@@ -20,15 +20,16 @@ mod streams;
 mod text_map;
 mod texts;
 
-pub use call::{JarCall, known_calls};
+pub use call::JarCall;
 pub use child_call::ChildCall;
 pub use client::Client;
 pub use client_error::ClientError;
 pub use exchange::{Played, mirror};
 pub use history::replay;
 pub use live::is_live;
+pub use originals::replay_told;
 pub use prefix_kind::PrefixKind;
-pub use request::Request;
+pub use request::ClientRequest;
 pub use requests::rounds;
 pub use run_error::RunError;
 pub use session::{moment_of, run, run_with_hasher};

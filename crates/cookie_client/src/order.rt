@@ -50,7 +50,7 @@ fn pick_place(places: &mut [Place], number: usize) -> usize
     place
 }
 
-// The number, among so many texts that are left, of the one that a turn takes.
+// The number, among this many texts that are left, of the one that a turn takes.
 fn number_of(pick: &[usize], turn: usize, left: usize) -> usize
     requires { 0 < left }
     ensures { result < left }

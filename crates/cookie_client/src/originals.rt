@@ -7,46 +7,23 @@ ghost use Rattle.cookie.specs.History.{after_all, originals_of};
 ghost use Rattle.cookie.specs.Record.{Record};
 ghost use Rattle.cookie_client.specs.Calls.{IsOutcome, Handling, asked_of_child, change_of, changes_of, prefixed_by, stored_by};
 ghost use Rattle.cookie_client.specs.Originals.{holding};
-ghost use Rattle.cookie_client.specs.ExchangeCode.{HoldsAdded, after_originals};
+ghost use Rattle.cookie_client.specs.ExchangeCode.{HoldsAdded};
 
 use crate::call::JarCall;
 use crate::child_call::ChildCall;
 use crate::client::Client;
 use crate::client_error::ClientError;
-use crate::history::{is_accepted, replay};
+use crate::history::is_accepted;
 use crate::prefix_kind::PrefixKind;
 use cookie::CookieJar;
 use std::alloc::Global;
 
-// Whether a client is told of the originals that calls add.
-#[derive(Clone, Copy)]
-pub(crate) enum Originals {
-    Told,
-    Untold,
-}
-
-// Makes the calls as by `replay`. Where the client is told of originals, it holds what each accepted call adds.
-pub(crate) fn replay_before(
-    alloc: Global,
-    jar: &mut CookieJar,
-    client: &mut Client,
-    calls: &[JarCall<'_>],
-    originals: Originals,
-) -> Result<Vec<bool>, ClientError>
-    ensures outcomes { IfOk result (λ outcomes. AllZip IsOutcome calls.now outcomes.items) }
-    ensures jar { IfOk result (λ outcomes.
-        jar.new ≡ after_all (changes_of outcomes.items calls.now) jar.old) }
-    ensures client { IfOk result (λ outcomes. client.new
-        ≡ after_originals originals (changes_of outcomes.items calls.now) client.old) }
-{
-    match originals {
-        Originals::Told => replay_told(alloc, jar, client, calls),
-        Originals::Untold => replay(alloc, jar, calls),
-    }
-}
-
-// Makes the calls, and has the client hold what each accepted call adds as an original, as the jar stores it.
-fn replay_told(
+/// Makes the calls as `replay` does, and has the client hold the value of each original that an accepted call adds, as
+/// the jar stores it. So where the client held nothing before, it now holds the value of each name's last original.
+///
+/// It reads nothing of the jar's delta. A call that is refused is an outcome and no failure. Fails only with
+/// `ClientError::OutOfMemory`. Then some of the calls may have been made, so discard the jar and the client.
+pub fn replay_told(
     alloc: Global,
     jar: &mut CookieJar,
     client: &mut Client,

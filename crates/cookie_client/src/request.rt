@@ -3,7 +3,7 @@ use crate::call::JarCall;
 
 /// The calls that one request makes on its jar. The moments of its removals are in UTC.
 #[derive(Drop)]
-pub struct Request<'a, 'k> {
+pub struct ClientRequest<'a, 'k> {
     /// The calls, in the order in which they are made.
     pub calls: &'a [JarCall<'k>],
 }

@@ -13,9 +13,9 @@ ghost use Rattle.cookie_client.specs.declared.client_error.ClientError.TheVarian
 use crate::call::JarCall;
 use crate::client::Client;
 use crate::client_error::ClientError;
-use crate::exchange::{Played, exchange};
-use crate::originals::Originals;
-use crate::request::Request;
+use crate::exchange::{Played, read_delta};
+use crate::history::replay;
+use crate::request::ClientRequest;
 use cookie::CookieJar;
 use jiff::civil::DateTime;
 use std::alloc::Global;
@@ -34,7 +34,7 @@ use std::alloc::Global;
 /// the calls, and then answers `ClientError::OutOfMemory` and nothing else.
 pub fn rounds(
     alloc: Global,
-    requests: &[Request<'_, '_>],
+    requests: &[ClientRequest<'_, '_>],
     pick: &[usize],
     now: DateTime,
 ) -> Result<Vec<Played>, ClientError>
@@ -54,7 +54,7 @@ pub fn rounds(
 
 // Plays one request of a client that holds what the header tells: its cookies are the originals of the new jar, and all
 // that a new client holds.
-pub(crate) fn visit(
+fn visit(
     alloc: Global,
     jar: CookieJar,
     header: &str,
@@ -66,13 +66,19 @@ pub(crate) fn visit(
     ensures { IfOk result (λ p.
         IsExchange now (jar_for header.now) (client_for header.now) calls.now p) }
 {
-    let jar = jar.with_originals(header)?;
-    let client = client_of(alloc, &jar)?;
-    exchange(alloc, jar, client, calls, Originals::Untold, pick, now)
+    let mut jar = jar.with_originals(header)?;
+    let mut client = client_of(alloc, &jar)?;
+    let outcomes = replay(alloc, &mut jar, calls)?;
+    read_delta(alloc, &mut client, &jar, pick, now)?;
+    Ok(Played {
+        jar,
+        client,
+        outcomes,
+    })
 }
 
 // A client that holds the values of the cookies that the jar shows.
-fn client_of(alloc: Global, jar: &CookieJar) -> Result<Client, ClientError>
+pub(crate) fn client_of(alloc: Global, jar: &CookieJar) -> Result<Client, ClientError>
     ensures { Gives refusal.OutOfMemory result (λ client.
         (name : Name) → get client name ≡ value_of (view jar.now name)) }
 {

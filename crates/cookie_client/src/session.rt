@@ -7,16 +7,17 @@ ghost use Rattle.cookie.specs.Memory.{Gives};
 ghost use Rattle.cookie.specs.Jar.{Add, empty_jar};
 ghost use Rattle.cookie.specs.Text.{cookie_text};
 ghost use Rattle.cookie_client.specs.Calls.{change_of};
-ghost use Rattle.cookie_client.specs.Client.{ReadsBack};
+ghost use Rattle.cookie_client.specs.Client.{ReadsBack, after_texts};
 ghost use Rattle.cookie_client.specs.Lines.{lines_of};
-ghost use Rattle.cookie_client.specs.Run.{IsAgreed, IsOfAgreement, IsPlayed, IsRead, Refuses, changes_in, header_line};
-ghost use Rattle.cookie_client.specs.Session.{moment_of, call_of, removal_of, forced_removal_of, discarding_of, set_cookie_lines, delta_texts, cookie_line, session_of_lines, session_of_bytes};
+ghost use Rattle.cookie_client.specs.Run.{IsAgreed, IsOfAgreement, IsPlayed, IsRead, PlaysSession, Refuses};
+ghost use Rattle.cookie_client.specs.Session.{moment_of, call_of, changes_in, removal_of, forced_removal_of, discarding_of, header_line, set_cookie_lines, delta_texts, cookie_line, session_of_lines, session_of_bytes};
 ghost use Rattle.cookie_client.specs.declared.run_error.RunError.TheVariants as refusal;
 
 use crate::call::JarCall;
 use crate::client::Client;
+use crate::history::replay;
 use crate::lines::Lines;
-use crate::requests::visit;
+use crate::requests::client_of;
 use crate::run_error::RunError;
 use crate::streams::{read_all, write_text};
 use crate::text_map::TextMap;
@@ -135,7 +136,7 @@ fn texts_by_name(alloc: Global, jar: &CookieJar) -> Result<TextMap, RunError>
     let mut texts = TextMap::new(alloc);
     for cookie in jar.delta() {
         let text = cookie.encoded().to_string(alloc)?;
-        texts.set(cookie.name(), text.as_str())?;
+        texts.put(cookie.name(), text)?;
     }
     Ok(texts)
 }
@@ -151,17 +152,36 @@ fn push_line(written: &mut String, label: &str, text: &str) -> Result<(), AllocE
     Ok(())
 }
 
-// What is written of a jar, and of a client that read its delta.
-fn output(alloc: Global, client: &Client, jar: &CookieJar) -> Result<String, RunError>
-    ensures { Gives refusal.OutOfMemory result (λ text.
-        (string_bytes text ≡ set_cookie_lines (delta_texts jar.now) ++ cookie_line client.now)
-        × (get client.now [] ≡ None → ReadsBack client.now)) }
+// The lines of the texts, which the client reads.
+fn tell(
+    alloc: Global,
+    client: &mut Client,
+    texts: &TextMap,
+    now: DateTime,
+) -> Result<String, RunError>
+    ensures lines { Gives refusal.OutOfMemory result (λ written.
+        string_bytes written ≡ set_cookie_lines (map (λ e. e.1) (entries texts.now))) }
+    ensures client { OnOk result (
+        client.new ≡ after_texts now (map (λ e. e.1) (entries texts.now)) client.old) }
 {
-    let texts = texts_by_name(alloc, jar)?;
     let mut written = String::new(alloc);
     for (_, text) in texts.pairs() {
         push_line(&mut written, "Set-Cookie: ", text)?;
+        client.read(text, now)?;
     }
+    Ok(written)
+}
+
+// What is written of a jar, and of a client that reads its delta.
+fn output(alloc: Global, client: Client, jar: &CookieJar, now: DateTime) -> Result<String, RunError>
+    ensures { Gives refusal.OutOfMemory result (λ text.
+        let told = after_texts now (delta_texts jar.now) client in
+        (string_bytes text ≡ set_cookie_lines (delta_texts jar.now) ++ cookie_line told)
+        × (get told [] ≡ None → ReadsBack told)) }
+{
+    let mut client = client;
+    let texts = texts_by_name(alloc, jar)?;
+    let mut written = tell(alloc, &mut client, &texts, now)?;
     let header = client.header()?;
     push_line(&mut written, "Cookie: ", header.as_str())?;
     Ok(written)
@@ -184,12 +204,14 @@ fn session_text(
     let mut lines = Lines::of(text);
     let header = header_of(&mut lines);
     let calls = calls_of(alloc, lines, now)?;
-    let visited = visit(alloc, jar, header, &calls, &[], now)?;
-    if !are_accepted(&visited.outcomes) {
-        // Calls of lines are refused for want of memory alone.
+    let mut jar = jar.with_originals(header)?;
+    let client = client_of(alloc, &jar)?;
+    let outcomes = replay(alloc, &mut jar, &calls)?;
+    if !are_accepted(&outcomes) {
+        // Calls of lines are refused only if out of memory.
         return Err(RunError::OutOfMemory);
     }
-    output(alloc, &visited.client, &visited.jar)
+    output(alloc, client, &jar, now)
 }
 
 // The first line, or the empty one, which is taken off.
@@ -241,13 +263,8 @@ pub fn run<R: Read, W: Write>(
     input: &mut R,
     output: &mut W,
 ) -> Result<(), RunError>
-    ensures played { IsPlayed moment.now (IsRead (R.remaining input.old) (R.remaining input.new))
-        (W.contents output.old) (W.contents output.new) result }
-    // The client whose header is written agrees with the jar whose delta is written.
-    ensures agreement { IsAgreed moment.now (IsRead (R.remaining input.old) (R.remaining input.new))
-        (W.contents output.old) (W.contents output.new) result }
-    ensures bad_moment { moment_of moment.now ≡ None
-        → (result ≡ Err refusal.BadMoment) × (input.new ≡ input.old) × (output.new ≡ output.old) }
+    ensures { PlaysSession moment.now R.remaining W.contents input.old input.new
+        output.old output.new result }
 {
     play(alloc, CookieJar::new(alloc), moment, input, output)
 }
@@ -261,13 +278,8 @@ pub fn run_with_hasher<R: Read, W: Write>(
     input: &mut R,
     output: &mut W,
 ) -> Result<(), RunError>
-    ensures played { IsPlayed moment.now (IsRead (R.remaining input.old) (R.remaining input.new))
-        (W.contents output.old) (W.contents output.new) result }
-    // The client whose header is written agrees with the jar whose delta is written.
-    ensures agreement { IsAgreed moment.now (IsRead (R.remaining input.old) (R.remaining input.new))
-        (W.contents output.old) (W.contents output.new) result }
-    ensures bad_moment { moment_of moment.now ≡ None
-        → (result ≡ Err refusal.BadMoment) × (input.new ≡ input.old) × (output.new ≡ output.old) }
+    ensures { PlaysSession moment.now R.remaining W.contents input.old input.new
+        output.old output.new result }
 {
     let jar = CookieJar::with_hasher(alloc, state);
     play(alloc, jar, moment, input, output)
@@ -284,7 +296,6 @@ fn play<R: Read, W: Write>(
     requires { jar ≡ empty_jar }
     ensures played { IsPlayed moment.now (IsRead (R.remaining input.old) (R.remaining input.new))
         (W.contents output.old) (W.contents output.new) result }
-    // The client whose header is written agrees with the jar whose delta is written.
     ensures agreement { IsAgreed moment.now (IsRead (R.remaining input.old) (R.remaining input.new))
         (W.contents output.old) (W.contents output.new) result }
     ensures bad_moment { moment_of moment.now ≡ None

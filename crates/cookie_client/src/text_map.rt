@@ -1,5 +1,5 @@
 //! Texts by name, in byte order of the names.
-ghost use Rattle.std.specs.Prelude.{◌≡◌, ◌<◌, ◌^◌, IfOk, OnOk, OnErr, length};
+ghost use Rattle.std.specs.Prelude.{◌≡◌, ◌<◌, ◌^◌, IfOk, OnOk, OnErr, length, string_bytes};
 ghost use Rattle.std.specs.FinMap.{empty, entries, get, insert, remove};
 ghost use Rattle.std.specs.Option.{option_copied};
 
@@ -53,9 +53,17 @@ impl TextMap {
         ensures ok { OnOk result (self.new ≡ insert self.old name.now text.now) }
         ensures err { OnErr result (self.new ≡ self.old) }
     {
+        let text = String::from_str(self.alloc, text)?;
+        self.put(name, text)
+    }
+
+    // Puts `text` at `name`. On an error the map stays as it was.
+    pub(crate) fn put(&mut self, name: &str, text: String) -> Result<(), AllocError>
+        ensures ok { OnOk result (self.new ≡ insert self.old name.now (string_bytes text)) }
+        ensures err { OnErr result (self.new ≡ self.old) }
+    {
         let key = String::from_str(self.alloc, name)?;
-        let value = String::from_str(self.alloc, text)?;
-        self.texts.insert(key, value)?;
+        self.texts.insert(key, text)?;
         Ok(())
     }
 

@@ -15,7 +15,8 @@ pub fn delta_texts(
     jar: &CookieJar,
     pick: &[usize],
 ) -> Result<Vec<String>, AllocError>
-    ensures each { IfOk result (λ texts. AreDeltaTexts jar.now.delta (map string_bytes texts.items)) }
+    ensures each { IfOk result (λ texts.
+        AreDeltaTexts jar.now.delta (map string_bytes texts.items)) }
     ensures once { IfOk result (λ texts.
         AreDeltaTextsOnce jar.now.delta (map string_bytes texts.items)) }
 {

@@ -1,10 +1,15 @@
 -- A cookie whose parts are copies has the same view.
-use Rattle.std.proofs.Common.{◌≡◌, ℕ, List, Option, Some, None, refl, ap, ◌∙◌, option_map}
+use Rattle.std.proofs.Common.{◌≡◌, ℕ, ◌==◌, ◌<◌, Bool, true, false, List, [], ◌∷◌, Option, Some, None, IfSome, IsUtf8, refl, ap, ◌∙◌, option_map, subst, cond, arith}
+use Rattle.std.proofs.lemmas.Bool.Decides.{Decides-eqb}
+use Rattle.std.proofs.lemmas.Str.{IsCharBoundary-after_ascii, IsUtf8-between, IsUtf8-drop, IsUtf8-string_bytes}
 use Rattle.std.specs.Option.{option_and_then}
-use Rattle.cookie_core.specs.Record.{no_raw_forms}
-use Rattle.cookie_core.specs.CookieStr.{source_bytes, text_bytes, raw_bytes, IsNotLent, IsSameSource, IsSameText, IsSameOptionalText}
-use Rattle.cookie_core.specs.Cookie.{cookie_view, HasFittingSpans}
+use Rattle.jiff.specs.Words.{IsDurationNanos, signed_nanos}
+use Rattle.jiff.specs.declared.SignedDuration.{SignedDuration}
+use Rattle.cookie_core.specs.Record.{CookieView, IsCookie, no_raw_forms, without_leading_dot}
+use Rattle.cookie_core.specs.CookieStr.{Fits, source_bytes, text_bytes, raw_bytes, IsNotLent, IsSameSource, IsSameText, IsSameOptionalText}
+use Rattle.cookie_core.specs.Cookie.{cookie_view, HasFittingTexts}
 use Rattle.cookie_core.specs.declared.cookie_str.CookieStr.{CookieStr}
+use Rattle.cookie_core.specs.declared.cookie_str.CookieStr.TheVariants as text
 use Rattle.cookie_core.specs.declared.cookie.Cookie.TheInside.{Inside}
 use Rattle.cookie_core.specs.declared.source.Source.{Source}
 
@@ -46,13 +51,15 @@ Copied-copy a o n v p d e name value path domain =
       expires = refl;
     }
 
-pub HasFittingSpans-copied : (a b : Inside) → Copied a b → HasFittingSpans a → HasFittingSpans b
-HasFittingSpans-copied a b k h =
+pub HasFittingTexts-copied : (a b : Inside) → Copied a b → HasFittingTexts a → HasFittingTexts b
+HasFittingTexts-copied a b k h =
     record {
+      source = rw k.source h.source;
       name = rw k.source (k.name.fits _ h.name);
       value = rw k.source (k.value.fits _ h.value);
       path = rw k.source (k.path.fits _ h.path);
       domain = rw k.source (k.domain.fits _ h.domain);
+      max_age = rw k.max_age h.max_age;
     }
 
 pub fields-copied : (a b : Inside) → Copied a b → (cookie_view b).fields ≡ (cookie_view a).fields
@@ -90,3 +97,45 @@ view-copied a b k s = rw (fields-copied a b k, raw-copied a b k s)
 
 pub view-copied-own : (a b : Inside) → Copied a b → IsNotLent b.source → cookie_view b ≡ record { fields = (cookie_view a).fields; raw = no_raw_forms }
 view-copied-own a b k s = rw (fields-copied a b k, raw-not_lent b s)
+
+-- ---- what holds of every cookie
+
+text_is_utf8 : (s : List ℕ) (t : CookieStr) → IsUtf8 s → Fits s t → IsUtf8 (text_bytes s t)
+text_is_utf8 s (text.Span p) u (le, first, last) = IsUtf8-between s p.start p.end u le first last
+text_is_utf8 s (text.Borrowed t) u is = is
+text_is_utf8 s (text.Owned t) u is = IsUtf8-string_bytes t
+
+optional_is_utf8 : (s : List ℕ) (o : Option CookieStr) → IsUtf8 s → IfSome o (Fits s) → IfSome (option_map (text_bytes s) o) IsUtf8
+optional_is_utf8 s None u is = tt
+optional_is_utf8 s (Some t) u is = text_is_utf8 s t u is
+
+after_dot_is_utf8 : (c : ℕ) (cs : List ℕ) → IsUtf8 (c ∷ cs) → (b : Bool) → (b ≡ true → c ≡ 46) → IsUtf8 (cond b cs (c ∷ cs))
+after_dot_is_utf8 c cs is false dot = is
+after_dot_is_utf8 c cs is true dot =
+    let ascii : c < 128 = omega (arith, dot refl) in
+    IsUtf8-drop (c ∷ cs) 1 is (IsCharBoundary-after_ascii (c ∷ cs) 0 is (omega arith) ascii)
+
+IsUtf8-without_leading_dot : (t : List ℕ) → IsUtf8 t → IsUtf8 (without_leading_dot t)
+IsUtf8-without_leading_dot [] is = is
+IsUtf8-without_leading_dot (c ∷ cs) is = after_dot_is_utf8 c cs is (c == 46) ((Decides-eqb c 46).0)
+
+undotted_is_utf8 : (o : Option (List ℕ)) → IfSome o IsUtf8 → IfSome (option_map without_leading_dot o) IsUtf8
+undotted_is_utf8 None is = tt
+undotted_is_utf8 (Some t) is = IsUtf8-without_leading_dot t is
+
+age_is_known : (o : Option SignedDuration) → IfSome o (λ age. IsDurationNanos (signed_nanos age)) → IfSome (option_map signed_nanos o) IsDurationNanos
+age_is_known None is = tt
+age_is_known (Some age) is = is
+
+-- a cookie's record has UTF-8 texts, and an age that a duration can have
+pub is_cookie : (a : Inside) (c : CookieView) → cookie_view a ≡ c → HasFittingTexts a → IsCookie c.fields
+is_cookie a c is h =
+    let s = source_bytes a.source in
+    subst (λ (v : CookieView). IsCookie v.fields) is (
+    record {
+      name = text_is_utf8 s a.name h.source h.name;
+      value = text_is_utf8 s a.value h.source h.value;
+      path = optional_is_utf8 s a.path h.source h.path;
+      domain = undotted_is_utf8 _ (optional_is_utf8 s a.domain h.source h.domain);
+      max_age = age_is_known a.max_age h.max_age;
+    })

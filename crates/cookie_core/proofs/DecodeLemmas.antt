@@ -8,12 +8,12 @@ use mathlib.Core.Logic.{◌≢◌}
 use Rattle.cookie_core.specs.Attributes.{IsPair, SetsAttributes}
 use Rattle.cookie_core.specs.CookieOf.{cookie_of}
 use Rattle.cookie_core.specs.Decoding.{HasPair, ReadsInMemory, AgreesInMemory, are_decoded, decoded_forms, LendsDecoded, NamesFault, IsCertain, blamed_text}
-use Rattle.cookie_core.specs.DecodingCode.{IsRefusedFor, IsRefusedForPair, Decodes, IsDecoded}
+use Rattle.cookie_core.specs.DecodingCode.{IsRefusedFor, IsRefusedForPair, Decodes, IsDecodedOutcome}
 use Rattle.cookie_core.specs.EscapeTest.{has_escape}
 use Rattle.cookie_core.specs.Escapes.{unescape}
 use Rattle.cookie_core.specs.OwnedCode.{IsMadeOwn}
 use Rattle.cookie_core.specs.Pieces.{IsPieces}
-use Rattle.cookie_core.specs.Reads.{Reads, IsUndecodable, fields_of}
+use Rattle.cookie_core.specs.Reads.{Reads, IsUndecodable, record_or_refusal}
 use Rattle.cookie_core.specs.Record.{Record, CookieView, RawForms, all_lent, no_raw_forms}
 use Rattle.cookie_core.specs.declared.parse_error.ParseError.{ParseError}
 use Rattle.cookie_core.specs.declared.parse_error.ParseError.TheVariants as refusal
@@ -72,7 +72,7 @@ plain_parts t r (p, ps, pieces, (n, v, pair, some, same_name, same_value, sets))
     (p, ps, pieces, rw (same_name, same_value) pair, rw same_name some, sets)
 
 -- the outcome of decoding what was read
-pub ReadsInMemory-decoded : (t : List ℕ) (c : CookieView) (o : Result CookieView ParseError) → Reads false t (Ok c.fields) → Decodes c o → ReadsInMemory true t (fields_of o)
+pub ReadsInMemory-decoded : (t : List ℕ) (c : CookieView) (o : Result CookieView ParseError) → Reads false t (Ok c.fields) → Decodes c o → ReadsInMemory true t (record_or_refusal o)
 ReadsInMemory-decoded t c (Ok d) h (e, _, n, v) =
     let (p, ps, pieces, pair, some, sets) = plain_parts t c.fields h in
     subst (λ (r : Record). ReadsInMemory true t (Ok r)) (sym e) (p, ps, pieces, (c.fields.name, c.fields.value, pair, some, (refl, n), (refl, v), SetsAttributes-named ps c.fields (unescape c.fields.name) (unescape c.fields.value) sets))
@@ -116,13 +116,13 @@ pub IsCertain-refused : {C : Type 0} (t : List ℕ) (e : ParseError) (o : Result
 IsCertain-refused t e o h r s d = absurd (none-some r (sym (cookie_of-refused false t e h) ∙ s))
 
 -- so what was read is decoded, whether it is a cookie or refused
-pub ReadsInMemory-outcome : (t : List ℕ) (o o' : Result CookieView ParseError) → Reads false t (fields_of o) → IsDecoded o o' → ReadsInMemory true t (fields_of o') × IfErr o' (NamesFault t) × IsCertain t o'
+pub ReadsInMemory-outcome : (t : List ℕ) (o o' : Result CookieView ParseError) → Reads false t (record_or_refusal o) → IsDecodedOutcome o o' → ReadsInMemory true t (record_or_refusal o') × IfErr o' (NamesFault t) × IsCertain t o'
 ReadsInMemory-outcome t (Ok c) o' h k =
     (ReadsInMemory-decoded t c o' h k, NamesFault-decoded t c o' h k, IsCertain-decoded t c o' h k)
 ReadsInMemory-outcome t (Err e) o' h k =
     rw k (ReadsInMemory-refused t e h, NamesFault-refused t e h, IsCertain-refused {C = CookieView} t e (Err e) h)
 
-pub raw-outcome : (t : List ℕ) (raw : Record → RawForms) (o o' : Result CookieView ParseError) → Reads false t (fields_of o) → IfOk o (λ c. c.raw ≡ raw c.fields) → IsDecoded o o' → IfOk o' (λ d. (r : Record) × (cookie_of false t ≡ Some r) × (d.raw ≡ decoded_forms r (raw r)))
+pub raw-outcome : (t : List ℕ) (raw : Record → RawForms) (o o' : Result CookieView ParseError) → Reads false t (record_or_refusal o) → IfOk o (λ c. c.raw ≡ raw c.fields) → IsDecodedOutcome o o' → IfOk o' (λ d. (r : Record) × (cookie_of false t ≡ Some r) × (d.raw ≡ decoded_forms r (raw r)))
 raw-outcome t raw (Ok c) o' h e k = raw-decoded t c raw o' h e k
 raw-outcome t raw (Err x) o' h e k = rw k tt
 
@@ -152,7 +152,7 @@ no_raw_forms-decoded t (Err e) h = tt
 HasPair-record : (decode : Bool) (t : List ℕ) (r : Record) → Reads decode t (Ok r) → HasPair t
 HasPair-record decode t r (p, ps, pieces, (n, v, pair, filled, _, _, _)) = (p, ps, n, v, pieces, pair, filled)
 
-pub ReadsInMemory-own : (decode : Bool) (t : List ℕ) (o o' : Result CookieView ParseError) → ReadsInMemory decode t (fields_of o) → IsMadeOwn o o' → ReadsInMemory decode t (fields_of o') × IfOk o' (λ c. c.raw ≡ no_raw_forms)
+pub ReadsInMemory-own : (decode : Bool) (t : List ℕ) (o o' : Result CookieView ParseError) → ReadsInMemory decode t (record_or_refusal o) → IsMadeOwn o o' → ReadsInMemory decode t (record_or_refusal o') × IfOk o' (λ c. c.raw ≡ no_raw_forms)
 ReadsInMemory-own decode t (Err e) o' h k = rw k (h, tt)
 ReadsInMemory-own decode t (Ok c) (Err e) h k = rw k (HasPair-record decode t c.fields h, tt)
 ReadsInMemory-own decode t (Ok c) (Ok d) h k = rw k (h, refl)

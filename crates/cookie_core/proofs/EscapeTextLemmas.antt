@@ -1,12 +1,12 @@
 -- Escaped texts.
-use Rattle.std.proofs.Common.{◌≡◌, Bool, true, false, ◌&&◌, ◌||◌, ℕ, ◌/◌, ◌%◌, ◌<◌, List, [], ◌∷◌, ◌++◌, length, refl, sym, ap, ◌∙◌, ⊎_elim, nat_lt, arith}
+use Rattle.std.proofs.Common.{◌≡◌, Bool, true, false, cond, ◌&&◌, ◌||◌, ℕ, ◌/◌, ◌%◌, ◌<◌, List, [], ◌∷◌, ◌++◌, length, refl, sym, ap, ◌∙◌, ⊎_elim, nat_lt, arith}
 use Rattle.std.specs.List.{list_all}
 use Rattle.std.specs.Str.{IsUtf8, encode_utf8_all, all_scalars}
 use Rattle.std.specs.Fmt.{digit_glyph}
 use Rattle.std.proofs.lemmas.Bool.{and_parts, agree_below_at, cases_lt, cases_Bool, cond-true, cond-false, both_ways}
 use Rattle.std.proofs.lemmas.Bool.Decides.{nat_tests}
 use Rattle.std.proofs.Math.Utf8.{encode, scalar, scalar_cases}
-use Rattle.percent_encoding.specs.Percent.{percent_encode_byte}
+use Rattle.percent_encoding.specs.Percent.{is_escape, percent_decode, percent_encode_byte}
 use Rattle.percent_encoding.proofs.PercentLemmas.{percent_decode-nil, percent_decode-percent_encode_byte, percent_decode_not_percent}
 use Rattle.cookie_core.specs.Escapes.{is_escaped, escape, unescape}
 use Rattle.cookie_core.proofs.ByteLemmas.{is_other, all-append}
@@ -106,3 +106,15 @@ token_is_other_59 b h = grind (arith, nat_tests)
 
 pub token_is_other_61 : (b : ℕ) → is_token b ≡ true → is_other 61 b ≡ true
 token_is_other_61 b h = grind (arith, nat_tests)
+
+-- a text that isn't empty is decoded to one that isn't
+pub unescape_some : (t : List ℕ) → t ≢ [] → unescape t ≢ []
+unfolding percent_decode
+unescape_some [] some = some
+unescape_some (b ∷ []) some = λ empty. cc
+unescape_some (b ∷ c ∷ []) some = λ empty. cc
+unescape_some (b ∷ high ∷ low ∷ rest) some = first (is_escape b high low) _ _ _ _
+  where
+    first : (is : Bool) (x y : ℕ) (xs ys : List ℕ) → cond is (x ∷ xs) (y ∷ ys) ≢ []
+    first true x y xs ys = λ empty. cc
+    first false x y xs ys = λ empty. cc

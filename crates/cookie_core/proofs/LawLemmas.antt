@@ -7,7 +7,7 @@ use Rattle.cookie_core.specs.Decoding.{AgreesInMemory}
 use Rattle.cookie_core.specs.Header.{header_texts, joined_texts}
 use Rattle.cookie_core.specs.Memory.{Gives}
 use Rattle.cookie_core.specs.Normal.{IsNamed}
-use Rattle.cookie_core.specs.Reads.{fields_of}
+use Rattle.cookie_core.specs.Reads.{record_or_refusal}
 use Rattle.cookie_core.specs.Record.{Record, CookieView, plain}
 use Rattle.cookie_core.specs.Text.{cookie_text}
 use Rattle.cookie_core.specs.declared.parse_error.ParseError.{ParseError}
@@ -16,7 +16,7 @@ use Rattle.cookie_core.proofs.HeaderLemmas.{header_texts-joined}
 use Rattle.cookie_core.proofs.NormalFormLemmas.{cookie_of-stripped}
 
 -- a text that is the record r gives it, unless memory is wanting
-pub agreed-gives : (t : List ℕ) (r : Record) (o : Result CookieView ParseError) → AgreesInMemory true t (fields_of o) → cookie_of true t ≡ Some r → Gives refusal.OutOfMemory o (λ c. c.fields ≡ r)
+pub agreed-gives : (t : List ℕ) (r : Record) (o : Result CookieView ParseError) → AgreesInMemory true t (record_or_refusal o) → cookie_of true t ≡ Some r → Gives refusal.OutOfMemory o (λ c. c.fields ≡ r)
 agreed-gives t r (Ok c) h e = same_Some _ _ (h ∙ e)
 agreed-gives t r (Err refusal.OutOfMemory) h e = refl
 agreed-gives t r (Err refusal.MissingPair) h e = absurd (none-some _ (h ∙ e))

@@ -3,7 +3,7 @@ use Rattle.std.proofs.Common.{◌≡◌, ◌↔◌, Bool, true, false, ◌&&◌,
 use Rattle.std.specs.Prelude.{int_div, int_lt}
 use Rattle.std.proofs.lemmas.Bool.{cond-false, false≢true}
 use Rattle.std.proofs.lemmas.Bool.Decides.{nat_tests}
-use Rattle.cookie_core.specs.Normal.{normal_form, shown, whole_age, whole_expiry, GainsSecure}
+use Rattle.cookie_core.specs.Normal.{normal_form, true_or_unset, whole_age, whole_expiry, GainsSecure}
 use Rattle.cookie_core.specs.Text.{is_true, is_unset, is_same_site_none, prints_secure}
 use Rattle.cookie_core.specs.Record.{Record}
 use Rattle.cookie_core.specs.declared.same_site.SameSite.{SameSite}
@@ -45,9 +45,9 @@ expiry-again None = refl
 expiry-again (Some expiration.Session) = refl
 expiry-again (Some (expiration.DateTime m)) = refl
 
-is_true-shown : (b : Bool) → is_true (shown b) ≡ b
-is_true-shown true = refl
-is_true-shown false = refl
+pub is_true-true_or_unset : (b : Bool) → is_true (true_or_unset b) ≡ b
+is_true-true_or_unset true = refl
+is_true-true_or_unset false = refl
 
 -- whether `Secure` is printed, by secure, and whether partitioned is true and same_site `None`
 abbrev shows_secure : Option Bool → Bool → Bool → Bool
@@ -55,9 +55,9 @@ shows_secure s p n = is_true s || p || (is_unset s && n)
 
 -- and the next time
 abbrev shows_again : Option Bool → Bool → Bool → Bool
-shows_again s p n = shows_secure (shown (shows_secure s p n)) p n
+shows_again s p n = shows_secure (true_or_unset (shows_secure s p n)) p n
 
-shows-third : (s : Option Bool) (p n : Bool) → shows_secure (shown (shows_again s p n)) p n ≡ shows_again s p n
+shows-third : (s : Option Bool) (p n : Bool) → shows_secure (true_or_unset (shows_again s p n)) p n ≡ shows_again s p n
 shows-third None true true = refl
 shows-third None true false = refl
 shows-third None false true = refl
@@ -105,20 +105,20 @@ some_not_none e = false≢true (ap is_unset e)
 -- ---- the whole record
 
 prints-second : (r : Record) → prints_secure (normal_form r) ≡ shows_again r.secure (is_true r.partitioned) (is_same_site_none r.same_site)
-prints-second r = rw (is_true-shown (is_true r.partitioned)) refl
+prints-second r = rw (is_true-true_or_unset (is_true r.partitioned)) refl
 
 prints-third : (r : Record) → prints_secure (normal_form (normal_form r)) ≡ prints_secure (normal_form r)
 prints-third r =
-    let p = is_true-shown (is_true r.partitioned) in
-    let e : is_true (shown (is_true (shown (is_true r.partitioned)))) ≡ is_true r.partitioned = ap (λ b. is_true (shown b)) p ∙ p in
+    let p = is_true-true_or_unset (is_true r.partitioned) in
+    let e : is_true (true_or_unset (is_true (true_or_unset (is_true r.partitioned)))) ≡ is_true r.partitioned = ap (λ b. is_true (true_or_unset b)) p ∙ p in
     let s = shows-third r.secure (is_true r.partitioned) (is_same_site_none r.same_site) in
     rw (e, prints-second r) s ∙ sym (prints-second r)
 
 -- a second normal form is the first, where both print `Secure` or both don't
 normal-again : (r : Record) → prints_secure (normal_form r) ≡ prints_secure r → normal_form (normal_form r) ≡ normal_form r
 normal-again r s =
-    let h = is_true-shown (is_true r.http_only) in
-    let p = is_true-shown (is_true r.partitioned) in
+    let h = is_true-true_or_unset (is_true r.http_only) in
+    let p = is_true-true_or_unset (is_true r.partitioned) in
     rw (s, h, p, age-again r.max_age, expiry-again r.expires) refl
 
 pub normal_form-third : (r : Record) → normal_form (normal_form (normal_form r)) ≡ normal_form (normal_form r)
@@ -127,10 +127,10 @@ normal_form-third r = normal-again (normal_form r) (prints-third r)
 pub normal_form-second : (r : Record) → (normal_form (normal_form r) ≡ normal_form r) ↔ (¬ (GainsSecure r))
 normal_form-second r = (
   λ e (odd : GainsSecure r).
-      let q : shown (prints_secure (normal_form r)) ≡ shown (prints_secure r) = ap (λ (x : Record). x.secure) e in
+      let q : true_or_unset (prints_secure (normal_form r)) ≡ true_or_unset (prints_secure r) = ap (λ (x : Record). x.secure) e in
       let again : prints_secure (normal_form r) ≡ true = rw (prints-second r, odd.0, odd.1, is_false r.partitioned odd.2) refl in
       let once : prints_secure r ≡ false = rw (odd.0, odd.1, is_false r.partitioned odd.2) refl in
-      let z : Some true ≡ None = ap shown (sym again) ∙ q ∙ ap shown once in
+      let z : Some true ≡ None = ap true_or_unset (sym again) ∙ q ∙ ap true_or_unset once in
       absurd (some_not_none z),
   λ (even : ¬ (GainsSecure r)).
       normal-again r (prints-second r ∙ shows-second r.secure (is_true r.partitioned) (is_same_site_none r.same_site) (λ (o : (r.secure ≡ Some false) × (is_true r.partitioned ≡ false) × (is_same_site_none r.same_site ≡ true)). even (same_site_is_none r.same_site o.2, o.0, not_partitioned r.partitioned o.1))),

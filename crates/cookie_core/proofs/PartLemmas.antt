@@ -1,17 +1,17 @@
 -- Each part of a cookie's printed text sets the field that it is for (RFC 6265 4.1.1, 5.2.1 to 5.2.6).
-use Rattle.std.proofs.Common.{◌≡◌, Bool, true, false, codes, ℕ, ℤ, List, [], ◌∷◌, ◌++◌, Option, Some, None, option_map, IfSome, refl, sym, ap, subst, arith}
+use Rattle.std.proofs.Common.{◌≡◌, Bool, true, false, codes, ℕ, ℤ, List, [], ◌∷◌, ◌++◌, Option, Some, None, option_map, IfSome, refl, sym, subst, arith}
 use Rattle.std.specs.List.{list_all}
 use Rattle.std.specs.Option.{option_or}
 use Rattle.std.specs.Str.{trim}
 use Rattle.jiff.specs.Words.{IsDurationNanos}
 use Rattle.cookie_date.proofs.PrintLemmas.{printed_text, read_back}
-use Rattle.cookie_core.specs.Attributes.{IsWord, Setting, field_at, word_of, GivesSetting, SetsAttributes}
+use Rattle.cookie_core.specs.Attributes.{IsWord, Setting, word_of, GivesSetting, SetsAttributes}
 use Rattle.cookie_core.specs.CookieOf.{unless_empty}
-use Rattle.cookie_core.specs.Normal.{shown, whole_age, normal_form, IsUncut}
+use Rattle.cookie_core.specs.Normal.{true_or_unset, whole_age, normal_form, IsUncut}
 use Rattle.cookie_core.specs.Pieces.{Lacks}
 use Rattle.cookie_core.specs.Record.{Record, IsCookie, without_leading_dot}
 use Rattle.cookie_core.specs.SameSite.{same_site_text}
-use Rattle.cookie_core.specs.Settings.{only, either, IsSetting, IsGiven}
+use Rattle.cookie_core.specs.Settings.{only, either, IsSetting}
 use Rattle.cookie_core.specs.Text.{is_true, prints_secure, flag_text, attribute_text, seconds_text, expiry_text, attributes_text}
 use Rattle.cookie_core.specs.declared.attributes.Key.{Key}
 use Rattle.cookie_core.specs.declared.attributes.Key.TheVariants as key
@@ -25,7 +25,7 @@ use Rattle.cookie_core.proofs.DateTextLemmas.{date_lacks_semicolon, trim-date}
 use Rattle.cookie_core.proofs.EscapeTextLemmas.{is_token, token_is_other_59, token_is_other_61}
 use Rattle.cookie_core.proofs.ExpiryTextLemmas.{read_expiry}
 use Rattle.cookie_core.proofs.GraphicLemmas.{trim-tokens, trim-space_tokens}
-use Rattle.cookie_core.proofs.ReadingLemmas.{Lacks-more, SetsAttributes-none, SetsAttributes-given, SetsAttributes-named}
+use Rattle.cookie_core.proofs.ReadingLemmas.{Lacks-more, SetsOneField-only, SetsAttributes-none, SetsAttributes-given, SetsAttributes-named}
 use Rattle.cookie_core.proofs.PieceWalkLemmas.{HasPieces-nil, HasPieces-one, IsWalk, IsWalk-append}
 use mathlib.Core.Logic.{◌≢◌}
 
@@ -34,27 +34,19 @@ use mathlib.Core.Logic.{◌≢◌}
 no_part : IsWalk [] (only key.HttpOnly None)
 no_part = HasPieces-nil (λ ps. SetsAttributes ps (only key.HttpOnly None)) SetsAttributes-none
 
-field_at-only : (k : Key) (o : Option (Setting k)) → field_at k (only k o) ≡ o
-field_at-only key.HttpOnly o = refl
-field_at-only _ o = refl
-
-IsGiven-only : (k : Key) (v : Option (List ℕ)) (o : Option (Setting k)) → IsSetting k v o → IsGiven k v (only k o)
-IsGiven-only k v o h =
-    record { field = subst (IsSetting k v) (sym (field_at-only k o)) h; alone = ap (only k) (sym (field_at-only k o)) }
-
 key_lacks : (c : ℕ) (t : List ℕ) → ((b : ℕ) → is_token b ≡ true → is_other c b ≡ true) → 32 ≢ c → list_all is_token t ≡ true → Lacks c (32 ∷ t)
 key_lacks c t f d h = Lacks-more c 32 t d (Lacks-from_test c t (all-weaker is_token (is_other c) f t h))
 
 -- a flag, and an attribute with a value
 part_of_flag : (t : List ℕ) (k : Key) (o : Option (Setting k)) → list_all is_token t ≡ true → IsWord t (word_of k) → IsSetting k None o → IsWalk (59 ∷ 32 ∷ t) (only k o)
 part_of_flag t k o h w g =
-    HasPieces-one (λ ps. SetsAttributes ps (only k o)) (32 ∷ t) (key_lacks 59 t token_is_other_59 (λ e. omega arith) h) (SetsAttributes-given (32 ∷ t) t None k (only k o) (key_lacks 61 t token_is_other_61 (λ e. omega arith) h, sym (trim-space_tokens t h)) w (IsGiven-only k None o g))
+    HasPieces-one (λ ps. SetsAttributes ps (only k o)) (32 ∷ t) (key_lacks 59 t token_is_other_59 (λ e. omega arith) h) (SetsAttributes-given (32 ∷ t) t None k (only k o) (key_lacks 61 t token_is_other_61 (λ e. omega arith) h, sym (trim-space_tokens t h)) w (SetsOneField-only k None o g))
 
 part_of_value : (t v : List ℕ) (k : Key) (o : Option (Setting k)) → list_all is_token t ≡ true → Lacks 59 v → IsWord t (word_of k) → IsSetting k (Some (trim v)) o → IsWalk (59 ∷ 32 ∷ (t ++ 61 ∷ v)) (only k o)
 part_of_value t v k o h l w g =
     let q : List ℕ = 32 ∷ (t ++ 61 ∷ v) in
     let apart : Lacks 59 q = Lacks-append 59 (32 ∷ t) (61 ∷ v) (key_lacks 59 t token_is_other_59 (λ e. omega arith) h) (Lacks-more 59 61 v (λ e. omega arith) l) in
-    HasPieces-one (λ ps. SetsAttributes ps (only k o)) q apart (SetsAttributes-given q t (Some (trim v)) k (only k o) (32 ∷ t, v, refl, key_lacks 61 t token_is_other_61 (λ e. omega arith) h, sym (trim-space_tokens t h), refl) w (IsGiven-only k (Some (trim v)) o g))
+    HasPieces-one (λ ps. SetsAttributes ps (only k o)) q apart (SetsAttributes-given q t (Some (trim v)) k (only k o) (32 ∷ t, v, refl, key_lacks 61 t token_is_other_61 (λ e. omega arith) h, sym (trim-space_tokens t h), refl) w (SetsOneField-only k (Some (trim v)) o g))
 
 -- the value of such a part, where it is all tokens
 part_of_tokens : (t v : List ℕ) (k : Key) (x : Setting k) → list_all is_token t ≡ true → list_all is_token v ≡ true → IsWord t (word_of k) → GivesSetting k (Some v) x → IsWalk (59 ∷ 32 ∷ (t ++ 61 ∷ v)) (only k (Some x))
@@ -63,15 +55,15 @@ part_of_tokens t v k x h l w g =
 
 -- ---- each part
 
-pub http_only_part : (b : Bool) → IsWalk (flag_text (codes "; HttpOnly") b) (only key.HttpOnly (shown b))
+pub http_only_part : (b : Bool) → IsWalk (flag_text (codes "; HttpOnly") b) (only key.HttpOnly (true_or_unset b))
 http_only_part true = part_of_flag (codes "HttpOnly") key.HttpOnly (Some true) refl refl refl
 http_only_part false = no_part
 
-pub partitioned_part : (b : Bool) → IsWalk (flag_text (codes "; Partitioned") b) (only key.Partitioned (shown b))
+pub partitioned_part : (b : Bool) → IsWalk (flag_text (codes "; Partitioned") b) (only key.Partitioned (true_or_unset b))
 partitioned_part true = part_of_flag (codes "Partitioned") key.Partitioned (Some true) refl refl refl
 partitioned_part false = no_part
 
-pub secure_part : (b : Bool) → IsWalk (flag_text (codes "; Secure") b) (only key.Secure (shown b))
+pub secure_part : (b : Bool) → IsWalk (flag_text (codes "; Secure") b) (only key.Secure (true_or_unset b))
 secure_part true = part_of_flag (codes "Secure") key.Secure (Some true) refl refl refl
 secure_part false = no_part
 
@@ -131,6 +123,6 @@ attributes_walk r c u =
     let place = IsWalk-append _ _ _ _ (path_part r.path u.path) (domain_part r.domain u.domain) in
     let lifetime = IsWalk-append _ _ _ _ (max_age_part r.max_age c.max_age) (expires_part r.expires) in
     let all = IsWalk-append _ _ _ _ scope (IsWalk-append _ _ _ _ place lifetime) in
-    let same : either (either (either (only key.Expires (read_expiry r.expires)) (only key.MaxAge (option_map whole_age r.max_age))) (either (only key.Domain (read_domain r.domain)) (only key.Path (option_map trim r.path)))) (either (either (either (only key.Secure (shown (prints_secure r))) (only key.Partitioned (shown (is_true r.partitioned)))) (only key.SameSite r.same_site)) (only key.HttpOnly (shown (is_true r.http_only)))) ≡ record (read_record r) { name = []; value = [] } = simp or_none refl in
+    let same : either (either (either (only key.Expires (read_expiry r.expires)) (only key.MaxAge (option_map whole_age r.max_age))) (either (only key.Domain (read_domain r.domain)) (only key.Path (option_map trim r.path)))) (either (either (either (only key.Secure (true_or_unset (prints_secure r))) (only key.Partitioned (true_or_unset (is_true r.partitioned)))) (only key.SameSite r.same_site)) (only key.HttpOnly (true_or_unset (is_true r.http_only)))) ≡ record (read_record r) { name = []; value = [] } = simp or_none refl in
     let sets = subst (SetsAttributes all.pieces) same all.holds in
     record { pieces = all.pieces; text = all.text; apart = all.apart; holds = SetsAttributes-named all.pieces _ r.name r.value sets }

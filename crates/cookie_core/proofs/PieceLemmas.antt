@@ -49,7 +49,7 @@ texts_left-kept_texts : (o : Option (List ℕ)) → texts_left o ≡ kept_texts 
 texts_left-kept_texts None = refl
 texts_left-kept_texts (Some t) = refl
 
--- a blank piece is passed over
+-- a blank piece is skipped
 pub header_texts-blank : (t p : List ℕ) (o : Option (List ℕ)) → t ≡ p ++ behind o → Lacks 59 p → (length (trim p) == 0) ≡ true → header_texts t ≡ texts_left o
 header_texts-blank t p o e l b =
     ap kept_texts (pieces-cut t p o e l) ∙ ap (λ x. cond (not x) (trim p ∷ kept_texts (pieces_left o)) (kept_texts (pieces_left o))) b ∙ sym (texts_left-kept_texts o)

@@ -1,5 +1,5 @@
 -- Pieces, and what they set.
-use Rattle.std.proofs.Common.{◌≡◌, Bool, false, option_map, ℕ, ◌+◌, List, [], ◌∷◌, ◌++◌, length, get_or, Option, Some, None, Ok, Err, MatchOption, inl, inr, refl, sym, ap, ◌∙◌, subst, zero, suc, append_assoc, add-one, arith}
+use Rattle.std.proofs.Common.{◌≡◌, Bool, false, option_map, ℕ, ◌+◌, List, [], ◌∷◌, ◌++◌, length, get_or, Option, Some, None, Ok, Err, MatchOption, ◌⊎◌, inl, inr, refl, sym, ap, ◌∙◌, subst, zero, suc, append_assoc, add-one, arith}
 use Rattle.std.proofs.Math.Seq.{get_or-append_seam}
 use Rattle.std.proofs.lemmas.List.{length-append}
 use Rattle.std.proofs.lemmas.Bool.{false≢true, cases_lt}
@@ -23,7 +23,7 @@ use Rattle.cookie_core.specs.Attributes.{IsPair, IsAttribute, IsWord, Setting, f
 use Rattle.cookie_core.specs.Parts.{part_text}
 use Rattle.cookie_core.specs.Spans.{span_text}
 use Rattle.cookie_core.specs.declared.span.Span.{Span}
-use Rattle.cookie_core.specs.Settings.{only, either, GivesNothing, IsSetting, IsGiven}
+use Rattle.cookie_core.specs.Settings.{only, either, GivesNothing, IsSetting, SetsOneField}
 use Rattle.cookie_core.specs.declared.attributes.Key.{Key}
 use Rattle.cookie_core.specs.declared.attributes.Key.TheVariants as key
 
@@ -70,6 +70,32 @@ Skips-other p t v k att other x (t', v', att', is, _) =
 Skips-own : (p t : List ℕ) (v : Option (List ℕ)) (k : Key) → IsAttribute p t v → GivesNothing k v → Skips k p
 Skips-own p t v k att none x (t', v', att', is, gives) =
     none x (subst (λ (q : Option (List ℕ)). GivesSetting k q x) (sym (IsAttribute-unique p t v t' v' att att').1) gives)
+
+-- ---- what an attribute gives
+
+field_at-only : (k : Key) (o : Option (Setting k)) → field_at k (only k o) ≡ o
+field_at-only key.HttpOnly o = refl
+field_at-only _ o = refl
+
+-- the field of the key is set, and no other
+pub SetsOneField-only : (k : Key) (v : Option (List ℕ)) (o : Option (Setting k)) → IsSetting k v o → SetsOneField k v (only k o)
+SetsOneField-only k v o h =
+    record { field = subst (IsSetting k v) (sym (field_at-only k o)) h; alone = ap (only k) (sym (field_at-only k o)) }
+
+-- a flag is set, whatever its value
+pub SetsOneField-flag : (k : Key) (v : Option (List ℕ)) (r : Record) → (k ≡ key.HttpOnly) ⊎ ((k ≡ key.Secure) ⊎ (k ≡ key.Partitioned)) → SetsOneField k None r → SetsOneField k v r
+SetsOneField-flag key.HttpOnly v r is h = record { field = h.field; alone = h.alone }
+SetsOneField-flag key.Secure v r is h = record { field = h.field; alone = h.alone }
+SetsOneField-flag key.Partitioned v r is h = record { field = h.field; alone = h.alone }
+SetsOneField-flag _ v r is h = elim is [ inl e ↦ cc | inr (inl e) ↦ cc | inr (inr e) ↦ cc ]
+
+-- all other attributes set nothing without a value
+pub SetsOneField-none : (k : Key) → (k ≡ key.SameSite) ⊎ ((k ≡ key.Path) ⊎ ((k ≡ key.Domain) ⊎ ((k ≡ key.MaxAge) ⊎ (k ≡ key.Expires)))) → SetsOneField k None (plain [] [])
+SetsOneField-none k (inl is) = rw is (SetsOneField-only key.SameSite None None (λ x h. h))
+SetsOneField-none k (inr (inl is)) = rw is (SetsOneField-only key.Path None None (λ x h. h))
+SetsOneField-none k (inr (inr (inl is))) = rw is (SetsOneField-only key.Domain None None (λ x h. h))
+SetsOneField-none k (inr (inr (inr (inl is)))) = rw is (SetsOneField-only key.MaxAge None None (λ x h. h))
+SetsOneField-none k (inr (inr (inr (inr is)))) = rw is (SetsOneField-only key.Expires None None (λ x h. h))
 
 pub undotted-field : (v : Part) (o : Option Span) → MatchOption o (part_text v ≡ []) (λ p. (p ≡ v.span) × (part_text v ≢ [])) → IsSetting key.Domain (Some (part_text v)) (option_map without_leading_dot (option_map (span_text v.whole.now) o))
 undotted-field v None e = λ x h. h.0 e
@@ -137,7 +163,7 @@ pub SetsAttributes-no_key : (p t : List ℕ) (v : Option (List ℕ)) → IsAttri
 SetsAttributes-no_key p t v att none =
     SetsAttributes-unset (p ∷ []) (λ k. All-one (Skips k) p (Skips-other p t v k att (none k)))
 
-pub SetsAttributes-given : (p t : List ℕ) (v : Option (List ℕ)) (k : Key) (r : Record) → IsAttribute p t v → IsWord t (word_of k) → IsGiven k v r → SetsAttributes (p ∷ []) r
+pub SetsAttributes-given : (p t : List ℕ) (v : Option (List ℕ)) (k : Key) (r : Record) → IsAttribute p t v → IsWord t (word_of k) → SetsOneField k v r → SetsAttributes (p ∷ []) r
 SetsAttributes-given p t v k r att is h =
     rw h.alone (record { each = λ k'. field-one p t v k k' (field_at k r) att is h.field })
 

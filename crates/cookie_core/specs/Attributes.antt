@@ -43,7 +43,7 @@ max_age_seconds v =
     if starts_with eqb v (45 ∷ [])
     then option_map (λ _. 0) (seconds_of_digits (drop 1 v)) else seconds_of_digits v
 
--- the age of so many seconds, in nanoseconds
+-- the age of this many seconds, in nanoseconds
 abbrev pub nanos_of_seconds : ℕ → ℤ
 nanos_of_seconds n = pos n *ℤ pos 1000000000
 

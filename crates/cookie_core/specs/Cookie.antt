@@ -1,9 +1,9 @@
 -- Mirrors private code: what a cookie's private fields stand for.
-use Rattle.std.specs.Prelude.{option_map, option_and_then, IfSome}
+use Rattle.std.specs.Prelude.{option_map, option_and_then, IfSome, IsUtf8}
 use Rattle.cookie_core.specs.Record.{CookieView, without_leading_dot}
 use Rattle.cookie_core.specs.CookieStr.{source_bytes, text_bytes, raw_bytes, Fits}
 use Rattle.cookie_core.specs.declared.cookie.Cookie.TheInside.{Inside}
-use Rattle.jiff.specs.Words.{signed_nanos}
+use Rattle.jiff.specs.Words.{IsDurationNanos, signed_nanos}
 
 -- the cookie as contracts see it
 abbrev pub cookie_view : Inside → CookieView
@@ -30,9 +30,11 @@ cookie_view a =
       };
     }
 
--- each span of a cookie stands in its source
-pub record HasFittingSpans (a : Inside) : Type 0 where
+-- the source is UTF-8, each text of the cookie fits it, and the age is one that a duration can have
+pub record HasFittingTexts (a : Inside) : Type 0 where
+  pub source : IsUtf8 (source_bytes a.source)
   pub name : Fits (source_bytes a.source) a.name
   pub value : Fits (source_bytes a.source) a.value
   pub path : IfSome a.path (Fits (source_bytes a.source))
   pub domain : IfSome a.domain (Fits (source_bytes a.source))
+  pub max_age : IfSome a.max_age (λ age. IsDurationNanos (signed_nanos age))

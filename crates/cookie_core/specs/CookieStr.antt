@@ -1,5 +1,5 @@
 -- Mirrors private code: what the texts of a cookie are, in the source that it was read from.
-use Rattle.std.specs.Prelude.{◌≡◌, ℕ, List, Option, Some, None, [], string_bytes, option_map, option_and_then, IfSome}
+use Rattle.std.specs.Prelude.{◌≡◌, ℕ, List, Option, Some, None, [], string_bytes, option_map, option_and_then, IfSome, IsUtf8}
 use Rattle.cookie_core.specs.Record.{Record, RawForms, all_lent, no_raw_forms}
 use Rattle.cookie_core.specs.Spans.{StandsIn, span_text}
 use Rattle.cookie_core.specs.declared.source.Source.{Source}
@@ -24,10 +24,11 @@ abbrev pub raw_bytes : Source → CookieStr → Option (List ℕ)
 raw_bytes (source.Borrowed s) (text.Span p) = Some (span_text s.now p)
 raw_bytes _ _ = None
 
--- a span stands in the source s
+-- a span stands in the source s, and a borrowed text is UTF-8
 abbrev pub Fits : List ℕ → CookieStr → Type 0
 Fits s (text.Span p) = StandsIn s p
-Fits s _ = Unit {0}
+Fits s (text.Borrowed t) = IsUtf8 t.now
+Fits s (text.Owned t) = Unit {0}
 
 -- no text is a raw form of this source
 abbrev pub IsNotLent : Source → Type 0

@@ -31,6 +31,6 @@ Decodes c (Ok d) = (d.fields ≡ decoded_record c.fields) × (d.raw ≡ decoded_
 Decodes c (Err e) = (are_decoded c.fields ≡ true) × IsRefusedForPair c.fields.name c.fields.value e
 
 -- the same refusal, or the cookie with its name and value decoded
-abbrev pub IsDecoded : Result CookieView ParseError → Result CookieView ParseError → Type 0
-IsDecoded (Err e) o = o ≡ Err e
-IsDecoded (Ok c) o = Decodes c o
+abbrev pub IsDecodedOutcome : Result CookieView ParseError → Result CookieView ParseError → Type 0
+IsDecodedOutcome (Err e) o = o ≡ Err e
+IsDecodedOutcome (Ok c) o = Decodes c o

@@ -11,9 +11,9 @@ use Rattle.cookie_core.specs.declared.expiration.Expiration.{Expiration}
 use Rattle.cookie_core.specs.declared.expiration.Expiration.TheVariants as expiration
 
 -- true, or unset
-abbrev pub shown : Bool → Option Bool
-shown true = Some true
-shown false = None
+abbrev pub true_or_unset : Bool → Option Bool
+true_or_unset true = Some true
+true_or_unset false = None
 
 -- whole seconds, a negative age zero, in nanoseconds (RFC 6265 5.2.2)
 abbrev pub whole_age : ℤ → ℤ
@@ -28,9 +28,9 @@ whole_expiry _ = None
 abbrev pub normal_form : Record → Record
 normal_form r =
     record r {
-      http_only = shown (is_true r.http_only);
-      partitioned = shown (is_true r.partitioned);
-      secure = shown (prints_secure r);
+      http_only = true_or_unset (is_true r.http_only);
+      partitioned = true_or_unset (is_true r.partitioned);
+      secure = true_or_unset (prints_secure r);
       max_age = option_map whole_age r.max_age;
       expires = whole_expiry r.expires;
     }

@@ -34,5 +34,5 @@ abbrev pub Reads : Bool → List ℕ → Result Record ParseError → Type 0
 Reads decode t o = (p : List ℕ) × (ps : List (List ℕ)) × IsPieces t p ps × ReadsPieces decode p ps o
 
 -- the record of the cookie that was read, or the refusal
-abbrev pub fields_of : Result CookieView ParseError → Result Record ParseError
-fields_of o = result_map_both (λ c. c.fields) (λ e. e) o
+abbrev pub record_or_refusal : Result CookieView ParseError → Result Record ParseError
+record_or_refusal o = result_map_both (λ c. c.fields) (λ e. e) o

@@ -27,7 +27,7 @@ abbrev pub IsSetting : (k : Key) → Option (List ℕ) → Option (Setting k) �
 IsSetting k v o = MatchOption o (GivesNothing k v) (GivesSetting k v)
 
 -- the field of the key is what the value of an attribute gives, if it gives a setting, and the others are unset
-pub record IsGiven (k : Key) (v : Option (List ℕ)) (r : Record) : Type 0 where
+pub record SetsOneField (k : Key) (v : Option (List ℕ)) (r : Record) : Type 0 where
   pub field : IsSetting k v (field_at k r)
   pub alone : r ≡ only k (field_at k r)
 

@@ -2,7 +2,7 @@
 use Rattle.std.specs.Prelude.{◌≡◌, ℕ, Bool, true, false, List, [], ◌∷◌, Option, Some, None, Result, IfOk, IfErr}
 use Rattle.cookie_core.specs.Decoding.{ReadsInMemory, LendsDecoded, NamesFault, IsCertain}
 use Rattle.cookie_core.specs.Header.{header_texts}
-use Rattle.cookie_core.specs.Reads.{Reads, fields_of}
+use Rattle.cookie_core.specs.Reads.{Reads, record_or_refusal}
 use Rattle.cookie_core.specs.Record.{Record, CookieView, all_lent, no_raw_forms}
 use Rattle.cookie_core.specs.declared.parse_error.ParseError.{ParseError}
 
@@ -53,7 +53,7 @@ pub record IsAlike (s s' : SplitView) : Type 0 where
 -- an item is what its text is read as; want of memory comes only where the cookie gets texts of its own, or an escape
 -- is undone
 pub record IsItem (s : SplitView) (t : List ℕ) (o : Result CookieView ParseError) : Type 0 where
-  pub reads : ReadsItem s.is_decoded s.is_owned t (fields_of o)
+  pub reads : ReadsItem s.is_decoded s.is_owned t (record_or_refusal o)
   pub fault : IfErr o (NamesFault t)
   pub certain : s.is_owned ≡ false → IsCertain t o
   pub lends : IfOk o (LendsItem s.is_decoded s.is_owned t)

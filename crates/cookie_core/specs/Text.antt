@@ -41,7 +41,7 @@ abbrev pub attribute_text : List ℕ → Option (List ℕ) → List ℕ
 attribute_text t (Some v) = t ++ v
 attribute_text t None = []
 
--- the whole seconds of so many nanoseconds, cut toward zero
+-- the whole seconds of this many nanoseconds, cut toward zero
 abbrev pub seconds_text : ℤ → List ℕ
 seconds_text n = signed_decimal (int_div n (pos 1000000000))
 

@@ -9,7 +9,7 @@ ghost use Rattle.cookie_core.specs.Record.{plain};
 ghost use Rattle.cookie_core.specs.Spans.{StandsIn, span_text};
 ghost use Rattle.cookie_core.specs.Walk.{HasRead};
 ghost use Rattle.cookie_core.specs.Layout.{attributes_of, AreIn};
-ghost use Rattle.cookie_core.specs.Settings.{no_attributes, either, IsGiven};
+ghost use Rattle.cookie_core.specs.Settings.{no_attributes, either, SetsOneField};
 ghost use Rattle.cookie_core.specs.Attributes.{IsAttribute, IsWord, word_of, SetsAttributes, GivesExpiry, seconds_of_digits, max_age_seconds, nanos_of_seconds, same_site_key};
 
 use crate::expiration::Expiration;
@@ -190,9 +190,9 @@ impl Attributes {
         }
     }
 
-    // What an attribute with this key and without a value sets.
+    // What an attribute with this key and without a value sets: a flag, or nothing.
     fn without_value(key: Key) -> Attributes
-        ensures gives { (s : List ℕ) → IsGiven key None (attributes_of s result) }
+        ensures gives { (s : List ℕ) → SetsOneField key None (attributes_of s result) }
         ensures place { (s : List ℕ) → AreIn s result }
     {
         let unset = Attributes::unset();
@@ -209,34 +209,19 @@ impl Attributes {
                 partitioned: Some(true),
                 ..unset
             },
-            Key::SameSite => unset,
-            Key::Path => unset,
-            Key::Domain => unset,
-            Key::MaxAge => unset,
-            Key::Expires => unset,
+            Key::SameSite | Key::Path | Key::Domain | Key::MaxAge | Key::Expires => unset,
         }
     }
 
-    // What an attribute with this key and value sets.
+    // What an attribute with this key and value sets. A flag doesn't look at its value.
     fn with_value(key: Key, value: Part<'_>) -> Attributes
-        ensures gives { IsGiven key (Some (part_text value.entry))
+        ensures gives { SetsOneField key (Some (part_text value.entry))
             (attributes_of value.entry.whole.now result) }
         ensures place { AreIn value.entry.whole.now result }
     {
         let unset = Attributes::unset();
         match key {
-            Key::HttpOnly => Attributes {
-                http_only: Some(true),
-                ..unset
-            },
-            Key::Secure => Attributes {
-                secure: Some(true),
-                ..unset
-            },
-            Key::Partitioned => Attributes {
-                partitioned: Some(true),
-                ..unset
-            },
+            Key::HttpOnly | Key::Secure | Key::Partitioned => Attributes::without_value(key),
             Key::SameSite => Attributes {
                 same_site: same_site(value.text()),
                 ..unset
@@ -292,8 +277,8 @@ impl Attributes {
         self.expires = later.expires.or(self.expires);
     }
 
-    // The attributes that the pieces of `later` in the text set. Always inlined, so that where there are none nothing is
-    // left of it.
+    // The attributes that the pieces of `later` in the text set. Always inlined, so that where there are none nothing
+    // is left of it.
     #[inline(always)]
     pub(crate) fn read(text: &str, later: Option<Span>) -> Attributes
         requires { IfSome later (StandsIn text.now) }

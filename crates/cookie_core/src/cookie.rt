@@ -1,12 +1,11 @@
 //! The cookie: its fields, and a copy of it (RFC 6265 5.3).
-ghost use Rattle.std.specs.Prelude.{◌≡◌, pos, int_div, [], option_map, alloc_error};
+ghost use Rattle.std.specs.Prelude.{◌≡◌, pos, int_div, [], option_map, alloc_error, OnOk};
 ghost use Rattle.cookie_core.specs.Memory.{Gives};
 ghost use Rattle.std.specs.Option.{option_and_then};
 ghost use Rattle.jiff.specs.Words.{signed_nanos};
 ghost use Rattle.cookie_core.specs.Expiration.{datetime_of};
 ghost use Rattle.cookie_core.specs.Quotes.{trimmed_value};
 ghost use Rattle.cookie_core.specs.Record.{IsCookie, no_raw_forms, plain, without_leading_dot};
-ghost use Rattle.cookie_core.specs.Same.{same, IsEquality};
 
 pub(crate) mod owned;
 mod parse;
@@ -48,11 +47,11 @@ impl<'c> Model for Cookie<'c> {
 
     ghost Value = { CookieView };
 
-    ghost use Rattle.cookie_core.specs.Cookie.{cookie_view, HasFittingSpans};
+    ghost use Rattle.cookie_core.specs.Cookie.{cookie_view, HasFittingTexts};
 
     ghost view = { cookie_view };
 
-    ghost invariant = { HasFittingSpans };
+    ghost invariant = { HasFittingTexts };
 }
 
 impl<'c> Cookie<'c> {
@@ -84,7 +83,10 @@ impl<'c> Cookie<'c> {
 
     /// A copy, with the same raw forms. Fails with `AllocError` alone, for want of memory.
     pub fn clone(&self, alloc: Global) -> Result<Cookie<'c>, AllocError>
-        ensures { Gives alloc_error result (λ c. c ≡ self.now) }
+        ensures gives { Gives alloc_error result (λ c. c ≡ self.now) }
+
+        // The texts of every cookie are UTF-8, and its age is one that a duration can have.
+        ensures cookie { OnOk result (IsCookie self.now.fields) }
     {
         Ok(Cookie {
             source: self.source.clone(alloc)?,
@@ -99,20 +101,6 @@ impl<'c> Cookie<'c> {
             max_age: self.max_age,
             expires: self.expires,
         })
-    }
-
-    /// What holds of every cookie: its texts are UTF-8, its age is one that a duration can have, and `==` is
-    /// reflexive, symmetric and transitive. The call does nothing; its contract is for proofs that know a cookie
-    /// by its record alone.
-    pub fn known(&self)
-        ensures cookie { IsCookie self.now.fields }
-        ensures equality { IsEquality same }
-    {
-        let _name = self.name();
-        let _value = self.value();
-        let _path = self.path();
-        let _domain = self.domain();
-        let _max_age = self.max_age();
     }
 
     /// The name.
@@ -133,8 +121,14 @@ impl<'c> Cookie<'c> {
     pub fn name_value(&self) -> (&str, &str)
         ensures name { result.0.now ≡ self.now.fields.name }
         ensures value { result.1.now ≡ self.now.fields.value }
+
+        // The texts of every cookie are UTF-8, and its age is one that a duration can have.
+        ensures cookie { IsCookie self.now.fields }
     {
-        (self.name(), self.value())
+        (
+            self.name.as_str(&self.source),
+            self.value.as_str(&self.source),
+        )
     }
 
     /// The value without a `"` at both ends, where it has both, else the value.

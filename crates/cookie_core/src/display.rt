@@ -15,7 +15,8 @@ use std::marker::Model;
 
 // Writes a flag's text, where it is shown.
 fn write_flag<W: fmt::Write>(f: &mut fmt::Formatter<W>, text: &str, is_shown: bool) -> fmt::Result
-    ensures { DisplaysOnOk W.write_str_gives f.old result (Some (flag_text text.now is_shown)) f.new }
+    ensures { DisplaysOnOk W.write_str_gives f.old result
+        (Some (flag_text text.now is_shown)) f.new }
 {
     if is_shown {
         f.write_str(text)?;
@@ -40,7 +41,8 @@ fn write_labelled<W: fmt::Write, V: fmt::Display + Drop>(
 
 // Writes a name or a value, escaped where asked for.
 fn write_text<W: fmt::Write>(f: &mut fmt::Formatter<W>, text: &str, is_encoded: bool) -> fmt::Result
-    ensures { DisplaysOnOk W.write_str_gives f.old result (Some (printed_form is_encoded text.now)) f.new }
+    ensures { DisplaysOnOk W.write_str_gives f.old result
+        (Some (printed_form is_encoded text.now)) f.new }
 {
     if is_encoded {
         let text = encode(text);
@@ -69,8 +71,9 @@ impl<'c> Cookie<'c> {
         matches!(self.same_site(), Some(SameSite::None))
     }
 
-    // Whether `Secure` is printed.
-    fn shows_secure(&self) -> bool
+    /// Whether `Secure` is printed (RFC 6265bis 4.1.2): where it is set to true, where the cookie is partitioned, and,
+    /// unless it is set to false, where `SameSite` is `None`.
+    pub fn prints_secure(&self) -> bool
         ensures { result ≡ prints_secure self.now.fields }
     {
         match self.secure() {
@@ -89,17 +92,19 @@ impl<'c> Cookie<'c> {
 
 // Writes to which requests the cookie is shown.
 fn write_scope<W: fmt::Write>(f: &mut fmt::Formatter<W>, cookie: &Cookie<'_>) -> fmt::Result
-    ensures { DisplaysOnOk W.write_str_gives f.old result (Some (scope_text cookie.now.fields)) f.new }
+    ensures { DisplaysOnOk W.write_str_gives f.old result
+        (Some (scope_text cookie.now.fields)) f.new }
 {
     write_flag(f, "; HttpOnly", cookie.is_http_only())?;
     write_labelled(f, "; SameSite=", cookie.same_site())?;
     write_flag(f, "; Partitioned", cookie.is_partitioned())?;
-    write_flag(f, "; Secure", cookie.shows_secure())
+    write_flag(f, "; Secure", cookie.prints_secure())
 }
 
 // Writes the path and the domain of the cookie.
 fn write_place<W: fmt::Write>(f: &mut fmt::Formatter<W>, cookie: &Cookie<'_>) -> fmt::Result
-    ensures { DisplaysOnOk W.write_str_gives f.old result (Some (place_text cookie.now.fields)) f.new }
+    ensures { DisplaysOnOk W.write_str_gives f.old result
+        (Some (place_text cookie.now.fields)) f.new }
 {
     write_labelled(f, "; Path=", cookie.path())?;
     write_labelled(f, "; Domain=", cookie.domain())
@@ -108,8 +113,8 @@ fn write_place<W: fmt::Write>(f: &mut fmt::Formatter<W>, cookie: &Cookie<'_>) ->
 // Writes the age of the cookie, in whole seconds.
 fn write_max_age<W: fmt::Write>(f: &mut fmt::Formatter<W>, cookie: &Cookie<'_>) -> fmt::Result
     ensures { DisplaysOnOk W.write_str_gives f.old result
-        (Some (attribute_text (codes "; Max-Age=") (option_map seconds_text cookie.now.fields.max_age)))
-        f.new }
+        (Some (attribute_text (codes "; Max-Age=")
+        (option_map seconds_text cookie.now.fields.max_age))) f.new }
 {
     write_labelled(f, "; Max-Age=", cookie.whole_seconds())
 }
@@ -124,7 +129,8 @@ fn write_expires<W: fmt::Write>(f: &mut fmt::Formatter<W>, cookie: &Cookie<'_>) 
 
 // Writes how long the cookie is kept.
 fn write_lifetime<W: fmt::Write>(f: &mut fmt::Formatter<W>, cookie: &Cookie<'_>) -> fmt::Result
-    ensures { DisplaysOnOk W.write_str_gives f.old result (Some (lifetime_text cookie.now.fields)) f.new }
+    ensures { DisplaysOnOk W.write_str_gives f.old result
+        (Some (lifetime_text cookie.now.fields)) f.new }
 {
     write_max_age(f, cookie)?;
     write_expires(f, cookie)

@@ -1,7 +1,7 @@
 //! When two cookies are equal.
 ghost use Rattle.std.specs.Prelude.{◌≡◌, option_map};
 ghost use Rattle.std.specs.Option.{option_eq};
-ghost use Rattle.cookie_core.specs.Same.{same_pair, same_flags, same_place, same_lifetime, same_ignoring_case, same_cookie, same_cookie-laws};
+ghost use Rattle.cookie_core.specs.Same.{same_pair, same_flags, same_place, same_lifetime, same_ignoring_case, same, same_cookie, same_cookie-laws, IsEquality};
 
 use crate::cookie::Cookie;
 
@@ -11,7 +11,12 @@ impl<'c> PartialEq for Cookie<'c> {
 
     ghost laws = { same_cookie-laws };
 
-    fn eq(&self, other: &Cookie<'c>) -> bool {
+    fn eq(&self, other: &Cookie<'c>) -> bool
+        ensures equal { result ≡ same_cookie self.now other.now }
+
+        // Which is reflexive, symmetric and transitive.
+        ensures equality { IsEquality same }
+    {
         self.is_same_pair(other)
             && self.has_same_flags(other)
             && self.is_same_place(other)

@@ -81,13 +81,6 @@ impl Gcm {
         }
     }
 
-    /// What holds of every cipher: its sealings of bytes are bytes. The call does nothing; its contract is for proofs.
-    pub fn known(&self)
-        ensures { SealsToBytes self.now }
-    {
-        let _cipher = &self.cipher;
-    }
-
     /// Encrypts the text in place, and gives the tag of it and of the associated data `aad`
     /// (SP 800-38D 7.1). No two texts may be sealed under one key and one nonce, and under one key at
     /// most 2^32 random nonces may be drawn (8.3).

@@ -1,4 +1,4 @@
--- `days_later` is the one date-time that is so many days later.
+-- `days_later` is the one date-time that is this many days later.
 use Rattle.std.proofs.Common.{◌≡◌, ℕ, zero, suc, ◌≤◌, Bool, true, false, cond, refl, sym, ◌∙◌, arith, ℤ, pos, negsuc, neg_ℤ, ◌+ℤ◌, ◌≤ℤ◌, int_lt, unsigned_abs}
 use Rattle.std.proofs.lemmas.Int.{ints, by_lt_z}
 use Rattle.jiff.specs.Types.{DateTime, Date}
@@ -34,7 +34,7 @@ from_zero : (z : ℤ) → pos 0 ≤ℤ z → pos (unsigned_abs z) ≡ z
 from_zero (pos k) h = refl
 from_zero (negsuc k) h = absurd (omega (arith, signed_arith))
 
--- `days_later` is so many days later
+-- `days_later` is this many days later
 pub days_later-is : (m : DateTime) (n : ℤ) → IsDaysLater m n (days_later m n)
 unfolding days_later
 days_later-is m n = by_day (epoch_day m.date +ℤ n) refl
@@ -70,7 +70,7 @@ same_last a b last one =
     let day : epoch_day a.date ≡ epoch_day b.date = rw (last.0.0, last.0.1, last.0.2, one.0.0, one.0.1, one.0.2) refl in
     same_moment a b day (same_time a.time b.time (last.1 ∙ sym one.1))
 
--- one date-time alone is so many days later
+-- one date-time alone is this many days later
 same_days_later : (m a b : DateTime) (n : ℤ) → IsDaysLater m n a → IsDaysLater m n b → a ≡ b
 same_days_later m a b n p q =
     let day : ℤ = epoch_day m.date +ℤ n in

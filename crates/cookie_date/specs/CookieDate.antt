@@ -15,9 +15,11 @@ use Rattle.cookie_date.specs.Reader.{Front, read_tag, read_digits, fields_of}
 
 -- ---- tokens (step 1)
 
--- a tab, or a graphic ASCII byte that is no letter, no digit and no colon
+-- a tab, a space, or a graphic ASCII byte that is no letter, no digit and no colon
 abbrev pub is_delimiter : ℕ → Bool
-is_delimiter b = b == 9 || (is_in_range 32 47 b || (is_in_range 59 64 b || (is_in_range 91 96 b || is_in_range 123 126 b)))
+is_delimiter b =
+    b == 9 || (is_in_range 32 47 b || (is_in_range 59 64 b
+    || (is_in_range 91 96 b || is_in_range 123 126 b)))
 
 -- what stands between delimiters; where two of them meet it is empty, and no production reads that
 abbrev pub date_tokens : List ℕ → List (List ℕ)
@@ -25,7 +27,7 @@ date_tokens text = slice_split is_delimiter text
 
 -- ---- productions
 
--- the number of so many digits at the front of a text, which no further digit follows, and the text after it
+-- the number of this many digits at the front of a text, which no further digit follows, and the text after it
 unfoldable pub read_run : ℕ → ℕ → List ℕ → Front ℕ
 read_run least most text =
     let r = read_digits most 0 text in
@@ -50,9 +52,10 @@ year_in token = option_map (λ r. r.0) (read_run 2 4 token)
 
 -- the token begins with the name of the month, in any ASCII case
 abbrev pub is_month : ℕ → List ℕ → Bool
-is_month n token = bytes_eq (str_to_ascii_lowercase (take 3 token)) (str_to_ascii_lowercase (month_text n))
+is_month n token =
+    bytes_eq (str_to_ascii_lowercase (take 3 token)) (str_to_ascii_lowercase (month_text n))
 
--- the first of so many months from n on whose name stands at the front
+-- the first of this many months from n on whose name stands at the front
 unfoldable pub month_from : ℕ → ℕ → List ℕ → Option ℕ
 month_from zero n token = None
 month_from (suc more) n token = if is_month n token then Some n else month_from more (n + 1) token

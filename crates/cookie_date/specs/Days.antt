@@ -11,7 +11,7 @@ IsFirstMoment m = IsFirstDate m.date × (time_nanos m.time ≡ 0)
 abbrev pub IsLastMoment : DateTime → Type 0
 IsLastMoment m = IsLastDate m.date × (time_nanos m.time ≡ 86_399_999_999_999)
 
--- the same time of day so many days later, or the end of the calendar that the days lead past
+-- the same time of day this many days later, or the end of the calendar that the days lead past
 pub record IsDaysLater (moment : DateTime) (days : ℤ) (later : DateTime) : Type 0 where
   pub within : IsEpochDay (epoch_day moment.date +ℤ days)
       → (epoch_day later.date ≡ epoch_day moment.date +ℤ days) × (later.time ≡ moment.time)

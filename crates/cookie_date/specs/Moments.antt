@@ -17,7 +17,7 @@ date_of text = do
   time ← time_at fields.hour fields.minute fields.second 0
   Some (record { date = date; time = time })
 
--- the date so many days after another
+-- the date this many days after another
 unfoldable pub date_later : Date → ℕ → Date
 date_later first zero = first
 date_later first (suc days) = next_date (date_later first days)
@@ -68,7 +68,7 @@ last_moment = record {
   };
 }
 
--- The date-time so many days later, found by counting from the first date of the calendar. That it is exactly the
+-- The date-time this many days later, found by counting from the first date of the calendar. That it is exactly the
 -- one of `IsDaysLater` is the lemmas `days_later-is` and `days_later-only` of proofs/DayLemmas.
 unfoldable pub days_later : DateTime → ℤ → DateTime
 days_later moment days =

@@ -4,7 +4,7 @@ use Rattle.std.specs.Char.{is_ascii_digit}
 use Rattle.std.specs.Str.Parse.{AllDigits, digits_value}
 use Rattle.cookie_date.specs.CookieDate.{time_in, day_in, year_in}
 
--- the text is so many digits, which write the number, and a rest that begins with no digit
+-- the text is this many digits, which write the number, and a rest that begins with no digit
 -- (`least*mostDIGIT [ non-digit *OCTET ]`)
 abbrev pub IsRun : ℕ → ℕ → List ℕ → ℕ → List ℕ → Type 0
 IsRun least most text n rest = (digits : List ℕ) × (text ≡ digits ++ rest) × AllDigits 10 digits

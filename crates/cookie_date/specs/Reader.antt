@@ -45,14 +45,14 @@ read_clock text = do
   seconds ← read_tag (codes ":") minutes.1 >>= read_two_digits
   Some ((hours.0, minutes.0, seconds.0), seconds.1)
 
--- at most so many more digits of a number
+-- at most this many more digits of a number
 abbrev pub read_digits : ℕ → ℕ → List ℕ → ℕ × List ℕ
 read_digits zero number text = (number, text)
 read_digits (suc k) number [] = (number, [])
 read_digits (suc k) number (c ∷ text) =
     if is_ascii_digit c then read_digits k (number * 10 + (c - 48)) text else (number, c ∷ text)
 
--- the numbers below this leave room for so many more digits, up to four digits
+-- the numbers below this leave room for this many more digits, up to four digits
 abbrev pub room : ℕ → ℕ
 room most =
     if most == 0 then 10000
@@ -83,7 +83,7 @@ abbrev pub or_later : Option (List ℕ) → ℕ → Front ℕ → Front ℕ
 or_later (Some rest) n later = Some (n, rest)
 or_later None n later = later
 
--- the first of so many numbers from n on whose name stands at the front
+-- the first of this many numbers from n on whose name stands at the front
 unfoldable pub read_name : (ℕ → List ℕ) → ℕ → ℕ → List ℕ → Front ℕ
 read_name name zero n text = None
 read_name name (suc more) n text =

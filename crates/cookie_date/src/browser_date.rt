@@ -14,14 +14,13 @@ use jiff::civil::DateTime;
 // No date before this year is read (RFC 6265 5.1.1, step 5).
 const FIRST_YEAR: i16 = 1601;
 
-/// The date-time in UTC, in whole seconds, that a browser reads in the text of an `Expires` attribute
-/// (RFC 6265bis 5.1.1).
+/// The date-time in UTC, in whole seconds, that a browser reads in the text of an `Expires` attribute (RFC 6265 5.1.1).
 ///
-/// The text is taken apart at its delimiters. Of the parts, the first that reads as a time is the time, and of the
-/// others the first that reads as a day is the day, the first that reads as a month the month, and the first that
-/// reads as a year the year; all else is passed over, as weekdays and time zones are. A year of two digits is completed
-/// to one from 1970 to 2069. `None` says that a part is missing, that the year is before 1601, or that there is no such
-/// date or time.
+/// The text is split at its delimiters. The first token that reads as a time is the time. Of the other tokens, the
+/// first that reads as a day is the day, the first that reads as a month the month, and the first that reads as a year
+/// the year. Tokens that read as none of these are skipped, as weekdays and time zones are. A year of two digits is
+/// completed to one from 1970 to 2069. `None` says that one of the four is missing, that the year is before 1601, or
+/// that there is no such date or time.
 pub fn read_cookie_date(text: &[u8]) -> Option<DateTime>
     ensures value { result ≡ Tokens.cookie_date_of text.now }
     ensures grammar { IsGrammar }

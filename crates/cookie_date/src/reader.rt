@@ -66,7 +66,7 @@ pub fn read_gmt(text: &[u8]) -> Option<(u8, u8, u8)>
     }
 }
 
-// At most so many more digits of a number.
+// At most this many more digits of a number.
 pub fn read_digits(most: u8, number: u16, text: &[u8]) -> (u16, &[u8])
     requires { number < Reader.room most }
     ensures value { (result.0, result.1.now) ≡ Reader.read_digits most number text.now }

@@ -25,7 +25,7 @@ pub fn cut_token(text: &[u8]) -> (&[u8], Option<&[u8]>)
     }
 }
 
-// The number of so many digits at the front of the text, which no further digit follows.
+// The number of this many digits at the front of the text, which no further digit follows.
 #[tactic(auto, unfolding(crate::specs::CookieDate::read_run))]
 fn read_run(least: usize, most: u8, text: &[u8]) -> Option<(u16, &[u8])>
     requires least { least ≤ 4 }

@@ -1,28 +1,28 @@
 -- The agreement of a client and a jar, carried over header maps.
-use Rattle.std.proofs.Common.{◌≡◌, ℕ, true, false, codes, List, [], ◌∷◌, map, All, Contains, None, Some, refl, sym, ap, subst, ◌∙◌}
+use Rattle.std.proofs.Common.{◌≡◌, ℕ, true, false, codes, List, [], ◌∷◌, map, Contains, None, Some, refl, sym, ap, subst, ◌∙◌}
 use Rattle.std.proofs.lemmas.List.{append-nil}
 use Rattle.std.proofs.lemmas.List.Elements.{All-contains, All-weaker}
 use Rattle.std.proofs.lemmas.List.Sorted.{IsPermutation-refl}
 use Rattle.std.specs.FinMap.{FinMap, entries, get, get-empty}
 use Rattle.std.specs.Str.{IsUtf8}
 use Rattle.jiff.specs.Types.{DateTime}
-use Rattle.http_header.specs.FieldValue.{plain_value}
+use Rattle.http_header.specs.FieldValue.{FieldValue, plain_value}
+use Rattle.http_header.specs.HeaderMap.{Entries}
 use Rattle.cookie.specs.CookieOf.{cookie_of}
 use Rattle.cookie.specs.Header.{header_texts}
-use Rattle.cookie.specs.History.{is_forced}
 use Rattle.cookie.specs.Jar.{Marked, Name, empty_jar, name_cmp, overlay, view}
 use Rattle.cookie.specs.Record.{plain}
 use Rattle.cookie.specs.Text.{cookie_text}
 use Rattle.cookie.specs.DeltaTexts.{AreDeltaTexts, IsDeltaText}
-use Rattle.cookie_client.specs.Agreement.{HoldsOriginals, value_of}
-use Rattle.cookie_client.specs.Calls.{IsFitCall}
+use Rattle.cookie_client.specs.Agreement.{value_of}
 use Rattle.cookie_client.specs.Client.{Values, header_text}
-use Rattle.cookie_client.specs.Exchange.{IsExchange, accepted_calls, changes_by}
+use Rattle.cookie_client.specs.Exchange.{IsExchange, changes_by}
 use Rattle.cookie.specs.Originals.{jar_for, readable}
 use Rattle.cookie_client.specs.Originals.{holds_originals}
 use Rattle.cookie_client.specs.ExchangeCode.{IsHeaderOf}
 use Rattle.cookie_client.specs.declared.call.JarCall.{JarCall}
 use Rattle.cookie.proofs.DeltaTextLemmas.{AreDeltaTexts-once}
+use Rattle.cookie_client.proofs.AgreementLemmas.{holds_each}
 use Rattle.cookie_client.proofs.RoundLemmas.{fresh, held_again, holds_header, told}
 use Rattle.cookie_http.specs.Carried.{AreSameTexts, IsCarried}
 use Rattle.cookie_http.specs.Fields.{cookie_header, set_cookie_texts}
@@ -38,6 +38,13 @@ AreDeltaTexts-same delta texts others same are =
       each = λ name entry e. All-contains (Contains others) texts (cookie_text true false entry.cookie) same.0 (are.each name entry e);
       only = All-weaker (Contains texts) (IsDeltaText delta) (λ text inside. All-contains (IsDeltaText delta) texts text are.only inside) others same.1;
     }
+
+-- the fields of a response are texts of the delta
+pub are_carried : (delta : FinMap name_cmp Marked) (response : Entries FieldValue) → AddsDelta delta [] response → AreDeltaTexts delta (set_cookie_texts response)
+are_carried delta response adds =
+    subst (AreDeltaTexts delta) (sym adds.read)
+    (AreDeltaTexts-once delta (map (cookie_text true false) adds.cookies)
+    (record { cookies = adds.cookies; are = adds.are; written = IsPermutation-refl (map (cookie_text true false) adds.cookies) }))
 
 -- the header of a request with one field
 one_field : (header : List ℕ) → IsUtf8 header → cookie_header ((codes "cookie", plain_value header ∷ []) ∷ []) ≡ header
@@ -59,26 +66,22 @@ ReadsBack client = get client [] ≡ None
 
 module _ (now : DateTime) (calls : List JarCall) (e : Exchanged) where
   pub carried : IsExchange now empty_jar (holds_originals (changes_by calls e.played)) calls e.played
-      → HoldsOriginals now (changes_by calls e.played) e.played.jar
-      → (All (IsFitCall now) (accepted_calls calls e.played) → (name : Name) → is_forced name (changes_by calls e.played) ≡ false → get e.played.client name ≡ value_of (view e.played.jar name))
       → AddsDelta e.played.jar.delta [] e.response
       → e.request ≡ (codes "cookie", plain_value (header_text e.played.client) ∷ []) ∷ []
       → e.next ≡ jar_for (cookie_header e.request)
       → ReadsBack e.played.client
       → IsCarried now calls e
-  carried exchange held agrees response request next read =
+  carried exchange response request next read =
       let delta = e.played.jar.delta in
+      let held = holds_each now (changes_by calls e.played) e.played.jar exchange.jar in
       let client = e.played.client in
       let header = header_text client in
-      let are : AreDeltaTexts delta (set_cookie_texts e.response) =
-      subst (AreDeltaTexts delta) (sym response.read)
-      (AreDeltaTexts-once delta (map (cookie_text true false) response.cookies)
-      (record { cookies = response.cookies; are = response.are; written = IsPermutation-refl (map (cookie_text true false) response.cookies) })) in
+      let are : AreDeltaTexts delta (set_cookie_texts e.response) = are_carried delta e.response response in
       record {
         exchange = exchange;
         response = response;
         reads = λ texts same. exchange.agreement.in_any_order texts (AreDeltaTexts-same delta (set_cookie_texts e.response) texts same are);
-        agrees = agrees;
+        agrees = λ fits name unforced. exchange.agreement.agrees (exchange.fit fits) name (λ _. held.unforced name unforced);
         request = request;
         arrived = next;
         next = λ fits name.

@@ -27,7 +27,8 @@ use Rattle.cookie_http.specs.Fields.{set_cookie_texts}
 use Rattle.cookie_http.specs.HttpError.{refusal_of}
 use Rattle.cookie_http.specs.declared.http_error.HttpError.{HttpError}
 use Rattle.cookie_http.specs.declared.http_error.HttpError.TheVariants as refusal
-use Rattle.cookie_http.specs.Response.{AddsDelta, AllFitFields, FitsField, LacksRoom, LacksRoomFor, WalksDelta, with_set_cookies}
+use Rattle.cookie.specs.DeltaTexts.{WalksDelta}
+use Rattle.cookie_http.specs.Response.{AddsDelta, AllFitFields, FitsField, LacksRoom, LacksRoomFor, with_set_cookies}
 
 -- ---- a clone of a map
 

@@ -1,23 +1,18 @@
 -- The `Set-Cookie` fields that a response gets of a jar's delta (RFC 6265 3, RFC 9110 5.5).
-use Rattle.std.specs.Prelude.{◌≡◌, ◌<◌, ◌≤◌, ◌+◌, ◌^◌, ◌⊎◌, ◌++◌, ◌==◌, ◌&&◌, not, ℕ, Bool, true, false, List, map, length, codes, Some, option_map, IfSome}
+use Rattle.std.specs.Prelude.{◌≡◌, ◌<◌, ◌≤◌, ◌+◌, ◌^◌, ◌⊎◌, ◌++◌, ◌==◌, ◌&&◌, not, ℕ, Bool, true, false, List, map, length, codes, Some, IfSome}
 use Rattle.std.specs.FinMap.{FinMap, get}
 use Rattle.http_header.specs.FieldValue.{FieldValue, plain_value}
 use Rattle.http_header.specs.HeaderMap.{Entries, ContainsKey, append_all, value_count}
 use Rattle.http_header.specs.Token.{AllPass, is_value_byte}
+use Rattle.cookie.specs.DeltaTexts.{WalksDelta}
 use Rattle.cookie.specs.Jar.{Name, name_cmp, Marked}
 use Rattle.cookie.specs.Record.{Record}
 use Rattle.cookie.specs.Text.{cookie_text}
-use Rattle.cookie.specs.Walk.{Walks}
 use Rattle.cookie_http.specs.Fields.{set_cookie_texts}
 
 -- the map with a `Set-Cookie` field for each text, in order, behind those that it has
 abbrev pub with_set_cookies : List (List ℕ) → Entries FieldValue → Entries FieldValue
 with_set_cookies texts m = append_all m (map (λ text. (codes "set-cookie", plain_value text)) texts)
-
--- the cookies of a delta, each once, in any order
-abbrev pub WalksDelta : FinMap name_cmp Marked → List Record → Type 0
-WalksDelta delta cookies =
-    Walks (λ name. option_map (λ entry. entry.cookie) (get delta name)) cookies
 
 -- the second map is the first with one more `Set-Cookie` field for each cookie of the delta
 pub record AddsDelta (delta : FinMap name_cmp Marked) (old new : Entries FieldValue) : Type 0 where
@@ -46,7 +41,7 @@ abbrev pub AllFitFields : FinMap name_cmp Marked → Type 0
 AllFitFields delta =
     (name : Name) (entry : Marked) → get delta name ≡ Some entry → FitsField entry.cookie
 
--- the map has as many names as it can count, and no `Set-Cookie` field, or it can't count so many more values
+-- the map has as many names as it can count, and no `Set-Cookie` field, or it can't count this many more values
 abbrev pub LacksRoom : ℕ → Entries FieldValue → Type 0
 LacksRoom n m =
     ((0 < n) × ¬ (ContainsKey m (codes "set-cookie")) × (24576 ≤ length m))

@@ -3,12 +3,12 @@ ghost use Rattle.std.specs.Prelude.{IfOk, IsErrOf};
 ghost use Rattle.cookie_http.specs.Carried.{HasUnfitDelta, IsCarried};
 ghost use Rattle.cookie_http.specs.declared.http_error.HttpError.TheVariants as refusal;
 
-use crate::client::cookie_of_client;
+use crate::client::{cookie_of_client, read_response};
 use crate::http_error::HttpError;
 use crate::request::jar_from_headers;
 use crate::response::append_delta;
 use cookie::CookieJar;
-use cookie_client::{JarCall, Played, mirror};
+use cookie_client::{Client, JarCall, Played, replay_told};
 use http_header::HeaderMap;
 use jiff::civil::DateTime;
 use std::alloc::Global;
@@ -27,8 +27,8 @@ pub struct Exchanged {
 }
 
 /// Makes the calls on a new jar, as `mirror` does, and carries them over header maps: the delta to the `Set-Cookie`
-/// fields of a response, which a client reads that held each name's last original, and what it then sends to the jar
-/// of its next request. `now` is in UTC.
+/// fields of a response; these fields to a client that held each name's last original, which reads them
+/// (`read_response`); and what the client then sends to the jar of its next request. `now` is in UTC.
 ///
 /// Fails with `InvalidValue` if a cookie of the delta doesn't fit a field (`append_delta`), else only with
 /// `OutOfMemory`.
@@ -37,14 +37,21 @@ pub fn exchange(alloc: Global, calls: &[JarCall<'_>], now: DateTime) -> Result<E
     ensures invalid { IsErrOf result refusal.InvalidValue → HasUnfitDelta now calls.now }
     ensures room { ¬ (IsErrOf result refusal.TooManyFields) }
 {
-    let played = mirror(alloc, calls, &[], now)?;
+    let mut jar = CookieJar::new(alloc);
+    let mut client = Client::new(alloc);
+    let outcomes = replay_told(alloc, &mut jar, &mut client, calls)?;
     let mut response = HeaderMap::new(alloc);
-    append_delta(alloc, &played.jar, &mut response)?;
+    append_delta(alloc, &jar, &mut response)?;
+    read_response(&mut client, &response, now)?;
     let mut request = HeaderMap::new(alloc);
-    request.append("cookie", cookie_of_client(&played.client)?)?;
+    request.append("cookie", cookie_of_client(&client)?)?;
     let next = jar_from_headers(alloc, &request)?;
     Ok(Exchanged {
-        played,
+        played: Played {
+            jar,
+            client,
+            outcomes,
+        },
         response,
         request,
         next,

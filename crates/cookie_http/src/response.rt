@@ -4,7 +4,8 @@ ghost use Rattle.cookie.specs.Memory.{Gives};
 ghost use Rattle.cookie.specs.Record.{Record};
 ghost use Rattle.cookie.specs.Text.{cookie_text};
 ghost use Rattle.http_header.specs.HeaderMap.{RefusesAppend};
-ghost use Rattle.cookie_http.specs.Response.{AddsDelta, AllFitFields, FitsField, IsAttributeValue, LacksRoom, LacksRoomFor, WalksDelta, is_attribute_byte, with_set_cookies};
+ghost use Rattle.cookie.specs.DeltaTexts.{WalksDelta};
+ghost use Rattle.cookie_http.specs.Response.{AddsDelta, AllFitFields, FitsField, IsAttributeValue, LacksRoom, LacksRoomFor, is_attribute_byte, with_set_cookies};
 ghost use Rattle.cookie_http.specs.declared.http_error.HttpError.TheVariants as refusal;
 
 use crate::http_error::HttpError;
@@ -65,7 +66,7 @@ fn append_cookie(
         ≡ with_set_cookies (cookie_text true false cookie.now.fields ∷ []) headers.old) }
     ensures text { IsUtf8 (cookie_text true false cookie.now.fields) }
 {
-    cookie.known();
+    let (_name, _value) = cookie.name_value();
     let text = cookie.encoded().to_string(alloc)?;
     let value = HeaderValue::from_known_valid(Bytes::from_string(text)?);
     headers.append("set-cookie", value)?;
@@ -92,7 +93,7 @@ fn count(jar: &CookieJar) -> usize
     count
 }
 
-// Whether the map lacks room for so many more `Set-Cookie` fields.
+// Whether the map lacks room for this many more `Set-Cookie` fields.
 fn lacks_room_for(count: usize, headers: &HeaderMap) -> bool
     ensures lacks { IsTrue result ↔ LacksRoom count headers.now }
     ensures empty { headers.now ≡ [] → ¬ (IsTrue result) }

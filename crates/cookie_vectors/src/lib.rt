@@ -1,4 +1,4 @@
-//! Tests of one cookie, whose answers come from elsewhere: its texts, its dates and its fields.
+//! Tests of the jar, of its child jars and of their keys, whose answers come from elsewhere.
 #![tactic(auto)]
 
 #[cfg(test)]

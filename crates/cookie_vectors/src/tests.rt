@@ -1,15 +1,12 @@
-//! Rows whose answers come from the crate `cookie` and from the standards.
-mod attributes;
-mod decoding;
-mod expiries;
-mod fields;
+//! Rows whose answers come from the crate `cookie`, from the standards, from OpenSSL and from Python's hmac.
+mod children;
+mod collisions;
 mod flags;
-mod making;
-mod printing;
-mod raw_forms;
-mod reading;
+mod generators;
+mod jars;
+mod keys;
+mod player;
+mod prefixes;
 mod refusals;
 mod rows;
-mod showing;
-mod splitting;
-mod values;
+mod secrets;

@@ -1,8 +1,20 @@
-//! Calls on a jar as words, and what the jar has to show between them: what the crates of tests share.
+//! Steps on a jar as words: what the rows of all crates of tests share.
 #![tactic(auto)]
 
+mod call;
+mod child;
+mod look;
+mod making;
 mod rows;
-mod steps;
+mod sevens;
+mod step;
+mod verb;
 
-pub use rows::{counts, moment, shown_value, test_key};
-pub use steps::Step;
+pub use call::Call;
+pub use child::Child;
+pub use look::{Look, counts, shown_value};
+pub use making::{make, make_on};
+pub use rows::{moment, test_key};
+pub use sevens::{Sevens, Spent};
+pub use step::Step;
+pub use verb::Verb;

@@ -1,10 +1,9 @@
-use cookie::{CookieJar, Key};
+use cookie::Key;
 use jiff::civil::DateTime;
-use std::test::Fail;
 
 /// The moment of most rows, 2015-10-21 07:28:00 in UTC.
-pub fn moment() -> Result<DateTime, Fail> {
-    Ok(DateTime::new(2015, 10, 21, 7, 28, 0, 0)?)
+pub fn moment() -> DateTime {
+    DateTime::constant(2015, 10, 21, 7, 28, 0, 0)
 }
 
 // The key of the rows on signed and private values. Its bytes stand in the tests `roundtrip` of the crate `cookie`.
@@ -18,22 +17,4 @@ const TEST_KEY: [u8; 64] = [
 /// The key of the rows on signed and private values.
 pub fn test_key() -> Key {
     Key::from(&TEST_KEY)
-}
-
-/// The value that the jar shows under a name.
-pub fn shown_value<'a>(jar: &'a CookieJar, name: &str) -> Option<&'a str> {
-    Some(jar.get(name)?.value())
-}
-
-/// How many cookies the delta has, and how many the jar shows.
-pub fn counts(jar: &CookieJar) -> (usize, usize) {
-    let mut changes = 0usize;
-    for _ in jar.delta() {
-        changes = changes.saturating_add(1);
-    }
-    let mut shown = 0usize;
-    for _ in jar.iter() {
-        shown = shown.saturating_add(1);
-    }
-    (changes, shown)
 }

@@ -9,7 +9,7 @@ use cookie::Key;
 use gateway::Gateway;
 use jiff::Timestamp;
 use jiff::tz::Offset;
-use login_core::{Page, Refusal, Response, Site, User, answer};
+use login_core::{LoginSite, Page, Refusal, Response, User, answer};
 use rand::rngs::SysRng;
 use std::hash::RandomState;
 use std::io::Write;
@@ -17,7 +17,7 @@ use std::process::ExitCode;
 
 // The response to a request that could be read.
 fn respond(rt: &HostRuntime, key: &Key, users: &[User], gateway: &Gateway) -> Result<Response> {
-    let site = Site {
+    let site = LoginSite {
         key,
         users,
         is_secure: gateway.is_secure,

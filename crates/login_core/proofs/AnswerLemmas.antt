@@ -4,7 +4,7 @@ use Rattle.std.proofs.lemmas.Option.{none-some}
 use Rattle.std.specs.Bool.{MatchBool}
 use Rattle.jiff.specs.Types.{DateTime}
 use Rattle.cookie.specs.Jar.{JarState}
-use Rattle.login_core.specs.Answers.{Admits, Answers, LogsIn, Refuses}
+use Rattle.login_core.specs.Answers.{Admits, Answers, LogsIn, ShowsRefusal}
 use Rattle.login_core.specs.Forms.{credentials_of}
 use Rattle.login_core.specs.Pages.{greeted}
 use Rattle.login_core.specs.Users.{is_known}
@@ -15,7 +15,7 @@ use Rattle.login_core.specs.declared.refusal.Refusal.TheVariants.{Forbidden}
 use Rattle.login_core.specs.declared.request.Request.{Request}
 use Rattle.login_core.specs.declared.routes.Route.{Route}
 use Rattle.login_core.specs.declared.routes.Route.TheVariants.{Home, LogIn, LogOut}
-use Rattle.login_core.specs.declared.site.Site.{Site}
+use Rattle.login_core.specs.declared.login_site.LoginSite.{LoginSite}
 
 abbrev is_home : Result Route Refusal → Bool
 is_home (Ok Home) = true
@@ -23,13 +23,13 @@ is_home (Ok LogIn) = false
 is_home (Ok LogOut) = false
 is_home (Err refusal) = false
 
-module _ (IsDrawn : List ℕ → Type 0) (site : Site) (before after : JarState) (page : Page) where
+module _ (IsDrawn : List ℕ → Type 0) (site : LoginSite) (before after : JarState) (page : Page) where
   -- a form to log in greets nobody yet
   entering : (found : Option (List ℕ × List ℕ)) → LogsIn IsDrawn site found before page after → greeted page ≡ None
   entering None (refused, same) = ap greeted refused
   entering (Some (user, password)) answered = by (is_known user password site.users.now) answered
     where
-      by : (known : Bool) → MatchBool known (Admits IsDrawn site user before page after) (Refuses Forbidden before page after)
+      by : (known : Bool) → MatchBool known (Admits IsDrawn site user before page after) (ShowsRefusal Forbidden before page after)
           → greeted page ≡ None
       by true (nonce, is_nonce, drawn, moved, changed) = ap greeted moved
       by false (refused, same) = ap greeted refused

@@ -7,7 +7,7 @@ use Rattle.cookie.specs.declared.jar_error.JarError.{JarError}
 use Rattle.cookie.specs.declared.jar_error.JarError.TheVariants as failure
 use Rattle.login_core.specs.Answers.{FailsOnlyFor}
 use Rattle.login_core.specs.SiteCookies.{kept}
-use Rattle.login_core.specs.declared.site.Site.{Site}
+use Rattle.login_core.specs.declared.login_site.LoginSite.{LoginSite}
 use Rattle.login_core.specs.declared.site_cookie.SiteCookie.TheVariants.{User}
 
 -- an error that is passed on
@@ -45,7 +45,7 @@ no_error r t e h k = cc
 same_error : {T : Type 0} (r : Result T JarError) (e other : JarError) → r ≡ Err e → r ≡ Err other → e ≡ other
 same_error r e other h k = cc
 
-module _ (site : Site) (IsIn : List ℕ → Type 0) (CanFail : Type 0) where
+module _ (site : LoginSite) (IsIn : List ℕ → Type 0) (CanFail : Type 0) where
   -- with nobody to let in
   pub fails_nobody : {T : Type 0} (r : Result T JarError) → ((user : List ℕ) → ¬ (IsIn user)) → FailsForMemory r → FailsOnlyFor site IsIn CanFail r
   fails_nobody r nobody h = record {
@@ -101,7 +101,7 @@ module _ (site : Site) (IsIn : List ℕ → Type 0) (CanFail : Type 0) where
   }
 
 -- a cookie of the user that is sealed
-pub fails_sealed : (site : Site) (user : List ℕ) (CanFail : Type 0) {T : Type 0} (r : Result T JarError)
+pub fails_sealed : (site : LoginSite) (user : List ℕ) (CanFail : Type 0) {T : Type 0} (r : Result T JarError)
     → ((¬ (CanSeal (kept site.is_secure User user))) ↔ (r ≡ Err failure.TooLong)) → (r ≡ Err failure.Generator → CanFail)
     → FailsOnlyFor site (λ known. user ≡ known) CanFail r
 fails_sealed site user CanFail r long failed = record {

@@ -11,8 +11,8 @@ use Rattle.login_core.specs.declared.visitor.Visitor.{Visitor}
 
 -- a byte as a reader of HTML takes it for text, in an element and in a quoted attribute: `&`, `<`, `>`, `"` and `'` as
 -- character references (13.1.4), and each other byte as it is
-abbrev pub escape : ℕ → List ℕ
-escape b =
+abbrev pub html_escape : ℕ → List ℕ
+html_escape b =
     if b == 38 then codes "&amp;"
     else if b == 60 then codes "&lt;"
     else if b == 62 then codes "&gt;"
@@ -22,7 +22,7 @@ escape b =
 
 -- a text from outside, escaped
 abbrev pub escaped : List ℕ → List ℕ
-escaped text = flat_map escape text
+escaped text = flat_map html_escape text
 
 -- a text from outside between two of the page's own
 abbrev pub tagged : List ℕ → List ℕ → List ℕ → List ℕ

@@ -6,7 +6,7 @@ ghost use Rattle.cookie.specs.declared.jar_error.JarError.TheVariants as refusal
 ghost use Rattle.login_core.specs.Answers.{FailsOnlyFor};
 ghost use Rattle.login_core.specs.Changes.{forgets, logged_in, logged_out, removes, seals, shown, signs};
 
-use crate::site::Site;
+use crate::login_site::LoginSite;
 use crate::site_cookie::SiteCookie;
 use crate::visitor::Visitor;
 use cookie::{CookieJar, JarError};
@@ -17,12 +17,13 @@ use std::alloc::Global;
 // Shows the home page: its message is dropped, so that it is shown once, and the number of greetings is stored.
 pub(crate) fn show(
     alloc: Global,
-    site: &Site<'_>,
+    site: &LoginSite<'_>,
     jar: &mut CookieJar,
     visitor: &Visitor,
     now: DateTime,
 ) -> Result<(), JarError>
-    ensures { Gives refusal.OutOfMemory result (λ _. jar.new ≡ shown site.now now visitor.now jar.old) }
+    ensures { Gives refusal.OutOfMemory result (λ _.
+        jar.new ≡ shown site.now now visitor.now jar.old) }
 {
     if visitor.notice.is_some() {
         remove(alloc, site, jar, SiteCookie::Notice, now)?;
@@ -37,7 +38,7 @@ pub(crate) fn show(
 // Logs the user in.
 pub(crate) fn log_in<R: TryRng>(
     alloc: Global,
-    site: &Site<'_>,
+    site: &LoginSite<'_>,
     jar: &mut CookieJar,
     user: &str,
     rng: &mut R,
@@ -54,7 +55,7 @@ pub(crate) fn log_in<R: TryRng>(
 // Logs the user out: the client is told to drop the user and the number of greetings.
 pub(crate) fn log_out(
     alloc: Global,
-    site: &Site<'_>,
+    site: &LoginSite<'_>,
     jar: &mut CookieJar,
     now: DateTime,
 ) -> Result<(), JarError>
@@ -67,7 +68,7 @@ pub(crate) fn log_out(
 // Removes the user and the number of greetings.
 fn forget(
     alloc: Global,
-    site: &Site<'_>,
+    site: &LoginSite<'_>,
     jar: &mut CookieJar,
     now: DateTime,
 ) -> Result<(), JarError>
@@ -80,7 +81,7 @@ fn forget(
 // Stores the user, sealed under the key.
 fn seal<R: TryRng>(
     alloc: Global,
-    site: &Site<'_>,
+    site: &LoginSite<'_>,
     jar: &mut CookieJar,
     user: &str,
     rng: &mut R,
@@ -98,12 +99,13 @@ fn seal<R: TryRng>(
 // Stores a text, signed under the key.
 fn sign(
     alloc: Global,
-    site: &Site<'_>,
+    site: &LoginSite<'_>,
     jar: &mut CookieJar,
     which: SiteCookie,
     text: &str,
 ) -> Result<(), JarError>
-    ensures { Gives refusal.OutOfMemory result (λ _. jar.new ≡ signs site.now which text.now jar.old) }
+    ensures { Gives refusal.OutOfMemory result (λ _.
+        jar.new ≡ signs site.now which text.now jar.old) }
 {
     let cookie = which.with_value(alloc, site.is_secure, text)?;
     jar.signed_mut(site.key).add(cookie)?;
@@ -114,7 +116,7 @@ fn sign(
 // too (RFC 6265bis 5.7).
 fn remove(
     alloc: Global,
-    site: &Site<'_>,
+    site: &LoginSite<'_>,
     jar: &mut CookieJar,
     which: SiteCookie,
     now: DateTime,

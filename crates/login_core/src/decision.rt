@@ -12,12 +12,12 @@ ghost use Rattle.login_core.specs.Routes.{route_of};
 
 use crate::changes::{log_in, log_out, show};
 use crate::form::{Credentials, read_credentials};
+use crate::login_site::LoginSite;
 use crate::page::Page;
 use crate::refusal::Refusal;
 use crate::request::Request;
 use crate::response::Response;
 use crate::routes::{Route, find_route};
-use crate::site::Site;
 use crate::user::is_known;
 use crate::visitor::read_visitor;
 use cookie::{CookieJar, JarError};
@@ -29,12 +29,12 @@ use std::hash::RandomState;
 /// Answers a request at the moment `now` in UTC. The keys of `state` were drawn, so that nobody can choose names that
 /// make the jar slow. `rng` must be a cryptographic generator.
 ///
-/// Only a request that lets a user in can fail for more than memory: with `TooLong` if the user's name is too long to be
-/// sealed, before anything is drawn, and with `Generator` if the generator fails.
+/// Only a request that lets a user in can fail for more than memory: with `TooLong` if the user's name is too long to
+/// be sealed, before anything is drawn, and with `Generator` if the generator fails.
 pub fn answer<R: TryRng>(
     alloc: Global,
     state: RandomState,
-    site: &Site<'_>,
+    site: &LoginSite<'_>,
     request: &Request<'_>,
     now: DateTime,
     rng: &mut R,
@@ -76,7 +76,7 @@ fn request_jar(alloc: Global, state: RandomState, field: &[u8]) -> Result<Cookie
 // The page, and the texts of what it changes.
 fn respond<R: TryRng>(
     alloc: Global,
-    site: &Site<'_>,
+    site: &LoginSite<'_>,
     request: &Request<'_>,
     jar: &mut CookieJar,
     now: DateTime,
@@ -99,7 +99,7 @@ fn respond<R: TryRng>(
 // The page, and what it changes.
 fn decide<R: TryRng>(
     alloc: Global,
-    site: &Site<'_>,
+    site: &LoginSite<'_>,
     request: &Request<'_>,
     jar: &mut CookieJar,
     now: DateTime,
@@ -123,7 +123,7 @@ fn decide<R: TryRng>(
 // The home page.
 fn home(
     alloc: Global,
-    site: &Site<'_>,
+    site: &LoginSite<'_>,
     jar: &mut CookieJar,
     now: DateTime,
 ) -> Result<Page, JarError>
@@ -137,7 +137,7 @@ fn home(
 // What follows the form to log in.
 fn enter<R: TryRng>(
     alloc: Global,
-    site: &Site<'_>,
+    site: &LoginSite<'_>,
     form: &[u8],
     jar: &mut CookieJar,
     rng: &mut R,
@@ -158,7 +158,7 @@ fn enter<R: TryRng>(
 // Logs a user in whose password is right.
 fn admit<R: TryRng>(
     alloc: Global,
-    site: &Site<'_>,
+    site: &LoginSite<'_>,
     found: &Credentials,
     jar: &mut CookieJar,
     rng: &mut R,
@@ -182,7 +182,7 @@ fn admit<R: TryRng>(
 // Logs the user out, if there is one.
 fn leave(
     alloc: Global,
-    site: &Site<'_>,
+    site: &LoginSite<'_>,
     jar: &mut CookieJar,
     now: DateTime,
 ) -> Result<Page, JarError>

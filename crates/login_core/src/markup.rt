@@ -1,6 +1,6 @@
 //! Pages as HTML (the HTML Standard, 13.1).
 ghost use Rattle.std.specs.Prelude.{◌≡◌, ◌++◌, IfOk, OnOk};
-ghost use Rattle.login_core.specs.Html.{escape, escaped, form_html, greeting_html, home_html, html_of, link_html, main_html, reason_html, refusal_html, tagged, visits_html};
+ghost use Rattle.login_core.specs.Html.{html_escape, escaped, form_html, greeting_html, home_html, html_of, link_html, main_html, reason_html, refusal_html, tagged, visits_html};
 
 use crate::page::Page;
 use crate::refusal::Refusal;
@@ -163,7 +163,7 @@ fn push_escaped(text: &mut Vec<u8>, content: &str) -> Result<(), AllocError>
 
 // One byte of a text from outside.
 fn push_byte(text: &mut Vec<u8>, byte: u8) -> Result<(), AllocError>
-    ensures { OnOk result (text.new.items ≡ text.old.items ++ escape byte) }
+    ensures { OnOk result (text.new.items ≡ text.old.items ++ html_escape byte) }
 {
     match byte {
         b'&' => text.extend_from_slice(b"&amp;"),

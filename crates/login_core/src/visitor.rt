@@ -6,7 +6,7 @@ ghost use Rattle.std.specs.Fmt.{decimal};
 ghost use Rattle.login_core.specs.Visitors.{HasSigned, IsLoggedIn, IsVisitor};
 ghost use Rattle.login_core.specs.declared.site_cookie.SiteCookie.TheVariants as which_cookie;
 
-use crate::site::Site;
+use crate::login_site::LoginSite;
 use crate::site_cookie::SiteCookie;
 use cookie::{Cookie, CookieJar, JarError};
 use std::alloc::{AllocError, Global};
@@ -26,7 +26,11 @@ pub struct Visitor {
 /// Reads what the jar's cookies say. One that isn't sealed or signed under the site's key counts as none.
 ///
 /// Fails only out of memory.
-pub fn read_visitor(alloc: Global, site: &Site<'_>, jar: &CookieJar) -> Result<Visitor, JarError>
+pub fn read_visitor(
+    alloc: Global,
+    site: &LoginSite<'_>,
+    jar: &CookieJar,
+) -> Result<Visitor, JarError>
     ensures { Gives refusal.OutOfMemory result (IsVisitor site.now jar.now) }
 {
     let user = user_of(alloc, site, jar)?;
@@ -40,7 +44,7 @@ pub fn read_visitor(alloc: Global, site: &Site<'_>, jar: &CookieJar) -> Result<V
 }
 
 // The user who is logged in: exactly the text that was sealed under the key.
-fn user_of(alloc: Global, site: &Site<'_>, jar: &CookieJar) -> Result<Option<String>, JarError>
+fn user_of(alloc: Global, site: &LoginSite<'_>, jar: &CookieJar) -> Result<Option<String>, JarError>
     ensures { Gives refusal.OutOfMemory result (λ found. (user : List ℕ)
         → (option_map string_bytes found ≡ Some user) ↔ IsLoggedIn site.now jar.now user) }
 {
@@ -52,7 +56,7 @@ fn user_of(alloc: Global, site: &Site<'_>, jar: &CookieJar) -> Result<Option<Str
 // The text that was signed under the key.
 fn signed_value(
     alloc: Global,
-    site: &Site<'_>,
+    site: &LoginSite<'_>,
     jar: &CookieJar,
     which: SiteCookie,
 ) -> Result<Option<String>, JarError>
@@ -75,7 +79,7 @@ fn value_of(alloc: Global, cookie: Option<&Cookie<'_>>) -> Result<Option<String>
 }
 
 // How many greetings were shown, this one included.
-fn visits_of(alloc: Global, site: &Site<'_>, jar: &CookieJar) -> Result<u64, JarError>
+fn visits_of(alloc: Global, site: &LoginSite<'_>, jar: &CookieJar) -> Result<u64, JarError>
     ensures more { Gives refusal.OutOfMemory result (λ visits. (before : ℕ) → before + 1 < 2 ^ 64
         → HasSigned site.now jar.now which_cookie.Visits (decimal before) → visits ≡ before + 1) }
     ensures first { IfOk result (λ visits.

@@ -1,9 +1,10 @@
 //! The key of signed and private jars.
-ghost use Rattle.std.specs.Prelude.{◌≡◌, ◌≤◌, ◌<◌, ℕ, List, Ok, Err, IfNone, IfSome, ⊤, length, codes, All};
+ghost use Rattle.std.specs.Prelude.{◌≡◌, ◌≤◌, ◌<◌, ℕ, List, Ok, Err, IfNone, IfSome, ⊤, length, codes};
 ghost use Rattle.std.specs.Str.{bytes_eq};
 ghost use Rattle.std.specs.Cmp.{partial_equiv_from_equiv};
 ghost use Rattle.std.specs.Cmp.Lexicographic.{nat_list_eq_equiv};
 ghost use Rattle.rand_core.specs.Stream.{fill_bytes};
+ghost use Rattle.cookie_crypt.specs.Gcm.{SealsToBytes};
 ghost use Rattle.cookie.specs.Keys.{derived_key, encryption_half, key_length, key_bytes, master_length, signing_half};
 ghost use Rattle.cookie.specs.declared.secure.key_error.KeyError.TheVariants as refusal;
 
@@ -33,11 +34,6 @@ pub(crate) fn half_of(bytes: &[u8]) -> [u8; 32]
     half
 }
 
-// Each byte of an array is below 256.
-pub(crate) fn are_bytes(bytes: &[u8])
-    ensures { All (λ b. b < 256) bytes.now }
-{}
-
 /// Sixty-four secret bytes: the first half signs, the second half encrypts. Contracts see them as a list.
 ///
 /// A key is only as safe as its bytes are random: they must come from a cryptographic generator, or from a master
@@ -51,12 +47,14 @@ pub struct Key {
 }
 
 impl Model for Key {
+    ghost use Rattle.std.specs.Prelude.{List, ℕ};
+    ghost use Rattle.cookie.specs.KeyHalves.{HasHalves};
+
     ghost Value = { List ℕ };
 
     ghost view = { λ k. k.bytes };
 
-    ghost invariant = { λ k. (k.mac ≡ signing_half k.bytes) × (k.cipher ≡ encryption_half k.bytes)
-        × (length k.bytes ≡ key_length) };
+    ghost invariant = { λ k. HasHalves k.bytes k.mac k.cipher };
 }
 
 impl Key {
@@ -175,7 +173,8 @@ impl Key {
 
     // What encrypts under the second half.
     pub(crate) fn cipher(&self) -> Gcm
-        ensures { result ≡ encryption_half self.now }
+        ensures value { result ≡ encryption_half self.now }
+        ensures bytes { SealsToBytes result }
     {
         let Ok(cipher) = self.cipher.clone() else {
             unreachable!();

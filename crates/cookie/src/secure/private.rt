@@ -1,30 +1,32 @@
 //! Child jars whose cookies have sealed values.
-ghost use Rattle.std.specs.Prelude.{◌≡◌, ◌↔◌, ℕ, List, None, Some, Err, IfOk, IfSome, IsOk, OnOk, OnErr, option_map};
+ghost use Rattle.std.specs.Prelude.{◌≡◌, ◌↔◌, None, Some, Err, IfOk, IfSome, IsOk, OnOk, OnErr, alloc_error, option_map};
 ghost use Rattle.std.specs.FinMap.{get};
 ghost use Rattle.cookie_core.specs.Memory.{Gives};
 ghost use Rattle.cookie.specs.AnswersExactly.{AnswersExactly, AnswersPair};
 ghost use Rattle.cookie.specs.Jar.{Add, AddOriginal, Remove, after, view};
 ghost use Rattle.cookie.specs.Keys.{encryption_half};
 ghost use Rattle.cookie.specs.ChildJars.{Changes, ChangesSame, jar_of, key_of};
-ghost use Rattle.cookie.specs.Sealing.{CanSeal, IsNonce, IsSealingOf, sealed_cookie};
+ghost use Rattle.cookie.specs.SealedAdditions.{IsDrawnAddition, IsSealedAddition};
+ghost use Rattle.cookie.specs.Sealing.{CanSeal, IsSealingOf, sealed_cookie};
 ghost use Rattle.cookie.specs.declared.jar_error.JarError.TheVariants as refusal;
 
 use crate::child::ChildJar;
 use crate::jar::CookieJar;
 use crate::jar_error::JarError;
 use crate::secure::key::Key;
-use crate::secure::sealing::{can_seal, decrypt, is_nonce, seal};
+use crate::secure::sealing::{can_seal, decrypt, seal};
 use cookie_core::Cookie;
 use cookie_crypt::Gcm;
 use jiff::civil::DateTime;
 use rand_core::TryRng;
+use std::alloc::{AllocError, Global};
 use std::marker::Model;
 
 /// A jar, seen through a key that encrypts. Contracts see it as that jar and the key's second half.
 #[derive(Drop)]
 pub struct PrivateJar<'a> {
     jar: &'a CookieJar,
-    cipher: Gcm,
+    sealer: Sealer,
 }
 
 impl<'a> Model for PrivateJar<'a> {
@@ -34,7 +36,7 @@ impl<'a> Model for PrivateJar<'a> {
 
     ghost coded = { keyed_code };
 
-    ghost view = { λ a. record { jar = a.jar.now; key = a.cipher } };
+    ghost view = { λ a. record { jar = a.jar.now; key = a.sealer } };
 }
 
 /// A jar, seen and changed through a key that encrypts.
@@ -47,9 +49,56 @@ pub struct Sealer {
 }
 
 impl Model for Sealer {
+    ghost use Rattle.std.specs.Prelude.{List, ℕ};
+    ghost use Rattle.cookie_crypt.specs.Gcm.{SealsToBytes};
+
     ghost Value = { List ℕ };
 
     ghost view = { λ a. a.cipher };
+
+    ghost invariant = { λ a. SealsToBytes a.cipher };
+}
+
+impl Sealer {
+    // What seals under the second half of the key.
+    fn of(key: &Key) -> Sealer
+        ensures { result ≡ encryption_half key.now }
+    {
+        Sealer {
+            cipher: key.cipher(),
+        }
+    }
+
+    // The cookie with its value sealed under its name. It then stands for that value.
+    fn seal(
+        &self,
+        alloc: Global,
+        nonce: [u8; 12],
+        cookie: Cookie<'static>,
+    ) -> Result<Cookie<'static>, AllocError>
+        requires { CanSeal cookie.fields }
+        ensures gives { Gives alloc_error result (λ c.
+            c.fields ≡ sealed_cookie self.now nonce cookie.entry.fields) }
+        ensures stands { IfOk result (λ c.
+            IsSealingOf self.now c.fields cookie.entry.fields.value) }
+    {
+        seal(alloc, &self.cipher, nonce, cookie)
+    }
+
+    // The cookie with the value that its own is a sealing of, if it is one.
+    fn decrypt(
+        &self,
+        alloc: Global,
+        cookie: Cookie<'static>,
+    ) -> Result<Option<Cookie<'static>>, AllocError>
+        ensures answers { Gives alloc_error result (λ answer.
+            AnswersExactly (IsSealingOf self.now) (Some cookie.entry.fields)
+            (option_map (λ c. c.fields) answer)) }
+        ensures raw { Gives alloc_error result (λ answer.
+            IfSome answer (λ c. c.raw ≡ record cookie.entry.raw { value = None })) }
+    {
+        decrypt(alloc, &self.cipher, cookie)
+    }
 }
 
 impl CookieJar {
@@ -59,7 +108,7 @@ impl CookieJar {
     {
         PrivateJar {
             jar: self,
-            cipher: key.cipher(),
+            sealer: Sealer::of(key),
         }
     }
 
@@ -72,23 +121,25 @@ impl CookieJar {
     {
         ChildJar {
             jar: self,
-            storing: Sealer {
-                cipher: key.cipher(),
-            },
+            storing: Sealer::of(key),
         }
     }
 
     // The cookie that the jar shows under the name, with the value that its own is a sealing of.
-    fn get_decrypted(&self, cipher: &Gcm, name: &str) -> Result<Option<Cookie<'static>>, JarError>
+    fn get_decrypted(
+        &self,
+        sealer: &Sealer,
+        name: &str,
+    ) -> Result<Option<Cookie<'static>>, JarError>
         ensures answers { Gives refusal.OutOfMemory result (λ answer.
-            AnswersExactly (IsSealingOf cipher.now) (view self.now name.now)
+            AnswersExactly (IsSealingOf sealer.now) (view self.now name.now)
             (option_map (λ c. c.fields) answer)) }
         ensures raw { Gives refusal.OutOfMemory result (λ answer.
             IfSome answer (λ c. c.raw.value ≡ None)) }
     {
         let alloc = self.allocator();
         match self.get(name) {
-            Some(cookie) => Ok(decrypt(alloc, cipher, cookie.clone(alloc)?)?),
+            Some(cookie) => Ok(sealer.decrypt(alloc, cookie.clone(alloc)?)?),
             None => Ok(None),
         }
     }
@@ -108,7 +159,7 @@ impl<'a> PrivateJar<'a> {
         ensures raw { Gives refusal.OutOfMemory result (λ answer.
             IfSome answer (λ c. c.raw.value ≡ None)) }
     {
-        self.jar.get_decrypted(&self.cipher, name)
+        self.jar.get_decrypted(&self.sealer, name)
     }
 
     /// The cookie with the value that was sealed. There is no answer where its value isn't sealed under the key and
@@ -124,7 +175,7 @@ impl<'a> PrivateJar<'a> {
         ensures raw { Gives refusal.OutOfMemory result (λ answer.
             IfSome answer (λ c. c.raw ≡ record cookie.entry.raw { value = None })) }
     {
-        Ok(decrypt(self.jar.allocator(), &self.cipher, cookie)?)
+        Ok(self.sealer.decrypt(self.jar.allocator(), cookie)?)
     }
 }
 
@@ -142,7 +193,7 @@ impl<'a> PrivateJarMut<'a> {
         ensures raw { Gives refusal.OutOfMemory result (λ answer.
             IfSome answer (λ c. c.raw.value ≡ None)) }
     {
-        self.jar.get_decrypted(&self.storing.cipher, name)
+        self.jar.get_decrypted(&self.storing, name)
     }
 
     /// The cookie with the value that was sealed. There is no answer where its value isn't sealed under the key and
@@ -158,7 +209,7 @@ impl<'a> PrivateJarMut<'a> {
         ensures raw { Gives refusal.OutOfMemory result (λ answer.
             IfSome answer (λ c. c.raw ≡ record cookie.entry.raw { value = None })) }
     {
-        Ok(decrypt(self.jar.allocator(), &self.storing.cipher, cookie)?)
+        Ok(self.storing.decrypt(self.jar.allocator(), cookie)?)
     }
 
     /// Adds an original cookie, with its value sealed under its name and a nonce that one draw of twelve bytes from
@@ -173,25 +224,8 @@ impl<'a> PrivateJarMut<'a> {
         cookie: Cookie<'static>,
         rng: &mut R,
     ) -> Result<(), JarError>
-        ensures ok { OnOk result ((nonce : List ℕ) × IsNonce nonce
-            × R.may_fill rng.old nonce rng.new
-            × (jar_of self.new ≡ after
-            (AddOriginal (sealed_cookie (key_of self.old) nonce cookie.entry.fields))
-            (jar_of self.old))) }
-        ensures within { OnOk result (CanSeal cookie.entry.fields) }
-
-        // Where memory was wanting the nonce was drawn too.
-        ensures drawn { result ≡ Err refusal.OutOfMemory
-            → (nonce : List ℕ) × IsNonce nonce × R.may_fill rng.old nonce rng.new }
-
-        // Past the cipher's limits it is refused as such.
-        ensures too_long { (¬ CanSeal cookie.entry.fields) ↔ (result ≡ Err refusal.TooLong) }
-        ensures undrawn { ¬ CanSeal cookie.entry.fields → rng.new ≡ rng.old }
-        ensures failed { result ≡ Err refusal.Generator → R.Error }
-
-        // After any refusal the jar is as it was.
-        ensures err { OnErr result (jar_of self.new ≡ jar_of self.old) }
-        ensures same { ChangesSame self.new self.old }
+        ensures { IsDrawnAddition AddOriginal (λ nonce. R.may_fill rng.old nonce rng.new)
+            (rng.new ≡ rng.old) R.Error cookie.entry.fields self.old self.new result }
     {
         let nonce = nonce_for(&cookie, rng)?;
         self.add_original_with_nonce(cookie, nonce)
@@ -205,29 +239,13 @@ impl<'a> PrivateJarMut<'a> {
     /// draws nothing; else with `Generator` where the draw failed; else with `OutOfMemory`. It then leaves the jar
     /// as it was.
     pub fn add<R: TryRng>(&mut self, cookie: Cookie<'static>, rng: &mut R) -> Result<(), JarError>
-        ensures ok { OnOk result ((nonce : List ℕ) × IsNonce nonce
-            × R.may_fill rng.old nonce rng.new
-            × (jar_of self.new ≡ after
-            (Add (sealed_cookie (key_of self.old) nonce cookie.entry.fields)) (jar_of self.old))) }
-        ensures within { OnOk result (CanSeal cookie.entry.fields) }
-
-        // Where memory was wanting the nonce was drawn too.
-        ensures drawn { result ≡ Err refusal.OutOfMemory
-            → (nonce : List ℕ) × IsNonce nonce × R.may_fill rng.old nonce rng.new }
-
-        // Past the cipher's limits it is refused as such.
-        ensures too_long { (¬ CanSeal cookie.entry.fields) ↔ (result ≡ Err refusal.TooLong) }
-        ensures undrawn { ¬ CanSeal cookie.entry.fields → rng.new ≡ rng.old }
-        ensures failed { result ≡ Err refusal.Generator → R.Error }
-
-        // After any refusal the jar is as it was.
-        ensures err { OnErr result (jar_of self.new ≡ jar_of self.old) }
+        ensures outcome { IsDrawnAddition Add (λ nonce. R.may_fill rng.old nonce rng.new)
+            (rng.new ≡ rng.old) R.Error cookie.entry.fields self.old self.new result }
 
         // A look-up now gives the name and the value.
         ensures shown { IfOk result (λ _.
             AnswersPair (IsSealingOf (key_of self.new))
             (view (jar_of self.new) cookie.entry.fields.name) cookie.entry.fields) }
-        ensures same { ChangesSame self.new self.old }
     {
         let nonce = nonce_for(&cookie, rng)?;
         self.add_with_nonce(cookie, nonce)
@@ -243,23 +261,12 @@ impl<'a> PrivateJarMut<'a> {
         cookie: Cookie<'static>,
         nonce: [u8; 12],
     ) -> Result<(), JarError>
-        ensures gives { CanSeal cookie.entry.fields → Gives refusal.OutOfMemory result (λ _.
-            jar_of self.new ≡ after
-            (AddOriginal (sealed_cookie (key_of self.old) nonce cookie.entry.fields))
-            (jar_of self.old)) }
-        ensures within { OnOk result (CanSeal cookie.entry.fields) }
-
-        // Past the cipher's limits it is refused as such.
-        ensures too_long { (¬ CanSeal cookie.entry.fields) ↔ (result ≡ Err refusal.TooLong) }
-
-        // After any refusal the jar is as it was.
-        ensures err { OnErr result (jar_of self.new ≡ jar_of self.old) }
-        ensures same { ChangesSame self.new self.old }
+        ensures { IsSealedAddition AddOriginal nonce cookie.entry.fields self.old self.new result }
     {
         if !can_seal(&cookie) {
             return Err(JarError::TooLong);
         }
-        let original = seal(self.jar.allocator(), &self.storing.cipher, &nonce, cookie)?;
+        let original = self.storing.seal(self.jar.allocator(), nonce, cookie)?;
         self.jar.add_original(original)
     }
 
@@ -274,27 +281,17 @@ impl<'a> PrivateJarMut<'a> {
         cookie: Cookie<'static>,
         nonce: [u8; 12],
     ) -> Result<(), JarError>
-        ensures gives { CanSeal cookie.entry.fields → Gives refusal.OutOfMemory result (λ _.
-            jar_of self.new ≡ after
-            (Add (sealed_cookie (key_of self.old) nonce cookie.entry.fields)) (jar_of self.old)) }
-        ensures within { OnOk result (CanSeal cookie.entry.fields) }
-
-        // Past the cipher's limits it is refused as such.
-        ensures too_long { (¬ CanSeal cookie.entry.fields) ↔ (result ≡ Err refusal.TooLong) }
-
-        // After any refusal the jar is as it was.
-        ensures err { OnErr result (jar_of self.new ≡ jar_of self.old) }
+        ensures outcome { IsSealedAddition Add nonce cookie.entry.fields self.old self.new result }
 
         // A look-up now gives the name and the value.
         ensures shown { IfOk result (λ _.
             AnswersPair (IsSealingOf (key_of self.new))
             (view (jar_of self.new) cookie.entry.fields.name) cookie.entry.fields) }
-        ensures same { ChangesSame self.new self.old }
     {
         if !can_seal(&cookie) {
             return Err(JarError::TooLong);
         }
-        let added = seal(self.jar.allocator(), &self.storing.cipher, &nonce, cookie)?;
+        let added = self.storing.seal(self.jar.allocator(), nonce, cookie)?;
         self.jar.add(added)
     }
 
@@ -316,7 +313,7 @@ impl<'a> PrivateJarMut<'a> {
 
 // Twelve bytes that one draw gives, to seal the cookie with.
 fn nonce_for<R: TryRng>(cookie: &Cookie<'_>, rng: &mut R) -> Result<[u8; 12], JarError>
-    ensures drawn { IfOk result (λ nonce. IsNonce nonce × R.may_fill rng.old nonce rng.new) }
+    ensures drawn { IfOk result (λ nonce. R.may_fill rng.old nonce rng.new) }
     ensures within { OnOk result (CanSeal cookie.now.fields) }
     ensures too_long { (¬ CanSeal cookie.now.fields) ↔ (result ≡ Err refusal.TooLong) }
     ensures undrawn { ¬ CanSeal cookie.now.fields → rng.new ≡ rng.old }
@@ -330,6 +327,5 @@ fn nonce_for<R: TryRng>(cookie: &Cookie<'_>, rng: &mut R) -> Result<[u8; 12], Ja
     if rng.try_fill_bytes(&mut nonce).is_err() {
         return Err(JarError::Generator);
     }
-    is_nonce(&nonce);
     Ok(nonce)
 }

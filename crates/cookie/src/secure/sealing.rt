@@ -5,11 +5,11 @@ ghost use Rattle.base64.specs.Engines.{standard};
 ghost use Rattle.base64.specs.GeneralPurpose.{encode_of};
 ghost use Rattle.cookie_core.specs.Memory.{Gives};
 ghost use Rattle.cookie_crypt.specs.Bytes.{IsBytes};
+ghost use Rattle.cookie_crypt.specs.Gcm.{SealsToBytes};
 ghost use Rattle.cookie.specs.AnswersExactly.{AnswersExactly};
 ghost use Rattle.cookie.specs.Opening.{IsSealedBytes};
-ghost use Rattle.cookie.specs.Sealing.{CanSeal, IsNonce, IsSealable, IsSealed, IsSealingOf, sealed_cookie, sealed_bytes, sealing};
+ghost use Rattle.cookie.specs.Sealing.{CanSeal, IsSealable, IsSealed, IsSealingOf, sealed_cookie, sealed_bytes, sealing};
 
-use crate::secure::key::are_bytes;
 use base64::DecodeAllocError;
 use base64::engine::general_purpose::STANDARD;
 use cookie_core::Cookie;
@@ -32,27 +32,19 @@ pub(crate) fn can_seal(cookie: &Cookie<'_>) -> bool
     cookie.name().len() <= LONGEST_NAME && cookie.value().len() <= LONGEST_VALUE
 }
 
-// Twelve bytes are a nonce.
-pub(crate) fn is_nonce(nonce: &[u8; 12])
-    ensures { IsNonce nonce.now }
-{
-    are_bytes(nonce);
-}
-
 // The cookie with its value sealed under its name. It then stands for that value.
 pub(crate) fn seal<'c>(
     alloc: Global,
     cipher: &Gcm,
-    nonce: &[u8; 12],
+    nonce: [u8; 12],
     mut cookie: Cookie<'c>,
 ) -> Result<Cookie<'c>, AllocError>
     requires { CanSeal cookie.fields }
     ensures gives { Gives alloc_error result (λ c.
-        c.fields ≡ sealed_cookie cipher.now nonce.now cookie.entry.fields) }
+        c.fields ≡ sealed_cookie cipher.now nonce cookie.entry.fields) }
     ensures stands { IfOk result (λ c. IsSealingOf cipher.now c.fields cookie.entry.fields.value) }
 {
-    is_nonce(nonce);
-    let value = sealed_text(alloc, cipher, cookie.name(), nonce, cookie.value())?;
+    let value = sealed_text(alloc, cipher, cookie.name(), &nonce, cookie.value())?;
     cookie.set_value_owned(value);
     Ok(cookie)
 }
@@ -63,6 +55,7 @@ pub(crate) fn decrypt<'c>(
     cipher: &Gcm,
     mut cookie: Cookie<'c>,
 ) -> Result<Option<Cookie<'c>>, AllocError>
+    requires { SealsToBytes cipher.now }
     ensures answers { Gives alloc_error result (λ answer.
         AnswersExactly (IsSealingOf cipher.now) (Some cookie.entry.fields)
         (option_map (λ c. c.fields) answer)) }
@@ -116,11 +109,11 @@ fn sealed_bytes(
 
 // The value that the text is a sealing of under the name, if it is one.
 fn unseal(alloc: Global, cipher: &Gcm, name: &str, text: &str) -> Result<Option<String>, AllocError>
+    requires { SealsToBytes cipher.now }
     ensures { IfOk result (λ answer.
         (v : List ℕ)
         → (option_map string_bytes answer ≡ Some v) ↔ IsSealed cipher.now name.now text.now v) }
 {
-    cipher.known();
     let Some(bytes) = decode(alloc, text)? else {
         return Ok(None);
     };

@@ -38,7 +38,7 @@ pub extern "C" fn cookie_jar_new(alloc: Global, seed: u64, other_seed: u64, jar:
 }
 
 /// Adds the cookies of a `Cookie` header's value as originals, decoded (RFC 6265 5.4). A piece that is no cookie is
-/// passed over.
+/// skipped.
 ///
 /// Refuses a handle without a jar, and then a header that isn't UTF-8; else it fails for want of memory alone. After a
 /// refusal the jar is as before.
@@ -50,7 +50,7 @@ pub extern "C" fn cookie_jar_add_originals(alloc: Global, jar: &mut Jar, header:
     let Some(mut held) = jar.take(alloc) else {
         return Status::NoJar.code();
     };
-    let answer = add_originals(alloc, held.as_mut(), header);
+    let answer = add_originals(held.as_mut(), header);
     jar.put(held);
     answer.code()
 }
@@ -58,8 +58,8 @@ pub extern "C" fn cookie_jar_add_originals(alloc: Global, jar: &mut Jar, header:
 /// Adds the cookie that the text of a `Set-Cookie` header is, decoded (RFC 6265 5.2), in the place of the one that the
 /// jar shows under its name.
 ///
-/// Refuses a handle without a jar, and then as `cookie_read_decoded` does; else it fails for want of memory alone. After
-/// a refusal the jar is as before.
+/// Refuses a handle without a jar, and then as `cookie_read_decoded` does; else it fails for want of memory alone.
+/// After a refusal the jar is as before.
 #[tactic(auto, using(crate::proofs::JarLemmas::at_none, crate::proofs::JarLemmas::at_some))]
 #[unsafe(no_mangle)]
 pub extern "C" fn cookie_jar_add(alloc: Global, jar: &mut Jar, text: &[u8]) -> u32
@@ -73,8 +73,8 @@ pub extern "C" fn cookie_jar_add(alloc: Global, jar: &mut Jar, text: &[u8]) -> u
     answer.code()
 }
 
-/// Removes the cookie of the name, at a moment that is a date in UTC by the four forms of `read_date`. Where there is an
-/// original of the name, the delta gets a cookie that tells the client to drop it, without path and domain.
+/// Removes the cookie of the name, at a moment that is a date in UTC by the four forms of `read_date`. Where there is
+/// an original of the name, the delta gets a cookie that tells the client to drop it, without path and domain.
 ///
 /// Refuses a handle without a jar, then a moment or a name that isn't UTF-8, and then a moment that is no date; else it
 /// fails for want of memory alone. After a refusal the jar is as before.
@@ -126,7 +126,7 @@ pub extern "C" fn cookie_jar_free(alloc: Global, jar: &mut Jar)
     drop(jar.take(alloc));
 }
 
-fn add_originals(alloc: Global, jar: &mut CookieJar, header: &[u8]) -> Status
+fn add_originals(jar: &mut CookieJar, header: &[u8]) -> Status
     ensures { HasOriginals header.now result jar.old jar.new }
 {
     let Ok(header) = str::from_utf8(header) else {

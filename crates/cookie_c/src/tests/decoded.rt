@@ -1,18 +1,12 @@
 //! Calls that decode. The answers are from RFC 6265 4.2.1 and 5.2 and RFC 3986 2.1, by hand.
+use super::rows::holds;
 use crate::decoded::{cookie_next_pair_decoded, cookie_read_decoded};
 use crate::place::Place;
 
-// Whether these are the places of a name and a value that stand in a buffer, one right behind the other.
+// Whether these are the places of a name and a value that stand in a buffer, one right after the other.
 fn are_at(name: Place, value: Place, name_length: usize, value_length: usize) -> bool {
     (name.start, name.length) == (0, name_length)
         && (value.start, value.length) == (name_length, value_length)
-}
-
-// Whether the text stands at the head of the buffer, and nothing behind it has changed.
-fn holds(out: &[u8], text: &[u8]) -> bool {
-    out.starts_with(text)
-        && text.len() <= out.len()
-        && out[text.len()..].iter().all(|byte| *byte == 0xa5)
 }
 
 #[test]

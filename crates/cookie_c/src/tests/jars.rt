@@ -1,5 +1,6 @@
 //! Calls on a handle.
-use super::{MOMENT, tells};
+use super::rows::{is_answered, parts, word};
+use crate::answer::Answer;
 use crate::jar::Jar;
 use crate::jar::calls::{
     cookie_jar_add, cookie_jar_add_originals, cookie_jar_free, cookie_jar_new, cookie_jar_remove,
@@ -8,133 +9,114 @@ use crate::jar::calls::{
 use crate::jar::texts::{cookie_jar_delta, cookie_jar_get};
 use std::alloc::Global;
 
-/// A call on a handle and what it is handed.
-#[derive(Clone, Copy)]
-enum Step<'a> {
-    New,
-    AddOriginals(&'a [u8]),
-    Add(&'a [u8]),
-    Remove(&'a [u8], &'a [u8]),
-    RemoveScoped(&'a [u8], &'a [u8], &'a [u8], &'a [u8]),
-    Free,
-}
+// By a model of RFC 6265 5.2 to 5.4, and by the header's words. A removal has a moment, a name, and maybe a path and a
+// domain: a server removes a cookie by one of the same path and domain (RFC 6265 3.1).
+const ROWS: &str = "\
+add a=1 -> 17
+new -> 0
+originals name=val; lang=en -> 0
+originals \\xff -> 3
+add a=%20 -> 0
+add a -> 13
+add =1 -> 14
+add a=%FF -> 15
+add a=\\xff -> 3
+remove Wed, 21 Oct 2015 07:28:00 GMT|a -> 0
+remove yesterday|name -> 10
+remove \\xff|name -> 3
+remove-scoped Wed, 21 Oct 2015 07:28:00 GMT|lang|/|b.c -> 0
+remove-scoped yesterday|name|/|b.c -> 10
+remove-scoped yesterday|name|/|\\xff -> 3
+remove-scoped Wed, 21 Oct 2015 07:28:00 GMT|name|\\xff| -> 3
+free -> 0
+free -> 0
+originals a=1 -> 17
+remove-scoped Wed, 21 Oct 2015 07:28:00 GMT|name|| -> 17
+new -> 0
+originals name=val; n=x%20y -> 0
+add a=1 -> 0
+remove Wed, 21 Oct 2015 07:28:00 GMT|a -> 0
+remove Wed, 21 Oct 2015 07:28:00 GMT|name -> 0
+get n -> 0 x y
+get name -> 18
+delta -> 0 Set-Cookie: name=; Max-Age=0; Expires=Tue, 21 Oct 2014 07:28:00 GMT\\x0a
+free -> 0
+get n -> 17
+new -> 0
+originals name=val -> 0
+remove-scoped Wed, 21 Oct 2015 07:28:00 GMT|name|/p|.b.c -> 0
+get name -> 18
+delta -> 0 Set-Cookie: name=; Path=/p; Domain=b.c; Max-Age=0; Expires=Tue, 21 Oct 2014 07:28:00 GMT\\x0a
+free -> 0
+new -> 0
+originals name=val -> 0
+remove-scoped Wed, 21 Oct 2015 07:28:00 GMT|name|/p| -> 0
+get name -> 18
+delta -> 0 Set-Cookie: name=; Path=/p; Max-Age=0; Expires=Tue, 21 Oct 2014 07:28:00 GMT\\x0a
+free -> 0
+new -> 0
+originals name=val -> 0
+remove-scoped Wed, 21 Oct 2015 07:28:00 GMT|name||b.c -> 0
+get name -> 18
+delta -> 0 Set-Cookie: name=; Domain=b.c; Max-Age=0; Expires=Tue, 21 Oct 2014 07:28:00 GMT\\x0a
+free -> 0
+new -> 0
+originals name=val -> 0
+remove-scoped Wed, 21 Oct 2015 07:28:00 GMT|name|| -> 0
+get name -> 18
+delta -> 0 Set-Cookie: name=; Max-Age=0; Expires=Tue, 21 Oct 2014 07:28:00 GMT\\x0a
+free -> 0
+";
 
-// The status of the step.
-fn play(alloc: Global, jar: &mut Jar, step: Step<'_>) -> u32 {
-    match step {
-        Step::New => cookie_jar_new(alloc, 1, 2, jar),
-        Step::AddOriginals(header) => cookie_jar_add_originals(alloc, jar, header),
-        Step::Add(text) => cookie_jar_add(alloc, jar, text),
-        Step::Remove(moment, name) => cookie_jar_remove(alloc, jar, moment, name),
-        Step::RemoveScoped(moment, name, path, domain) => {
-            cookie_jar_remove_scoped(alloc, jar, moment, name, path, domain)
+// The status of a call on the handle that changes it.
+fn change(alloc: Global, jar: &mut Jar, call: &str, words: &str) -> Option<u32> {
+    let (first, name) = (word(alloc, words, 0)?, word(alloc, words, 1)?);
+    let (path, domain) = (word(alloc, words, 2)?, word(alloc, words, 3)?);
+    let (first, name) = (first.as_slice(), name.as_slice());
+    Some(match call {
+        "new" => cookie_jar_new(alloc, 1, 2, jar),
+        "originals" => cookie_jar_add_originals(alloc, jar, first),
+        "add" => cookie_jar_add(alloc, jar, first),
+        "remove" => cookie_jar_remove(alloc, jar, first, name),
+        "remove-scoped" => {
+            cookie_jar_remove_scoped(alloc, jar, first, name, path.as_slice(), domain.as_slice())
         }
-        Step::Free => {
+        "free" => {
             cookie_jar_free(alloc, jar);
             0
         }
-    }
+        _ => return None,
+    })
 }
 
-// Whether the jar gives the value under the name.
-fn shows(alloc: Global, jar: &mut Jar, name: &[u8], value: &[u8]) -> bool {
-    let mut out = [0; 16];
-    let answer = cookie_jar_get(alloc, jar, name, &mut out);
-    tells(answer, 0, value.len()) && out.starts_with(value)
+// What the call on the handle answers.
+fn play(alloc: Global, jar: &mut Jar, call: &str, words: &str, out: &mut [u8]) -> Option<Answer> {
+    Some(match call {
+        "get" => cookie_jar_get(alloc, jar, words.as_bytes(), out),
+        "delta" => cookie_jar_delta(alloc, jar, out),
+        _ => Answer {
+            status: change(alloc, jar, call, words)?,
+            length: 0,
+        },
+    })
 }
 
-// Whether the jar gives these lines.
-fn has_delta(alloc: Global, jar: &mut Jar, lines: &[u8]) -> bool {
-    let mut out = [0; 128];
-    let answer = cookie_jar_delta(alloc, jar, &mut out);
-    tells(answer, 0, lines.len()) && out.starts_with(lines)
+fn is_right(alloc: Global, jar: &mut Jar, row: &str) -> Option<bool> {
+    let (call, words, wanted) = parts(row)?;
+    let mut out = [0xa5; 128];
+    let answer = play(alloc, jar, call, words, &mut out)?;
+    is_answered(alloc, answer, &out, wanted)
 }
 
-// By a model of RFC 6265 5.2 to 5.4, and by the header's words.
 #[test]
 fn steps_have_their_statuses(rt: HostRuntime) {
-    let rows: [(Step<'_>, u32); 20] = [
-        (Step::Add(b"a=1"), 17),
-        (Step::New, 0),
-        (Step::AddOriginals(b"name=val; lang=en"), 0),
-        (Step::AddOriginals(b"\xff"), 3),
-        (Step::Add(b"a=%20"), 0),
-        (Step::Add(b"a"), 13),
-        (Step::Add(b"=1"), 14),
-        (Step::Add(b"a=%FF"), 15),
-        (Step::Add(b"a=\xff"), 3),
-        (Step::Remove(MOMENT, b"a"), 0),
-        (Step::Remove(b"yesterday", b"name"), 10),
-        (Step::Remove(b"\xff", b"name"), 3),
-        (Step::RemoveScoped(MOMENT, b"lang", b"/", b"b.c"), 0),
-        (Step::RemoveScoped(b"yesterday", b"name", b"/", b"b.c"), 10),
-        (Step::RemoveScoped(b"yesterday", b"name", b"/", b"\xff"), 3),
-        (Step::RemoveScoped(MOMENT, b"name", b"\xff", b""), 3),
-        (Step::Free, 0),
-        (Step::Free, 0),
-        (Step::AddOriginals(b"a=1"), 17),
-        (Step::RemoveScoped(MOMENT, b"name", b"", b""), 17),
-    ];
     let mut jar = Jar::closed(rt.alloc());
-    for (step, status) in rows {
-        assert!(rt; play(rt.alloc(), &mut jar, step) == status);
+    for row in ROWS.lines() {
+        assert!(rt; is_right(rt.alloc(), &mut jar, row) == Some(true), "{row}");
     }
-}
-
-#[test]
-fn jars_show_their_cookies(rt: HostRuntime) {
-    let alloc = rt.alloc();
-    let mut jar = Jar::closed(alloc);
-    for step in [
-        Step::New,
-        Step::AddOriginals(b"name=val; n=x%20y"),
-        Step::Add(b"a=1"),
-        Step::Remove(MOMENT, b"a"),
-        Step::Remove(MOMENT, b"name"),
-    ] {
-        assert!(rt; play(alloc, &mut jar, step) == 0);
-    }
-    assert!(rt; shows(alloc, &mut jar, b"n", b"x y"));
-    let mut out = [0; 16];
-    assert!(rt; cookie_jar_get(alloc, &mut jar, b"name", &mut out).status == 18);
-    assert!(rt;
-        has_delta(
-            alloc,
-            &mut jar,
-            b"Set-Cookie: name=; Max-Age=0; Expires=Tue, 21 Oct 2014 07:28:00 GMT\n",
-        )
-    );
-    cookie_jar_free(alloc, &mut jar);
-    assert!(rt; cookie_jar_get(alloc, &mut jar, b"n", &mut out).status == 17);
-}
-
-// By RFC 6265 3.1: a server removes a cookie by one of the same path and domain.
-#[test]
-fn scoped_cookies_are_removed(rt: HostRuntime) {
-    let alloc = rt.alloc();
-    let rows: [(&[u8], &[u8], &[u8]); 4] = [
-        (b"/p", b".b.c", b"; Path=/p; Domain=b.c"),
-        (b"/p", b"", b"; Path=/p"),
-        (b"", b"b.c", b"; Domain=b.c"),
-        (b"", b"", b""),
-    ];
-    for (path, domain, scope) in rows {
-        let mut jar = Jar::closed(alloc);
-        for step in [
-            Step::New,
-            Step::AddOriginals(b"name=val"),
-            Step::RemoveScoped(MOMENT, b"name", path, domain),
-        ] {
-            assert!(rt; play(alloc, &mut jar, step) == 0);
-        }
-        let mut out = [0; 128];
-        assert!(rt; cookie_jar_get(alloc, &mut jar, b"name", &mut out).status == 18);
-        let answer = cookie_jar_delta(alloc, &mut jar, &mut out);
-        let end = b"; Max-Age=0; Expires=Tue, 21 Oct 2014 07:28:00 GMT\n";
-        assert!(rt; tells(answer, 0, 17 + scope.len() + end.len()));
-        assert!(rt; out.starts_with(b"Set-Cookie: name="));
-        assert!(rt; out[17..].starts_with(scope));
-        assert!(rt; out[17 + scope.len()..].starts_with(end));
-        cookie_jar_free(alloc, &mut jar);
-    }
+    assert!(rt; is_right(rt.alloc(), &mut jar, "new -> 17") == Some(false));
+    assert!(rt; is_right(rt.alloc(), &mut jar, "add a=1 -> 1") == Some(false));
+    assert!(rt; is_right(rt.alloc(), &mut jar, "get a -> 0 2") == Some(false));
+    assert!(rt; is_right(rt.alloc(), &mut jar, "delta -> 0 a=1") == Some(false));
+    cookie_jar_free(rt.alloc(), &mut jar);
 }

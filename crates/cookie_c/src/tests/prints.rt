@@ -1,30 +1,9 @@
 //! Cookies printed from their parts.
-use super::tells;
+use super::rows::{is_answered, parts, word};
 use crate::attributes::Attributes;
 use crate::date::Moment;
 use crate::print::cookie_print;
-
-// No attribute.
-const UNSET: Attributes = Attributes {
-    http_only: 0,
-    secure: 0,
-    partitioned: 0,
-    same_site: 0,
-    has_path: 0,
-    has_domain: 0,
-    has_max_age: 0,
-    has_expires: 0,
-    max_age: 0,
-    expires: Moment {
-        status: 0,
-        year: 0,
-        month: 0,
-        day: 0,
-        hour: 0,
-        minute: 0,
-        second: 0,
-    },
-};
+use std::alloc::Global;
 
 // One of each kind.
 const SET: Attributes = Attributes {
@@ -48,91 +27,77 @@ const SET: Attributes = Attributes {
     },
 };
 
-// By the crate cookie.
-#[test]
-fn cookies_are_printed(rt: HostRuntime) {
-    let falsely = Attributes {
-        http_only: 2,
-        secure: 2,
-        same_site: 3,
-        ..UNSET
-    };
-    let rows: [(&[u8], &[u8], Attributes, bool, &[u8]); 4] = [
-        (
-            b"id",
-            b"x y",
-            SET,
-            false,
-            b"id=x y; HttpOnly; SameSite=Lax; Partitioned; Secure; Path=/; Domain=a.example; Max-Age=90; Expires=Sun, 06 Nov 1994 08:49:37 GMT",
-        ),
-        (
-            b"id",
-            b"x y",
-            SET,
-            true,
-            b"id=x%20y; HttpOnly; SameSite=Lax; Partitioned; Secure; Path=/; Domain=a.example; Max-Age=90; Expires=Sun, 06 Nov 1994 08:49:37 GMT",
-        ),
-        (
-            b"foo !%?=",
-            b"bar;;, a",
-            UNSET,
-            true,
-            b"foo%20!%25%3F%3D=bar%3B%3B%2C%20a",
-        ),
-        (b"foo", b"bar", falsely, false, b"foo=bar; SameSite=None"),
-    ];
-    for (name, value, attributes, is_escaped, text) in rows {
-        let mut out = [0; 160];
-        let answer = cookie_print(
-            rt.alloc(),
-            name,
-            value,
-            b"/",
-            b".a.example",
-            &attributes,
-            is_escaped,
-            &mut out,
-        );
-        assert!(rt; tells(answer, 0, text.len()));
-        assert!(rt; out.starts_with(text));
-    }
-}
+// The domain is `.a.example`. What is printed is by the crate cookie, and what is refused by the header's words.
+const ROWS: &str = "\
+plain id|x y|/|set -> 0 id=x y; HttpOnly; SameSite=Lax; Partitioned; Secure; Path=/; Domain=a.example; Max-Age=90; Expires=Sun, 06 Nov 1994 08:49:37 GMT
+escaped id|x y|/|set -> 0 id=x%20y; HttpOnly; SameSite=Lax; Partitioned; Secure; Path=/; Domain=a.example; Max-Age=90; Expires=Sun, 06 Nov 1994 08:49:37 GMT
+escaped foo !%?=|bar;;, a|/|unset -> 0 foo%20!%25%3F%3D=bar%3B%3B%2C%20a
+plain foo|bar|/|falsely -> 0 foo=bar; SameSite=None
+plain id|x|/|bad flag -> 19
+plain \\xff|x|/|bad site and date -> 19
+plain \\xff|x|/|bad date -> 10
+plain \\xff|x|/|set -> 3
+plain id|x|\\xff|set -> 3
+plain id|x|\\xff|unset -> 0 id=x
+";
 
-// By the header's words.
-#[test]
-fn parts_are_refused(rt: HostRuntime) {
-    let flag = Attributes { secure: 3, ..SET };
-    let date = Attributes {
+// The attributes of that name.
+fn attributes(words: &str) -> Option<Attributes> {
+    let unset = Attributes::none();
+    let bad = Attributes {
         expires: Moment {
             month: 13,
             ..SET.expires
         },
         ..SET
     };
-    let both = Attributes {
-        same_site: 4,
-        ..date
-    };
-    let rows: [(&[u8], &[u8], Attributes, u32); 6] = [
-        (b"id", b"/", flag, 19),
-        (b"\xff", b"/", both, 19),
-        (b"\xff", b"/", date, 10),
-        (b"\xff", b"/", SET, 3),
-        (b"id", b"\xff", SET, 3),
-        (b"id", b"\xff", UNSET, 0),
-    ];
-    for (name, path, attributes, status) in rows {
-        let mut out = [0; 160];
-        let answer = cookie_print(
-            rt.alloc(),
-            name,
-            b"x",
-            path,
-            b".a.example",
-            &attributes,
-            false,
-            &mut out,
-        );
-        assert!(rt; answer.status == status);
+    Some(match words {
+        "set" => SET,
+        "unset" => unset,
+        "falsely" => Attributes {
+            http_only: 2,
+            secure: 2,
+            same_site: 3,
+            ..unset
+        },
+        "bad flag" => Attributes { secure: 3, ..SET },
+        "bad date" => bad,
+        "bad site and date" => Attributes {
+            same_site: 4,
+            ..bad
+        },
+        _ => return None,
+    })
+}
+
+fn is_right(alloc: Global, row: &str) -> Option<bool> {
+    let (form, words, wanted) = parts(row)?;
+    let (name, value, path) = (
+        word(alloc, words, 0)?,
+        word(alloc, words, 1)?,
+        word(alloc, words, 2)?,
+    );
+    let numbers = attributes(words.split('|').nth(3)?)?;
+    let (name, value, path) = (name.as_slice(), value.as_slice(), path.as_slice());
+    let (mut out, is_escaped) = ([0xa5; 160], form == "escaped");
+    let answer = cookie_print(
+        alloc,
+        name,
+        value,
+        path,
+        b".a.example",
+        &numbers,
+        is_escaped,
+        &mut out,
+    );
+    is_answered(alloc, answer, &out, wanted)
+}
+
+#[test]
+fn cookies_are_printed(rt: HostRuntime) {
+    for row in ROWS.lines() {
+        assert!(rt; is_right(rt.alloc(), row) == Some(true), "{row}");
     }
+    assert!(rt; is_right(rt.alloc(), "plain id|x|/|unset -> 0 id=y") == Some(false));
+    assert!(rt; is_right(rt.alloc(), "plain id|x|/|bad flag -> 10") == Some(false));
 }

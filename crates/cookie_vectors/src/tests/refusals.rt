@@ -1,34 +1,30 @@
-//! The texts of refusals.
-use cookie_core::{Cookie, ParseError};
-use std::alloc::Global;
+//! Refusals of jars and keys as values.
+use cookie::{Error, JarError, Key, KeyError, ParseError};
+use jar_steps::test_key;
+use std::alloc::AllocError;
 
-// Whether the refusal has this text, by both calls.
-fn has_text(alloc: Global, refusal: ParseError, wanted: &str) -> bool {
-    match refusal.to_string(alloc) {
-        Ok(text) => refusal.as_str() == wanted && text.as_str() == wanted,
+// Whether a clone equals its value, and the value no other.
+fn is_cloned<T: Clone + PartialEq>(value: &T, other: &T) -> bool {
+    let copy: Result<T, AllocError> = value.clone();
+    match copy {
+        Ok(copy) => copy == *value && *value != *other,
         Err(_) => false,
     }
 }
 
-// Whether the refusal of a text's bytes has this text, and is made of its fault.
-fn has_text_of_bytes(alloc: Global, wanted: &str) -> bool {
-    match Cookie::parse_encoded(alloc, "a=%FF").err() {
-        Some(ParseError::Utf8Error(fault)) => {
-            let refusal = ParseError::from(fault);
-            refusal == ParseError::Utf8Error(fault) && has_text(alloc, refusal, wanted)
-        }
-        _ => false,
-    }
+#[test]
+fn refusals_and_keys_are_cloned_and_compared(rt: HostRuntime) {
+    assert!(rt; is_cloned(&JarError::TooLong, &JarError::Generator));
+    assert!(rt; is_cloned(&KeyError::TooShort(6), &KeyError::TooShort(7)));
+    assert!(rt; is_cloned(&test_key(), &Key::from(&[0; 64])));
 }
 
 #[test]
-fn refusals_have_their_texts(rt: HostRuntime) {
-    let alloc = rt.alloc();
-    let no_pair = "the cookie is missing a name/value pair";
-    let no_memory = "memory ran out while reading the cookie";
-    let no_text = "decoding the cookie's name or value resulted in invalid UTF-8";
-    assert!(rt; has_text(alloc, ParseError::MissingPair, no_pair));
-    assert!(rt; has_text(alloc, ParseError::EmptyName, "the cookie's name is empty"));
-    assert!(rt; has_text(alloc, ParseError::OutOfMemory, no_memory));
-    assert!(rt; has_text_of_bytes(alloc, no_text));
+fn one_error_holds_each(rt: HostRuntime) {
+    let short = KeyError::TooShort(6);
+    assert!(rt; Error::from(ParseError::EmptyName) == Error::Parse(ParseError::EmptyName));
+    assert!(rt; Error::from(short) == Error::Key(short));
+    assert!(rt; Error::from(JarError::TooLong) == Error::Jar(JarError::TooLong));
+    assert!(rt; Error::from(ParseError::OutOfMemory) == Error::OutOfMemory);
+    assert!(rt; Error::from(JarError::OutOfMemory) == Error::OutOfMemory);
 }

@@ -5,7 +5,7 @@ use Rattle.cookie.specs.History.{after_all}
 use Rattle.cookie.specs.Jar.{Change, JarState}
 use Rattle.cookie_client.specs.Calls.{changes_of}
 use Rattle.cookie.specs.Originals.{jar_for, with_originals}
-use Rattle.cookie_agent.specs.Store.{after_texts, standard_key}
+use Rattle.cookie_agent.specs.Store.{store_after_texts, standard_key}
 use Rattle.cookie_agent.proofs.VisitedLemmas.{agrees_on, is_visited}
 use Rattle.cookie_agent.proofs.requests.visit.Goals as goal
 
@@ -22,15 +22,14 @@ returns-clause-visit c =
     ∙ ap jar_for c.as_str.ensures.value in
     let jar : c.replay.new.jar ≡ after_all changes start = c.in_ok-outcomes.ensures.jar ∙ ap (after_all changes) begun in
     let texts : List (List ℕ) = map string_bytes c.in_ok-texts.texts.items in
-    let read : c.read_texts.new.agent ≡ after_texts standard_key request.site.now request.moment texts before =
+    let read : c.read_texts.new.agent ≡ store_after_texts standard_key request.site.now request.moment texts before =
     c.in_ok-read_texts.ensures
-    ∙ ap (λ ts. after_texts standard_key request.site.now request.moment (map string_bytes ts) c.in_ok-agent.agent) c.deref.ensures.value
-    ∙ ap (after_texts standard_key request.site.now request.moment texts) c.in_ok-agent.ensures in
+    ∙ ap (λ ts. store_after_texts standard_key request.site.now request.moment (map string_bytes ts) c.in_ok-agent.agent) c.deref.ensures.value
+    ∙ ap (store_after_texts standard_key request.site.now request.moment texts) c.in_ok-agent.ensures in
     is_visited before request _
     (record {
       count = c.in_ok-outcomes.ensures.count;
       outcomes = c.in_ok-outcomes.ensures.outcomes;
-      known = c.known_calls.ensures;
       sent = c.in_ok-header.ensures;
       jar = jar;
       texts = texts;

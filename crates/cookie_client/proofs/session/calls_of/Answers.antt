@@ -3,8 +3,7 @@ use Rattle.std.proofs.lemmas.List.{map-append}
 use Rattle.std.specs.Result.{result_map_both}
 use Rattle.cookie.specs.Jar.{Change}
 use Rattle.cookie_client.specs.Calls.{change_of}
-use Rattle.cookie_client.specs.Run.{changes_in}
-use Rattle.cookie_client.specs.Session.{call_of}
+use Rattle.cookie_client.specs.Session.{call_of, changes_in}
 use Rattle.cookie_client.proofs.SessionLemmas.{changes_in-next, more_changes, no_changes, not_empty}
 use Rattle.cookie_client.proofs.session.calls_of.Goals as goal
 

@@ -1,16 +1,24 @@
-use Rattle.std.proofs.Common.{◌≡◌, ◌++◌, [], None, Ok, List, ℕ, length, drop, sym, ap, subst, ◌∙◌, arith, length-drop}
+use Rattle.std.proofs.Common.{◌≡◌, ◌++◌, [], true, None, Ok, List, ℕ, length, drop, sym, ap, subst, ◌∙◌, arith, length-drop}
 use Rattle.std.specs.FinMap.{get}
-use Rattle.std.specs.List.{list_all}
+use Rattle.std.specs.List.{AllZip, list_all}
 use Rattle.std.proofs.lemmas.Result.{err_from_is_err_and}
 use Rattle.std.specs.String.{string_bytes}
-use Rattle.cookie_client.specs.Client.{ReadsBack}
-use Rattle.cookie_client.specs.Exchange.{IsExchange}
+use Rattle.cookie.specs.CookieOf.{header_cookies}
+use Rattle.cookie.specs.History.{after_all}
+use Rattle.cookie.specs.Jar.{JarState, view}
+use Rattle.cookie_client.specs.Agreement.{value_of}
+use Rattle.cookie_client.specs.Calls.{IsOutcome, changes_of}
+use Rattle.cookie_client.specs.Client.{ReadsBack, after_texts}
 use Rattle.cookie_client.specs.Lines.{lines_of}
-use Rattle.cookie.specs.Originals.{jar_for}
+use Rattle.cookie.specs.Originals.{jar_for, with_originals}
 use Rattle.cookie_client.specs.Originals.{client_for}
-use Rattle.cookie_client.specs.Run.{IsOfAgreement, Refuses, changes_in, header_line}
-use Rattle.cookie_client.specs.Session.{cookie_line, delta_texts, session_of_lines, set_cookie_lines}
+use Rattle.cookie_client.specs.Run.{IsOfAgreement, Refuses}
+use Rattle.cookie_client.specs.Session.{changes_in, cookie_line, delta_texts, header_line, session_of_lines, set_cookie_lines}
 use Rattle.cookie_client.specs.declared.call.JarCall.{JarCall}
+use Rattle.cookie_client.specs.declared.exchange.Played.{Played}
+use Rattle.cookie_client.proofs.EntriesLemmas.{are_texts}
+use Rattle.cookie_client.proofs.ExchangeLemmas.{exchanged}
+use Rattle.cookie_client.proofs.RoundLemmas.{client_shown, fresh}
 use Rattle.cookie_client.proofs.RunLemmas.{matched, session_of_lines-refused, written_by}
 use Rattle.cookie_client.proofs.SessionLemmas.{lines_of-length}
 use Rattle.cookie_client.proofs.session.session_text.Goals as goal
@@ -28,21 +36,32 @@ returns-in_err-calls-clause-played c =
 
 -- what is written is the session's text, and of an agreement
 told : (c : goal.After-drop-calls-2) (text : List ℕ)
-    → (text ≡ set_cookie_lines (delta_texts c.in_ok-visited.visited.jar) ++ cookie_line c.in_ok-visited.visited.client)
-    × (get c.in_ok-visited.visited.client [] ≡ None → ReadsBack c.in_ok-visited.visited.client)
+    → (let client = after_texts c.args.now (delta_texts c.replay.new.jar) c.in_ok-client.client in
+    (text ≡ set_cookie_lines (delta_texts c.replay.new.jar) ++ cookie_line client) × (get client [] ≡ None → ReadsBack client))
     → (session_of_lines c.args.now (lines_of c.args.text.now) ≡ Ok text) × IsOfAgreement c.args.now (lines_of c.args.text.now) text
 told c text is =
     let now = c.args.now in
     let calls : List JarCall = c.in_ok-calls.calls.items in
+    let lines = lines_of c.args.text.now in
     let header = c.header_of-header.ensures.header ∙ ap header_line c.of-lines.ensures in
     let rest = c.header_of-header.ensures.rest ∙ ap (drop 1) c.of-lines.ensures in
-    written_by now (lines_of c.args.text.now) calls c.in_ok-visited.visited text
+    let replayed = c.in_ok-outcomes.ensures in
+    let jar = c.replay.new.jar in
+    let client = after_texts now (delta_texts jar) c.in_ok-client.client in
+    let p : Played = record { jar = jar; client = client; outcomes = c.in_ok-outcomes.outcomes } in
+    let begun : c.in_ok-jar.jar ≡ jar_for (header_line lines) = c.in_ok-jar.ensures ∙ (λ i. with_originals (header_cookies true (header i)) (c.requires i)) in
+    let held : c.in_ok-client.client ≡ client_for (header_line lines) =
+    client_shown (header_line lines) c.in_ok-client.client (λ name. c.in_ok-client.ensures name ∙ ap (λ (j : JarState). value_of (view j name)) begun) in
+    let read : client ≡ after_texts now (delta_texts jar) (client_for (header_line lines)) = ap (after_texts now (delta_texts jar)) held in
+    let made : jar ≡ after_all (changes_of p.outcomes.items calls) (jar_for (header_line lines)) =
+    replayed.jar ∙ (λ i. after_all (changes_of p.outcomes.items (c.deref.ensures.value i)) (begun i)) in
+    written_by now lines calls p text
     (ap (λ ls. changes_in now 2 ls) (sym rest) ∙ c.in_ok-calls.ensures)
-    (subst (λ h. IsExchange now (jar_for h) (client_for h) calls c.in_ok-visited.visited) header
-    (subst (λ cs. IsExchange now (jar_for c.header_of-header.result.now) (client_for c.header_of-header.result.now) cs c.in_ok-visited.visited) c.deref.ensures.value
-    c.in_ok-visited.ensures))
+    (exchanged now (jar_for (header_line lines)) (client_for (header_line lines)) calls p (delta_texts jar)
+    (fresh (header_line lines))
+    (subst (λ cs. AllZip IsOutcome cs p.outcomes.items) c.deref.ensures.value replayed.outcomes) made (are_texts jar) read)
     (sym (c.are_accepted.ensures ∙ ap (list_all (λ b. b)) c.deref-2.ensures.value) ∙ c.if-not-are_accepted.false)
-    is
+    read is
 
 pub returns-clause-played : goal.returns-clause-played
 returns-clause-played c =

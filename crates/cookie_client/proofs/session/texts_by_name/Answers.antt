@@ -25,11 +25,11 @@ loop-cookie-preserved c =
     let cookie = c.in-Some.cookie.now.fields in
     let left = c.next.new.self in
     let distinct = subst (λ (cookies : List Record). IsDistinct bytes_eq (map (λ r. r.name) cookies)) s c.loop-cookie.invariant.once in
-    let set : c.set.new.self ≡ insert c.loop-cookie.texts cookie.name (cookie_text true false cookie) =
-    c.in_ok-set.ensures.ok ∙ (λ i. insert c.loop-cookie.texts (c.name.ensures i) ((c.as_str.ensures.value ∙ c.in_ok-text.ensures.ok) i))
+    let put : c.put.new.self ≡ insert c.loop-cookie.texts cookie.name (cookie_text true false cookie) =
+    c.in_ok-put.ensures.ok ∙ (λ i. insert c.loop-cookie.texts (c.name.ensures i) (c.in_ok-text.ensures.ok i))
     ∙ ap (λ d. insert c.loop-cookie.texts cookie.name (cookie_text d.is_encoded d.is_stripped d.fields)) c.encoded.ensures in
     record {
-      texts = λ name. ap (λ m. option_or (option_map (cookie_text true false) (named name left)) (get m name)) set
+      texts = λ name. ap (λ m. option_or (option_map (cookie_text true false) (named name left)) (get m name)) put
           ∙ texts-next (cookie_text true false) c.loop-cookie.texts cookie left distinct name
           ∙ ap (λ cookies. option_or (option_map (cookie_text true false) (named name cookies)) (get c.loop-cookie.texts name)) (sym s)
           ∙ c.loop-cookie.invariant.texts name;

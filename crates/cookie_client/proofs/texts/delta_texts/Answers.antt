@@ -1,8 +1,6 @@
 use Rattle.std.proofs.Common.{string_bytes, map}
 use Rattle.std.proofs.lemmas.List.Sorted.{IsPermutation-map}
 use Rattle.std.proofs.lemmas.Result.{IfOk-weaker}
-use Rattle.std.specs.Prelude.{IfOk}
-use Rattle.cookie.specs.DeltaTexts.{AreDeltaTextsOnce}
 use Rattle.cookie.proofs.DeltaTextLemmas.{AreDeltaTexts-once, AreDeltaTextsOnce-moved}
 use Rattle.cookie_client.proofs.texts.delta_texts.Goals as goal
 

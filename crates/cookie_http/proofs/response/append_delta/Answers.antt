@@ -1,7 +1,8 @@
 use Rattle.std.proofs.Common.{◌≡◌, All, IsTrue, false, rules, sym, ap, subst, true≢false, ◌∙◌, length, refl}
 use Rattle.std.proofs.lemmas.List.Elements.{All-head, All-tail}
 use Rattle.std.specs.Result.{IsErrAnd}
-use Rattle.cookie_http.specs.Response.{FitsField, LacksRoom, WalksDelta}
+use Rattle.cookie.specs.DeltaTexts.{WalksDelta}
+use Rattle.cookie_http.specs.Response.{FitsField, LacksRoom}
 use Rattle.cookie_http.proofs.ResponseLemmas.{AddsDelta-written, AllFitFields-walk, IsWritten, IsWritten-first, IsWritten-next, LacksRoom-append, LacksRoom-refused, clone_same, is_ok, not_full, not_invalid, other_refusal}
 use Rattle.cookie_http.proofs.response.append_delta.Goals as goal
 

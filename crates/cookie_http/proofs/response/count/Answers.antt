@@ -1,5 +1,5 @@
 use Rattle.std.proofs.Common.{length, arith, ap, subst, sym}
-use Rattle.cookie_http.specs.Response.{WalksDelta}
+use Rattle.cookie.specs.DeltaTexts.{WalksDelta}
 use Rattle.cookie_http.proofs.response.count.Goals as goal
 
 pub loop-cookie-init : goal.loop-cookie-init

@@ -1,6 +1,6 @@
 use Rattle.std.proofs.Common.{◌≡◌, ◌+◌, ◌<◌, ◌^◌, List, length}
 use Rattle.cookie.specs.Record.{Record}
-use Rattle.cookie_http.specs.Response.{WalksDelta}
+use Rattle.cookie.specs.DeltaTexts.{WalksDelta}
 use Rattle.cookie_http.proofs.response.count.Given as goal
 
 -- the cookies counted so far, with those that are left, are those of a walk

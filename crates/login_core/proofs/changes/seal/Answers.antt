@@ -9,12 +9,12 @@ returns-in_err-cookie-clause-fails g c = fails_memory _ _ _ c.from_residual.resu
 
 pub returns-in_err-add-clause-fails : goal.returns-in_err-add-clause-fails
 returns-in_err-add-clause-fails g c =
-    let sealed = subst (λ fields. (¬ (CanSeal fields)) ↔ (c.add.result ≡ Err failure.TooLong)) c.in_ok-cookie.ensures c.add.ensures.too_long in
+    let sealed = subst (λ fields. (¬ (CanSeal fields)) ↔ (c.add.result ≡ Err failure.TooLong)) c.in_ok-cookie.ensures c.add.ensures.outcome.too_long in
     fails_passed _ _ _ c.add.result c.from_residual-in_err-add.result c.in_err-add.field-0.0 c.in_err-add.was
     (err_is c.from_residual-in_err-add.result c.in_err-add.field-0.0 c.from_residual-in_err-add.ensures.1)
-    (fails_sealed c.args.site.now c.args.user.now _ c.add.result sealed c.add.ensures.failed)
+    (fails_sealed c.args.site.now c.args.user.now _ c.add.result sealed c.add.ensures.outcome.failed)
 
 pub returns-clause-fails : goal.returns-clause-fails
 returns-clause-fails g c =
-    let sealed = subst (λ fields. (¬ (CanSeal fields)) ↔ (c.add.result ≡ Err failure.TooLong)) c.in_ok-cookie.ensures c.add.ensures.too_long in
-    fails_later _ _ _ c.add.result _ _ c.in_ok-add.was tt (fails_sealed c.args.site.now c.args.user.now _ c.add.result sealed c.add.ensures.failed)
+    let sealed = subst (λ fields. (¬ (CanSeal fields)) ↔ (c.add.result ≡ Err failure.TooLong)) c.in_ok-cookie.ensures c.add.ensures.outcome.too_long in
+    fails_later _ _ _ c.add.result _ _ c.in_ok-add.was tt (fails_sealed c.args.site.now c.args.user.now _ c.add.result sealed c.add.ensures.outcome.failed)

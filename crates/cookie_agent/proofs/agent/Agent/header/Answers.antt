@@ -1,5 +1,6 @@
 -- The visible cookies, in the order of the sort, are written.
-use Rattle.std.proofs.Common.{map, ap, ◌∙◌}
+use Rattle.std.proofs.Common.{map, ap, ◌∙◌, string_bytes}
+use Rattle.std.proofs.lemmas.Result.{IfOk-weaker}
 use Rattle.cookie.specs.Header.{joined_texts}
 use Rattle.cookie_agent.specs.Sent.{sent_pair, visible}
 use Rattle.cookie_agent.specs.SentCode.{targets}
@@ -8,7 +9,9 @@ use Rattle.cookie_agent.proofs.agent.Agent.header.Goals as goal
 
 pub returns : goal.returns
 returns c =
-    ordered_header c.args.site.now c.args.now c.args.self.now _ (targets c.in_ok-sent.sent.items) (targets c.in_ok-sent-2.sent.items)
+    IfOk-weaker c.joined_pairs.result _ _ (λ header written.
+    ordered_header c.args.site.now c.args.now c.args.self.now (string_bytes header) (targets c.in_ok-sent.sent.items) (targets c.in_ok-sent-2.sent.items)
     (c.in_ok-sent.ensures ∙ ap (visible c.args.site.now c.args.now) (c.deref.ensures.value ∙ c.self.view_is))
     c.in_ok-sent-2.ensures
-    (c.in_ok-joined_pairs.ensures ∙ ap (λ cookies. joined_texts (map sent_pair (targets cookies))) c.deref-2.ensures.value)
+    (written ∙ ap (λ cookies. joined_texts (map sent_pair (targets cookies))) c.deref-2.ensures.value))
+    c.joined_pairs.ensures

@@ -5,5 +5,5 @@ use Rattle.cookie.proofs.secure.key.Key.encryption.Goals as goal
 
 pub returns : goal.returns
 returns c =
-    take_all 32 (drop 32 c.self.inside.bytes) (omega (arith, length-drop 32 c.self.inside.bytes, c.self.invariant.2))
+    take_all 32 (drop 32 c.self.inside.bytes) (omega (arith, length-drop 32 c.self.inside.bytes, c.self.invariant.long))
     ∙ ap encryption_half c.self.view_is

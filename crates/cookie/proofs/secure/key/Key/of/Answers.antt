@@ -9,9 +9,12 @@ pub half_of-requires : goal.half_of-requires
 half_of-requires c = length-take-le 32 c.args.bytes.now (omega (arith, c.told-bytes))
 
 pub invariant_of-result : goal.invariant_of-result
-invariant_of-result c = (
-  c.new.ensures ∙ c.half_of.ensures,
-  c.new-2.ensures.value ∙ c.half_of-2.ensures
-      ∙ take_all 32 (drop 32 c.args.bytes.now) (omega (arith, length-drop 32 c.args.bytes.now, c.told-bytes)),
-  c.told-bytes,
-)
+invariant_of-result c =
+    let half = c.half_of-2.ensures
+    ∙ take_all 32 (drop 32 c.args.bytes.now) (omega (arith, length-drop 32 c.args.bytes.now, c.told-bytes)) in
+    record {
+      signs = c.new.ensures ∙ c.half_of.ensures;
+      encrypts = c.new-2.ensures.value ∙ half;
+      seals = rw c.new-2.ensures.value c.new-2.ensures.bytes;
+      long = c.told-bytes;
+    }

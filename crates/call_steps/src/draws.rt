@@ -1,0 +1,73 @@
+//! Calls that are drawn from a fixed seed.
+use crate::calls::own_call;
+use cookie::Cookie;
+use cookie_client::JarCall;
+use cookie_words::set;
+use jar_steps::Verb;
+use std::alloc::Global;
+
+/// What calls are drawn of: texts with bars between them. One that stands twice is drawn twice as often.
+#[derive(Clone, Copy)]
+pub struct Tables {
+    pub verbs: &'static str,
+    pub names: &'static str,
+    pub values: &'static str,
+    /// Fields such as `Path=/`. A cookie has one of each text, or none where an empty one is drawn.
+    pub fields: &'static [&'static str],
+}
+
+/// Numbers from a fixed seed, by the shifts of a xorshift generator (Marsaglia, 2003).
+#[derive(Drop)]
+pub struct Draws {
+    pub state: u64,
+}
+
+impl Draws {
+    /// The next number.
+    pub fn next(&mut self) -> u64 {
+        self.state ^= self.state << 13;
+        self.state ^= self.state >> 7;
+        self.state ^= self.state << 17;
+        self.state
+    }
+
+    /// A number below the bound.
+    pub fn below(&mut self, bound: u64) -> usize {
+        self.next().checked_rem(bound).unwrap_or(0) as usize
+    }
+
+    fn text(&mut self, texts: &'static str) -> &'static str {
+        let place = self.below(texts.split('|').count() as u64);
+        texts.split('|').nth(place).unwrap_or("")
+    }
+
+    fn cookie(&mut self, tables: Tables) -> Option<Cookie<'static>> {
+        let mut cookie = Cookie::new(self.text(tables.names), self.text(tables.values));
+        for fields in tables.fields {
+            let field = self.text(*fields);
+            if !field.is_empty() {
+                set(&mut cookie, field)?;
+            }
+        }
+        Some(cookie)
+    }
+
+    fn call(&mut self, alloc: Global, tables: Tables) -> Option<JarCall<'static>> {
+        let verb = Verb::parse(self.text(tables.verbs))?;
+        own_call(alloc, verb, self.cookie(tables)?)
+    }
+
+    /// Fewer than this many calls.
+    pub fn calls(
+        &mut self,
+        alloc: Global,
+        tables: Tables,
+        bound: u64,
+    ) -> Option<Vec<JarCall<'static>>> {
+        let mut calls = Vec::new(alloc);
+        for _ in 0..self.below(bound) {
+            calls.push(self.call(alloc, tables)?).ok()?;
+        }
+        Some(calls)
+    }
+}

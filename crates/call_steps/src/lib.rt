@@ -1,0 +1,15 @@
+//! What the tests of clients, of user agents and of header maps share: calls as values of their words, a second body of
+//! the jar, and calls that are drawn.
+#![tactic(auto)]
+
+mod calls;
+mod draws;
+mod entries;
+mod flat_jar;
+mod printed;
+
+pub use calls::{call_of, calls_of};
+pub use draws::{Draws, Tables};
+pub use entries::{Entries, Entry};
+pub use flat_jar::FlatJar;
+pub use printed::{debugs, holds, prints};

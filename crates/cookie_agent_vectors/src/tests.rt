@@ -1,0 +1,18 @@
+//! Rows whose answers come from RFC 6265, curl and Python's `http.cookiejar`, and a second body of the agent.
+mod agents;
+mod comparison;
+mod owned_request;
+mod plain_agent;
+mod requests;
+mod sites;
+mod spots;
+mod steps;
+mod stores;
+mod wrong_rows;
+
+use jiff::civil::DateTime;
+
+// This many seconds after the minute of all rows, in UTC. A number that no minute has is the first moment there is.
+fn at(second: i8) -> DateTime {
+    DateTime::new(2015, 10, 21, 7, 28, second, 0).unwrap_or(DateTime::MIN)
+}

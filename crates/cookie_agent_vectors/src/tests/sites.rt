@@ -1,0 +1,205 @@
+//! Sites and scopes (RFC 6265 5.1.3, 5.1.4 and 5.3, steps 4 to 7), and which calls a user agent can follow.
+use super::at;
+use super::steps::first_unlike;
+use call_steps::calls_of;
+use cookie::Key;
+use cookie_agent::{Scope, Site, is_scoped};
+use jar_steps::test_key;
+use std::alloc::Global;
+
+/// The site of a URL such as `http://example.com/a/b`. A host that is an IP address has the scheme `address`, or over a
+/// secure connection `secure-address`.
+pub(super) fn site_of(alloc: Global, url: &str) -> Option<Site> {
+    let (scheme, rest) = url.split_once("://")?;
+    let (host, path) = rest.split_at_checked(rest.find('/')?)?;
+    match scheme {
+        "http" | "https" => Site::new(alloc, host, path, scheme == "https").ok(),
+        "address" | "secure-address" => {
+            Site::of_address(alloc, host, path, scheme == "secure-address").ok()
+        }
+        _ => None,
+    }
+}
+
+// Questions of a site, and its answers:
+// `domain`: whether the domain takes in the host of the site.
+// `path`: whether the path that comes last, of a cookie, takes in the one of a request, which comes first.
+// `default`: the default path of a path.
+// `secure`: whether the connection is secure.
+// `scope`: what the site gives to a cookie with the attributes, a domain, whether it is one host, and a path. Where
+// there is none, the site may not set the domain.
+// `host`: the scope of the whole host.
+// `reached`: whether a cookie of `http://www.example.com/a/b` with the attributes is sent to the site.
+// `scoped`: whether an addition for the domain `Example.com` is in the scope of such a cookie, at the site.
+// `whole`: whether the call is in the scope of the whole host, at the site.
+const ROWS: &str = "\
+domains: \
+    on http://www.example.com/a/b | domain www.example.com -> true | domain example.com -> true | \
+    domain com -> true | domain ample.com -> false | domain .example.com -> false | domain example.com. -> false | \
+    domain a.www.example.com -> false | domain Example.com -> false
+a host in upper case: on http://WWW.Example.COM/ | domain example.com -> true
+another host that ends so: on http://badexample.com/ | domain example.com -> false
+an address: on address://10.0.0.1/ | domain 10.0.0.1 -> true | domain 0.0.1 -> false
+a host that looks like one: on http://10.0.0.1/ | domain 0.0.1 -> true
+paths: \
+    path /a/b / -> true | path /a/b /a -> true | path /a/b /a/ -> true | path /a/b /a/b -> true | \
+    path /a/b /a/b/ -> false | path /a/b /a/b/c -> false | path /a /a/ -> false | path /ab /a -> false | \
+    path / /a -> false | path  / -> true | path a/b /a -> true
+default paths: \
+    default  -> / | default / -> / | default /a -> / | default /a/ -> /a | default /a/b -> /a | \
+    default /a/b/ -> /a/b | default a/b -> /a
+insecure connections: on http://www.example.com/a/b | secure -> false | on address://10.0.0.1/ | secure -> false
+secure connections: on https://example.com/ | secure -> true | on secure-address://10.0.0.1/ | secure -> true
+the scope of one host: \
+    on http://www.example.com/a/b | scope -> www.example.com true /a | scope Path=/ -> www.example.com true / | \
+    scope Path=/x; Domain= -> www.example.com true /x | host -> www.example.com true /
+the scope of a domain: \
+    on http://www.example.com/a/b | scope Path=x; Domain=example.com -> example.com false /a | \
+    scope Path=; Domain=EXAMPLE.com -> example.com false /a | \
+    scope Path=/b; Domain=www.example.com -> www.example.com false /b
+domains that may not be set: \
+    on http://www.example.com/a/b | scope Path=/; Domain=other.com -> none | \
+    scope Path=/; Domain=a.www.example.com -> none | scope Path=/; Domain=.example.com -> none | \
+    on address://10.0.0.1/ | scope Path=/; Domain=0.0.1 -> none
+sites that a cookie of one host is sent to: \
+    on https://www.example.com/a/c | reached -> true | on http://www.example.com/ | reached -> false | \
+    reached Path=/ -> true | on http://a.www.example.com/ | reached Path=/ -> false | on http://example.com/ | \
+    reached Path=/ -> false
+sites that a cookie of a domain is sent to: \
+    on http://example.com/ | reached Path=/; Domain=example.com -> true | \
+    on http://a.www.example.com/b | reached Path=/; Domain=example.com -> true | \
+    on http://badexample.com/ | reached Path=/; Domain=example.com -> false | \
+    on http://example.com/ab | reached Path=/a; Domain=example.com -> false
+sites from which an addition is in the scope: \
+    on https://www.example.com/a/b | scoped Domain=example.com -> true | \
+    on https://a.example.com/a/c | scoped Domain=example.com -> true | \
+    on https://example.com/a/c | scoped Domain=example.com -> true | \
+    on https://example.com/b/c | scoped Domain=example.com -> false | \
+    on https://other.com/a/c | scoped Domain=example.com -> false
+scopes that it isn't in: \
+    on https://www.example.com/a/b | scoped -> false | scoped Path=/; Domain=example.com -> false | \
+    scoped Domain=www.example.com -> false
+calls in the scope of the whole host: \
+    on https://www.example.com/a/b | whole add n=1; Path=/ -> true | whole add n=1; Path=/; Secure=true -> true | \
+    whole add n=1; Path=/; Expires=2015-10-21T07:28:01 -> true | whole remove n=1; Path=/ -> true | \
+    whole reset -> true | on address://10.0.0.1/x/y | whole add n=1; Path=/ -> true
+calls that aren't, since the path or the domain is another: \
+    on https://www.example.com/a/b | whole add n=1 -> false | whole add n=1; Path=/a -> false | \
+    whole add n=1; Path=/; -> false | whole add n=1; Path=/  -> false | whole add n=1; Path=/\u{1} -> false | \
+    whole add n=1; Path=/; Domain=www.example.com -> false | whole remove n=1 -> false
+calls that aren't, since no agent keeps the cookie or is told of the call: \
+    on https://www.example.com/a/b | whole add n=1; Path=/; Expires=2015-10-21T07:28:00 -> false | \
+    whole add n=1; Path=/; Max-Age=0 -> false | whole add =1; Path=/ -> false | \
+    whole original n=1; Path=/ -> false | whole force -> false
+calls over an insecure connection: \
+    on http://www.example.com/a/b | whole add n=1; Path=/ -> true | whole add n=1; Path=/; Secure=true -> false | \
+    whole add n=1; Path=/; Secure=false -> true | whole add n=1; Path=/; SameSite=None -> false | \
+    whole add n=1; Path=/; Partitioned=true -> false
+calls on child jars: \
+    on https://www.example.com/a/b | whole host add n -> true | whole host remove n -> true | \
+    whole secure add n -> false | whole secure add n=1; Path=/ -> true | whole signed add n=1; Path=/ -> true | \
+    whole signed add n -> false | whole private0 remove n=1; Path=/ -> true";
+
+// The path and the domain of attributes such as `Path=/; Domain=.example.com`, as they stand.
+fn path_and_domain(attributes: &str) -> Option<(Option<&str>, Option<&str>)> {
+    let (mut path, mut domain) = (None, None);
+    for words in attributes.split("; ") {
+        match words.split_once('=') {
+            Some(("Path", value)) => path = Some(value),
+            Some(("Domain", value)) => domain = Some(value),
+            None if words.is_empty() => (),
+            _ => return None,
+        }
+    }
+    Some((path, domain))
+}
+
+// What the site gives to a cookie with the attributes, if it may set the domain.
+fn scope(alloc: Global, site: &Site, attributes: &str) -> Option<Option<Scope>> {
+    let (path, domain) = path_and_domain(attributes)?;
+    site.scope(alloc, path, domain).ok()
+}
+
+// The scope of a cookie of `http://www.example.com/a/b` with the attributes.
+fn usual_scope(alloc: Global, attributes: &str) -> Option<Scope> {
+    let site = Site::new(alloc, "www.example.com", "/a/b", false).ok()?;
+    scope(alloc, &site, attributes)?
+}
+
+// Whether the scope has this domain, this flag and this path, or is `none`.
+fn is_scope(alloc: Global, scope: Option<&Scope>, wanted: &str) -> bool {
+    let Some(scope) = scope else {
+        return wanted == "none";
+    };
+    let flag = scope.is_host_only();
+    let text = format!(in alloc; "{} {flag} {}", scope.domain(), scope.path());
+    matches!(&text, Ok(text) if text.as_str() == wanted)
+}
+
+// Whether the call of the step is in the scope, at the site.
+fn is_in(alloc: Global, key: &Key, site: &Site, scope: &Scope, step: &'static str) -> Option<bool> {
+    let calls = calls_of(alloc, key, step)?;
+    Some(is_scoped(calls.first()?, site, scope, at(0)))
+}
+
+fn is_secure(site: &Site) -> bool {
+    site.is_secure()
+}
+
+// Whether it is so at the site.
+fn answer(alloc: Global, site: &Site, question: &str, text: &'static str) -> Option<bool> {
+    match question {
+        "domain" => Some(site.matches_domain(text)),
+        "path" => {
+            let (place, path) = text.split_once(' ')?;
+            Some(site_at(alloc, place)?.matches_path(path))
+        }
+        "secure" => Some(is_secure(site)),
+        "reached" => Some(site.is_reached(&usual_scope(alloc, text)?)),
+        "whole" => is_in(
+            alloc,
+            &test_key(),
+            site,
+            &site.host_scope(alloc).ok()?,
+            text,
+        ),
+        "scoped" => {
+            let scope = usual_scope(alloc, text)?;
+            is_in(
+                alloc,
+                &test_key(),
+                site,
+                &scope,
+                "add n=1; Domain=Example.com",
+            )
+        }
+        _ => None,
+    }
+}
+
+// A site with the path, which may be none that a URL has.
+fn site_at(alloc: Global, path: &str) -> Option<Site> {
+    Site::new(alloc, "example.com", path, true).ok()
+}
+
+/// Whether the site has the wanted answer to a question such as `domain com` or `path /a/b /a`.
+pub(super) fn is_answer(
+    alloc: Global,
+    site: &Site,
+    asked: &'static str,
+    wanted: &str,
+) -> Option<bool> {
+    let (question, text) = asked.split_once(' ').unwrap_or((asked, ""));
+    match question {
+        "default" => Some(site_at(alloc, text)?.default_path() == wanted),
+        "scope" => Some(is_scope(alloc, scope(alloc, site, text)?.as_ref(), wanted)),
+        "host" => Some(is_scope(alloc, site.host_scope(alloc).ok().as_ref(), wanted)),
+        _ => Some(answer(alloc, site, question, text)? == wanted.parse().ok()?),
+    }
+}
+
+#[test]
+fn sites_and_scopes_answer_as_the_rows(rt: HostRuntime) {
+    let unlike = first_unlike(rt.alloc(), ROWS, "\n", Some(true));
+    assert!(rt; unlike.is_none(), "{unlike:?}");
+}

@@ -1,0 +1,91 @@
+//! Rows that are wrong, and rows that say nothing.
+use super::steps::first_unlike;
+
+// A step of each is wrong, or the answer to its question.
+const WRONG: &str = "\
+a new agent sends: on https://example.com/a/b | sends b=2
+no cookie is set: sets n
+a cookie is refused: sets n=1 | refuses n=2
+nothing is sent: sets n=1 | sends
+another cookie is sent: sets n=1 | sends n=2
+a secure one is sent: sets n=1; Secure | sends n=1
+none is sent securely: sets n=1; Secure | on https://example.com/ | sends
+a domain takes in an address: on address://10.0.0.1/ | sets n=1; Domain=0.0.1 | sends n=1
+it is sent when it is expired: sets n=1; Max-Age=1 | at 1 | sends n=1
+it is sent when it is evicted: sets n=1; Max-Age=1 | at 1 | evicts | at 0 | sends n=1
+one: on http://www.example.com/a/b | domain other.com -> true
+one: on address://10.0.0.1/ | domain 0.0.1 -> true
+one: path /a/b /a -> false
+one: default /a/b -> /
+one: on http://www.example.com/a/b | secure -> true
+one: on http://www.example.com/a/b | scope -> example.com true /a
+one: on http://www.example.com/a/b | scope -> www.example.com false /a
+one: on http://www.example.com/a/b | scope -> www.example.com true /
+one: on http://www.example.com/a/b | scope Path=/; Domain=example.com -> none
+one: on http://www.example.com/a/b | scope Path=/; Domain=other.com -> other.com false /
+one: on http://www.example.com/a/b | host -> www.example.com true /a
+one: on http://example.com/ab | reached Path=/a; Domain=example.com -> true
+one: on https://www.example.com/a/b | whole add n=1; Path=/ -> false
+one: on https://www.example.com/a/b | whole add n=1 -> true
+one: on https://example.com/a/c | scoped Domain=example.com -> false
+one: on https://www.example.com/a/b | scoped -> true";
+
+// The header that the last request of each leaves is wrong, or what that shows.
+const WRONG_REQUESTS: &str = "\
+it is added:
+https://example.com/login 0 [add n=1; Path=/] -> [n=1]
+https://example.com/account/mail 0 [] -> [n=2]
+
+its age has ended:
+https://example.com/login 0 [add n=1; Path=/; Max-Age=5] -> [n=1]
+https://example.com/account/mail 5 [] -> [n=1]
+
+it stays without the path:
+https://example.com/login 0 [add n=1; Path=/] -> [n=1]
+https://example.com/account/mail 1 [remove n] -> []
+
+it has the prefix:
+https://example.com/login 0 [host add n=1] -> [n=1]
+
+it is reset:
+https://example.com/login 0 [add n=1; Path=/ | reset] -> [n=1]
+
+another header was sent:
+https://example.com/login 0 [add n=1; Path=/] -> [n=1] -> sent n=1
+
+its jar lacks it:
+https://example.com/login 0 [add n=1; Path=/] -> [n=1] -> lacks n";
+
+const MALFORMED: &str = "\
+puts n=1
+on example.com/
+on ftp://example.com/
+on http://example.com
+at once
+a title without steps: 
+https://example.com/login 0 [add n=1]
+https://example.com/login [add n=1] -> [n=1]
+https://example.com/login soon [add n=1] -> [n=1]
+example.com/login 0 [add n=1] -> [n=1]
+https://example.com/login 0 [puts n=1] -> [n=1]
+https://example.com/login 0 [add n=1; Max-Age] -> [n=1]
+https://example.com/login 0 [add n=1; Max-Age=ever] -> [n=1]
+https://example.com/login 0 [add n=1; Size=5] -> [n=1]
+https://example.com/login 0 [add n=1] -> [n=1
+domain example.com -> maybe
+size example.com -> true
+secure example.com/ -> yes
+whole puts n=1 -> true
+scope Size=5 -> none";
+
+#[test]
+fn a_wrong_row_is_found(rt: HostRuntime) {
+    for (rows, separator, wanted) in [
+        (WRONG, "\n", Some(false)),
+        (WRONG_REQUESTS, "\n\n", Some(false)),
+        (MALFORMED, "\n", None),
+    ] {
+        let unlike = first_unlike(rt.alloc(), rows, separator, wanted);
+        assert!(rt; unlike.is_none(), "{unlike:?}");
+    }
+}

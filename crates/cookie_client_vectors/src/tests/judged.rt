@@ -1,0 +1,79 @@
+//! Which calls are fit, and which are changes.
+use super::rows::first_wrong;
+use call_steps::calls_of;
+use cookie::Key;
+use cookie_client::JarCall;
+use jar_steps::test_key;
+use jiff::civil::DateTime;
+use std::alloc::Global;
+
+// Which calls a client can follow, and which are changes.
+const ROWS: &str = "\
+judge a session's cookie: [add a=1] -> fit change
+judge its expiry set: [add a=1; Expires=session] -> fit change
+judge a later expiry: [add a=1; Expires=2015-10-21T07:28:01] -> fit change
+judge an age of a second: [add a=1; Max-Age=1] -> fit change
+judge an age counts first: [add a=1; Max-Age=1; Expires=2015-10-21T07:28:00] -> fit change
+judge a path and a domain: [add a=1; Path=/x; Domain=b.c] -> fit change
+judge semicolons that are escaped: [add a;=;] -> fit change
+judge a removal's path: [remove a=1; Path=/;Max-Age=9] -> fit change
+judge an original: [original a=1] -> fit
+judge any original: [original a=1; Max-Age=0; Path=/;Max-Age=9] -> fit
+judge a forced removal: [force] -> fit
+judge a reset: [reset] -> fit
+judge half a second: [add a=1; Max-Age=0.5] -> unfit change
+judge no age: [add a=1; Max-Age=0; Expires=2015-10-21T07:28:01] -> unfit change
+judge an age below zero: [add a=1; Max-Age=-1] -> unfit change
+judge what was made a removal: [add a=1; removed] -> unfit change
+judge a semicolon in the path: [add a=1; Path=/;Max-Age=0] -> unfit change
+judge a semicolon in the domain: [add a=1; Domain=b.c;; Max-Age=1] -> unfit change
+judge a copy of such a cookie: [add a=1; Domain=b.c;; Max-Age=1; copied] -> unfit change
+judge the moment as expiry: [add a=1; Expires=2015-10-21T07:28:00] -> unfit change
+judge a part of a second: [add a=1; Expires=2015-10-21T07:28:00.9] -> unfit change
+judge no name: [add =1] -> unfit change
+judge an original without a name: [original] -> unfit
+judge a removal without a name: [remove] -> unfit change
+judge an original without a value: [original a] -> fit
+judge an addition without a value: [add a] -> fit change
+judge a removal: [remove a] -> fit change
+judge a removal at another moment: [earlier a] -> fit change
+judge a forced removal of a name: [force a] -> fit
+judge a call through a prefix as it was handed in: [host add h=1; Path=/;x] -> unfit change
+judge an original through a prefix: [host original h=1] -> fit
+judge a removal through a prefix: [host remove] -> unfit change
+judge a call with a key as it was handed in: [signed add a=1; Path=/;x] -> unfit change
+judge an original with a key: [signed original a=1] -> fit
+judge a removal with a key: [private0 remove] -> unfit change
+judge50 an expiry of two digits: [add a=1; Expires=0060-01-01T00:00:00] -> fit change";
+
+fn verdict(call: &JarCall<'_>, now: DateTime) -> &'static str {
+    match (call.is_fit(now), call.is_change()) {
+        (true, true) => "fit change",
+        (true, false) => "fit",
+        (false, true) => "unfit change",
+        (false, false) => "unfit",
+    }
+}
+
+fn verdict_of(
+    alloc: Global,
+    key: &Key,
+    now: DateTime,
+    steps: &'static str,
+) -> Option<&'static str> {
+    let calls = calls_of(alloc, key, steps)?;
+    Some(verdict(calls.first()?, now))
+}
+
+/// Whether the row's call is fit, and a change, as it says: `title: [add a=1] -> fit change`.
+pub(super) fn is_judged(alloc: Global, now: DateTime, row: &'static str) -> Option<bool> {
+    let (_, told) = row.split_once(": [")?;
+    let (steps, wanted) = told.split_once("] -> ")?;
+    Some(verdict_of(alloc, &test_key(), now, steps)? == wanted)
+}
+
+#[test]
+fn a_client_can_follow_calls_that_are_fit(rt: HostRuntime) {
+    let wrong = first_wrong(rt.alloc(), ROWS);
+    assert!(rt; wrong.is_none(), "{wrong:?}");
+}

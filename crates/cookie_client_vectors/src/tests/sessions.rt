@@ -1,0 +1,144 @@
+//! Sessions of the program, over bytes in memory.
+use super::MOMENT;
+use super::rows::{first_row, first_wrong};
+use call_steps::prints;
+use cookie_client::{ClientError, RunError, moment_of, run, run_with_hasher};
+use jar_steps::moment;
+use jiff::civil::DateTime;
+use std::alloc::Global;
+use std::hash::RandomState;
+use std::test::Fail;
+
+// Sessions and their texts, or the text of the first bad line, with a bar between them.
+const SESSIONS: &str = "\
+run name=val\nadd a=1\nremove name\n \
+    -> Set-Cookie: a=1\nSet-Cookie: name=; Max-Age=0; Expires=Tue, 21 Oct 2014 07:28:00 GMT\nCookie: a=1\n|\
+run  x = 1 ;y=2; =3\nremove y\nadd x=5 \
+    -> Set-Cookie: x=5\nSet-Cookie: y=; Max-Age=0; Expires=Tue, 21 Oct 2014 07:28:00 GMT\nCookie: x=5\n|\
+run a=1\nremove b\n -> Cookie: a=1\n|\
+run  -> Cookie: \n|\
+run a=1\r\n\r\n\nadd b=2\r\n -> Set-Cookie: b=2\nCookie: a=1; b=2\n|\
+run \nadd b=2; Max-Age=0 -> Set-Cookie: b=2; Max-Age=0\nCookie: \n|\
+run \nadd b=2; Max-Age= -> Set-Cookie: b=2\nCookie: b=2\n|\
+run \nadd c=3; Max-Age=- -> Set-Cookie: c=3\nCookie: c=3\n|\
+run a=x%20y\nadd b=1%3B2 -> Set-Cookie: b=1%3B2\nCookie: a=x%20y; b=1%3B2\n|\
+run a=1; a=2 -> Cookie: a=2\n|\
+run \nadd a=1%0D%0ASet-Cookie:%20x%3D1 \
+    -> Set-Cookie: a=1%0D%0ASet-Cookie%3A%20x%3D1\nCookie: a=1%0D%0ASet-Cookie%3A%20x%3D1\n|\
+run n=1\nadd n=2\nforce n\nadd a=1\n -> Set-Cookie: a=1\nCookie: a=1; n=1\n|\
+run x=1\nadd y=2\nremove x\nreset\n -> Cookie: x=1\n|\
+run x=1\nadd a=1 -> Set-Cookie: a=1\nCookie: a=1; x=1\n|\
+run x=1\nadd a=1\nadd bar\nadd -> cookiejar: bad line 3|\
+run x=1\nadd=1 -> cookiejar: bad line 2|\
+run \nadd  -> cookiejar: bad line 2|\
+run \nadd %FF=1 -> cookiejar: bad line 2|\
+run \nremove  -> cookiejar: bad line 2|\
+run \nremove  \n -> cookiejar: bad line 2|\
+run \nforce  -> cookiejar: bad line 2|\
+run \nforce  \n -> cookiejar: bad line 2|\
+run \nreset \n -> cookiejar: bad line 2|\
+run \n  -> cookiejar: bad line 2";
+
+fn is_told(alloc: Global, error: &RunError, status: u8, wanted: &str) -> bool {
+    error.status() == status && prints(alloc, error, wanted)
+}
+
+// Whether a session at the moment has the text, or was asked wrongly and has the text of that.
+fn comes_to(alloc: Global, moment: &str, input: &[u8], wanted: &str) -> bool {
+    let mut reader = input;
+    let mut written = Vec::new(alloc);
+    match run(alloc, moment, &mut reader, &mut written) {
+        Ok(()) => written.as_slice() == wanted.as_bytes(),
+        Err(error) => written.is_empty() && is_told(alloc, &error, 2, wanted),
+    }
+}
+
+/// Whether the session has the text that stands after it, or is refused with it.
+pub(super) fn has_text(alloc: Global, row: &str) -> Option<bool> {
+    let (input, wanted) = row.split_once(" -> ")?;
+    Some(comes_to(alloc, MOMENT, input.as_bytes(), wanted))
+}
+
+#[test]
+fn sessions_have_their_texts(rt: HostRuntime) {
+    let wrong = first_row(rt.alloc(), SESSIONS, "|", false);
+    assert!(rt; wrong.is_none(), "{wrong:?}");
+}
+
+// By RFC 9110 5.6.7, but for the years.
+#[test]
+fn moments_are_of_the_year_100_or_later(rt: HostRuntime) {
+    let year_100 = DateTime::constant(100, 10, 21, 7, 28, 0, 0);
+    for (text, moment) in [
+        (MOMENT, Some(moment())),
+        ("Thu, 21 Oct 0100 07:28:00 GMT", Some(year_100)),
+        ("Wed, 21 Oct -15 07:28:00 GMT", None),
+        ("now", None),
+        ("", None),
+    ] {
+        assert!(rt; moment_of(text) == moment);
+    }
+}
+
+// A bad moment is told though the input is bad too, and an input that isn't UTF-8 though a line is bad.
+#[test]
+fn faults_are_told_in_their_order(rt: HostRuntime) {
+    assert!(rt; comes_to(rt.alloc(), MOMENT, b"\xff\nbad", "cookiejar: bad input"));
+    for moment in [
+        "now",
+        "21 Oct -5 00:00:00 GMT",
+        "Wed, 21 Oct -15 07:28:00 GMT",
+    ] {
+        assert!(rt; comes_to(rt.alloc(), moment, b"\xff", "cookiejar: bad moment"));
+    }
+}
+
+const DRAWN_TEXT: &str = "\
+Set-Cookie: a=1\nSet-Cookie: name=; Max-Age=0; Expires=Tue, 21 Oct 2014 07:28:00 GMT\nCookie: a=1\n";
+
+// Whether a session with these drawn keys has the same text as without.
+fn has_text_with(alloc: Global, state: RandomState) -> bool {
+    let mut reader: &[u8] = b"name=val\nadd a=1\nremove name\n";
+    let mut written = Vec::new(alloc);
+    run_with_hasher(alloc, state, MOMENT, &mut reader, &mut written).is_ok()
+        && written.as_slice() == DRAWN_TEXT.as_bytes()
+}
+
+#[test]
+fn drawn_keys_change_no_text(rt: HostRuntime) -> Result<(), Fail> {
+    let state = RandomState::new(&rt)?;
+    assert!(rt; has_text_with(rt.alloc(), state));
+    Ok(())
+}
+
+// Faults, and for each its status and its text.
+const FAULTS: &str = "\
+fault memory -> 1 cookiejar: out of memory
+fault a client's memory -> 1 cookiejar: out of memory
+fault input -> 1 cookiejar: input or output failed
+fault output -> 1 cookiejar: input or output failed
+fault line 3 -> 2 cookiejar: bad line 3";
+
+fn fault(words: &str) -> Option<RunError> {
+    match words {
+        "memory" => Some(RunError::OutOfMemory),
+        "a client's memory" => Some(RunError::from(ClientError::OutOfMemory)),
+        "input" => Some(RunError::Input),
+        "output" => Some(RunError::Output),
+        "line 3" => Some(RunError::BadLine(3)),
+        _ => None,
+    }
+}
+
+/// Whether the fault has the status and the text: `input -> 1 cookiejar: input or output failed`.
+pub(super) fn is_fault(alloc: Global, row: &str) -> Option<bool> {
+    let (words, told) = row.split_once(" -> ")?;
+    let (status, text) = told.split_once(' ')?;
+    Some(is_told(alloc, &fault(words)?, status.parse().ok()?, text))
+}
+
+#[test]
+fn other_faults_have_their_texts(rt: HostRuntime) {
+    let wrong = first_wrong(rt.alloc(), FAULTS);
+    assert!(rt; wrong.is_none(), "{wrong:?}");
+}

@@ -1,0 +1,82 @@
+//! Borrowed and own texts, and the raw forms that are left of them.
+use super::rows::play;
+use cookie_core::{Cookie, Layout, ParseError, Span};
+use std::test::Fail;
+
+// Whether the forms that a text's cookie lends outlive it.
+fn are_lent_for_long() -> bool {
+    let text = "bar=baz; Path=/subdir; HttpOnly; Domain=crates.io";
+    let forms = match Cookie::parse(text) {
+        Ok(cookie) => (
+            cookie.name_raw(),
+            cookie.value_raw(),
+            cookie.path_raw(),
+            cookie.domain_raw(),
+        ),
+        Err(_) => return false,
+    };
+    forms == (Some("bar"), Some("baz"), Some("/subdir"), Some("crates.io"))
+}
+
+#[test]
+fn cookie_string_long_lifetimes(rt: HostRuntime) {
+    assert!(rt; are_lent_for_long());
+}
+
+const COPIES: &str = "\
+# the crate's owned_cookie_string and owned_cookie_struct
+parse [bar=baz; Path=/subdir; HttpOnly; Domain=crates.io] has bar=baz; HttpOnly; Path=/subdir; Domain=crates.io
+parse [bar=baz; Path=/subdir; HttpOnly; Domain=crates.io] lends bar|baz|/subdir|crates.io
+parse [ bar = baz ; Path=/subdir; HttpOnly; Domain=.crates.io] has bar=baz; HttpOnly; Path=/subdir; Domain=crates.io
+parse [ bar = baz ; Path=/subdir; HttpOnly; Domain=.crates.io] lends bar|baz|/subdir|crates.io
+# the raw value alone is gone where the value was set
+set parsed [ bar = baz ; Path=/subdir; HttpOnly; Domain=.crates.io|value x] prints-stripped bar=x
+set parsed [ bar = baz ; Path=/subdir; HttpOnly; Domain=.crates.io|value x] lends bar|-|/subdir|crates.io
+set parsed [ bar = baz ; Path=/subdir; HttpOnly; Domain=.crates.io|own value x] prints-stripped bar=x
+set parsed [ bar = baz ; Path=/subdir; HttpOnly; Domain=.crates.io|own value x] lends bar|-|/subdir|crates.io
+# a text is copied
+parse [a=%41; Secure] has a=%41; Secure
+parse [a=%41; Secure] lends a|%41|-|-
+# copies are equal
+parse [a=1; SameSite=Strict; Path=/x; Domain=b.c; Max-Age=5] prints a=1; SameSite=Strict; Path=/x; Domain=b.c; Max-Age=5
+";
+
+#[test]
+fn own_cookies_lend_nothing(rt: HostRuntime) -> Result<(), Fail> {
+    play(rt.alloc(), COPIES)
+}
+
+const SPACED: &str = " bar = baz ; Path=/subdir; HttpOnly; Domain=.crates.io";
+
+fn is_at(span: Span, start: usize, end: usize) -> bool {
+    (span.start, span.end) == (start, end)
+}
+
+// Whether that text is laid out so.
+fn is_laid_out() -> Option<bool> {
+    let layout = Layout::of(SPACED).ok()?;
+    let attributes = layout.attributes;
+    let are_set = (attributes.http_only, attributes.secure) == (Some(true), None);
+    Some(
+        is_at(layout.name, 1, 4)
+            && is_at(layout.value, 7, 10)
+            && is_at(attributes.path?, 18, 25)
+            && is_at(attributes.domain?, 44, 54)
+            && are_set
+            && attributes.expires.is_none(),
+    )
+}
+
+#[test]
+fn the_parts_of_a_text_have_their_places(rt: HostRuntime) {
+    assert!(rt; is_laid_out() == Some(true));
+    assert!(rt; matches!(Layout::of("bar"), Err(ParseError::MissingPair)));
+}
+
+#[test]
+fn white_space_at_the_ends_is_left_out(rt: HostRuntime) {
+    assert!(rt; is_at(Span::trim("\u{2003} a = 1 \u{85}"), 4, 9));
+    assert!(rt; is_at(Span::trim("a"), 0, 1));
+    let blank = Span::trim(" \t\u{3000}");
+    assert!(rt; blank.start == blank.end);
+}

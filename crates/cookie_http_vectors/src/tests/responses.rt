@@ -1,0 +1,195 @@
+//! The `Set-Cookie` fields of a jar's delta.
+use super::rows::{fields_of, has_values};
+use cookie::{Cookie, CookieBuilder, CookieJar};
+use cookie_http::{HttpError, append_delta, remove_as_set, with_headers};
+use http_header::{HeaderMap, HeaderName, HeaderValue};
+use jar_steps::moment;
+use std::alloc::Global;
+use std::hash::RandomState;
+use std::test::Fail;
+
+// Whether the response of a jar to which the cookie was added, which has the field `z=0; Path=/`, was given a field, or
+// the call was refused and left it as it was.
+fn is_answer(alloc: Global, cookie: Cookie<'static>, wanted: &str) -> Option<bool> {
+    let mut headers = fields_of(alloc, "Set-Cookie: z=0; Path=/")?;
+    let mut jar = CookieJar::new(alloc);
+    jar.add(cookie).ok()?;
+    match append_delta(alloc, &jar, &mut headers) {
+        Ok(()) if wanted == "taken" => Some(true),
+        Ok(()) => Some(has_values(&headers, "set-cookie", &["z=0; Path=/", wanted])),
+        Err(HttpError::InvalidValue) => {
+            Some(wanted == "refused" && has_values(&headers, "set-cookie", &["z=0; Path=/"]))
+        }
+        Err(_) => None,
+    }
+}
+
+// Whether a path and a domain with the row's text are taken or refused, as it says.
+fn is_text_told(alloc: Global, row: &'static str) -> Option<bool> {
+    let (wanted, text) = row.split_once(' ')?;
+    let path = CookieBuilder::new("a", "1").path(text).build();
+    let domain = CookieBuilder::new("a", "1").domain(text).build();
+    Some(is_answer(alloc, path, wanted)? && is_answer(alloc, domain, wanted)?)
+}
+
+const TEXTS: &str = "\
+taken / | taken /a b | taken /\t | taken /\u{e9} | taken /a=b,c | refused /\r\nSet-Cookie: b=2 | refused /\n | \
+refused /\r | refused /\0 | refused /\u{1} | refused /\u{b} | refused /\u{1f} | refused /\u{7f} | refused ; | \
+refused /; | refused /; Domain=example.org | refused /a;b";
+
+// RFC 9110 5.5: a field value holds no control character but the tab. RFC 6265 4.1.1: an attribute's value holds no
+// `;`.
+#[test]
+fn no_field_is_split(rt: HostRuntime) {
+    for row in TEXTS.split(" | ") {
+        assert!(rt; is_text_told(rt.alloc(), row) == Some(true), "{row:?}");
+    }
+    for row in ["refused /", "taken /\n"] {
+        assert!(rt; is_text_told(rt.alloc(), row) == Some(false), "{row:?}");
+    }
+}
+
+// Whether a cookie with the row's name and value, and with more, is printed as the row says.
+fn is_pair_printed(alloc: Global, row: &'static str) -> Option<bool> {
+    let (pair, text) = row.split_once(" | ")?;
+    let (name, value) = pair.split_once('=')?;
+    let cookie = CookieBuilder::new(name, value)
+        .path("/")
+        .domain("example.com")
+        .secure(true)
+        .build();
+    is_answer(alloc, cookie, text)
+}
+
+// A name and a value, and the field.
+const PAIRS: &str = "\
+SID=31d4d96e407aad42 | SID=31d4d96e407aad42; Secure; Path=/; Domain=example.com
+
+lang= | lang=; Secure; Path=/; Domain=example.com
+
+a=\r\nb=2 | a=%0D%0Ab%3D2; Secure; Path=/; Domain=example.com
+
+\0=\u{e9} | %00=%C3%A9; Secure; Path=/; Domain=example.com
+
+a b=1; 2 | a%20b=1%3B%202; Secure; Path=/; Domain=example.com";
+
+// RFC 6265 4.1.1, with the escapes of RFC 3986 2.1
+#[test]
+fn a_response_has_these_fields(rt: HostRuntime) {
+    for row in PAIRS.split("\n\n") {
+        assert!(rt; is_pair_printed(rt.alloc(), row) == Some(true), "{row:?}");
+    }
+    let wrong = "a=1 | a=2; Secure; Path=/; Domain=example.com";
+    assert!(rt; is_pair_printed(rt.alloc(), wrong) == Some(false));
+}
+
+// Adds a name with that number.
+fn put_name(alloc: Global, headers: &mut HeaderMap, number: usize) -> Option<()> {
+    let text = format!(in alloc; "x-{number}").ok()?;
+    let name = HeaderName::from_bytes(alloc, text.as_bytes()).ok()?;
+    headers.append(name, HeaderValue::from_static("1")).ok()?;
+    Some(())
+}
+
+// A map with this many names.
+fn full_map(alloc: Global, names: usize) -> Option<HeaderMap> {
+    let mut headers = HeaderMap::new(alloc);
+    for number in 0..names {
+        put_name(alloc, &mut headers, number)?;
+    }
+    Some(headers)
+}
+
+// Whether a map with all its names refuses the jar, and is as it was.
+fn is_full(alloc: Global, jar: &CookieJar) -> Option<bool> {
+    let mut headers = full_map(alloc, 24_576)?;
+    let is_refused = append_delta(alloc, jar, &mut headers) == Err(HttpError::TooManyFields);
+    Some(is_refused && headers.len() == 24_576 && headers.get("set-cookie").is_none())
+}
+
+// Whether such a map takes a jar without changes, which needs no room.
+fn takes_nothing(alloc: Global) -> Option<bool> {
+    let mut headers = full_map(alloc, 24_576)?;
+    let outcome = append_delta(alloc, &CookieJar::new(alloc), &mut headers);
+    Some(outcome == Ok(()) && headers.len() == 24_576)
+}
+
+// Whether a map that has room for one more name takes the jar twice.
+fn has_room(alloc: Global, jar: &CookieJar) -> Option<bool> {
+    let mut headers = full_map(alloc, 24_575)?;
+    append_delta(alloc, jar, &mut headers).ok()?;
+    append_delta(alloc, jar, &mut headers).ok()?;
+    Some(has_values(&headers, "set-cookie", &["a=1", "a=1"]))
+}
+
+// Whether the full map refuses a jar with one cookie and takes one without, and the other takes it.
+fn are_told(alloc: Global) -> bool {
+    let mut jar = CookieJar::new(alloc);
+    jar.add(Cookie::new("a", "1")).is_ok()
+        && is_full(alloc, &jar) == Some(true)
+        && takes_nothing(alloc) == Some(true)
+        && has_room(alloc, &jar) == Some(true)
+}
+
+// A map holds 24,576 names at most.
+#[test]
+fn a_full_map_is_told(rt: HostRuntime) {
+    assert!(rt; are_told(rt.alloc()));
+}
+
+// Whether the response of a jar whose original was removed as it was set has this field alone.
+fn is_removed(alloc: Global, field: &str) -> Option<bool> {
+    let set = CookieBuilder::new("a", "1")
+        .path("/shop")
+        .domain("example.com")
+        .build();
+    let mut jar = CookieJar::new(alloc);
+    jar.add_original(Cookie::new("a", "1")).ok()?;
+    remove_as_set(alloc, &mut jar, &set, moment()).ok()?;
+    let mut headers = HeaderMap::new(alloc);
+    append_delta(alloc, &jar, &mut headers).ok()?;
+    Some(has_values(&headers, "set-cookie", &[field]))
+}
+
+// RFC 6265 5.3, step 11: what has the same name, domain and path is dropped.
+#[test]
+fn a_removal_names_path_and_domain(rt: HostRuntime) {
+    let field =
+        "a=; Path=/shop; Domain=example.com; Max-Age=0; Expires=Tue, 21 Oct 2014 07:28:00 GMT";
+    assert!(rt; is_removed(rt.alloc(), field) == Some(true));
+}
+
+fn answer(
+    alloc: Global,
+    state: RandomState,
+    request: &HeaderMap,
+    response: &mut HeaderMap,
+) -> Result<(), Fail> {
+    let jar = CookieJar::with_hasher(alloc, state);
+    let mut jar = with_headers(jar, request)?;
+    jar.add(Cookie::new("theme", "dark"))?;
+    append_delta(alloc, &jar, response)?;
+    Ok(())
+}
+
+// Whether the response to the request, whose jar hashes with drawn keys, has the change alone.
+fn is_answered(alloc: Global, state: RandomState, request: &HeaderMap) -> Result<bool, Fail> {
+    let mut response = HeaderMap::new(alloc);
+    answer(alloc, state, request, &mut response)?;
+    Ok(has_values(&response, "set-cookie", &["theme=dark"]) && response.len() == 1)
+}
+
+fn is_row_answered(alloc: Global, state: RandomState, steps: &str) -> Result<bool, Fail> {
+    match fields_of(alloc, steps) {
+        Some(request) => is_answered(alloc, state, &request),
+        None => Ok(false),
+    }
+}
+
+#[test]
+fn a_response_has_the_changes_alone(rt: HostRuntime) -> Result<(), Fail> {
+    let state = RandomState::new(&rt)?;
+    let steps = "Cookie: lang=en | Cookie: theme=light";
+    assert!(rt; is_row_answered(rt.alloc(), state, steps)?);
+    Ok(())
+}

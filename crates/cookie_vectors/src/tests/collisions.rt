@@ -1,0 +1,88 @@
+//! Names that were chosen to collide in a jar of `CookieJar::new`: a jar with drawn keys, and its clone, find each of them
+//! without going over the others.
+//!
+//! Such a jar goes over half of the names at each look-up. Here that takes about fifty times as long as to hash with keys.
+//! `tools/performance/names.py` says how the names are chosen. The same look-ups are timed several times on a jar of each
+//! kind, and the least times are compared, so that a pause of the machine changes no answer.
+use cookie::{Cookie, CookieJar};
+use std::alloc::Global;
+use std::hash::RandomState;
+use std::test::Fail;
+use std::time::{Clock, Duration, Instant};
+
+// What each name begins with, and then come eight digits.
+const FRONT: &str = "0000000000042547nf8XT7Lr";
+
+const NAMES: u32 = 1_000;
+
+fn chosen(alloc: Global, number: u32) -> Option<Cookie<'static>> {
+    let name = format!(in alloc; "{FRONT}{number:08}").ok()?;
+    let mut cookie = Cookie::named("");
+    cookie.set_name_owned(name);
+    Some(cookie)
+}
+
+// The jar with an original and an addition of each name.
+fn filled(alloc: Global, mut jar: CookieJar) -> Option<CookieJar> {
+    for number in 0..NAMES {
+        jar.add_original(chosen(alloc, number)?).ok()?;
+        jar.add(chosen(alloc, number)?).ok()?;
+    }
+    Some(jar)
+}
+
+// Whether each name is found among the changes and among the originals.
+fn are_found(jar: &CookieJar) -> bool {
+    for cookie in jar.delta() {
+        let name = cookie.name();
+        if jar.get(name).is_none() || jar.original(name).is_none() {
+            return false;
+        }
+    }
+    true
+}
+
+// The least time of this many tries to find them all.
+fn least_time<C: Clock>(clock: &C, jar: &CookieJar, tries: u32) -> Option<Duration> {
+    let mut least = Duration::MAX;
+    for _try in 0..tries {
+        let start = Instant::now(clock).ok()?;
+        if !are_found(jar) {
+            return None;
+        }
+        least = least.min(start.elapsed(clock).ok()?);
+    }
+    Some(least)
+}
+
+// Whether the jar finds them in a fifth of the time that one of `CookieJar::new` takes.
+fn is_fast<C: Clock>(alloc: Global, clock: &C, jar: &CookieJar) -> Option<bool> {
+    let slow = filled(alloc, CookieJar::new(alloc))?;
+    let slow = least_time(clock, &slow, 2)?.as_nanos();
+    let time = least_time(clock, jar, 10)?.as_nanos();
+    Some(time.saturating_mul(5) < slow)
+}
+
+fn is_jar_fast<C: Clock>(alloc: Global, clock: &C, state: RandomState) -> Option<bool> {
+    let jar = filled(alloc, CookieJar::with_hasher(alloc, state))?;
+    is_fast(alloc, clock, &jar)
+}
+
+fn is_clone_fast<C: Clock>(alloc: Global, clock: &C, state: RandomState) -> Option<bool> {
+    let jar = filled(alloc, CookieJar::with_hasher(alloc, state))?;
+    is_fast(alloc, clock, &jar.clone().ok()?)
+}
+
+#[test]
+fn a_jar_with_drawn_keys_keeps_chosen_names_apart(rt: HostRuntime) -> Result<(), Fail> {
+    let state = RandomState::new(&rt)?;
+    assert!(rt; is_jar_fast(rt.alloc(), &rt, state) == Some(true));
+    Ok(())
+}
+
+#[test]
+fn a_clone_keeps_chosen_names_apart_too(rt: HostRuntime) -> Result<(), Fail> {
+    let state = RandomState::new(&rt)?;
+    assert!(rt; is_clone_fast(rt.alloc(), &rt, state) == Some(true));
+    Ok(())
+}

@@ -1,0 +1,186 @@
+//! Keys: their halves, their refusals, their derivation, and their draws.
+use super::generators::Counting;
+use base64::engine::general_purpose::STANDARD;
+use cookie::{Key, KeyError};
+use jar_steps::Sevens;
+use std::alloc::Global;
+
+// The bytes from 0 up, this many of them, and 255 in each place after.
+fn count_up(count: usize) -> [u8; 70] {
+    let mut bytes = [255; 70];
+    let mut next = 0u8;
+    for byte in bytes.iter_mut().take(count) {
+        *byte = next;
+        next = next.wrapping_add(1);
+    }
+    bytes
+}
+
+// The key of these bytes, by both calls that take them.
+fn taken(bytes: &[u8]) -> Option<Result<Key, KeyError>> {
+    match Key::try_from(bytes) {
+        Ok(key) if key == Key::from(bytes) => Some(Ok(key)),
+        Ok(_) => None,
+        Err(error) => Some(Err(error)),
+    }
+}
+
+// The key that is derived of these bytes, by both calls that derive one.
+fn derived(bytes: &[u8]) -> Option<Result<Key, KeyError>> {
+    match Key::try_derive_from(bytes) {
+        Ok(key) if key == Key::derive_from(bytes) => Some(Ok(key)),
+        Ok(_) => None,
+        Err(error) => Some(Err(error)),
+    }
+}
+
+// Whether the key's bytes are these in base64, or the refusal is told so.
+fn is_told(alloc: Global, made: &Result<Key, KeyError>, wanted: &str) -> bool {
+    let told = match made {
+        Ok(key) => STANDARD.encode(alloc, key.master()),
+        Err(error) => format!(in alloc; "{error}"),
+    };
+    match told {
+        Ok(text) => text.as_str() == wanted,
+        Err(_) => false,
+    }
+}
+
+// Whether the call makes of the bytes what it has to.
+fn is_made(alloc: Global, call: &str, bytes: &[u8], wanted: &str) -> bool {
+    let made = match call {
+        "take" => taken(bytes),
+        "derive" => derived(bytes),
+        _ => None,
+    };
+    match made {
+        Some(made) => is_told(alloc, &made, wanted),
+        None => false,
+    }
+}
+
+// What a call makes of bytes: the number of the bytes, how many of them are those from 0 up, where the others are 255,
+// and the key in base64 or the refusal. Only the first 64 bytes are a key. What HKDF's expansion derives was worked out by
+// Python's hmac; all halves differ, and one master key has more than the 64 bytes that HMAC takes as they are.
+const ROWS: &str = "\
+take 64 64: AAECAwQFBgcICQoLDA0ODxAREhMUFRYXGBkaGxwdHh8gISIjJCUmJygpKissLS4vMDEyMzQ1Njc4OTo7PD0+Pw==
+take 65 65: AAECAwQFBgcICQoLDA0ODxAREhMUFRYXGBkaGxwdHh8gISIjJCUmJygpKissLS4vMDEyMzQ1Njc4OTo7PD0+Pw==
+take 63 63: key material is too short: expected >= 64 bytes, got 63 bytes
+take 0 0: key material is too short: expected >= 64 bytes, got 0 bytes
+derive 31 31: master key is too short: expected >= 32 bytes, got 31 bytes
+derive 32 32: oFlXPrf48Irva0dvcHwvF8vpuxGUpIy9Vp5GBxdl3xLSB7V8NVMQRKy7luS4eUYW4tZWg1DK4Krk/6RF9wz1sQ==
+derive 33 33: bprLc0gqx5XEKWlZi54OiBCUioQXWLLSlsut9U+940kp6OM/TV0HnF2r2glhxkZzmGkroUN6kcv/A1sfWxpZuQ==
+derive 65 65: Zjr2dCOTePS/HrRUkPsSD1XbRuMTXZobKjoR/IRhTYVKkuVkwJNs+MXUW9wV7E4DGRCLOcFgWkxBu/wGF+VvUg==
+derive 64 32: wZV6o4t7qRvY/T55dEeDvVCJQLHM4owWzrQeBwkqtnlrMQ9YD6W2eyr8u7MtqkMOnIh352KuZ3Hqn0TcqSRMqg==
+derive 32 0: C+rz1hFfouLszIWZYFqbQfSnc+kBTufb4T0sdeGzP0mbQQZrQGnxsb7WqDnhRWdOiCzgoYwy3LsX0JHM1CsYWw==";
+
+// Whether a row such as `take 63 63` is right, with what it has to make.
+fn is_right(alloc: Global, words: &str, wanted: &str) -> bool {
+    let (call, numbers) = words.split_once(' ').unwrap_or((words, ""));
+    let (length, counted) = numbers.split_once(' ').unwrap_or((numbers, ""));
+    match (length.parse::<usize>(), counted.parse()) {
+        (Ok(length), Ok(counted)) => match count_up(counted).get(..length) {
+            Some(bytes) => is_made(alloc, call, bytes, wanted),
+            None => false,
+        },
+        _ => false,
+    }
+}
+
+#[test]
+fn keys_are_made_as_elsewhere(rt: HostRuntime) {
+    for row in ROWS.lines() {
+        let (words, wanted) = row.split_once(": ").unwrap_or((row, ""));
+        assert!(rt; is_right(rt.alloc(), words, wanted), "{row}");
+    }
+}
+
+// Numbers, bytes and calls that no row has, and some that can't be read.
+const OTHERS: &str = "\
+derive 33 32
+derive 32 31
+derive 71 32
+derive 32
+derive
+take 64 63
+take 64 0
+take 62 62
+taken 64 64";
+
+// The first key that is derived, with another last byte.
+const OTHER_BYTE: &str =
+    "oFlXPrf48Irva0dvcHwvF8vpuxGUpIy9Vp5GBxdl3xLSB7V8NVMQRKy7luS4eUYW4tZWg1DK4Krk/6RF9wz1sg==";
+
+// Whether the words make what no row has.
+fn is_other(alloc: Global, words: &str) -> bool {
+    for row in ROWS.lines() {
+        let (_, wanted) = row.split_once(": ").unwrap_or((row, ""));
+        if is_right(alloc, words, wanted) {
+            return false;
+        }
+    }
+    true
+}
+
+#[test]
+fn a_wrong_row_is_found(rt: HostRuntime) {
+    for words in OTHERS.lines() {
+        assert!(rt; is_other(rt.alloc(), words), "{words}");
+    }
+    assert!(rt; !is_right(rt.alloc(), "derive 32 32", OTHER_BYTE));
+    assert!(rt; !is_right(rt.alloc(), "derive 33 33", OTHER_BYTE));
+    assert!(rt; !is_right(rt.alloc(), "derive 31 31", OTHER_BYTE));
+}
+
+// Whether the halves and the whole of the key are the first of these bytes.
+fn is_made_of(key: &Key, bytes: &[u8]) -> bool {
+    Some(key.signing()) == bytes.get(..32)
+        && Some(key.encryption()) == bytes.get(32..64)
+        && Some(key.master()) == bytes.get(..64)
+}
+
+#[test]
+fn from_works(rt: HostRuntime) {
+    assert!(rt; is_made_of(&Key::from(&count_up(70)), &count_up(70)));
+}
+
+// Whether the key has these bytes from that place on.
+fn has_at(key: &Key, place: usize, bytes: &[u8]) -> bool {
+    match key.master().get(place..) {
+        Some(rest) => rest.starts_with(bytes),
+        None => false,
+    }
+}
+
+// Whether both keys are those that the generator that counts from 5 gives one after the other.
+fn are_next(first: &Key, second: &Key) -> bool {
+    has_at(first, 0, &[6, 0, 0, 0, 7, 0, 0, 0])
+        && has_at(first, 60, &[21, 0, 0, 0])
+        && has_at(second, 0, &[22, 0, 0, 0])
+        && second != first
+        && second.signing() != first.signing()
+}
+
+#[test]
+fn a_key_is_the_next_64_bytes_of_a_stream(rt: HostRuntime) {
+    let mut rng = Counting(5);
+    let first = Key::generate(&mut rng);
+    assert!(rt; are_next(&first, &Key::generate(&mut rng)));
+    assert!(rt; Key::try_generate(&mut Counting(5)) == Some(first));
+}
+
+// Whether a key is drawn of a generator that fails after this many bytes, and is theirs.
+fn is_drawn(left: usize) -> bool {
+    match Key::try_generate(&mut Sevens { left }) {
+        Some(key) => key.master() == [7; 64].as_slice(),
+        None => false,
+    }
+}
+
+#[test]
+fn no_key_is_drawn_of_a_generator_that_fails(rt: HostRuntime) {
+    for left in 0..64usize {
+        assert!(rt; Key::try_generate(&mut Sevens { left }).is_none(), "{left}");
+    }
+    assert!(rt; is_drawn(64));
+}

@@ -1,4 +1,0 @@
-//! Texts that a stranger may send.
-mod cuts;
-mod readings;
-mod texts;

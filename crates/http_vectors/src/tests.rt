@@ -1,7 +1,0 @@
-mod answers;
-mod clients;
-mod exchanges;
-mod flags;
-mod requests;
-mod responses;
-mod rows;

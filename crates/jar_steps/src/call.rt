@@ -1,0 +1,42 @@
+use crate::child::Child;
+use crate::verb::Verb;
+use cookie::Cookie;
+
+/// A call on a jar, as a plain value that is read once.
+#[derive(Clone, Copy, Debug)]
+pub struct Call {
+    /// The child jar, if the call is on one.
+    pub child: Option<Child>,
+    pub verb: Verb,
+    /// The cookie of an addition or a removal, the name of a forced removal, and nothing of a reset.
+    pub words: &'static str,
+}
+
+impl Call {
+    /// The call that a step says, such as `add a=1; Path=/`, `private7 add a=1`, `force a` or `reset`.
+    pub fn parse(step: &'static str) -> Option<Call> {
+        let (word, rest) = step.split_once(' ').unwrap_or((step, ""));
+        match Child::parse(word) {
+            Some(child) => Call::parse_on(Some(child), rest),
+            None => Call::parse_on(None, step),
+        }
+    }
+
+    // The call on that child jar, or on the jar itself.
+    fn parse_on(child: Option<Child>, step: &'static str) -> Option<Call> {
+        let (word, words) = step.split_once(' ').unwrap_or((step, ""));
+        let verb = Verb::parse(word)?;
+        if child.is_some() && !verb.is_of_child() {
+            return None;
+        }
+        Some(Call { child, verb, words })
+    }
+
+    /// The call's cookie, or none where the words say none. That of a forced removal has its name alone.
+    pub fn cookie(self) -> Option<Cookie<'static>> {
+        match self.verb {
+            Verb::ForceRemove => Some(Cookie::named(self.words)),
+            _ => cookie_words::cookie(self.words),
+        }
+    }
+}

@@ -1,0 +1,28 @@
+/// What a call does.
+#[derive(Clone, Copy, Debug, PartialEq, Eq)]
+pub enum Verb {
+    AddOriginal,
+    Add,
+    Remove,
+    ForceRemove,
+    ResetDelta,
+}
+
+impl Verb {
+    /// The verb of a word such as `add`.
+    pub fn parse(word: &str) -> Option<Verb> {
+        match word {
+            "original" => Some(Verb::AddOriginal),
+            "add" => Some(Verb::Add),
+            "remove" => Some(Verb::Remove),
+            "force" => Some(Verb::ForceRemove),
+            "reset" => Some(Verb::ResetDelta),
+            _ => None,
+        }
+    }
+
+    /// Whether child jars have the call too.
+    pub fn is_of_child(self) -> bool {
+        matches!(self, Verb::AddOriginal | Verb::Add | Verb::Remove)
+    }
+}
