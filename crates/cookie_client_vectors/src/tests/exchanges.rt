@@ -3,7 +3,7 @@
 use super::rows::is_right;
 use call_steps::calls_of;
 use cookie::{Cookie, CookieJar, Key};
-use cookie_client::{Client, ClientError, JarCall, Played, ClientRequest, mirror, replay, rounds};
+use cookie_client::{Client, ClientError, ClientRequest, JarCall, Played, mirror, replay, rounds};
 use cookie_words::is;
 use jar_steps::{Look, shown_value, test_key};
 use jiff::civil::DateTime;
