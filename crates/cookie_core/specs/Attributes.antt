@@ -15,37 +15,38 @@ use Rattle.cookie_core.specs.declared.same_site.SameSite.TheVariants as same_sit
 use Rattle.cookie_core.specs.declared.expiration.Expiration.{Expiration}
 use Rattle.cookie_core.specs.declared.expiration.Expiration.TheVariants as expiration
 
--- the piece p is a name and a value, which are trimmed, around its first `=`
+-- the piece is a name and a value, which are trimmed, around its first `=`
 abbrev pub IsPair : List ℕ → List ℕ → List ℕ → Type 0
-IsPair p n v =
-    (a : List ℕ) × (b : List ℕ) × (p ≡ a ++ 61 ∷ b) × Lacks 61 a × (n ≡ trim a) × (v ≡ trim b)
+IsPair piece name value =
+    (before : List ℕ) × (after : List ℕ) × (piece ≡ before ++ 61 ∷ after)
+    × Lacks 61 before × (name ≡ trim before) × (value ≡ trim after)
 
--- the piece p has this key, and the value if there is a `=`
+-- the piece has this word before its first `=`, and the value behind it if there is a `=`
 abbrev pub IsAttribute : List ℕ → List ℕ → Option (List ℕ) → Type 0
-IsAttribute p k None = Lacks 61 p × (k ≡ trim p)
-IsAttribute p k (Some v) = IsPair p k v
+IsAttribute piece word None = Lacks 61 piece × (word ≡ trim piece)
+IsAttribute piece word (Some value) = IsPair piece word value
 
--- the text t is the word w, in any ASCII case
+-- the text is the word, in any ASCII case
 abbrev pub IsWord : List ℕ → List ℕ → Type 0
-IsWord t w = str_to_ascii_lowercase t ≡ w
+IsWord text word = str_to_ascii_lowercase text ≡ word
 
 -- the seconds of an age of these digits, where there is a digit and nothing else: no more than the greatest
 abbrev pub seconds_of_digits : List ℕ → Option ℕ
 seconds_of_digits [] = None
-seconds_of_digits (d ∷ ds) =
-    if list_all is_ascii_digit (d ∷ ds)
-    then Some (min (digits_value 10 (d ∷ ds)) 9223372036854775807) else None
+seconds_of_digits (digit ∷ digits) =
+    if list_all is_ascii_digit (digit ∷ digits)
+    then Some (min (digits_value 10 (digit ∷ digits)) 9223372036854775807) else None
 
 -- the seconds that the value of `max-age` gives, if it is valid (RFC 6265 5.2.2): one leading `-` is taken off, and
 -- makes them zero
 abbrev pub max_age_seconds : List ℕ → Option ℕ
-max_age_seconds v =
-    if starts_with eqb v (45 ∷ [])
-    then option_map (λ _. 0) (seconds_of_digits (drop 1 v)) else seconds_of_digits v
+max_age_seconds value =
+    if starts_with eqb value (45 ∷ [])
+    then option_map (λ _. 0) (seconds_of_digits (drop 1 value)) else seconds_of_digits value
 
 -- the age of this many seconds, in nanoseconds
 abbrev pub nanos_of_seconds : ℕ → ℤ
-nanos_of_seconds n = pos n *ℤ pos 1000000000
+nanos_of_seconds seconds = pos seconds *ℤ pos 1000000000
 
 -- the name of a value of `samesite`, in lower case
 abbrev pub same_site_key : SameSite → List ℕ
@@ -65,30 +66,30 @@ Setting key.MaxAge = ℤ
 Setting key.Expires = Expiration
 
 -- the field of the key
-abbrev pub field_at : (k : Key) → Record → Option (Setting k)
-field_at key.HttpOnly r = r.http_only
-field_at key.Secure r = r.secure
-field_at key.Partitioned r = r.partitioned
-field_at key.SameSite r = r.same_site
-field_at key.Path r = r.path
-field_at key.Domain r = r.domain
-field_at key.MaxAge r = r.max_age
-field_at key.Expires r = r.expires
+abbrev pub field_at : (attribute : Key) → Record → Option (Setting attribute)
+field_at key.HttpOnly cookie = cookie.http_only
+field_at key.Secure cookie = cookie.secure
+field_at key.Partitioned cookie = cookie.partitioned
+field_at key.SameSite cookie = cookie.same_site
+field_at key.Path cookie = cookie.path
+field_at key.Domain cookie = cookie.domain
+field_at key.MaxAge cookie = cookie.max_age
+field_at key.Expires cookie = cookie.expires
 
 -- the record of a name, a value and what the field of each key is
-abbrev pub record_of : List ℕ → List ℕ → ((k : Key) → Option (Setting k)) → Record
-record_of n v f =
+abbrev pub record_of : List ℕ → List ℕ → ((attribute : Key) → Option (Setting attribute)) → Record
+record_of name value field =
     record {
-      name = n;
-      value = v;
-      http_only = f key.HttpOnly;
-      secure = f key.Secure;
-      partitioned = f key.Partitioned;
-      same_site = f key.SameSite;
-      path = f key.Path;
-      domain = f key.Domain;
-      max_age = f key.MaxAge;
-      expires = f key.Expires;
+      name = name;
+      value = value;
+      http_only = field key.HttpOnly;
+      secure = field key.Secure;
+      partitioned = field key.Partitioned;
+      same_site = field key.SameSite;
+      path = field key.Path;
+      domain = field key.Domain;
+      max_age = field key.MaxAge;
+      expires = field key.Expires;
     }
 
 -- the word of the key, in lower case
@@ -102,40 +103,44 @@ word_of key.Domain = codes "domain"
 word_of key.MaxAge = codes "max-age"
 word_of key.Expires = codes "expires"
 
--- the text t gives the expiry
+-- the text gives the expiry
 abbrev pub GivesExpiry : List ℕ → Expiration → Type 0
-GivesExpiry t (expiration.DateTime m) = IsDateText t m
-GivesExpiry t expiration.Session = ⊥
+GivesExpiry text (expiration.DateTime moment) = IsDateText text moment
+GivesExpiry text expiration.Session = ⊥
 
 -- an attribute of this key and this value, if it has one, gives the field this setting
-abbrev pub GivesSetting : (k : Key) → Option (List ℕ) → Setting k → Type 0
-GivesSetting key.HttpOnly _ x = x ≡ true
-GivesSetting key.Secure _ x = x ≡ true
-GivesSetting key.Partitioned _ x = x ≡ true
-GivesSetting key.SameSite (Some v) x = IsWord v (same_site_key x)
-GivesSetting key.Path (Some v) x = v ≡ x
-GivesSetting key.Domain (Some v) x = (v ≢ []) × (x ≡ without_leading_dot v)
-GivesSetting key.MaxAge (Some v) x = option_map nanos_of_seconds (max_age_seconds v) ≡ Some x
-GivesSetting key.Expires (Some v) x = GivesExpiry v x
+abbrev pub GivesSetting : (attribute : Key) → Option (List ℕ) → Setting attribute → Type 0
+GivesSetting key.HttpOnly _ setting = setting ≡ true
+GivesSetting key.Secure _ setting = setting ≡ true
+GivesSetting key.Partitioned _ setting = setting ≡ true
+GivesSetting key.SameSite (Some value) setting = IsWord value (same_site_key setting)
+GivesSetting key.Path (Some value) setting = value ≡ setting
+GivesSetting key.Domain (Some value) setting = (value ≢ []) × (setting ≡ without_leading_dot value)
+GivesSetting key.MaxAge (Some value) setting =
+    option_map nanos_of_seconds (max_age_seconds value) ≡ Some setting
+GivesSetting key.Expires (Some value) setting = GivesExpiry value setting
 GivesSetting _ None _ = ⊥
 
--- the piece p sets the field of the key k to x: it has its word, in any ASCII case, and a value that gives x
-abbrev pub Sets : List ℕ → (k : Key) → Setting k → Type 0
-Sets p k x =
-    (t : List ℕ) × (v : Option (List ℕ))
-    × IsAttribute p t v × IsWord t (word_of k) × GivesSetting k v x
+-- the piece sets the field of the key to the setting: it has the key's word, in any ASCII case, and a value that gives
+-- the setting
+abbrev pub Sets : List ℕ → (attribute : Key) → Setting attribute → Type 0
+Sets piece attribute setting =
+    (word : List ℕ) × (value : Option (List ℕ))
+    × IsAttribute piece word value × IsWord word (word_of attribute)
+    × GivesSetting attribute value setting
 
--- the piece p does not set the field of the key
+-- the piece does not set the field of the key
 abbrev pub Skips : Key → List ℕ → Type 0
-Skips k p = (x : Setting k) → ¬ (Sets p k x)
+Skips attribute piece = (setting : Setting attribute) → ¬ (Sets piece attribute setting)
 
 -- what some piece sets the field to, where no later piece sets it; none, where no piece sets it
-abbrev pub IsLastSet : (k : Key) → List (List ℕ) → Option (Setting k) → Type 0
-IsLastSet k ps None = All (Skips k) ps
-IsLastSet k ps (Some x) =
-    (before : List (List ℕ)) × (p : List ℕ) × (after : List (List ℕ))
-    × (ps ≡ before ++ p ∷ after) × Sets p k x × All (Skips k) after
+abbrev pub IsLastSet : (attribute : Key) → List (List ℕ) → Option (Setting attribute) → Type 0
+IsLastSet attribute pieces None = All (Skips attribute) pieces
+IsLastSet attribute pieces (Some setting) =
+    (before : List (List ℕ)) × (piece : List ℕ) × (after : List (List ℕ))
+    × (pieces ≡ before ++ piece ∷ after) × Sets piece attribute setting
+    × All (Skips attribute) after
 
 -- each attribute is what the last piece that sets it sets it to
-pub record SetsAttributes (ps : List (List ℕ)) (r : Record) : Type 0 where
-  pub each : (k : Key) → IsLastSet k ps (field_at k r)
+pub record SetsAttributes (pieces : List (List ℕ)) (cookie : Record) : Type 0 where
+  pub each : (attribute : Key) → IsLastSet attribute pieces (field_at attribute cookie)

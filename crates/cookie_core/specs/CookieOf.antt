@@ -18,70 +18,72 @@ use Rattle.cookie_core.specs.declared.expiration.Expiration.TheVariants as expir
 
 -- the key of a piece: what stands before its first `=`, or all of it, trimmed
 abbrev pub key_text : List ℕ → List ℕ
-key_text p = trim (before_first (λ b. b == 61) p)
+key_text piece = trim (before_first (λ byte. byte == 61) piece)
 
 -- the value of a piece: what stands behind its first `=`, trimmed, where there is one
 abbrev pub value_text : List ℕ → Option (List ℕ)
-value_text p =
-    if list_any (λ b. b == 61) p then Some (trim (after_first (λ b. b == 61) p)) else None
+value_text piece =
+    if list_any (λ byte. byte == 61) piece
+    then Some (trim (after_first (λ byte. byte == 61) piece)) else None
 
 -- the text, if it is not empty
 abbrev pub unless_empty : List ℕ → Option (List ℕ)
 unless_empty [] = None
-unless_empty (c ∷ cs) = Some (c ∷ cs)
+unless_empty (byte ∷ bytes) = Some (byte ∷ bytes)
 
 -- the rule that the text names, in any ASCII case
 abbrev pub same_site_named : List ℕ → Option SameSite
-same_site_named v =
-    find (λ s. bytes_eq (str_to_ascii_lowercase v) (same_site_key s))
+same_site_named value =
+    find (λ rule. bytes_eq (str_to_ascii_lowercase value) (same_site_key rule))
     (same_site.Strict ∷ same_site.Lax ∷ same_site.None ∷ [])
 
 -- the setting that an attribute of this key and this value, if it has one, gives
-abbrev pub setting_of : (k : Key) → Option (List ℕ) → Option (Setting k)
+abbrev pub setting_of : (attribute : Key) → Option (List ℕ) → Option (Setting attribute)
 setting_of key.HttpOnly _ = Some true
 setting_of key.Secure _ = Some true
 setting_of key.Partitioned _ = Some true
-setting_of key.SameSite (Some v) = same_site_named v
-setting_of key.Path (Some v) = Some v
-setting_of key.Domain (Some v) = option_map without_leading_dot (unless_empty v)
-setting_of key.MaxAge (Some v) = option_map nanos_of_seconds (max_age_seconds v)
-setting_of key.Expires (Some v) = option_map expiration.DateTime (date_of v)
+setting_of key.SameSite (Some value) = same_site_named value
+setting_of key.Path (Some value) = Some value
+setting_of key.Domain (Some value) = option_map without_leading_dot (unless_empty value)
+setting_of key.MaxAge (Some value) = option_map nanos_of_seconds (max_age_seconds value)
+setting_of key.Expires (Some value) = option_map expiration.DateTime (date_of value)
 setting_of _ None = None
 
 -- what a piece sets the field of the key to, if its key is the word in any ASCII case
-abbrev pub setting_in : (k : Key) → List ℕ → Option (Setting k)
-setting_in k p =
-    if bytes_eq (str_to_ascii_lowercase (key_text p)) (word_of k)
-    then setting_of k (value_text p) else None
+abbrev pub setting_in : (attribute : Key) → List ℕ → Option (Setting attribute)
+setting_in attribute piece =
+    if bytes_eq (str_to_ascii_lowercase (key_text piece)) (word_of attribute)
+    then setting_of attribute (value_text piece) else None
 
 -- what the last piece that sets the field sets it to
-abbrev pub last_set : (k : Key) → List (List ℕ) → Option (Setting k)
-last_set k [] = None
-last_set k (p ∷ ps) = option_or (last_set k ps) (setting_in k p)
+abbrev pub last_set : (attribute : Key) → List (List ℕ) → Option (Setting attribute)
+last_set attribute [] = None
+last_set attribute (piece ∷ later) =
+    option_or (last_set attribute later) (setting_in attribute piece)
 
 -- the record of a name, a value and what the pieces behind them set
 abbrev pub record_in : List ℕ → List ℕ → List (List ℕ) → Record
-record_in n v ps = record_of n v (λ k. last_set k ps)
+record_in name value later = record_of name value (λ attribute. last_set attribute later)
 
 -- the text as it stands; with decoding, the bytes without escapes, if they are UTF-8
 abbrev pub decoded_text : Bool → List ℕ → Option (List ℕ)
-decoded_text false t = Some t
-decoded_text true t = if is_utf8 (unescape t) then Some (unescape t) else None
+decoded_text false text = Some text
+decoded_text true text = if is_utf8 (unescape text) then Some (unescape text) else None
 
 -- the record that the pieces of a text are read as, if the first has a `=`, a name that is not empty, and can be
 -- decoded
 abbrev pub cookie_in : Bool → List (List ℕ) → Option Record
 cookie_in decode [] = None
-cookie_in decode (p ∷ ps) = do
-  v ← value_text p
-  n ← unless_empty (key_text p)
-  name ← decoded_text decode n
-  value ← decoded_text decode v
-  Some (record_in name value ps)
+cookie_in decode (piece ∷ later) = do
+  raw_value ← value_text piece
+  raw_name ← unless_empty (key_text piece)
+  name ← decoded_text decode raw_name
+  value ← decoded_text decode raw_value
+  Some (record_in name value later)
 
 -- the record that the text is read as, or `None` where it is refused
 unfoldable pub cookie_of : Bool → List ℕ → Option Record
-cookie_of decode t = cookie_in decode (pieces t)
+cookie_of decode text = cookie_in decode (pieces text)
 
 -- the records that a header's cookies are read as, without those that are refused
 unfoldable pub header_cookies : Bool → List ℕ → List Record

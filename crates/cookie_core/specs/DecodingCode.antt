@@ -7,30 +7,35 @@ use Rattle.cookie_core.specs.Record.{Record, CookieView}
 use Rattle.cookie_core.specs.declared.parse_error.ParseError.{ParseError}
 use Rattle.cookie_core.specs.declared.parse_error.ParseError.TheVariants as refusal
 
--- the refusal is one that decoding the text t can have
+-- the refusal is one that decoding the text can have
 abbrev pub IsRefusedFor : List ℕ → ParseError → Type 0
-IsRefusedFor t (refusal.Utf8Error e) = IsFaultOf (unescape t) (valid_up_to e) (error_len e)
-IsRefusedFor t refusal.OutOfMemory = Unit {0}
-IsRefusedFor t _ = ⊥
+IsRefusedFor text (refusal.Utf8Error error) =
+    IsFaultOf (unescape text) (valid_up_to error) (error_len error)
+IsRefusedFor text refusal.OutOfMemory = Unit {0}
+IsRefusedFor text _ = ⊥
 
--- or decoding the name n and the value v
+-- or decoding the name and the value
 abbrev pub IsRefusedForPair : List ℕ → List ℕ → ParseError → Type 0
-IsRefusedForPair n v (refusal.Utf8Error e) =
-    IsFaultOf (blamed_text n v) (valid_up_to e) (error_len e)
-IsRefusedForPair n v refusal.OutOfMemory = Unit {0}
-IsRefusedForPair n v _ = ⊥
+IsRefusedForPair name value (refusal.Utf8Error error) =
+    IsFaultOf (blamed_text name value) (valid_up_to error) (error_len error)
+IsRefusedForPair name value refusal.OutOfMemory = Unit {0}
+IsRefusedForPair name value _ = ⊥
 
 -- the record with the name and the value that its own stand for
 abbrev pub decoded_record : Record → Record
-decoded_record r = record r { name = unescape r.name; value = unescape r.value }
+decoded_record cookie = record cookie { name = unescape cookie.name; value = unescape cookie.value }
 
 -- what becomes of a cookie whose name and value are decoded; it is refused only where one of them holds an escape
 abbrev pub Decodes : CookieView → Result CookieView ParseError → Type 0
-Decodes c (Ok d) = (d.fields ≡ decoded_record c.fields) × (d.raw ≡ decoded_forms c.fields c.raw)
-    × IsUtf8 (unescape c.fields.name) × IsUtf8 (unescape c.fields.value)
-Decodes c (Err e) = (are_decoded c.fields ≡ true) × IsRefusedForPair c.fields.name c.fields.value e
+Decodes cookie (Ok decoded) =
+    (decoded.fields ≡ decoded_record cookie.fields)
+    × (decoded.raw ≡ decoded_forms cookie.fields cookie.raw)
+    × IsUtf8 (unescape cookie.fields.name) × IsUtf8 (unescape cookie.fields.value)
+Decodes cookie (Err error) =
+    (are_decoded cookie.fields ≡ true)
+    × IsRefusedForPair cookie.fields.name cookie.fields.value error
 
 -- the same refusal, or the cookie with its name and value decoded
 abbrev pub IsDecodedOutcome : Result CookieView ParseError → Result CookieView ParseError → Type 0
-IsDecodedOutcome (Err e) o = o ≡ Err e
-IsDecodedOutcome (Ok c) o = Decodes c o
+IsDecodedOutcome (Err error) outcome = outcome ≡ Err error
+IsDecodedOutcome (Ok cookie) outcome = Decodes cookie outcome

@@ -5,16 +5,17 @@ use Rattle.percent_encoding.specs.Percent.{percent_encode_byte, percent_decode}
 
 -- the byte is one of the list
 abbrev pub is_one_of : List ℕ → ℕ → Bool
-is_one_of [] b = false
-is_one_of (c ∷ cs) b = (c == b) || is_one_of cs b
+is_one_of [] byte = false
+is_one_of (mark ∷ marks) byte = (mark == byte) || is_one_of marks byte
 
 -- a control, the space, DEL, any byte past ASCII, and the marks that a header or a URL gives a meaning
 abbrev pub is_escaped : ℕ → Bool
-is_escaped b = nat_lt b 33 || (nat_le 127 b || is_one_of (codes "\"<>`#?{}/:;=@[\\]^|%(),") b)
+is_escaped byte =
+    nat_lt byte 33 || (nat_le 127 byte || is_one_of (codes "\"<>`#?{}/:;=@[\\]^|%(),") byte)
 
 -- what a byte becomes: itself, or `%` and two upper-case hexadecimal digits
 abbrev pub escape_byte : ℕ → List ℕ
-escape_byte b = if is_escaped b then percent_encode_byte b else b ∷ []
+escape_byte byte = if is_escaped byte then percent_encode_byte byte else byte ∷ []
 
 -- each byte of the text
 unfoldable pub escape : List ℕ → List ℕ
@@ -26,5 +27,5 @@ unescape = percent_decode
 
 -- the text as it is printed: escaped, where asked for
 abbrev pub printed_form : Bool → List ℕ → List ℕ
-printed_form true t = escape t
-printed_form false t = t
+printed_form true text = escape text
+printed_form false text = text

@@ -5,16 +5,17 @@ use Rattle.cookie_core.specs.Pieces.{IsPieces, pieces}
 
 -- the pieces, trimmed, without the empty ones
 abbrev pub kept_texts : List (List ℕ) → List (List ℕ)
-kept_texts ps = filter (λ x. not (length x == 0)) (map trim ps)
+kept_texts texts = filter (λ text. not (length text == 0)) (map trim texts)
 
 -- the texts are those of the header's pieces that are not blank, trimmed, in order
 abbrev pub IsHeaderTexts : List ℕ → List (List ℕ) → Type 0
 IsHeaderTexts header texts =
-    (p : List ℕ) × (ps : List (List ℕ)) × IsPieces header p ps × (texts ≡ kept_texts (p ∷ ps))
+    (first : List ℕ) × (later : List (List ℕ)) × IsPieces header first later
+    × (texts ≡ kept_texts (first ∷ later))
 
 -- the one list of those texts
 abbrev pub header_texts : List ℕ → List (List ℕ)
-header_texts t = kept_texts (pieces t)
+header_texts header = kept_texts (pieces header)
 
 -- texts, each behind `; ` (RFC 6265 4.2.1)
 abbrev pub more_joined : List (List ℕ) → List ℕ

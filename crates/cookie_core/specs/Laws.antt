@@ -5,8 +5,12 @@ use Rattle.cookie_core.specs.Record.{Record}
 
 -- printing and reading a third time changes nothing
 abbrev pub IsSettled : Type 0
-IsSettled = (r : Record) → normal_form (normal_form (normal_form r)) ≡ normal_form (normal_form r)
+IsSettled =
+    (cookie : Record)
+    → normal_form (normal_form (normal_form cookie)) ≡ normal_form (normal_form cookie)
 
 -- the second time changes only a cookie that gains `Secure`
 abbrev pub IsSettledAtOnce : Type 0
-IsSettledAtOnce = (r : Record) → (normal_form (normal_form r) ≡ normal_form r) ↔ (¬ (GainsSecure r))
+IsSettledAtOnce =
+    (cookie : Record)
+    → (normal_form (normal_form cookie) ≡ normal_form cookie) ↔ (¬ (GainsSecure cookie))

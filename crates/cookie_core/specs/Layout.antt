@@ -9,44 +9,45 @@ use Rattle.cookie_core.specs.declared.attributes.Attributes.{Attributes}
 use Rattle.cookie_core.specs.declared.layout.Layout.{Layout}
 use Rattle.cookie_core.specs.declared.parse_error.ParseError.{ParseError}
 
--- the record of the attributes in the text s, with an empty name and an empty value
+-- the record of the attributes in the text, with an empty name and an empty value
 abbrev pub attributes_of : List ℕ → Attributes → Record
-attributes_of s a =
+attributes_of text attributes =
     record {
       name = [];
       value = [];
-      http_only = a.http_only;
-      secure = a.secure;
-      partitioned = a.partitioned;
-      same_site = a.same_site;
-      path = option_map (span_text s) a.path;
-      domain = option_map without_leading_dot (option_map (span_text s) a.domain);
-      max_age = option_map signed_nanos a.max_age;
-      expires = a.expires;
+      http_only = attributes.http_only;
+      secure = attributes.secure;
+      partitioned = attributes.partitioned;
+      same_site = attributes.same_site;
+      path = option_map (span_text text) attributes.path;
+      domain = option_map without_leading_dot (option_map (span_text text) attributes.domain);
+      max_age = option_map signed_nanos attributes.max_age;
+      expires = attributes.expires;
     }
 
--- the record of a layout in the text s
+-- the record of a layout in the text
 abbrev pub layout_record : List ℕ → Layout → Record
-layout_record s l =
-    record (attributes_of s l.attributes) {
-      name = span_text s l.name;
-      value = span_text s l.value;
+layout_record text layout =
+    record (attributes_of text layout.attributes) {
+      name = span_text text layout.name;
+      value = span_text text layout.value;
     }
 
--- the path and the domain stand in the text s
+-- the path and the domain stand in the text
 abbrev pub AreIn : List ℕ → Attributes → Type 0
-AreIn s a = IfSome a.path (StandsIn s) × IfSome a.domain (StandsIn s)
+AreIn text attributes =
+    IfSome attributes.path (StandsIn text) × IfSome attributes.domain (StandsIn text)
 
--- the spans of the layout stand in the text s: the name before the first `=`, and the value after it and before the
+-- the spans of the layout stand in the text: the name before the first `=`, and the value after it and before the
 -- first `;`
-pub record IsLayoutIn (s : List ℕ) (l : Layout) : Type 0 where
-  pub name : StandsIn s l.name
-  pub value : StandsIn s l.value
-  pub before : l.name.end ≤ offset_of 61 s
-  pub after : offset_of 61 s < l.value.start
-  pub within : l.value.end ≤ offset_of 59 s
-  pub attributes : AreIn s l.attributes
+pub record IsLayoutIn (text : List ℕ) (layout : Layout) : Type 0 where
+  pub name : StandsIn text layout.name
+  pub value : StandsIn text layout.value
+  pub before : layout.name.end ≤ offset_of 61 text
+  pub after : offset_of 61 text < layout.value.start
+  pub within : layout.value.end ≤ offset_of 59 text
+  pub attributes : AreIn text layout.attributes
 
--- the record of the layout in the text s, or the refusal
+-- the record of the layout in the text, or the refusal
 abbrev pub laid_out : List ℕ → Result Layout ParseError → Result Record ParseError
-laid_out s o = result_map_both (layout_record s) (λ e. e) o
+laid_out text outcome = result_map_both (layout_record text) (λ error. error) outcome

@@ -5,4 +5,4 @@ use Rattle.cookie_core.specs.contracts.builder.Builder as builder
 module _ (C : RattleType) where
   -- the builder ends as what was left behind the result
   abbrev pub LendsInner : MutBor C.Denot → MutBor C.Denot → Fml
-  LendsInner b r = Lends (builder.the_row C) C b r (λ w. w)
+  LendsInner taken given = Lends (builder.the_row C) C taken given (λ inner. inner)

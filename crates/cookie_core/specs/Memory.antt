@@ -1,4 +1,4 @@
--- Calls that can want memory.
+-- Calls that can be out of memory.
 use Rattle.std.specs.Prelude.{◌≡◌, Result, Ok, Err}
 
 -- The call gave an answer that meets the fact, or found no memory and says so by this refusal.

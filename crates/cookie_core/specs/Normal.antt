@@ -17,68 +17,71 @@ true_or_unset false = None
 
 -- whole seconds, a negative age zero, in nanoseconds (RFC 6265 5.2.2)
 abbrev pub whole_age : ℤ → ℤ
-whole_age n = if int_lt n (pos 0) then pos 0 else int_div n (pos 1000000000) *ℤ pos 1000000000
+whole_age nanos =
+    if int_lt nanos (pos 0) then pos 0 else int_div nanos (pos 1000000000) *ℤ pos 1000000000
 
 -- a date-time without its fraction of a second, or unset
 abbrev pub whole_expiry : Option Expiration → Option Expiration
-whole_expiry (Some (expiration.DateTime m)) = Some (expiration.DateTime (whole_second m))
+whole_expiry (Some (expiration.DateTime moment)) = Some (expiration.DateTime (whole_second moment))
 whole_expiry _ = None
 
 -- the record that is read from a cookie's text
 abbrev pub normal_form : Record → Record
-normal_form r =
-    record r {
-      http_only = true_or_unset (is_true r.http_only);
-      partitioned = true_or_unset (is_true r.partitioned);
-      secure = true_or_unset (prints_secure r);
-      max_age = option_map whole_age r.max_age;
-      expires = whole_expiry r.expires;
+normal_form cookie =
+    record cookie {
+      http_only = true_or_unset (is_true cookie.http_only);
+      partitioned = true_or_unset (is_true cookie.partitioned);
+      secure = true_or_unset (prints_secure cookie);
+      max_age = option_map whole_age cookie.max_age;
+      expires = whole_expiry cookie.expires;
     }
 
 -- a text that a printed attribute can hold: no `;`, and no white space at either end (RFC 6265 4.1.1, 5.2)
-pub record IsPlainText (t : List ℕ) : Type 0 where
-  pub whole : Lacks 59 t
-  pub trimmed : trim t ≡ t
+pub record IsPlainText (text : List ℕ) : Type 0 where
+  pub whole : Lacks 59 text
+  pub trimmed : trim text ≡ text
 
 -- a domain that is read as it is printed (RFC 6265 5.2.3)
-pub record IsPlainDomain (t : List ℕ) : Type 0 where
-  pub text : IsPlainText t
-  pub some : t ≢ []
-  pub no_dot : (rest : List ℕ) → t ≢ 46 ∷ rest
+pub record IsPlainDomain (domain : List ℕ) : Type 0 where
+  pub text : IsPlainText domain
+  pub some : domain ≢ []
+  pub no_dot : (rest : List ℕ) → domain ≢ 46 ∷ rest
 
 -- a year that the year rule keeps: one of more than two digits, or a negative one (RFC 6265 5.1.1)
 abbrev pub KeepsYear : Option Expiration → Type 0
-KeepsYear (Some (expiration.DateTime m)) = (m.date.year <ℤ pos 0) ⊎ (pos 100 ≤ℤ m.date.year)
+KeepsYear (Some (expiration.DateTime moment)) =
+    (moment.date.year <ℤ pos 0) ⊎ (pos 100 ≤ℤ moment.date.year)
 KeepsYear _ = Unit {0}
 
 -- its printed text is read as its normal form
-pub record CanBeRead (r : Record) : Type 0 where
-  pub name : r.name ≢ []
-  pub path : IfSome r.path IsPlainText
-  pub domain : IfSome r.domain IsPlainDomain
-  pub expires : KeepsYear r.expires
+pub record CanBeRead (cookie : Record) : Type 0 where
+  pub name : cookie.name ≢ []
+  pub path : IfSome cookie.path IsPlainText
+  pub domain : IfSome cookie.domain IsPlainDomain
+  pub expires : KeepsYear cookie.expires
 
 -- a cookie with a name
-pub record IsNamed (r : Record) : Type 0 where
-  pub cookie : IsCookie r
-  pub name : r.name ≢ []
+pub record IsNamed (fields : Record) : Type 0 where
+  pub cookie : IsCookie fields
+  pub name : fields.name ≢ []
 
 -- its path and its domain, where they are set, hold no `;`, so what is printed of them sets no other field
-pub record IsUncut (r : Record) : Type 0 where
-  pub path : IfSome r.path (Lacks 59)
-  pub domain : IfSome r.domain (Lacks 59)
+pub record IsUncut (cookie : Record) : Type 0 where
+  pub path : IfSome cookie.path (Lacks 59)
+  pub domain : IfSome cookie.domain (Lacks 59)
 
 -- what a printed expiry is read as: the date-time of the year rule, in whole seconds (RFC 6265 5.1.1), and nothing
 -- where it is no date-time
 abbrev pub IsExpiryReadBack : Option Expiration → Option Expiration → Type 0
-IsExpiryReadBack (Some (expiration.DateTime m)) (Some (expiration.DateTime back)) =
-    IsReadBack m back
-IsExpiryReadBack (Some (expiration.DateTime m)) _ = ⊥
+IsExpiryReadBack (Some (expiration.DateTime moment)) (Some (expiration.DateTime back)) =
+    IsReadBack moment back
+IsExpiryReadBack (Some (expiration.DateTime moment)) _ = ⊥
 IsExpiryReadBack _ None = Unit {0}
-IsExpiryReadBack _ (Some x) = ⊥
+IsExpiryReadBack _ (Some expiry) = ⊥
 
 -- same_site is `None`, secure is false, and partitioned is not true: `Secure` is printed the second time, and not the
 -- first
 abbrev pub GainsSecure : Record → Type 0
-GainsSecure r =
-    (r.same_site ≡ Some same_site.None) × (r.secure ≡ Some false) × (r.partitioned ≢ Some true)
+GainsSecure cookie =
+    (cookie.same_site ≡ Some same_site.None) × (cookie.secure ≡ Some false)
+    × (cookie.partitioned ≢ Some true)

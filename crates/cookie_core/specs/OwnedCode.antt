@@ -6,6 +6,6 @@ use Rattle.cookie_core.specs.declared.parse_error.ParseError.TheVariants as refu
 
 -- the same refusal, or the same record that lends nothing, unless memory was wanting
 abbrev pub IsMadeOwn : Result CookieView ParseError → Result CookieView ParseError → Type 0
-IsMadeOwn (Err e) o = o ≡ Err e
-IsMadeOwn (Ok c) (Err e) = e ≡ refusal.OutOfMemory
-IsMadeOwn (Ok c) (Ok d) = d ≡ record { fields = c.fields; raw = no_raw_forms }
+IsMadeOwn (Err error) outcome = outcome ≡ Err error
+IsMadeOwn (Ok cookie) (Err error) = error ≡ refusal.OutOfMemory
+IsMadeOwn (Ok cookie) (Ok owned) = owned ≡ record { fields = cookie.fields; raw = no_raw_forms }

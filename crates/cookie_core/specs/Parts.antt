@@ -6,15 +6,15 @@ use Rattle.cookie_core.specs.declared.span.Span.{Span}
 
 -- the bytes of the part
 abbrev pub part_text : Part → List ℕ
-part_text p = span_text p.whole.now p.span
+part_text part = span_text part.whole.now part.span
 
--- it is a part of the text s
+-- it is a part of the text
 abbrev pub IsPartOf : List ℕ → Part → Type 0
-IsPartOf s p = p.whole.now ≡ s
+IsPartOf text part = part.whole.now ≡ text
 
 -- the same of a part that may be missing
 abbrev pub IsOptionalPartOf : List ℕ → Option Part → Type 0
-IsOptionalPartOf s o = IfSome o (IsPartOf s)
+IsOptionalPartOf text part = IfSome part (IsPartOf text)
 
 -- the span is cut in two at a byte, or stays whole
 abbrev pub IsCut : Span → Span → Option Part → Type 0

@@ -9,8 +9,8 @@ use Rattle.cookie_core.specs.declared.expiration.Expiration.TheVariants.{DateTim
 
 -- the cookie with an age of twenty years of 365 days, and an expiry that many days later, or the last one
 abbrev pub permanent : CivilDateTime → Record → Record
-permanent now r =
-    record r {
+permanent now cookie =
+    record cookie {
       max_age = Some (nanos_of_seconds 630_720_000);
       expires = Some (capped_expiry (DateTime (days_later now (pos 7300))));
     }

@@ -2,25 +2,25 @@
 use Rattle.std.specs.Prelude.{◌≡◌, ◌≢◌, ℕ, ◌<◌, ◌==◌, List, [], ◌∷◌, ◌++◌, All, length, slice_index}
 use Rattle.std.specs.List.{position_or_len, slice_split}
 
--- no byte of s is c
+-- no byte of the text is the mark
 abbrev pub Lacks : ℕ → List ℕ → Type 0
-Lacks c s = (i : ℕ) → i < length s → slice_index s i ≢ c
+Lacks mark text = (place : ℕ) → place < length text → slice_index text place ≢ mark
 
--- the offset of the first byte c in the text, or the text's length
+-- the offset of the first such mark in the text, or the text's length
 abbrev pub offset_of : ℕ → List ℕ → ℕ
-offset_of c text = position_or_len (λ b. b == c) text
+offset_of mark text = position_or_len (λ byte. byte == mark) text
 
--- the texts p and ps, joined by the byte c
+-- the piece and the later ones, joined by the mark
 abbrev pub joined_pieces : ℕ → List ℕ → List (List ℕ) → List ℕ
-joined_pieces c p [] = p
-joined_pieces c p (q ∷ qs) = p ++ c ∷ joined_pieces c q qs
+joined_pieces mark piece [] = piece
+joined_pieces mark piece (next ∷ later) = piece ++ mark ∷ joined_pieces mark next later
 
--- p and ps are the texts without `;` that, joined by `;`, give t
-pub record IsPieces (t p : List ℕ) (ps : List (List ℕ)) : Type 0 where
-  pub joined : t ≡ joined_pieces 59 p ps
-  pub first : Lacks 59 p
-  pub later : All (Lacks 59) ps
+-- the piece and the others are the texts without `;` that, joined by `;`, give the text
+pub record IsPieces (text piece : List ℕ) (others : List (List ℕ)) : Type 0 where
+  pub joined : text ≡ joined_pieces 59 piece others
+  pub first : Lacks 59 piece
+  pub later : All (Lacks 59) others
 
--- the one list of the pieces of t
+-- the one list of the text's pieces
 abbrev pub pieces : List ℕ → List (List ℕ)
-pieces t = slice_split (λ b. b == 59) t
+pieces text = slice_split (λ byte. byte == 59) text

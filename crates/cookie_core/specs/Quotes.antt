@@ -3,8 +3,10 @@ use Rattle.std.specs.Prelude.{ℕ, ◌-◌, ◌==◌, Bool, ◌&&◌, List, leng
 
 -- the text has at least two bytes, and its first and its last one are `"`
 abbrev pub is_quoted : List ℕ → Bool
-is_quoted v = ltb 1 (length v) && slice_index v 0 == 34 && slice_index v (length v - 1) == 34
+is_quoted value =
+    ltb 1 (length value) && slice_index value 0 == 34
+    && slice_index value (length value - 1) == 34
 
 -- the text without a `"` at both ends, where it has both, else the text
 abbrev pub trimmed_value : List ℕ → List ℕ
-trimmed_value v = if is_quoted v then slice_range v 1 (length v - 1) else v
+trimmed_value value = if is_quoted value then slice_range value 1 (length value - 1) else value

@@ -8,31 +8,35 @@ use Rattle.cookie_core.specs.Record.{Record, CookieView}
 use Rattle.cookie_core.specs.declared.parse_error.ParseError.{ParseError}
 use Rattle.cookie_core.specs.declared.parse_error.ParseError.TheVariants as refusal
 
--- the text t is read as u: as it stands, or as the text of its bytes without escapes
+-- what a raw text is read as: the text as it stands, or the text of its bytes without escapes
 abbrev pub IsDecoded : Bool → List ℕ → List ℕ → Type 0
-IsDecoded false t u = u ≡ t
-IsDecoded true t u = (u ≡ unescape t) × IsUtf8 u
+IsDecoded false raw text = text ≡ raw
+IsDecoded true raw text = (text ≡ unescape raw) × IsUtf8 text
 
--- with decoding, the bytes of the name n, or those of the value v, are not UTF-8
+-- with decoding, the bytes of the name, or those of the value, are not UTF-8
 abbrev pub IsUndecodable : Bool → List ℕ → List ℕ → Type 0
-IsUndecodable false n v = ⊥
-IsUndecodable true n v = (¬ (IsUtf8 (unescape n))) ⊎ (¬ (IsUtf8 (unescape v)))
+IsUndecodable false name value = ⊥
+IsUndecodable true name value = (¬ (IsUtf8 (unescape name))) ⊎ (¬ (IsUtf8 (unescape value)))
 
--- what the first piece p and the later pieces ps are read as
+-- what the first piece and the later ones are read as
 abbrev pub ReadsPieces : Bool → List ℕ → List (List ℕ) → Result Record ParseError → Type 0
-ReadsPieces decode p ps (Err refusal.MissingPair) = Lacks 61 p
-ReadsPieces decode p ps (Err refusal.EmptyName) = (v : List ℕ) × IsPair p [] v
-ReadsPieces decode p ps (Err (refusal.Utf8Error e)) =
-    (n : List ℕ) × (v : List ℕ) × IsPair p n v × (n ≢ []) × IsUndecodable decode n v
-ReadsPieces decode p ps (Err refusal.OutOfMemory) = ⊥
-ReadsPieces decode p ps (Ok r) =
-    (n : List ℕ) × (v : List ℕ) × IsPair p n v × (n ≢ []) × IsDecoded decode n r.name
-    × IsDecoded decode v r.value × SetsAttributes ps r
+ReadsPieces decode piece later (Err refusal.MissingPair) = Lacks 61 piece
+ReadsPieces decode piece later (Err refusal.EmptyName) = (value : List ℕ) × IsPair piece [] value
+ReadsPieces decode piece later (Err (refusal.Utf8Error error)) =
+    (name : List ℕ) × (value : List ℕ) × IsPair piece name value × (name ≢ [])
+    × IsUndecodable decode name value
+ReadsPieces decode piece later (Err refusal.OutOfMemory) = ⊥
+ReadsPieces decode piece later (Ok cookie) =
+    (name : List ℕ) × (value : List ℕ) × IsPair piece name value × (name ≢ [])
+    × IsDecoded decode name cookie.name × IsDecoded decode value cookie.value
+    × SetsAttributes later cookie
 
--- what the text t is read as
+-- what the text is read as
 abbrev pub Reads : Bool → List ℕ → Result Record ParseError → Type 0
-Reads decode t o = (p : List ℕ) × (ps : List (List ℕ)) × IsPieces t p ps × ReadsPieces decode p ps o
+Reads decode text outcome =
+    (piece : List ℕ) × (later : List (List ℕ)) × IsPieces text piece later
+    × ReadsPieces decode piece later outcome
 
 -- the record of the cookie that was read, or the refusal
 abbrev pub record_or_refusal : Result CookieView ParseError → Result Record ParseError
-record_or_refusal o = result_map_both (λ c. c.fields) (λ e. e) o
+record_or_refusal outcome = result_map_both (λ cookie. cookie.fields) (λ error. error) outcome

@@ -19,10 +19,10 @@ pub record Record : Type 0 where
 
 -- the record of a name and a value, with all else unset
 abbrev pub plain : List ℕ → List ℕ → Record
-plain n v =
+plain name value =
     record {
-      name = n;
-      value = v;
+      name = name;
+      value = value;
       http_only = None;
       secure = None;
       partitioned = None;
@@ -34,17 +34,17 @@ plain n v =
     }
 
 -- its texts are UTF-8, and its age is one that a duration can have
-pub record IsCookie (r : Record) : Type 0 where
-  pub name : IsUtf8 r.name
-  pub value : IsUtf8 r.value
-  pub path : IfSome r.path IsUtf8
-  pub domain : IfSome r.domain IsUtf8
-  pub max_age : IfSome r.max_age IsDurationNanos
+pub record IsCookie (cookie : Record) : Type 0 where
+  pub name : IsUtf8 cookie.name
+  pub value : IsUtf8 cookie.value
+  pub path : IfSome cookie.path IsUtf8
+  pub domain : IfSome cookie.domain IsUtf8
+  pub max_age : IfSome cookie.max_age IsDurationNanos
 
 -- a text without one leading dot
 abbrev pub without_leading_dot : List ℕ → List ℕ
 without_leading_dot [] = []
-without_leading_dot (c ∷ cs) = if c == 46 then cs else c ∷ cs
+without_leading_dot (byte ∷ bytes) = if byte == 46 then bytes else byte ∷ bytes
 
 -- the parts of a borrowed source that a cookie still shows
 pub record RawForms : Type 0 where
@@ -64,4 +64,10 @@ no_raw_forms = record { name = None; value = None; path = None; domain = None }
 
 -- the raw forms of a cookie whose texts are all parts of a borrowed source
 abbrev pub all_lent : Record → RawForms
-all_lent r = record { name = Some r.name; value = Some r.value; path = r.path; domain = r.domain }
+all_lent cookie =
+    record {
+      name = Some cookie.name;
+      value = Some cookie.value;
+      path = cookie.path;
+      domain = cookie.domain;
+    }

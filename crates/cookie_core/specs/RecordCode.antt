@@ -28,23 +28,23 @@ field_pairs_code =
 abbrev pub record_code : Coded Record
 record_code =
     code_by FieldPairs field_pairs_code
-    (λ r. (
-      (r.name, r.value),
+    (λ cookie. (
+      (cookie.name, cookie.value),
       (
-        (r.http_only, (r.secure, r.partitioned)),
-        (r.same_site, ((r.path, r.domain), (r.max_age, r.expires))),
+        (cookie.http_only, (cookie.secure, cookie.partitioned)),
+        (cookie.same_site, ((cookie.path, cookie.domain), (cookie.max_age, cookie.expires))),
       ),
     ))
-    (λ p. record {
-      name = p.0.0;
-      value = p.0.1;
-      http_only = p.1.0.0;
-      secure = p.1.0.1.0;
-      partitioned = p.1.0.1.1;
-      same_site = p.1.1.0;
-      path = p.1.1.1.0.0;
-      domain = p.1.1.1.0.1;
-      max_age = p.1.1.1.1.0;
-      expires = p.1.1.1.1.1;
+    (λ pairs. record {
+      name = pairs.0.0;
+      value = pairs.0.1;
+      http_only = pairs.1.0.0;
+      secure = pairs.1.0.1.0;
+      partitioned = pairs.1.0.1.1;
+      same_site = pairs.1.1.0;
+      path = pairs.1.1.1.0.0;
+      domain = pairs.1.1.1.0.1;
+      max_age = pairs.1.1.1.1.0;
+      expires = pairs.1.1.1.1.1;
     })
     (λ _. refl)

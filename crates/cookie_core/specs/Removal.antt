@@ -7,8 +7,8 @@ use Rattle.cookie_core.specs.declared.expiration.Expiration.TheVariants.{DateTim
 
 -- the cookie with the empty value, the age zero and an expiry 365 days ago
 abbrev pub removal : CivilDateTime → Record → Record
-removal now r =
-    record r {
+removal now cookie =
+    record cookie {
       value = [];
       max_age = Some (pos 0);
       expires = Some (DateTime (days_later now (neg_ℤ (pos 365))));

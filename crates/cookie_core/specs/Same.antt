@@ -22,25 +22,26 @@ same_expiration = on datetime_of (option_eq (on civil_nanos int_eq))
 
 -- equal names and values
 abbrev pub same_pair : Record → Record → Bool
-same_pair = eq_of_both (on (λ r. r.name) bytes_eq) (on (λ r. r.value) bytes_eq)
+same_pair = eq_of_both (on (λ cookie. cookie.name) bytes_eq) (on (λ cookie. cookie.value) bytes_eq)
 
 -- equal flags, each unset in both or equal
 abbrev pub same_flags : Record → Record → Bool
 same_flags =
-    eq_of_both (on (λ r. r.http_only) (option_eq beq))
-    (eq_of_both (on (λ r. r.secure) (option_eq beq)) (on (λ r. r.partitioned) (option_eq beq)))
+    eq_of_both (on (λ cookie. cookie.http_only) (option_eq beq))
+    (eq_of_both (on (λ cookie. cookie.secure) (option_eq beq))
+    (on (λ cookie. cookie.partitioned) (option_eq beq)))
 
 -- equal paths and domains, each unset in both or equal without ASCII case
 abbrev pub same_place : Record → Record → Bool
 same_place =
-    eq_of_both (on (λ r. r.path) (option_eq same_ignoring_case))
-    (on (λ r. r.domain) (option_eq same_ignoring_case))
+    eq_of_both (on (λ cookie. cookie.path) (option_eq same_ignoring_case))
+    (on (λ cookie. cookie.domain) (option_eq same_ignoring_case))
 
 -- equal ages and expiries, each unset in both or equal
 abbrev pub same_lifetime : Record → Record → Bool
 same_lifetime =
-    eq_of_both (on (λ r. r.max_age) (option_eq int_eq))
-    (on (λ r. r.expires) (option_eq same_expiration))
+    eq_of_both (on (λ cookie. cookie.max_age) (option_eq int_eq))
+    (on (λ cookie. cookie.expires) (option_eq same_expiration))
 
 -- equal in all but the attribute `SameSite`
 abbrev pub same : Record → Record → Bool
@@ -48,27 +49,27 @@ same = eq_of_both same_pair (eq_of_both same_flags (eq_of_both same_place same_l
 
 -- the test of two records is reflexive, symmetric and transitive
 pub record IsEquality (equal : Record → Record → Bool) : Type 0 where
-  pub reflexive : (r : Record) → equal r r ≡ true
-  pub symmetric : (r r' : Record) → equal r r' ≡ equal r' r
-  pub transitive : (r r' r'' : Record) → equal r r' ≡ true → equal r' r'' ≡ true
-      → equal r r'' ≡ true
+  pub reflexive : (cookie : Record) → equal cookie cookie ≡ true
+  pub symmetric : (cookie other : Record) → equal cookie other ≡ equal other cookie
+  pub transitive : (cookie other third : Record) → equal cookie other ≡ true
+      → equal other third ≡ true → equal cookie third ≡ true
 
 -- the same of what contracts see of two cookies
 abbrev pub same_cookie : CookieView → CookieView → Bool
-same_cookie = on (λ c. c.fields) same
+same_cookie = on (λ cookie. cookie.fields) same
 
 -- each part of it is an equivalence
 same_pair-equiv : IsEquivalence same_pair
 same_pair-equiv =
-    and_equiv (on_equiv (λ (r : Record). r.name) nat_list_eq_equiv)
-    (on_equiv (λ (r : Record). r.value) nat_list_eq_equiv)
+    and_equiv (on_equiv (λ (cookie : Record). cookie.name) nat_list_eq_equiv)
+    (on_equiv (λ (cookie : Record). cookie.value) nat_list_eq_equiv)
 
 -- the same of the flags
 same_flags-equiv : IsEquivalence same_flags
 same_flags-equiv =
-    and_equiv (on_equiv (λ (r : Record). r.http_only) (options_equiv bool_eq_equiv))
-    (and_equiv (on_equiv (λ (r : Record). r.secure) (options_equiv bool_eq_equiv))
-    (on_equiv (λ (r : Record). r.partitioned) (options_equiv bool_eq_equiv)))
+    and_equiv (on_equiv (λ (cookie : Record). cookie.http_only) (options_equiv bool_eq_equiv))
+    (and_equiv (on_equiv (λ (cookie : Record). cookie.secure) (options_equiv bool_eq_equiv))
+    (on_equiv (λ (cookie : Record). cookie.partitioned) (options_equiv bool_eq_equiv)))
 
 -- the same of texts
 same_ignoring_case-equiv : IsEquivalence same_ignoring_case
@@ -77,8 +78,8 @@ same_ignoring_case-equiv = on_equiv str_to_ascii_lowercase nat_list_eq_equiv
 -- the same of the path and the domain
 same_place-equiv : IsEquivalence same_place
 same_place-equiv =
-    and_equiv (on_equiv (λ (r : Record). r.path) (options_equiv same_ignoring_case-equiv))
-    (on_equiv (λ (r : Record). r.domain) (options_equiv same_ignoring_case-equiv))
+    and_equiv (on_equiv (λ (cookie : Record). cookie.path) (options_equiv same_ignoring_case-equiv))
+    (on_equiv (λ (cookie : Record). cookie.domain) (options_equiv same_ignoring_case-equiv))
 
 -- the same of expiries
 same_expiration-equiv : IsEquivalence same_expiration
@@ -87,8 +88,8 @@ same_expiration-equiv = on_equiv datetime_of (options_equiv (on_equiv civil_nano
 -- the same of the age and the expiry
 same_lifetime-equiv : IsEquivalence same_lifetime
 same_lifetime-equiv =
-    and_equiv (on_equiv (λ (r : Record). r.max_age) (options_equiv int_eq_equiv))
-    (on_equiv (λ (r : Record). r.expires) (options_equiv same_expiration-equiv))
+    and_equiv (on_equiv (λ (cookie : Record). cookie.max_age) (options_equiv int_eq_equiv))
+    (on_equiv (λ (cookie : Record). cookie.expires) (options_equiv same_expiration-equiv))
 
 -- equality is an equivalence
 pub same-equiv : IsEquivalence same
@@ -107,4 +108,5 @@ same-is_equality =
 
 -- the law that `==` has to give
 pub same_cookie-laws : IsPartialEquivalence same_cookie
-same_cookie-laws = partial_equiv_from_equiv (on_equiv (λ (c : CookieView). c.fields) same-equiv)
+same_cookie-laws =
+    partial_equiv_from_equiv (on_equiv (λ (cookie : CookieView). cookie.fields) same-equiv)

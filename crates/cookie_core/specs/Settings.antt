@@ -9,31 +9,34 @@ use Rattle.cookie_core.specs.declared.attributes.Key.TheVariants as key
 
 -- the value of an attribute of this key, if it has one, gives no setting
 abbrev pub GivesNothing : Key → Option (List ℕ) → Type 0
-GivesNothing k v = (x : Setting k) → ¬ (GivesSetting k v x)
+GivesNothing attribute value =
+    (setting : Setting attribute) → ¬ (GivesSetting attribute value setting)
 
 -- the record in which the field of the key alone can be set
-abbrev pub only : (k : Key) → Option (Setting k) → Record
-only key.HttpOnly o = record (plain [] []) { http_only = o }
-only key.Secure o = record (plain [] []) { secure = o }
-only key.Partitioned o = record (plain [] []) { partitioned = o }
-only key.SameSite o = record (plain [] []) { same_site = o }
-only key.Path o = record (plain [] []) { path = o }
-only key.Domain o = record (plain [] []) { domain = o }
-only key.MaxAge o = record (plain [] []) { max_age = o }
-only key.Expires o = record (plain [] []) { expires = o }
+abbrev pub only : (attribute : Key) → Option (Setting attribute) → Record
+only key.HttpOnly setting = record (plain [] []) { http_only = setting }
+only key.Secure setting = record (plain [] []) { secure = setting }
+only key.Partitioned setting = record (plain [] []) { partitioned = setting }
+only key.SameSite setting = record (plain [] []) { same_site = setting }
+only key.Path setting = record (plain [] []) { path = setting }
+only key.Domain setting = record (plain [] []) { domain = setting }
+only key.MaxAge setting = record (plain [] []) { max_age = setting }
+only key.Expires setting = record (plain [] []) { expires = setting }
 
 -- the field of the key is what the value of an attribute gives, if it gives a setting
-abbrev pub IsSetting : (k : Key) → Option (List ℕ) → Option (Setting k) → Type 0
-IsSetting k v o = MatchOption o (GivesNothing k v) (GivesSetting k v)
+abbrev pub IsSetting : (attribute : Key) → Option (List ℕ) → Option (Setting attribute) → Type 0
+IsSetting attribute value setting =
+    MatchOption setting (GivesNothing attribute value) (GivesSetting attribute value)
 
 -- the field of the key is what the value of an attribute gives, if it gives a setting, and the others are unset
-pub record SetsOneField (k : Key) (v : Option (List ℕ)) (r : Record) : Type 0 where
-  pub field : IsSetting k v (field_at k r)
-  pub alone : r ≡ only k (field_at k r)
+pub record SetsOneField (attribute : Key) (value : Option (List ℕ)) (cookie : Record) : Type 0 where
+  pub field : IsSetting attribute value (field_at attribute cookie)
+  pub alone : cookie ≡ only attribute (field_at attribute cookie)
 
--- each attribute of r, or that of r' where it is unset
+-- each attribute of the first, or that of the second where it is unset
 abbrev pub either : Record → Record → Record
-either r r' = record_of [] [] (λ k. option_or (field_at k r) (field_at k r'))
+either first second =
+    record_of [] [] (λ attribute. option_or (field_at attribute first) (field_at attribute second))
 
 -- no attribute is set
 abbrev pub no_attributes : Attributes

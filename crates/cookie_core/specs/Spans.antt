@@ -2,10 +2,11 @@
 use Rattle.std.specs.Prelude.{ℕ, ◌≤◌, List, slice_range, IsCharBoundary}
 use Rattle.cookie_core.specs.declared.span.Span.{Span}
 
--- the span stands in the text s, and cuts no character
+-- the span stands in the text, and cuts no character
 abbrev pub StandsIn : List ℕ → Span → Type 0
-StandsIn s p = (p.start ≤ p.end) × IsCharBoundary s p.start × IsCharBoundary s p.end
+StandsIn text span =
+    (span.start ≤ span.end) × IsCharBoundary text span.start × IsCharBoundary text span.end
 
--- the bytes of the span in the text s
+-- the bytes of the span in the text
 abbrev pub span_text : List ℕ → Span → List ℕ
-span_text s p = slice_range s p.start p.end
+span_text text span = slice_range text span.start span.end

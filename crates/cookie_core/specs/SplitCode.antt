@@ -10,33 +10,33 @@ use Rattle.cookie_core.specs.declared.span.Span.{Span}
 
 -- the bytes of the header
 abbrev pub header_bytes : Header → List ℕ
-header_bytes (header.Plain t) = t.now
-header_bytes (header.Encoded a t) = t.now
-header_bytes (header.Owned a t) = string_bytes t
-header_bytes (header.EncodedOwned a t) = string_bytes t
+header_bytes (header.Plain text) = text.now
+header_bytes (header.Encoded alloc text) = text.now
+header_bytes (header.Owned alloc text) = string_bytes text
+header_bytes (header.EncodedOwned alloc text) = string_bytes text
 
 -- whether its cookies are decoded
 abbrev pub is_decoded : Header → Bool
-is_decoded (header.Plain t) = false
-is_decoded (header.Encoded a t) = true
-is_decoded (header.Owned a t) = false
-is_decoded (header.EncodedOwned a t) = true
+is_decoded (header.Plain text) = false
+is_decoded (header.Encoded alloc text) = true
+is_decoded (header.Owned alloc text) = false
+is_decoded (header.EncodedOwned alloc text) = true
 
 -- whether its cookies get texts of their own
 abbrev pub is_owned : Header → Bool
-is_owned (header.Plain t) = false
-is_owned (header.Encoded a t) = false
-is_owned (header.Owned a t) = true
-is_owned (header.EncodedOwned a t) = true
+is_owned (header.Plain text) = false
+is_owned (header.Encoded alloc text) = false
+is_owned (header.Owned alloc text) = true
+is_owned (header.EncodedOwned alloc text) = true
 
--- the texts of the rest of the text s
+-- the texts of the rest of the text
 abbrev pub texts_in : List ℕ → Option Span → List (List ℕ)
-texts_in s o = texts_left (option_map (span_text s) o)
+texts_in text rest = texts_left (option_map (span_text text) rest)
 
 -- the first text of the rest, which holds no `;`, and what stands behind it
 abbrev pub IsFirst : List ℕ → Span → Option (Span × Option Span) → Type 0
-IsFirst s rest None = header_texts (span_text s rest) ≡ []
-IsFirst s rest (Some f) =
-    StandsIn s f.0 × IfSome f.1 (StandsIn s)
-    × (header_texts (span_text s rest) ≡ span_text s f.0 ∷ texts_in s f.1)
-    × Lacks 59 (span_text s f.0)
+IsFirst text rest None = header_texts (span_text text rest) ≡ []
+IsFirst text rest (Some found) =
+    StandsIn text found.0 × IfSome found.1 (StandsIn text)
+    × (header_texts (span_text text rest) ≡ span_text text found.0 ∷ texts_in text found.1)
+    × Lacks 59 (span_text text found.0)

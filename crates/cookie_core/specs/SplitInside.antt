@@ -7,13 +7,13 @@ use Rattle.cookie_core.specs.declared.split.SplitCookies.TheInside.{Inside}
 
 -- the splitter as contracts see it
 abbrev pub splitter_view : Inside → SplitView
-splitter_view a =
+splitter_view inside =
     record {
-      texts = texts_in (header_bytes a.header) a.rest;
-      is_decoded = is_decoded a.header;
-      is_owned = is_owned a.header;
+      texts = texts_in (header_bytes inside.header) inside.rest;
+      is_decoded = is_decoded inside.header;
+      is_owned = is_owned inside.header;
     }
 
 -- the rest stands in the header
 abbrev pub HasFittingRest : Inside → Type 0
-HasFittingRest a = IfSome a.rest (StandsIn (header_bytes a.header))
+HasFittingRest inside = IfSome inside.rest (StandsIn (header_bytes inside.header))

@@ -12,13 +12,13 @@ use Rattle.cookie_core.specs.declared.expiration.Expiration.TheVariants as expir
 
 -- set, and true
 abbrev pub is_true : Option Bool → Bool
-is_true (Some b) = b
+is_true (Some flag) = flag
 is_true None = false
 
 -- not set
 abbrev pub is_unset : {X : Type 0} → Option X → Bool
 is_unset None = true
-is_unset (Some x) = false
+is_unset (Some value) = false
 
 -- set to `None`
 abbrev pub is_same_site_none : Option SameSite → Bool
@@ -27,54 +27,55 @@ is_same_site_none _ = false
 
 -- whether `Secure` is printed
 abbrev pub prints_secure : Record → Bool
-prints_secure r =
-    is_true r.secure || is_true r.partitioned
-    || (is_unset r.secure && is_same_site_none r.same_site)
+prints_secure cookie =
+    is_true cookie.secure || is_true cookie.partitioned
+    || (is_unset cookie.secure && is_same_site_none cookie.same_site)
 
 -- the text of a flag, where it is shown
 abbrev pub flag_text : List ℕ → Bool → List ℕ
-flag_text t true = t
-flag_text t false = []
+flag_text text true = text
+flag_text text false = []
 
 -- the text of an attribute, where it is set
 abbrev pub attribute_text : List ℕ → Option (List ℕ) → List ℕ
-attribute_text t (Some v) = t ++ v
-attribute_text t None = []
+attribute_text label (Some value) = label ++ value
+attribute_text label None = []
 
 -- the whole seconds of this many nanoseconds, cut toward zero
 abbrev pub seconds_text : ℤ → List ℕ
-seconds_text n = signed_decimal (int_div n (pos 1000000000))
+seconds_text nanos = signed_decimal (int_div nanos (pos 1000000000))
 
 -- the text of an expiry, if it is a date-time
 abbrev pub expiry_text : Option Expiration → Option (List ℕ)
-expiry_text (Some (expiration.DateTime m)) = Some (moment_text m)
+expiry_text (Some (expiration.DateTime moment)) = Some (moment_text moment)
 expiry_text _ = None
 
 -- which requests the cookie goes with
 abbrev pub scope_text : Record → List ℕ
-scope_text r =
-    flag_text (codes "; HttpOnly") (is_true r.http_only)
-    ++ (attribute_text (codes "; SameSite=") (option_map same_site_text r.same_site)
-    ++ (flag_text (codes "; Partitioned") (is_true r.partitioned)
-    ++ flag_text (codes "; Secure") (prints_secure r)))
+scope_text cookie =
+    flag_text (codes "; HttpOnly") (is_true cookie.http_only)
+    ++ (attribute_text (codes "; SameSite=") (option_map same_site_text cookie.same_site)
+    ++ (flag_text (codes "; Partitioned") (is_true cookie.partitioned)
+    ++ flag_text (codes "; Secure") (prints_secure cookie)))
 
 -- where it is sent
 abbrev pub place_text : Record → List ℕ
-place_text r =
-    attribute_text (codes "; Path=") r.path ++ attribute_text (codes "; Domain=") r.domain
+place_text cookie =
+    attribute_text (codes "; Path=") cookie.path ++ attribute_text (codes "; Domain=") cookie.domain
 
 -- how long it is kept
 abbrev pub lifetime_text : Record → List ℕ
-lifetime_text r =
-    attribute_text (codes "; Max-Age=") (option_map seconds_text r.max_age)
-    ++ attribute_text (codes "; Expires=") (expiry_text r.expires)
+lifetime_text cookie =
+    attribute_text (codes "; Max-Age=") (option_map seconds_text cookie.max_age)
+    ++ attribute_text (codes "; Expires=") (expiry_text cookie.expires)
 
 -- the attributes of a cookie, in order
 abbrev pub attributes_text : Record → List ℕ
-attributes_text r = scope_text r ++ (place_text r ++ lifetime_text r)
+attributes_text cookie = scope_text cookie ++ (place_text cookie ++ lifetime_text cookie)
 
 -- the text of a cookie, with escapes or without, and with its attributes or stripped of them
 abbrev pub cookie_text : Bool → Bool → Record → List ℕ
-cookie_text encoded stripped r =
-    printed_form encoded r.name
-    ++ (codes "=" ++ (printed_form encoded r.value ++ (if stripped then [] else attributes_text r)))
+cookie_text encoded stripped cookie =
+    printed_form encoded cookie.name
+    ++ (codes "=" ++ (printed_form encoded cookie.value
+    ++ (if stripped then [] else attributes_text cookie)))

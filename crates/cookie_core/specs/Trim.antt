@@ -6,7 +6,7 @@ use Rattle.std.specs.Str.{chars}
 
 -- the characters of the text are all White_Space
 abbrev pub IsWhite : List ℕ → Type 0
-IsWhite text = All (λ c. is_whitespace c ≡ true) (chars text)
+IsWhite text = All (λ char. is_whitespace char ≡ true) (chars text)
 
 -- the part is what stands in the text between white space, and neither begins nor ends with a White_Space character
 pub record IsTrimmed (text part : List ℕ) : Type 0 where
@@ -15,8 +15,9 @@ pub record IsTrimmed (text part : List ℕ) : Type 0 where
   pub whole : text ≡ before ++ (part ++ after)
   pub texts : IsUtf8 before × IsUtf8 part × IsUtf8 after
   pub white : IsWhite before × IsWhite after
-  pub begins : (c : ℕ) (rest : List ℕ) → chars part ≡ c ∷ rest → is_whitespace c ≡ false
-  pub ends : (front : List ℕ) (c : ℕ) → chars part ≡ front ++ c ∷ [] → is_whitespace c ≡ false
+  pub begins : (char : ℕ) (rest : List ℕ) → chars part ≡ char ∷ rest → is_whitespace char ≡ false
+  pub ends : (front : List ℕ) (char : ℕ) → chars part ≡ front ++ char ∷ []
+      → is_whitespace char ≡ false
 
 -- a part of the text that neither begins nor ends with a White_Space character, or is empty
 pub record IsBarePart (text part : List ℕ) : Type 0 where
@@ -24,5 +25,6 @@ pub record IsBarePart (text part : List ℕ) : Type 0 where
   pub after : List ℕ
   pub whole : text ≡ before ++ (part ++ after)
   pub texts : IsUtf8 before × IsUtf8 part × IsUtf8 after
-  pub begins : (c : ℕ) (rest : List ℕ) → chars part ≡ c ∷ rest → is_whitespace c ≡ false
-  pub ends : (front : List ℕ) (c : ℕ) → chars part ≡ front ++ c ∷ [] → is_whitespace c ≡ false
+  pub begins : (char : ℕ) (rest : List ℕ) → chars part ≡ char ∷ rest → is_whitespace char ≡ false
+  pub ends : (front : List ℕ) (char : ℕ) → chars part ≡ front ++ char ∷ []
+      → is_whitespace char ≡ false

@@ -7,16 +7,16 @@ use Rattle.cookie_core.specs.Record.{Record}
 -- what stands behind a piece: nothing, or a `;` and the rest
 abbrev pub behind : Option (List ℕ) → List ℕ
 behind None = []
-behind (Some t) = 59 ∷ t
+behind (Some rest) = 59 ∷ rest
 
--- the pieces ps, and then the rest o
+-- the pieces, and then the rest
 abbrev pub before_rest : List (List ℕ) → Option (List ℕ) → Option (List ℕ)
-before_rest [] o = o
-before_rest (p ∷ ps) o = Some (p ++ behind (before_rest ps o))
+before_rest [] rest = rest
+before_rest (piece ∷ pieces) rest = Some (piece ++ behind (before_rest pieces rest))
 
 -- the pieces that lie in front of the rest, and what they set
-pub record HasRead (all : Option (List ℕ)) (r : Record) (rest : Option (List ℕ)) : Type 0 where
+pub record HasRead (all : Option (List ℕ)) (cookie : Record) (rest : Option (List ℕ)) : Type 0 where
   pub pieces : List (List ℕ)
   pub whole : all ≡ before_rest pieces rest
   pub apart : All (Lacks 59) pieces
-  pub sets : SetsAttributes pieces r
+  pub sets : SetsAttributes pieces cookie

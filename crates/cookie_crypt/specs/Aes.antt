@@ -11,19 +11,19 @@ use Rattle.cookie_crypt.specs.Sbox.{s_box}
 
 -- the byte in a row and a column of a state
 abbrev pub cell : List ℕ → ℕ → ℕ → ℕ
-cell s row column = slice_index s (4 * column + row)
+cell state row column = slice_index state (4 * column + row)
 
--- the state with the byte f row column at each place
+-- the state with the byte `byte_at row column` at each place
 abbrev pub state_of : (ℕ → ℕ → ℕ) → List ℕ
-state_of f = map (λ i. f (i % 4) (i / 4)) (range_with_len 0 16)
+state_of byte_at = map (λ place. byte_at (place % 4) (place / 4)) (range_with_len 0 16)
 
 -- S on each byte (5.1.1)
 unfoldable pub sub_bytes : List ℕ → List ℕ
-sub_bytes s = state_of (λ r c. s_box (cell s r c))
+sub_bytes state = state_of (λ row column. s_box (cell state row column))
 
--- row r rotated r places to the left (5.1.2)
+-- each row rotated to the left by as many places as its number (5.1.2)
 unfoldable pub shift_rows : List ℕ → List ℕ
-shift_rows s = state_of (λ r c. cell s r ((c + r) % 4))
+shift_rows state = state_of (λ row column. cell state row ((column + row) % 4))
 
 -- the matrix of the rows 02 03 01 01, 01 02 03 01, 01 01 02 03 and 03 01 01 02 (5.1.3)
 abbrev pub mixing : ℕ → ℕ → ℕ
@@ -31,55 +31,58 @@ mixing row column = slice_index (2 ∷ 3 ∷ 1 ∷ 1 ∷ []) ((column + 4 - row)
 
 -- a row of the matrix times a column of the state
 abbrev pub mixed_cell : List ℕ → ℕ → ℕ → ℕ
-mixed_cell s r c =
+mixed_cell state row column =
     bit_xor
     (bit_xor
-    (bit_xor (byte_product (mixing r 0) (cell s 0 c)) (byte_product (mixing r 1) (cell s 1 c)))
-    (byte_product (mixing r 2) (cell s 2 c)))
-    (byte_product (mixing r 3) (cell s 3 c))
+    (bit_xor (byte_product (mixing row 0) (cell state 0 column))
+    (byte_product (mixing row 1) (cell state 1 column)))
+    (byte_product (mixing row 2) (cell state 2 column)))
+    (byte_product (mixing row 3) (cell state 3 column))
 
 -- each column multiplied by the matrix (5.1.3)
 unfoldable pub mix_columns : List ℕ → List ℕ
-mix_columns s = state_of (mixed_cell s)
+mix_columns state = state_of (mixed_cell state)
 
 -- ---- the key's words (5.2)
 
--- word i
+-- the word of this index
 abbrev pub word : List ℕ → ℕ → List ℕ
-word w i = map (λ j. slice_index w (4 * i + j)) (range_with_len 0 4)
+word schedule index = map (λ place. slice_index schedule (4 * index + place)) (range_with_len 0 4)
 
 -- the sum of two words
 abbrev pub word_sum : List ℕ → List ℕ → List ℕ
-word_sum x y = map (λ j. bit_xor (slice_index x j) (slice_index y j)) (range_with_len 0 4)
+word_sum left right =
+    map (λ place. bit_xor (slice_index left place) (slice_index right place)) (range_with_len 0 4)
 
 -- a word rotated one byte to the left
 abbrev pub rot_word : List ℕ → List ℕ
-rot_word x = map (λ j. slice_index x ((j + 1) % 4)) (range_with_len 0 4)
+rot_word bytes = map (λ place. slice_index bytes ((place + 1) % 4)) (range_with_len 0 4)
 
 -- S on each byte of a word
 abbrev pub sub_word : List ℕ → List ℕ
-sub_word x = map (λ j. s_box (slice_index x j)) (range_with_len 0 4)
+sub_word bytes = map (λ place. s_box (slice_index bytes place)) (range_with_len 0 4)
 
--- the constant of round k, counted from 1, in the first byte of a word
+-- the constant of a round, counted from 1, in the first byte of a word
 abbrev pub round_constant : ℕ → List ℕ
-round_constant k =
-    slice_index (0x01 ∷ 0x02 ∷ 0x04 ∷ 0x08 ∷ 0x10 ∷ 0x20 ∷ 0x40 ∷ []) (k - 1) ∷ 0 ∷ 0 ∷ 0 ∷ []
+round_constant round =
+    slice_index (0x01 ∷ 0x02 ∷ 0x04 ∷ 0x08 ∷ 0x10 ∷ 0x20 ∷ 0x40 ∷ []) (round - 1) ∷ 0 ∷ 0 ∷ 0 ∷ []
 
--- what is added to word i - 8 to give word i, where x is word i - 1
+-- what is added to the word eight before this index to give the word of this index
 unfoldable pub added_word : List ℕ → ℕ → List ℕ
-added_word x i =
-    if i % 8 == 0 then word_sum (sub_word (rot_word x)) (round_constant (i / 8))
-    else if i % 8 == 4 then sub_word x
-    else x
+added_word previous index =
+    if index % 8 == 0 then word_sum (sub_word (rot_word previous)) (round_constant (index / 8))
+    else if index % 8 == 4 then sub_word previous
+    else previous
 
--- word i, from the words before it
+-- the word of this index, from the words before it
 unfoldable pub next_word : List ℕ → ℕ → List ℕ
-next_word w i = word_sum (word w (i - 8)) (added_word (word w (i - 1)) i)
+next_word schedule index =
+    word_sum (word schedule (index - 8)) (added_word (word schedule (index - 1)) index)
 
--- the first 8 + n words, of which the key is the first eight
+-- eight words and this many more; the key is the first eight
 unfoldable pub words : List ℕ → ℕ → List ℕ
 words key zero = key
-words key (suc n) = words key n ++ next_word (words key n) (8 + n)
+words key (suc count) = words key count ++ next_word (words key count) (8 + count)
 
 -- all sixty words
 unfoldable pub key_expansion : List ℕ → List ℕ
@@ -87,19 +90,23 @@ key_expansion key = words key 52
 
 -- ---- the rounds (5.1)
 
--- words 4 * k to 4 * k + 3 added, one to each column (5.1.4)
+-- the round's four words added, one to each column (5.1.4)
 unfoldable pub add_round_key : List ℕ → ℕ → List ℕ → List ℕ
-add_round_key w k s = state_of (λ r c. bit_xor (cell s r c) (slice_index (word w (4 * k + c)) r))
+add_round_key schedule round state =
+    state_of (λ row column.
+    bit_xor (cell state row column) (slice_index (word schedule (4 * round + column)) row))
 
--- the state after rounds 0 to n
+-- the state after round 0 and this many more
 unfoldable pub rounds : List ℕ → ℕ → List ℕ → List ℕ
-rounds w zero block = add_round_key w 0 block
-rounds w (suc n) block =
-    add_round_key w (suc n) (mix_columns (shift_rows (sub_bytes (rounds w n block))))
+rounds schedule zero block = add_round_key schedule 0 block
+rounds schedule (suc round) block =
+    add_round_key schedule (suc round)
+    (mix_columns (shift_rows (sub_bytes (rounds schedule round block))))
 
 -- thirteen rounds, and the last, which leaves the columns unmixed
 unfoldable pub cipher : List ℕ → List ℕ → List ℕ
-cipher w block = add_round_key w 14 (shift_rows (sub_bytes (rounds w 13 block)))
+cipher schedule block =
+    add_round_key schedule 14 (shift_rows (sub_bytes (rounds schedule 13 block)))
 
 -- a block encrypted under a key of 32 bytes
 unfoldable pub encrypt_block : List ℕ → List ℕ → List ℕ

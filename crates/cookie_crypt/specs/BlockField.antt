@@ -11,25 +11,26 @@ reduction = 0xe1000000000000000000000000000000
 
 -- x times a block: all bits move one place to the right, and the bit that falls out adds the reduction
 unfoldable pub times_x : ℕ → ℕ
-times_x b = bit_xor (b / 2) (b % 2 * reduction)
+times_x block = bit_xor (block / 2) (block % 2 * reduction)
 
--- x ^ i times a block
+-- x to this power, times a block
 unfoldable pub times_power : ℕ → ℕ → ℕ
-times_power zero b = b
-times_power (suc i) b = times_x (times_power i b)
+times_power zero block = block
+times_power (suc power) block = times_x (times_power power block)
 
--- the coefficient of x ^ i, 0 or 1
+-- the coefficient of x to this degree, 0 or 1
 abbrev pub coefficient : ℕ → ℕ → ℕ
-coefficient a i = bit_at a (127 - i)
+coefficient block degree = bit_at block (127 - degree)
 
--- the sum over the coefficients of a below n of x ^ i times b
+-- the sum over the first coefficients of the left one of their powers of x times the right one
 unfoldable pub product_below : ℕ → ℕ → ℕ → ℕ
-product_below zero a b = 0
-product_below (suc n) a b = bit_xor (product_below n a b) (coefficient a n * times_power n b)
+product_below zero left right = 0
+product_below (suc count) left right =
+    bit_xor (product_below count left right) (coefficient left count * times_power count right)
 
 -- the product of two blocks
 unfoldable pub field_product : ℕ → ℕ → ℕ
-field_product a b = product_below 128 a b
+field_product left right = product_below 128 left right
 
 -- the block 1: its leftmost bit alone is set
 abbrev pub block_one : ℕ

@@ -5,35 +5,36 @@ use Rattle.std.specs.Int.{bit_at}
 
 -- x times a byte: all bits move one place up, and x ^ 8, the bit that falls out, is 1 + x + x ^ 3 + x ^ 4 (4.2.1)
 unfoldable pub byte_times_x : ℕ → ℕ
-byte_times_x b = bit_xor (b * 2 % 256) (b / 128 * 0x1b)
+byte_times_x byte = bit_xor (byte * 2 % 256) (byte / 128 * 0x1b)
 
--- x ^ i times a byte
+-- x to this power, times a byte
 unfoldable pub byte_times_power : ℕ → ℕ → ℕ
-byte_times_power zero b = b
-byte_times_power (suc i) b = byte_times_x (byte_times_power i b)
+byte_times_power zero byte = byte
+byte_times_power (suc power) byte = byte_times_x (byte_times_power power byte)
 
--- the sum over the coefficients of a below n of x ^ i times b
+-- the sum over the first coefficients of the left one of their powers of x times the right one
 unfoldable pub byte_product_below : ℕ → ℕ → ℕ → ℕ
-byte_product_below zero a b = 0
-byte_product_below (suc n) a b =
-    bit_xor (byte_product_below n a b) (bit_at a n * byte_times_power n b)
+byte_product_below zero left right = 0
+byte_product_below (suc count) left right =
+    bit_xor (byte_product_below count left right) (bit_at left count * byte_times_power count right)
 
 -- the product of two bytes (4.2)
 unfoldable pub byte_product : ℕ → ℕ → ℕ
-byte_product a b = byte_product_below 8 a b
+byte_product left right = byte_product_below 8 left right
 
--- the first of the last n bytes whose product with b is 1, or 0 if there is none
+-- the first of the last bytes, as many as counted, whose product with the byte is 1, or 0 if there is none
 unfoldable pub inverse_in_last : ℕ → ℕ → ℕ
-inverse_in_last zero b = 0
-inverse_in_last (suc n) b = if byte_product b (255 - n) == 1 then 255 - n else inverse_in_last n b
+inverse_in_last zero byte = 0
+inverse_in_last (suc count) byte =
+    if byte_product byte (255 - count) == 1 then 255 - count else inverse_in_last count byte
 
--- the byte whose product with b is 1, and 0 for 0 (4.2)
+-- the byte whose product with this one is 1, and 0 for 0 (4.2)
 unfoldable pub inverse : ℕ → ℕ
-inverse b = inverse_in_last 256 b
+inverse byte = inverse_in_last 256 byte
 
--- c is the inverse of the byte b: 0 for 0, else the one byte whose product with b is 1
-pub record IsInverse (b c : ℕ) : Type 0 where
-  pub byte : c < 256
-  pub of_zero : b ≡ 0 → c ≡ 0
-  pub product : b ≢ 0 → byte_product b c ≡ 1
-  pub only : (other : ℕ) → other < 256 → byte_product b other ≡ 1 → other ≡ c
+-- the one found is the inverse of the given byte: 0 for 0, else the one byte whose product with it is 1
+pub record IsInverse (given found : ℕ) : Type 0 where
+  pub byte : found < 256
+  pub of_zero : given ≡ 0 → found ≡ 0
+  pub product : given ≢ 0 → byte_product given found ≡ 1
+  pub only : (other : ℕ) → other < 256 → byte_product given other ≡ 1 → other ≡ found

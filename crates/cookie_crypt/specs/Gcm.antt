@@ -15,29 +15,31 @@ number_of block = from_be_bytes w128 block
 
 -- the block that a number is written as
 unfoldable pub bytes_of : ℕ → List ℕ
-bytes_of n = to_be_bytes w128 n
+bytes_of number = to_be_bytes w128 number
 
 -- ---- counter mode (6.5)
 
 -- the nonce and a counter of four bytes, modulo 2 ^ 32 (6.2); J0 has the counter 1 (7.1, step 2)
 unfoldable pub counter_block : List ℕ → ℕ → List ℕ
-counter_block nonce n = nonce ++ to_be_bytes w32 (n % 2 ^ 32)
+counter_block nonce counter = nonce ++ to_be_bytes w32 (counter % 2 ^ 32)
 
--- byte k of what is added to a text: the encrypted counters from inc32(J0) on
+-- the byte at this place of what is added to a text: the encrypted counters from inc32(J0) on
 unfoldable pub key_stream : List ℕ → List ℕ → ℕ → ℕ
-key_stream key nonce k = slice_index (encrypt_block key (counter_block nonce (k / 16 + 2))) (k % 16)
+key_stream key nonce place =
+    slice_index (encrypt_block key (counter_block nonce (place / 16 + 2))) (place % 16)
 
 -- the text with its part of the stream added: what encrypts, and also decrypts (7.1, step 3; 7.2, step 4)
 unfoldable pub gctr : List ℕ → List ℕ → List ℕ → List ℕ
 gctr key nonce text =
-    map (λ k. bit_xor (slice_index text k) (key_stream key nonce k))
+    map (λ place. bit_xor (slice_index text place) (key_stream key nonce place))
     (range_with_len 0 (length text))
 
 -- ---- the tag (7.1, steps 4 to 6)
 
--- block i of the data, padded with zeros, as which a read past the end counts
+-- the block of this index of the data, padded with zeros, as which a read past the end counts
 unfoldable pub block_at : List ℕ → ℕ → ℕ
-block_at bytes i = number_of (map (λ j. slice_index bytes (16 * i + j)) (range_with_len 0 16))
+block_at bytes index =
+    number_of (map (λ place. slice_index bytes (16 * index + place)) (range_with_len 0 16))
 
 -- the blocks of the data, padded with zeros to whole blocks
 unfoldable pub blocks : List ℕ → List ℕ
@@ -45,7 +47,7 @@ blocks bytes = map (block_at bytes) (range_with_len 0 (block_count (length bytes
 
 -- the block of two lengths in bits, each of 64 bits
 abbrev pub lengths_block : ℕ → ℕ → ℕ
-lengths_block a c = 8 * a * 2 ^ 64 + 8 * c
+lengths_block aad text = 8 * aad * 2 ^ 64 + 8 * text
 
 -- the blocks that are hashed: those of the data, those of the encrypted text, and that of their lengths
 unfoldable pub hashed_blocks : List ℕ → List ℕ → List ℕ
@@ -73,7 +75,7 @@ tag_by_steps key nonce aad text =
 
 -- the limits on the lengths of data and text, in bytes (5.2.1.1)
 abbrev pub IsWithin : ℕ → ℕ → Type 0
-IsWithin a c = (a ≤ 2 ^ 61 - 1) × (c ≤ 2 ^ 36 - 32)
+IsWithin aad text = (aad ≤ 2 ^ 61 - 1) × (text ≤ 2 ^ 36 - 32)
 
 -- text and tag are the sealing of a plain text (7.1)
 pub record IsSealing (key nonce aad plain text tag : List ℕ) : Type 0 where

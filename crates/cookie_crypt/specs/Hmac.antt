@@ -8,7 +8,7 @@ short_key key = if nat_lt 64 (length key) then sha256 key else key
 
 -- a key padded with zeros to 64 bytes, with the mask added to each byte (RFC 2104 2, steps 1, 2 and 5)
 unfoldable pub masked : List ℕ → ℕ → List ℕ
-masked key mask = map (λ b. bit_xor b mask) (key ++ replicate (64 - length key) 0)
+masked key mask = map (λ byte. bit_xor byte mask) (key ++ replicate (64 - length key) 0)
 
 -- HMAC under a key of at most 64 bytes (RFC 2104 2)
 unfoldable pub hmac_short : List ℕ → List ℕ → List ℕ

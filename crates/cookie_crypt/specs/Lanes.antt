@@ -5,20 +5,20 @@ use Rattle.cookie_crypt.specs.Bytes.{IsBytes}
 
 -- what a look-up gives at a place: 0 from 128 on
 abbrev pub entry : List ℕ → ℕ → ℕ
-entry t j = if nat_le 128 j then 0 else slice_index t j
+entry table place = if nat_le 128 place then 0 else slice_index table place
 
 -- a place in a table, or one from 128 on
 abbrev pub is_place : ℕ → Bool
-is_place j = nat_le 128 j || nat_lt j 16
+is_place place = nat_le 128 place || nat_lt place 16
 
 abbrev pub ArePlaces : List ℕ → Type 0
-ArePlaces js = Each1 (λ j. IsTrue (is_place j)) js
+ArePlaces places = Each1 (λ place. IsTrue (is_place place)) places
 
 -- sixteen bytes
 abbrev pub IsLanes : List ℕ → Type 0
-IsLanes v = (length v ≡ 16) × IsBytes v
+IsLanes bytes = (length bytes ≡ 16) × IsBytes bytes
 
 -- the sum of what the halves of each byte look up
 unfoldable pub looked_up : List ℕ → List ℕ → List ℕ → List ℕ
 looked_up upper lower bytes =
-    map (λ x. bit_xor (entry upper (x / 16)) (entry lower (bit_and x 15))) bytes
+    map (λ byte. bit_xor (entry upper (byte / 16)) (entry lower (bit_and byte 15))) bytes

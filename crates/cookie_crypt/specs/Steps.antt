@@ -10,30 +10,34 @@ pub record StepCounts : Type 0 where
 abbrev pub no_steps : StepCounts
 no_steps = record { blocks = 0; products = 0; table_steps = 0 }
 
--- n blocks more
+-- this many blocks more
 abbrev pub with_blocks : ℕ → StepCounts → StepCounts
-with_blocks n s = record s { blocks = s.blocks + n }
+with_blocks count steps = record steps { blocks = steps.blocks + count }
 
--- n products more, each of 32 entries
+-- this many products more, each of 32 entries
 abbrev pub with_products : ℕ → StepCounts → StepCounts
-with_products n s = record s { products = s.products + n; table_steps = s.table_steps + 32 * n }
+with_products count steps =
+    record steps {
+      products = steps.products + count;
+      table_steps = steps.table_steps + 32 * count;
+    }
 
--- how many blocks of sixteen bytes n bytes take
+-- how many blocks of sixteen bytes this many bytes take
 abbrev pub block_count : ℕ → ℕ
-block_count n = (n + 15) / 16
+block_count bytes = (bytes + 15) / 16
 
--- the tag of c bytes under a bytes of data: two blocks, and a product for each block of data, text and lengths
+-- the tag of a text under data, each of as many bytes as told: two blocks, and a product for each block of data, text and lengths
 abbrev pub tag_steps : ℕ → ℕ → StepCounts
-tag_steps a c = record {
+tag_steps aad text = record {
   blocks = 2;
-  products = block_count a + block_count c + 1;
-  table_steps = 32 * (block_count a + block_count c + 1);
+  products = block_count aad + block_count text + 1;
+  table_steps = 32 * (block_count aad + block_count text + 1);
 }
 
--- the sealing of c bytes under a bytes of data: those, and a block for each block of the text
+-- the sealing of a text under data: those, and a block for each block of the text
 abbrev pub sealing_steps : ℕ → ℕ → StepCounts
-sealing_steps a c = record {
-  blocks = block_count c + 2;
-  products = block_count a + block_count c + 1;
-  table_steps = 32 * (block_count a + block_count c + 1);
+sealing_steps aad text = record {
+  blocks = block_count text + 2;
+  products = block_count aad + block_count text + 1;
+  table_steps = 32 * (block_count aad + block_count text + 1);
 }
