@@ -97,12 +97,12 @@ fn domain_place(text: &str, span: Option<Span>) -> Place
         (option_map without_leading_dot (option_map (span_text text.now) span)) }
 {
     match span {
-        Some(span) => undotted(text, span),
+        Some(span) => place_after_dot(text, span),
         None => Place::none(),
     }
 }
 
-fn undotted(text: &str, span: Span) -> Place
+fn place_after_dot(text: &str, span: Span) -> Place
     requires { StandsIn text.now span }
     ensures { IsAt text.now result (without_leading_dot (span_text text.now span)) }
 {

@@ -82,7 +82,7 @@ written_by now lines calls p text asks exchange all read (is, reads_back) =
       },
     )
 
--- an answer, or the want of memory
+-- an answer, or out of memory
 pub matched : {T : Type 0} (r : Result T RunError) (P P' : T → Type 0) (Q : RunError → Type 0) → ((answer : T) → P answer → P' answer) → Q refusal.OutOfMemory
     → Gives refusal.OutOfMemory r P → MatchResult r P' Q
 matched (Ok answer) P P' Q weaker wanting h = weaker answer h

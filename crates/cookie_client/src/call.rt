@@ -87,11 +87,14 @@ fn has_name(cookie: &Cookie<'_>) -> bool
 fn is_fit_addition(cookie: &Cookie<'_>, now: DateTime) -> bool
     ensures { IsTrue result ↔ IsFitAddition now cookie.now.fields }
 {
-    has_name(cookie) && is_live(cookie, now) && is_uncut(cookie.path()) && is_uncut(cookie.domain())
+    has_name(cookie)
+        && is_live(cookie, now)
+        && lacks_semicolons(cookie.path())
+        && lacks_semicolons(cookie.domain())
 }
 
 // Whether the text, if there is one, holds no semicolon.
-fn is_uncut(text: Option<&str>) -> bool
+fn lacks_semicolons(text: Option<&str>) -> bool
     ensures { IsTrue result ↔ IfSome (option_map (λ t. t.now) text.entry) (Lacks 59) }
 {
     match text {

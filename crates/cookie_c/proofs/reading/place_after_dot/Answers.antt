@@ -3,7 +3,7 @@ use Rattle.cookie.proofs.DotLemmas.{without_leading_dot-same}
 use Rattle.cookie.specs.Record.{without_leading_dot}
 use Rattle.cookie_c.specs.Places.{IsAt}
 use Rattle.cookie_c.proofs.ReadingLemmas.{span_is_at}
-use Rattle.cookie_c.proofs.reading.undotted.Goals as goal
+use Rattle.cookie_c.proofs.reading.place_after_dot.Goals as goal
 
 pub returns-in-None : goal.returns-in-None
 unfolding lib.Utf8.encode

@@ -1,7 +1,7 @@
 use Rattle.std.proofs.Common.{arith}
 use Rattle.std.proofs.lemmas.Str.Pattern.{contains_char}
 use Rattle.cookie_client.proofs.CallLemmas.{tested}
-use Rattle.cookie_client.proofs.call.is_uncut.Goals as goal
+use Rattle.cookie_client.proofs.call.lacks_semicolons.Goals as goal
 
 pub returns-in-Some : goal.returns-in-Some
 returns-in-Some c =
