@@ -488,7 +488,7 @@ static void starve_decoding(void) {
         uint32_t status = is_pair ? cookie_next_pair_decoded(plain, 3, 0, out, sizeof out).status
                                   : cookie_read_decoded(plain, 14, out, sizeof out).status;
         if (status != COOKIE_DONE || asked != 0)
-            fault("decoding asks for memory where there is no escape");
+            fault("decoding takes memory where there is no escape");
     }
     printf("%d requests for memory of decoding refused, each told with the buffer as it was\n", refused);
 }

@@ -10,12 +10,12 @@ use Rattle.cookie.specs.declared.error.Error.TheVariants as failure
 use Rattle.cookie.specs.declared.jar_error.JarError.{JarError}
 use Rattle.cookie.specs.declared.jar_error.JarError.TheVariants as refusal
 
--- what it is of a text's refusal: a case of its own, or want of memory
+-- what it is of a text's refusal: a case of its own, or out of memory
 abbrev pub parse_failure : ParseError → Error
 parse_failure reading.OutOfMemory = failure.OutOfMemory
 parse_failure error = failure.Parse error
 
--- what it is of a jar's refusal: a case of its own, or want of memory
+-- what it is of a jar's refusal: a case of its own, or out of memory
 abbrev pub jar_failure : JarError → Error
 jar_failure refusal.OutOfMemory = failure.OutOfMemory
 jar_failure error = failure.Jar error

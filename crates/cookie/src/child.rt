@@ -27,7 +27,7 @@ pub trait Storing: Drop {
     // A look-up through the child jar gives the name and the value of this cookie.
     ghost ShowsPair: { Self → JarState → Record → Type 0 };
 
-    /// The cookie that the jar is to add. Fails with `AllocError` alone, for want of memory.
+    /// The cookie that the jar is to add. Fails only with `AllocError`, when memory runs out.
     fn to_add(&self, alloc: Global, cookie: Cookie<'static>) -> Result<Cookie<'static>, AllocError>
         ensures gives { Gives alloc_error result (λ c.
             c.fields ≡ stored self.now cookie.entry.fields) }
@@ -37,7 +37,7 @@ pub trait Storing: Drop {
             → ShowsPair self.now (after (Add (stored self.now cookie.entry.fields)) jar)
             cookie.entry.fields };
 
-    /// The cookie that the jar is to remove. Fails with `AllocError` alone, for want of memory.
+    /// The cookie that the jar is to remove. Fails only with `AllocError`, when memory runs out.
     fn to_remove(
         &self,
         alloc: Global,

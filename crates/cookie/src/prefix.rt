@@ -43,7 +43,7 @@ pub trait Prefix: Drop {
 
 /// The calls of a prefix on names and cookies. Each type with a [`Prefix`] has them, and none can write its own.
 pub trait Prefixing: Prefix {
-    /// The name with the prefix before it. Fails with `AllocError` alone, for want of memory.
+    /// The name with the prefix before it. Fails only with `AllocError`, when memory runs out.
     fn prefixed_name(alloc: Global, name: &str) -> Result<String, AllocError>
         ensures { Gives alloc_error result (λ made. string_bytes made ≡ Self.PREFIX ++ name.now) }
     {
@@ -52,8 +52,8 @@ pub trait Prefixing: Prefix {
         Ok(made)
     }
 
-    /// The cookie with the prefix before its name. The name counts as set, where the prefix isn't empty. Fails with
-    /// `AllocError` alone, for want of memory.
+    /// The cookie with the prefix before its name. The name counts as set, where the prefix isn't empty. Fails only
+    /// with `AllocError`, when memory runs out.
     fn prefix<'c>(alloc: Global, mut cookie: Cookie<'c>) -> Result<Cookie<'c>, AllocError>
         ensures fields { Gives alloc_error result (λ c.
             c.fields ≡ prefixed_cookie Self.PREFIX cookie.entry.fields) }
@@ -70,7 +70,7 @@ pub trait Prefixing: Prefix {
     }
 
     /// The cookie without the prefix before its name, where it stands there. The name counts as set, where it
-    /// changes. Fails with `AllocError` alone, for want of memory.
+    /// changes. Fails only with `AllocError`, when memory runs out.
     fn clip<'c>(alloc: Global, mut cookie: Cookie<'c>) -> Result<Cookie<'c>, AllocError>
         ensures fields { Gives alloc_error result (λ c.
             c.fields ≡ clipped_cookie Self.PREFIX cookie.entry.fields) }
@@ -84,8 +84,8 @@ pub trait Prefixing: Prefix {
         Ok(cookie)
     }
 
-    /// The cookie as it is stored: with the prefix before its name, and then conforming. Fails with `AllocError` alone,
-    /// for want of memory.
+    /// The cookie as it is stored: with the prefix before its name, and then conforming. Fails only with
+    /// `AllocError`, when memory runs out.
     fn apply<'c>(alloc: Global, cookie: Cookie<'c>) -> Result<Cookie<'c>, AllocError>
         ensures fields { Gives alloc_error result (λ c.
             c.fields ≡ conforming_cookie Self.PREFIX Self.conformed cookie.entry.fields) }

@@ -19,7 +19,7 @@ IsSession (Ok text) answer old new = IsGivenInMemory text answer old new
 IsSession (Err fault) answer old new =
     (IsFault fault answer × (new ≡ old)) ⊎ IsRefused status.OutOfMemory answer old new
 
--- the refusal is the session's fault, or want of memory
+-- the refusal is the session's fault, or out of memory
 abbrev pub IsPlayedFor : Result (List ℕ) Fault → RunError → Type 0
 IsPlayedFor played errors.BadMoment = played ≡ Err BadMoment
 IsPlayedFor played errors.BadInput = played ≡ Err BadInput

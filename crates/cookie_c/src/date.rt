@@ -82,7 +82,7 @@ pub extern "C" fn cookie_read_date(text: &[u8]) -> Moment
 /// The date and time in UTC as `Wed, 21 Oct 2015 07:28:00 GMT` (RFC 9110 5.6.7, `IMF-fixdate`), for the buffer. A year
 /// below 1000 has as many digits as it needs, and one below 0 a sign, which that form doesn't have.
 ///
-/// Refuses numbers that no date and time has; else it fails for want of memory alone.
+/// Refuses numbers that no date and time has; else it fails only when memory runs out.
 #[unsafe(no_mangle)]
 pub extern "C" fn cookie_print_date(
     alloc: Global,

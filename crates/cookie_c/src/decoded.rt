@@ -22,8 +22,8 @@ use std::alloc::Global;
 /// text. Where the buffer is too short for both, nothing is written, and all but the status, which is
 /// `Status::BufferTooShort`, is as it would be.
 ///
-/// Refuses as `cookie_read` does, and then a name or a value whose bytes, decoded, aren't UTF-8. It takes memory, and
-/// may fail for want of it, only where the name or the value has an escape.
+/// Refuses as `cookie_read` does, and then a name or a value whose bytes, decoded, aren't UTF-8. It takes memory only
+/// where the name or the value has an escape, and may then run out of it.
 #[unsafe(no_mangle)]
 pub extern "C" fn cookie_read_decoded(alloc: Global, text: &[u8], out: &mut [u8]) -> Reading
     ensures not_utf8 { ¬ IsUtf8 text.now

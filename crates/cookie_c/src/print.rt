@@ -23,7 +23,7 @@ use std::alloc::{AllocError, Global};
 /// are. Path and domain count where the attributes say that there is one, and so do age and expiry.
 ///
 /// Refuses a number that says nothing, then an expiry that no date and time has, and then a name, a value, a path or a
-/// domain that isn't UTF-8; else it fails for want of memory alone.
+/// domain that isn't UTF-8; else it fails only when memory runs out.
 #[unsafe(no_mangle)]
 pub extern "C" fn cookie_print(
     alloc: Global,

@@ -23,7 +23,7 @@ use std::alloc::Global;
 /// under one key at most 2^32 random nonces may be drawn (SP 800-38D 8.3).
 ///
 /// Refuses a short key, and then a name or a value that isn't UTF-8, then another nonce, and then a name of more than
-/// 2^61 - 1 bytes or a value of more than 2^36 - 32; else it fails for want of memory alone.
+/// 2^61 - 1 bytes or a value of more than 2^36 - 32; else it fails only when memory runs out.
 #[tactic(auto, using(crate::proofs::KeyedLemmas::refused_only))]
 #[unsafe(no_mangle)]
 pub extern "C" fn cookie_seal(
@@ -55,7 +55,7 @@ pub extern "C" fn cookie_seal(
 /// The value that the text is a sealing of under the name, for the buffer. The key is that of `cookie_sign`.
 ///
 /// Refuses a short key, and then a name or a text that isn't UTF-8, and then a text that isn't sealed under the key and
-/// the name; else it fails for want of memory alone.
+/// the name; else it fails only when memory runs out.
 #[tactic(auto, using(crate::proofs::KeyedLemmas::refused_only, crate::proofs::ReadBackLemmas::read_some, crate::proofs::ReadBackLemmas::read_none, crate::proofs::ReadBackLemmas::read_memory))]
 #[unsafe(no_mangle)]
 pub extern "C" fn cookie_open(

@@ -35,7 +35,7 @@ impl RandomSource for Seed {
 /// them.
 ///
 /// Refuses a moment that is no such date, whatever memory there is. Then it refuses an input that isn't UTF-8, and then
-/// the first bad line, counted from 1, with its number for length; else it fails for want of memory alone, which may
+/// the first bad line, counted from 1, with its number for length; else it fails only when memory runs out, which may
 /// also be told in the place of these two.
 #[unsafe(no_mangle)]
 pub extern "C" fn cookie_run(

@@ -21,7 +21,7 @@ use std::alloc::Global;
 /// The value as a signed jar stores it under the name: 44 characters of signature, and the value. The key has at least
 /// 64 random bytes, of which the first 64 count.
 ///
-/// Refuses a shorter key, and then a name or a value that isn't UTF-8; else it fails for want of memory alone.
+/// Refuses a shorter key, and then a name or a value that isn't UTF-8; else it fails only when memory runs out.
 #[tactic(auto, using(crate::proofs::KeyedLemmas::refused_only))]
 #[unsafe(no_mangle)]
 pub extern "C" fn cookie_sign(
@@ -49,7 +49,7 @@ pub extern "C" fn cookie_sign(
 /// The value that the text is the signing of under the name, for the buffer. The key is that of `cookie_sign`.
 ///
 /// Refuses a short key, and then a name or a text that isn't UTF-8, and then a text that isn't signed under the key and
-/// the name; else it fails for want of memory alone.
+/// the name; else it fails only when memory runs out.
 #[tactic(auto, using(crate::proofs::KeyedLemmas::refused_only, crate::proofs::ReadBackLemmas::read_some, crate::proofs::ReadBackLemmas::read_none, crate::proofs::ReadBackLemmas::read_memory))]
 #[unsafe(no_mangle)]
 pub extern "C" fn cookie_verify(

@@ -40,8 +40,8 @@ pub struct Played {
 /// The texts stand in the order of the delta's walk. The text that is read as the i-th is number `pick[i]` of those
 /// that are left, modulo their count, or number 0 where `pick` has ended.
 ///
-/// The calls are made as by `replay`, so a call that is refused is an outcome and no failure. It fails for want of
-/// memory alone, where that is wanted outside the calls, and then answers `ClientError::OutOfMemory` and nothing else.
+/// The calls are made as by `replay`, so a call that is refused is an outcome and no failure. It fails only
+/// where memory runs out outside the calls, and then answers `ClientError::OutOfMemory` and nothing else.
 pub fn mirror(
     alloc: Global,
     calls: &[JarCall<'_>],

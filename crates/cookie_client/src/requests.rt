@@ -30,8 +30,8 @@ use std::alloc::Global;
 /// Where each accepted call of a request is fit at that moment (`JarCall::is_fit`) and a change (`JarCall::is_change`),
 /// the client of that request has at every name the value that its jar shows.
 ///
-/// A call that is refused is an outcome and no failure. It fails for want of memory alone, where that is wanted outside
-/// the calls, and then answers `ClientError::OutOfMemory` and nothing else.
+/// A call that is refused is an outcome and no failure. It fails only where memory runs out outside the calls, and
+/// then answers `ClientError::OutOfMemory` and nothing else.
 pub fn rounds(
     alloc: Global,
     requests: &[ClientRequest<'_, '_>],

@@ -194,7 +194,7 @@ impl<'c> Builder<Cookie<'c>> {
         self
     }
 
-    /// A copy, with the same raw forms. Fails with `AllocError` alone, for want of memory.
+    /// A copy, with the same raw forms. Fails only with `AllocError`, when memory runs out.
     pub fn clone(&self, alloc: Global) -> Result<CookieBuilder<'c>, AllocError>
         ensures { Gives alloc_error result (λ b. b ≡ self.now) }
     {

@@ -81,7 +81,7 @@ impl<'c> Cookie<'c> {
         Cookie::new(name, "")
     }
 
-    /// A copy, with the same raw forms. Fails with `AllocError` alone, for want of memory.
+    /// A copy, with the same raw forms. Fails only with `AllocError`, when memory runs out.
     pub fn clone(&self, alloc: Global) -> Result<Cookie<'c>, AllocError>
         ensures gives { Gives alloc_error result (λ c. c ≡ self.now) }
 

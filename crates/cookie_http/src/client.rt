@@ -21,7 +21,7 @@ use std::str;
 /// The value of the `Cookie` field that the client sends (RFC 6265 5.4): its names and values, escaped, which are a
 /// field value whatever they hold.
 ///
-/// It fails for want of memory alone.
+/// It fails only when memory runs out.
 pub fn cookie_of_client(client: &Client) -> Result<HeaderValue, HttpError>
     ensures text { Gives refusal.OutOfMemory result (λ value.
         value ≡ plain_value (header_text client.now)) }
@@ -36,7 +36,7 @@ pub fn cookie_of_client(client: &Client) -> Result<HeaderValue, HttpError>
 /// Has the client read all `Set-Cookie` fields of a response, in order, at the moment `now` in UTC (RFC 6265 5.2, 5.3).
 /// A field that isn't UTF-8 is passed over.
 ///
-/// It fails for want of memory alone, and then leaves the client as it was.
+/// It fails only when memory runs out, and then leaves the client as it was.
 pub fn read_response(
     client: &mut Client,
     headers: &HeaderMap,

@@ -18,7 +18,7 @@ pub struct Credentials {
 /// The form's user and password, if it has both. Of two fields of a name the first counts, and bytes that aren't UTF-8
 /// count as U+FFFD.
 ///
-/// Fails for want of memory alone.
+/// Fails only when memory runs out.
 pub fn read_credentials(alloc: Global, form: &[u8]) -> Result<Option<Credentials>, AllocError>
     ensures { IfOk result (λ found. option_map credential_texts found ≡ credentials_of form.now) }
 {

@@ -36,7 +36,7 @@ const LINK_END: &[u8] = b"/\">To the home page</a></p>\n";
 /// The page as HTML, in UTF-8, with each text from outside escaped. `base` is the path of the program, to which the
 /// links and forms lead.
 ///
-/// Fails for want of memory alone.
+/// Fails only when memory runs out.
 pub fn html(alloc: Global, base: &str, page: &Page) -> Result<Vec<u8>, AllocError>
     ensures { IfOk result (λ text. text.items ≡ html_of base.now page.now) }
 {

@@ -24,7 +24,7 @@ impl Response {
     /// The response's fields and the empty line, as a CGI program writes them (RFC 3875 6.2.1). `base` is the path of
     /// the program, which stands in `Location` as it is: without a line break, which nobody checks here.
     ///
-    /// Fails for want of memory alone.
+    /// Fails only when memory runs out.
     pub fn head(&self, alloc: Global, base: &str) -> Result<Vec<u8>, AllocError>
         ensures { IfOk result (λ text. text.items ≡ head_of base.now self.now) }
     {
@@ -35,7 +35,7 @@ impl Response {
 
     /// The response as a CGI program writes it: its fields, an empty line, and the page. `base` is as in `head`.
     ///
-    /// Fails for want of memory alone.
+    /// Fails only when memory runs out.
     pub fn text(&self, alloc: Global, base: &str) -> Result<Vec<u8>, AllocError>
         ensures { IfOk result (λ text. text.items ≡ response_text base.now self.now) }
     {

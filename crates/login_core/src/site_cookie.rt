@@ -36,7 +36,7 @@ impl SiteCookie {
     /// The cookie with that value: for every path of this host, hidden from scripts, not sent with other sites' forms,
     /// and, where it was set over a secure connection, sent over secure ones alone.
     ///
-    /// Fails for want of memory alone.
+    /// Fails only when memory runs out.
     pub fn with_value(
         self,
         alloc: Global,

@@ -20,7 +20,7 @@ use std::hash::RandomState;
 /// Puts a jar with no cookie into the handle, and frees the one that it had, if it had one. The two seeds are random;
 /// the jar hashes names with them.
 ///
-/// It fails for want of memory alone, and then the handle's jar is as before.
+/// It fails only when memory runs out, and then the handle's jar is as before.
 #[unsafe(no_mangle)]
 pub extern "C" fn cookie_jar_new(alloc: Global, seed: u64, other_seed: u64, jar: &mut Jar) -> u32
     ensures { ((result ≡ code_of status.Done) × (jar.new.held.jar ≡ Some empty_jar))
@@ -40,7 +40,7 @@ pub extern "C" fn cookie_jar_new(alloc: Global, seed: u64, other_seed: u64, jar:
 /// Adds the cookies of a `Cookie` header's value as originals, decoded (RFC 6265 5.4). A piece that is no cookie is
 /// skipped.
 ///
-/// Refuses a handle without a jar, and then a header that isn't UTF-8; else it fails for want of memory alone. After a
+/// Refuses a handle without a jar, and then a header that isn't UTF-8; else it fails only when memory runs out. After a
 /// refusal the jar is as before.
 #[tactic(auto, using(crate::proofs::JarLemmas::at_none, crate::proofs::JarLemmas::at_some))]
 #[unsafe(no_mangle)]
@@ -58,7 +58,7 @@ pub extern "C" fn cookie_jar_add_originals(alloc: Global, jar: &mut Jar, header:
 /// Adds the cookie that the text of a `Set-Cookie` header is, decoded (RFC 6265 5.2), in the place of the one that the
 /// jar shows under its name.
 ///
-/// Refuses a handle without a jar, and then as `cookie_read_decoded` does; else it fails for want of memory alone.
+/// Refuses a handle without a jar, and then as `cookie_read_decoded` does; else it fails only when memory runs out.
 /// After a refusal the jar is as before.
 #[tactic(auto, using(crate::proofs::JarLemmas::at_none, crate::proofs::JarLemmas::at_some))]
 #[unsafe(no_mangle)]
@@ -77,7 +77,7 @@ pub extern "C" fn cookie_jar_add(alloc: Global, jar: &mut Jar, text: &[u8]) -> u
 /// an original of the name, the delta gets a cookie that tells the client to drop it, without path and domain.
 ///
 /// Refuses a handle without a jar, then a moment or a name that isn't UTF-8, and then a moment that is no date; else it
-/// fails for want of memory alone. After a refusal the jar is as before.
+/// fails for out of memory alone. After a refusal the jar is as before.
 #[tactic(auto, using(crate::proofs::JarLemmas::at_none, crate::proofs::JarLemmas::at_some))]
 #[unsafe(no_mangle)]
 pub extern "C" fn cookie_jar_remove(alloc: Global, jar: &mut Jar, moment: &[u8], name: &[u8]) -> u32

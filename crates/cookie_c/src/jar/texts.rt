@@ -35,7 +35,7 @@ pub extern "C" fn cookie_jar_get(
 /// A line `Set-Cookie: ..` for each cookie of the jar's delta, for the buffer: each cookie's encoded text (RFC 6265
 /// 4.1.1), in any order, with a line feed at its end. The jar is as before.
 ///
-/// Refuses a handle without a jar; else it fails for want of memory alone.
+/// Refuses a handle without a jar; else it fails only when memory runs out.
 #[tactic(auto, using(crate::proofs::JarLemmas::of_none, crate::proofs::JarLemmas::of_some))]
 #[unsafe(no_mangle)]
 pub extern "C" fn cookie_jar_delta(alloc: Global, jar: &mut Jar, out: &mut [u8]) -> Answer

@@ -23,8 +23,8 @@ impl<'c> Cookie<'c> {
         cookie
     }
 
-    /// The same cookie with texts of its own, so that it can go into a jar. Fails with `AllocError` alone, for want of
-    /// memory, and then the cookie is gone.
+    /// The same cookie with texts of its own, so that it can go into a jar. Fails only with `AllocError`,
+    /// when memory runs out, and then the cookie is gone.
     pub fn into_owned(self, alloc: Global) -> Result<Cookie<'static>, AllocError>
         ensures { Gives alloc_error result
             (λ c. c ≡ record { fields = self.entry.fields; raw = no_raw_forms }) }
