@@ -1,15 +1,19 @@
-"""Plays rows.tsv through the library by ctypes, and some uses of cookie.py."""
+"""Plays rows.tsv through the library by ctypes, and some uses of the package `deomigal`."""
 import ctypes
 import datetime
+import doctest
 import http.cookies
 import pathlib
+import re
 import sys
 
-import cookie
-from cookie import STATUSES
+import deomigal
+from deomigal import _library as library, cookies, dates, errors, jars, secrets
 
-CALLS = {"derive_key": cookie.DERIVE_KEY, "sign": cookie.SIGN, "verify": cookie.VERIFY, "seal": cookie.SEAL,
-         "open": cookie.OPEN, "print": cookie.PRINT, "print_date": cookie.PRINT_DATE, "run": cookie.RUN}
+CALLS = {"derive_key": library.DERIVE_KEY, "sign": library.SIGN, "verify": library.VERIFY, "seal": library.SEAL,
+         "open": library.OPEN, "print": library.PRINT, "print_date": library.PRINT_DATE, "run": library.RUN}
+# The names of the statuses in the rows, such as NOT_UTF8 for `NotUtf8`.
+STATUSES = ["DONE"] + [re.sub(r"(?<!^)(?=[A-Z])", "_", errors.ERRORS[number].__name__).upper() for number in range(1, 20)]
 FIELDS = ("year", "month", "day", "hour", "minute", "second")
 faults = []
 
@@ -24,14 +28,14 @@ def numbers_of(reading):
     places = (reading.name, reading.value, reading.path, reading.domain)
     found = reading.attributes
     numbers = [number for place in places for number in (place.start, place.length)]
-    numbers += [getattr(found, name) for name, _ in cookie.Attributes._fields_[:9]]
+    numbers += [getattr(found, name) for name, _ in library.Attributes._fields_[:9]]
     return numbers + [getattr(found.expires, name) for name in FIELDS]
 
 
 def attributes_in(text):
     """The attributes of a row that prints a cookie."""
     numbers = [int(number) for number in text.split()]
-    return cookie.Attributes(*numbers[:9], cookie.Moment(cookie.NO_DATE, *numbers[9:]))
+    return library.Attributes(*numbers[:9], library.Moment(library.NO_DATE, *numbers[9:]))
 
 
 def numbers_of_pair(pair):
@@ -45,27 +49,27 @@ def step(handle, text, out, length):
     cuts = {b"remove": 1, b"scoped": 3}.get(word, 0)
     rest = [part for value in rest.split(b"\n", cuts) for part in (value or None, len(value))]
     if word == b"new":
-        return cookie.Answer(cookie.JAR_NEW(1, 2, handle), 0)
+        return library.Answer(library.JAR_NEW(1, 2, handle), 0)
     if word == b"get":
-        return cookie.JAR_GET(handle, *rest, out, length)
+        return library.JAR_GET(handle, *rest, out, length)
     if word == b"delta":
-        return cookie.JAR_DELTA(handle, out, length)
+        return library.JAR_DELTA(handle, out, length)
     if word == b"free":
-        cookie.JAR_FREE(handle)
-        return cookie.Answer(cookie.DONE, 0)
-    calls = {b"originals": cookie.JAR_ADD_ORIGINALS, b"add": cookie.JAR_ADD, b"remove": cookie.JAR_REMOVE,
-             b"scoped": cookie.JAR_REMOVE_SCOPED}
-    return cookie.Answer(calls[word](handle, *rest), 0)
+        library.JAR_FREE(handle)
+        return library.Answer(library.DONE, 0)
+    calls = {b"originals": library.JAR_ADD_ORIGINALS, b"add": library.JAR_ADD, b"remove": library.JAR_REMOVE,
+             b"scoped": library.JAR_REMOVE_SCOPED}
+    return library.Answer(calls[word](handle, *rest), 0)
 
 
 def play_jar(steps, out, length):
     """Plays the steps on a handle: each but the last is done."""
-    handle = cookie.Handle()
+    handle = library.Handle()
     for text in steps[:-1]:
-        if step(handle, text, out, length).status != cookie.DONE:
+        if step(handle, text, out, length).status != library.DONE:
             faults.append(f"{text} is refused")
     answer = step(handle, steps[-1], out, length)
-    cookie.JAR_FREE(handle)
+    library.JAR_FREE(handle)
     return answer
 
 
@@ -80,7 +84,7 @@ def played(call, inputs, length):
     out = ctypes.cast(buffer, ctypes.c_char_p) if length else None
     if call == "jar":
         answer = play_jar(inputs, out, length)
-        given = answer.length if answer.status == cookie.DONE else 0
+        given = answer.length if answer.status == library.DONE else 0
         text = buffer.raw[:given]
         return answer.status, answer.length, (in_order(text) if inputs[-1] == b"delta" else text) + buffer.raw[given:]
     arguments = [1, 2] if call == "run" else []
@@ -107,9 +111,9 @@ def decoded(call, inputs, length):
     out = ctypes.cast(buffer, ctypes.c_char_p) if length else None
     text = inputs[0] or None, len(inputs[0])
     if call == "read_decoded":
-        answer = cookie.READ_DECODED(*text, out, length)
+        answer = library.READ_DECODED(*text, out, length)
         return answer.status, numbers_of(answer), buffer.raw
-    answer = cookie.NEXT_PAIR_DECODED(*text, int(inputs[1]), out, length)
+    answer = library.NEXT_PAIR_DECODED(*text, int(inputs[1]), out, length)
     return answer.status, numbers_of_pair(answer), buffer.raw
 
 
@@ -129,16 +133,16 @@ def play(number, line):
     text, *inputs = (b"" if field == "-" else bytes.fromhex(field) for field in fields)
     count = int(count)
     if call == "read_date":
-        moment = cookie.READ_DATE(inputs[0] or None, len(inputs[0]))
+        moment = library.READ_DATE(inputs[0] or None, len(inputs[0]))
         numbers = " ".join(str(getattr(moment, name)) for name in FIELDS).encode() if moment.status == 0 else b""
         if (moment.status, numbers) != (STATUSES.index(status), text):
             faults.append(f"row {number}: another date")
     elif call == "next_pair":
-        pair = cookie.NEXT_PAIR(inputs[0] or None, len(inputs[0]), int(inputs[1]))
+        pair = library.NEXT_PAIR(inputs[0] or None, len(inputs[0]), int(inputs[1]))
         if (pair.status, numbers_of_pair(pair)) != (STATUSES.index(status), numbers_in(text, 4) + [count]):
             faults.append(f"row {number}: another pair")
     elif call == "read":
-        reading = cookie.READ(inputs[0] or None, len(inputs[0]))
+        reading = library.READ(inputs[0] or None, len(inputs[0]))
         if (reading.status, numbers_of(reading)) != (STATUSES.index(status), numbers_in(text, 23)):
             faults.append(f"row {number}: another cookie")
     elif call in ("read_decoded", "next_pair_decoded"):
@@ -163,32 +167,32 @@ def lacks(jar, name):
 
 
 def use():
-    """Uses of the module, whose answers are the round trip or Python's own."""
-    key = cookie.derive_key(bytes(range(32)))
-    text = cookie.sign(key, "session", "café")
-    assert cookie.verify(key, "session", text) == "café"
-    assert cookie.verify(key, "other", text) is None
-    sealed = cookie.seal(key, "session", "x" * 5000)
-    assert cookie.open_sealed(key, "session", sealed) == "x" * 5000
-    assert cookie.open_sealed(key, "other", sealed) is None
+    """Uses of the package, whose answers are the round trip or Python's own."""
+    key = deomigal.derive_key(bytes(range(32)))
+    text = deomigal.sign(key, "session", "café")
+    assert deomigal.verify(key, "session", text) == "café"
+    assert deomigal.verify(key, "other", text) is None
+    sealed = deomigal.seal(key, "session", "x" * 5000)
+    assert deomigal.open_sealed(key, "session", sealed) == "x" * 5000
+    assert deomigal.open_sealed(key, "other", sealed) is None
     moment = datetime.datetime(2015, 10, 21, 7, 28, tzinfo=datetime.timezone.utc)
-    assert cookie.print_date(moment) == "Wed, 21 Oct 2015 07:28:00 GMT"
-    assert cookie.read_date("Wed, 21 Oct 2015 07:28:00 GMT") == moment
-    assert cookie.read_date("yesterday") is None
-    assert cookie.run(moment, "name=val\nadd a=1\n") == "Set-Cookie: a=1\nCookie: a=1; name=val\n"
-    assert list(cookie.pairs("name=value; caf\u00e9 = 1;; x")) == [("name", "value"), ("caf\u00e9", "1")]
-    name, value, attributes = cookie.read_cookie("a = 1; Path=/; Secure; Max-Age=90; SameSite=lax; Domain=.b.c")
+    assert deomigal.print_date(moment) == "Wed, 21 Oct 2015 07:28:00 GMT"
+    assert deomigal.read_date("Wed, 21 Oct 2015 07:28:00 GMT") == moment
+    assert deomigal.read_date("yesterday") is None
+    assert deomigal.run(moment, "name=val\nadd a=1\n") == "Set-Cookie: a=1\nCookie: a=1; name=val\n"
+    assert list(deomigal.pairs("name=value; caf\u00e9 = 1;; x")) == [("name", "value"), ("caf\u00e9", "1")]
+    name, value, attributes = deomigal.read_cookie("a = 1; Path=/; Secure; Max-Age=90; SameSite=lax; Domain=.b.c")
     assert (name, value) == ("a", "1")
     assert attributes == {"secure": True, "same_site": "Lax", "path": "/", "domain": "b.c", "max_age": 90}
     text = "a=1; Expires=Wed, 21 Oct 2015 07:28:00 GMT"
-    assert cookie.read_cookie(text) == ("a", "1", {"expires": moment})
-    assert cookie.print_cookie("a", "1", expires=moment) == text
-    assert cookie.print_cookie(name, value, **attributes) == "a=1; SameSite=Lax; Secure; Path=/; Domain=b.c; Max-Age=90"
-    assert cookie.print_cookie("n", "x y", is_escaped=False, secure=False, same_site="None") == "n=x y; SameSite=None"
-    assert list(cookie.decoded_pairs("a%20b=c%3D; x; y=%ff; z=1")) == [("a b", "c="), ("z", "1")]
-    assert list(cookie.decoded_pairs("a=" + "%C3%A9" * 400)) == [("a", "\u00e9" * 400)]
-    assert cookie.read_decoded_cookie("a=%20; Path=/%20") == ("a", " ", {"path": "/%20"})
-    with cookie.Jar("name=val; n=x%20y") as jar:
+    assert deomigal.read_cookie(text) == ("a", "1", {"expires": moment})
+    assert deomigal.print_cookie("a", "1", expires=moment) == text
+    assert deomigal.print_cookie(name, value, **attributes) == "a=1; SameSite=Lax; Secure; Path=/; Domain=b.c; Max-Age=90"
+    assert deomigal.print_cookie("n", "x y", is_escaped=False, secure=False, same_site="None") == "n=x y; SameSite=None"
+    assert list(deomigal.decoded_pairs("a%20b=c%3D; x; y=%ff; z=1")) == [("a b", "c="), ("z", "1")]
+    assert list(deomigal.decoded_pairs("a=" + "%C3%A9" * 400)) == [("a", "\u00e9" * 400)]
+    assert deomigal.read_decoded_cookie("a=%20; Path=/%20") == ("a", " ", {"path": "/%20"})
+    with deomigal.Jar("name=val; n=x%20y") as jar:
         jar.add("a=1; Path=/")
         assert jar.get("a") == "1" and jar.get("n") == "x y" and jar.get("b") is None
         assert jar["name"] == http.cookies.SimpleCookie("name=val; n=x%20y")["name"].value
@@ -201,18 +205,23 @@ def use():
             "Set-Cookie: n=; Path=/p; Domain=b.c; Max-Age=0; Expires=Tue, 21 Oct 2014 07:28:00 GMT",
             "Set-Cookie: name=; Max-Age=0; Expires=Tue, 21 Oct 2014 07:28:00 GMT",
         ]
-    for wrong, status in ((lambda: cookie.sign(b"short", "a", "b"), cookie.KEY_TOO_SHORT),
-                          (lambda: cookie.sign(key, "a", b"\xff"), cookie.NOT_UTF8),
-                          (lambda: cookie.run(moment, "\nnonsense"), cookie.BAD_LINE),
-                          (lambda: cookie.print_cookie("a", "1", path=b"\xff"), cookie.NOT_UTF8),
-                          (lambda: cookie.read_decoded_cookie("a=%ff"), cookie.BAD_ESCAPE),
-                          (lambda: jar.get("a"), cookie.NO_JAR), (lambda: cookie.Jar().add("a"), cookie.MISSING_PAIR)):
+    for wrong, refusal in ((lambda: deomigal.sign(b"short", "a", "b"), errors.KeyTooShort),
+                         (lambda: deomigal.sign(key, "a", b"\xff"), errors.NotUtf8),
+                         (lambda: deomigal.run(moment, "\nnonsense"), errors.BadLine),
+                         (lambda: deomigal.print_cookie("a", "1", path=b"\xff"), errors.NotUtf8),
+                         (lambda: deomigal.read_decoded_cookie("a=%ff"), errors.BadEscape),
+                         (lambda: jar.get("a"), errors.NoJar),
+                         (lambda: deomigal.Jar().add("a"), errors.MissingPair)):
         try:
             wrong()
             faults.append("a use isn't refused")
-        except cookie.CookieError as error:
-            if error.status != status:
-                faults.append(f"a use is refused by {error}")
+        except deomigal.CookieError as error:
+            if type(error) is not refusal:
+                faults.append(f"a use is refused by {error!r}")
+    for module in (deomigal, secrets, dates, cookies, jars):
+        failed = doctest.testmod(module).failed
+        if failed:
+            faults.append(f"{failed} examples of {module.__name__} answer something else")
 
 
 lines = pathlib.Path(sys.argv[1]).read_text().splitlines()

@@ -1,0 +1,154 @@
+"""The exports of libcookie_c.so, and how they are called."""
+from __future__ import annotations
+
+import ctypes
+import os
+import pathlib
+from typing import Any, Callable
+
+from .errors import BufferTooShort, CookieError, error_of
+
+DONE = 0
+
+
+class Answer(ctypes.Structure):
+    _fields_ = [("status", ctypes.c_uint32), ("length", ctypes.c_size_t)]
+
+
+class Moment(ctypes.Structure):
+    _fields_ = [("status", ctypes.c_uint32), ("year", ctypes.c_int16)] + [
+        (name, ctypes.c_int8) for name in ("month", "day", "hour", "minute", "second")
+    ]
+
+
+class Place(ctypes.Structure):
+    _fields_ = [("start", ctypes.c_size_t), ("length", ctypes.c_size_t)]
+
+
+class Pair(ctypes.Structure):
+    _fields_ = [("status", ctypes.c_uint32), ("name", Place), ("value", Place), ("next", ctypes.c_size_t)]
+
+
+class Attributes(ctypes.Structure):
+    _fields_ = [
+        (name, ctypes.c_uint32)
+        for name in "http_only secure partitioned same_site has_path has_domain has_max_age has_expires".split()
+    ] + [("max_age", ctypes.c_int64), ("expires", Moment)]
+
+
+class Reading(ctypes.Structure):
+    _fields_ = (
+        [("status", ctypes.c_uint32)]
+        + [(name, Place) for name in ("name", "value", "path", "domain")]
+        + [("attributes", Attributes)]
+    )
+
+
+class Held(ctypes.Structure):
+    _fields_ = [("at", ctypes.c_void_p)]
+
+
+class Handle(ctypes.Structure):
+    _fields_ = [("is_open", ctypes.c_bool), ("held", Held)]
+
+
+# The shared object stands beside this file; the variable COOKIE_C names another one.
+LIBRARY = ctypes.CDLL(os.environ.get("COOKIE_C", str(pathlib.Path(__file__).parent / "libcookie_c.so")))
+TEXT: list[Any] = [ctypes.c_char_p, ctypes.c_size_t]
+HANDLE: list[Any] = [ctypes.POINTER(Handle)]
+SEEDS: list[Any] = [ctypes.c_uint64] * 2
+
+
+def declare(name: str, parameters: list[Any], result: Any) -> Callable[..., Any]:
+    function = getattr(LIBRARY, "cookie_" + name)
+    function.argtypes = parameters
+    function.restype = result
+    return function
+
+
+DERIVE_KEY = declare("derive_key", TEXT * 2, Answer)
+SIGN = declare("sign", TEXT * 4, Answer)
+VERIFY = declare("verify", TEXT * 4, Answer)
+SEAL = declare("seal", TEXT * 5, Answer)
+OPEN = declare("open", TEXT * 4, Answer)
+READ_DATE = declare("read_date", TEXT, Moment)
+PRINT_DATE = declare("print_date", [ctypes.c_int16] + [ctypes.c_int8] * 5 + TEXT, Answer)
+NEXT_PAIR = declare("next_pair", TEXT + [ctypes.c_size_t], Pair)
+READ = declare("read", TEXT, Reading)
+NEXT_PAIR_DECODED = declare("next_pair_decoded", TEXT + [ctypes.c_size_t] + TEXT, Pair)
+READ_DECODED = declare("read_decoded", TEXT * 2, Reading)
+PRINT = declare("print", TEXT * 4 + [ctypes.POINTER(Attributes), ctypes.c_bool] + TEXT, Answer)
+RUN = declare("run", SEEDS + TEXT * 3, Answer)
+JAR_NEW = declare("jar_new", SEEDS + HANDLE, ctypes.c_uint32)
+JAR_ADD_ORIGINALS = declare("jar_add_originals", HANDLE + TEXT, ctypes.c_uint32)
+JAR_ADD = declare("jar_add", HANDLE + TEXT, ctypes.c_uint32)
+JAR_REMOVE = declare("jar_remove", HANDLE + TEXT * 2, ctypes.c_uint32)
+JAR_REMOVE_SCOPED = declare("jar_remove_scoped", HANDLE + TEXT * 4, ctypes.c_uint32)
+JAR_GET = declare("jar_get", HANDLE + TEXT * 2, Answer)
+JAR_DELTA = declare("jar_delta", HANDLE + TEXT, Answer)
+JAR_FREE = declare("jar_free", HANDLE, None)
+
+
+def bytes_of(text: str | bytes) -> bytes:
+    return text.encode() if isinstance(text, str) else bytes(text)
+
+
+def arguments_of(inputs: tuple[Any, ...]) -> list[Any]:
+    """The arguments for C: each text as its bytes and their count."""
+    arguments: list[Any] = []
+    for value in inputs:
+        if isinstance(value, (int, Handle, Attributes)):
+            arguments.append(value)
+        else:
+            value = bytes_of(value)
+            arguments += [value, len(value)]
+    return arguments
+
+
+def done(function: Callable[..., Any], *inputs: Any) -> None:
+    """Makes a call that gives no text."""
+    status = function(*arguments_of(inputs))
+    if status != DONE:
+        raise error_of(status)
+
+
+def given(function: Callable[..., Any], *inputs: Any, room: int = 256) -> bytes:
+    """The bytes that a call gives; where the first buffer is too short, it is called again with one that fits."""
+    arguments = arguments_of(inputs)
+    while True:
+        buffer = ctypes.create_string_buffer(room)
+        answer = function(*arguments, buffer, room)
+        if answer.status == DONE:
+            return buffer.raw[: answer.length]
+        if answer.status != BufferTooShort.status:
+            raise error_of(answer.status, answer.length)
+        room = answer.length
+
+
+def decoded(function: Callable[..., Any], *inputs: Any, room: int = 256) -> tuple[Any, bytes]:
+    """The answer of a call that decodes, and its buffer; where the first is too short, it is called again."""
+    arguments = arguments_of(inputs)
+    while True:
+        buffer = ctypes.create_string_buffer(room)
+        answer = function(*arguments, buffer, room)
+        if answer.status != BufferTooShort.status:
+            return answer, buffer.raw
+        room = answer.value.start + answer.value.length
+
+
+def read(function: Callable[..., Any], none: type[CookieError], *inputs: Any) -> str | None:
+    """The text that a call gives, or None where it is refused as `none`."""
+    try:
+        return given(function, *inputs).decode()
+    except none:
+        return None
+
+
+def text_at(text: bytes, place: Place) -> str:
+    """What stands at the place."""
+    return text[place.start : place.start + place.length].decode()
+
+
+def seeds() -> list[int]:
+    """Two random numbers, which a jar hashes names with."""
+    return [int.from_bytes(os.urandom(8), "little") for _ in range(2)]

@@ -1,0 +1,43 @@
+"""Dates of cookies, in UTC and whole seconds."""
+from __future__ import annotations
+
+import datetime
+
+from ._library import DONE, PRINT_DATE, READ_DATE, Moment, bytes_of, given
+from .errors import NoDate, error_of
+
+
+def date_of(moment: Moment) -> datetime.datetime | None:
+    """The date and time in UTC, or None. `datetime` has no year below 1: such a date raises `ValueError`."""
+    if moment.status == NoDate.status:
+        return None
+    if moment.status != DONE:
+        raise error_of(moment.status)
+    numbers = [getattr(moment, name) for name in ("year", "month", "day", "hour", "minute", "second")]
+    return datetime.datetime(*numbers, tzinfo=datetime.timezone.utc)
+
+
+def numbers_of(moment: datetime.datetime) -> tuple[int, int, int, int, int, int]:
+    """The six numbers of a date and time in UTC. One without a time zone counts as UTC."""
+    if moment.tzinfo is not None:
+        moment = moment.astimezone(datetime.timezone.utc)
+    return moment.year, moment.month, moment.day, moment.hour, moment.minute, moment.second
+
+
+def read_date(text: str | bytes) -> datetime.datetime | None:
+    """The date and time in UTC that the text gives in one of four forms (RFC 6265 4.1.1), or None.
+
+    >>> read_date("Wed, 21 Oct 2015 07:28:00 GMT")
+    datetime.datetime(2015, 10, 21, 7, 28, tzinfo=datetime.timezone.utc)
+    """
+    text = bytes_of(text)
+    return date_of(READ_DATE(text, len(text)))
+
+
+def print_date(moment: datetime.datetime) -> str:
+    """The text of a date and time. One without a time zone counts as UTC.
+
+    >>> print_date(datetime.datetime(2015, 10, 21, 7, 28))
+    'Wed, 21 Oct 2015 07:28:00 GMT'
+    """
+    return given(PRINT_DATE, *numbers_of(moment)).decode()

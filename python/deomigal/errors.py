@@ -1,0 +1,137 @@
+"""Why a call is refused."""
+from __future__ import annotations
+
+
+class CookieError(ValueError):
+    """A refusal. `status` is its number in cookie.h."""
+
+    status = 0
+
+
+class BufferTooShort(CookieError):
+    """The text is longer than the buffer. The calls of this package choose their buffers, so none of them raises it."""
+
+    status = 1
+
+
+class OutOfMemory(CookieError, MemoryError):
+    """Memory ran out."""
+
+    status = 2
+
+
+class NotUtf8(CookieError):
+    """A text isn't UTF-8."""
+
+    status = 3
+
+
+class KeyTooShort(CookieError):
+    """The key has fewer than 64 bytes."""
+
+    status = 4
+
+
+class MasterTooShort(CookieError):
+    """The master key has fewer than 32 bytes."""
+
+    status = 5
+
+
+class BadNonce(CookieError):
+    """The nonce doesn't have twelve bytes."""
+
+    status = 6
+
+
+class NotSigned(CookieError):
+    """The value isn't signed under the key and the name. `verify` answers None instead."""
+
+    status = 7
+
+
+class NotSealed(CookieError):
+    """The value isn't sealed under the key and the name. `open_sealed` answers None instead."""
+
+    status = 8
+
+
+class TooLong(CookieError):
+    """The name or the value is too long to be sealed (SP 800-38D 5.2.1.1)."""
+
+    status = 9
+
+
+class NoDate(CookieError):
+    """The text isn't a date, or there is no such date."""
+
+    status = 10
+
+
+class BadMoment(CookieError):
+    """The moment isn't a date of the year 100 or later."""
+
+    status = 11
+
+
+class BadLine(CookieError):
+    """A line isn't a call. `number` is the line's number, counted from 1."""
+
+    status = 12
+
+    def __init__(self, *words: object, number: int = 0) -> None:
+        super().__init__(*words)
+        self.number = number
+
+
+class MissingPair(CookieError):
+    """There is no `=` before the first `;`."""
+
+    status = 13
+
+
+class EmptyName(CookieError):
+    """The name is empty."""
+
+    status = 14
+
+
+class BadEscape(CookieError):
+    """The name or the value, decoded, isn't UTF-8."""
+
+    status = 15
+
+
+class NoPair(CookieError):
+    """The header has no more pairs."""
+
+    status = 16
+
+
+class NoJar(CookieError):
+    """The jar was freed."""
+
+    status = 17
+
+
+class NotFound(CookieError):
+    """The jar shows no cookie of that name. `Jar.get` answers None instead."""
+
+    status = 18
+
+
+class BadAttribute(CookieError):
+    """A number of the attributes says nothing."""
+
+    status = 19
+
+
+ERRORS = {error.status: error for error in CookieError.__subclasses__()}
+
+
+def error_of(status: int, number: int = 0) -> CookieError:
+    """The exception of a status, and the number of the bad line where that is the reason."""
+    error = ERRORS[status]
+    if error is BadLine:
+        return BadLine(f"line {number} isn't a call", number=number)
+    return error((error.__doc__ or "").split(". ")[0].rstrip("."))

@@ -1,0 +1,85 @@
+"""Jars: the cookies of a request, and what a response changes."""
+from __future__ import annotations
+
+import datetime
+
+from ._library import (
+    JAR_ADD, JAR_ADD_ORIGINALS, JAR_DELTA, JAR_FREE, JAR_GET, JAR_NEW, JAR_REMOVE_SCOPED, RUN, Handle, done, given, read,
+    seeds,
+)
+from .dates import print_date
+from .errors import NotFound
+
+
+class Jar:
+    """A jar whose originals are the cookies in a `Cookie` header. `with Jar(header) as jar` frees it at the end.
+
+    It is looked up as `http.cookies.SimpleCookie` is, but `jar[name]` is the value itself. It can't be iterated.
+
+    >>> with Jar("lang=en") as jar:
+    ...     jar.add("theme=dark; Path=/")
+    ...     jar["lang"], jar.delta()
+    ('en', ['Set-Cookie: theme=dark; Path=/'])
+    """
+
+    __iter__ = None
+
+    def __init__(self, header: str | bytes = "") -> None:
+        self.handle = Handle()
+        done(JAR_NEW, *seeds(), self.handle)
+        done(JAR_ADD_ORIGINALS, self.handle, header)
+
+    def __enter__(self) -> Jar:
+        return self
+
+    def __exit__(self, *_: object) -> None:
+        self.close()
+
+    def __del__(self) -> None:
+        self.close()
+
+    def add(self, text: str) -> None:
+        """Adds the cookie in a `Set-Cookie` header's value."""
+        done(JAR_ADD, self.handle, text)
+
+    def remove(self, name: str, moment: datetime.datetime | None = None, path: str = "", domain: str = "") -> None:
+        """Removes the cookie of that name, now or at the moment.
+
+        The client is told to drop the one that was set with this path and this domain. A browser keeps any other.
+        """
+        moment = moment or datetime.datetime.now(datetime.timezone.utc)
+        done(JAR_REMOVE_SCOPED, self.handle, print_date(moment), name, path, domain)
+
+    def get(self, name: str) -> str | None:
+        """The value of the cookie of that name, or None."""
+        return read(JAR_GET, NotFound, self.handle, name)
+
+    def __getitem__(self, name: str) -> str:
+        """The value of the cookie of that name, or `KeyError`."""
+        value = self.get(name)
+        if value is None:
+            raise KeyError(name)
+        return value
+
+    def __contains__(self, name: str) -> bool:
+        """Whether the jar shows a cookie of that name."""
+        return self.get(name) is not None
+
+    def delta(self) -> list[str]:
+        """The lines `Set-Cookie: ..` for the jar's changes, in any order."""
+        return given(JAR_DELTA, self.handle).decode().split("\n")[:-1]
+
+    def close(self) -> None:
+        """Frees the jar. All other calls raise `NoJar` from then on."""
+        JAR_FREE(self.handle)
+
+
+def run(moment: str | datetime.datetime, text: str) -> str:
+    """What the program `cookiejar` writes at the moment, for the input.
+
+    >>> run("Wed, 21 Oct 2015 07:28:00 GMT", "name=value\\nadd a=1\\n")
+    'Set-Cookie: a=1\\nCookie: name=value; a=1\\n'
+    """
+    if isinstance(moment, datetime.datetime):
+        moment = print_date(moment)
+    return given(RUN, *seeds(), moment, text).decode()
