@@ -18,7 +18,7 @@ use jiff::SignedDuration;
 pub struct Attributes {
     /// Whether scripts are kept from it: 0 where that is unset, 1 where it is true, 2 where it is false.
     pub http_only: u32,
-    /// Whether it is for secure connections alone, as a number of that kind.
+    /// Whether it is for secure connections only, as a number of that kind.
     pub secure: u32,
     /// Whether it is kept apart for each top-level site, as a number of that kind.
     pub partitioned: u32,

@@ -63,7 +63,7 @@ impl Moment {
     }
 }
 
-/// The date and time that the text stands for, by the four forms of `read_date`. It takes no memory.
+/// The date and time that the text stands for, by the four forms of `read_date`. It doesn't allocate.
 ///
 /// Refuses a text that isn't UTF-8, and then one that is no date.
 #[unsafe(no_mangle)]

@@ -18,7 +18,7 @@ use cookie::{Cookie, Layout};
 use std::alloc::Global;
 
 /// The cookie that the text is read as, as `Cookie::parse_encoded` reads it. The name and the value, decoded, are for
-/// the buffer, the value right behind the name, and their places are those there; the path and the domain stand in the
+/// the buffer, the value right after the name, and their places are those there; the path and the domain stand in the
 /// text. Where the buffer is too short for both, nothing is written, and all but the status, which is
 /// `Status::BufferTooShort`, is as it would be.
 ///
@@ -120,7 +120,7 @@ fn give_pair(name: &str, value: &str, next: usize, out: &mut [u8]) -> Pair
     }
 }
 
-// The first text and right behind it the second, for the buffer.
+// The first text and right after it the second, for the buffer.
 fn give_both(first: &[u8], second: &[u8], out: &mut [u8]) -> Answer
     ensures { IsGiven (first.now ++ second.now) result out.old out.new }
 {

@@ -1,4 +1,4 @@
-//! A jar behind a handle of C.
+//! A jar in a handle of C.
 ghost use Rattle.std.specs.Prelude.{◌≡◌, Some, None, option_map};
 ghost use Rattle.cookie_c.specs.Held.{TellsOfJar};
 

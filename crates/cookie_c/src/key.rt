@@ -8,7 +8,7 @@ use crate::answer::Answer;
 use crate::status::Status;
 use cookie::Key;
 
-/// The 64 bytes of the key derived from a master key, by the whole of it (RFC 5869 2.3). It takes no memory.
+/// The 64 bytes of the key derived from a master key, by the whole of it (RFC 5869 2.3). It doesn't allocate.
 ///
 /// Refuses a master key of fewer than 32 bytes.
 #[unsafe(no_mangle)]

@@ -1,4 +1,4 @@
-//! Printing a cookie whose parts C hands in (RFC 6265 4.1.1).
+//! Printing a cookie whose parts C passes in (RFC 6265 4.1.1).
 ghost use Rattle.std.specs.Prelude.{◌≡◌, ◌↔◌, ◌⊎◌, ℕ, pos, Some, None, IsTrue, IsUtf8, IfOk, MatchOption, MatchResult, option_map, string_bytes, false};
 ghost use Rattle.jiff.specs.Types.{DateTime as CivilDateTime};
 ghost use Rattle.jiff.specs.Words.{signed_nanos, nanos_of_seconds};

@@ -61,7 +61,7 @@ impl Reading {
     }
 }
 
-/// The cookie that the text is read as, as `Cookie::parse` reads it. It takes no memory.
+/// The cookie that the text is read as, as `Cookie::parse` reads it. It doesn't allocate.
 ///
 /// Refuses a text that isn't UTF-8, then one with no `=` in its first piece, up to a `;`, and then one with an empty
 /// name.

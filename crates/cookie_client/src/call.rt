@@ -35,7 +35,7 @@ pub enum JarCall<'k> {
 impl<'k> JarCall<'k> {
     /// Whether a client can follow the call at the moment `now` in UTC. A cookie in it must have a name; one that is
     /// added, and is no original, must be live at the moment ([`is_live`]), and its path and its domain must hold no
-    /// semicolon. The cookie is looked at as it was handed in.
+    /// semicolon. The cookie is looked at as it was passed in.
     pub fn is_fit(&self, now: DateTime) -> bool
         ensures { IsTrue result ↔ IsFitCall now self.now }
     {

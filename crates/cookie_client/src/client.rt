@@ -56,7 +56,7 @@ impl Client {
         self.values.get(name)
     }
 
-    /// The names that it holds with their values, in byte order of the names. It takes no memory.
+    /// The names that it holds with their values, in byte order of the names. It doesn't allocate.
     pub fn iter(&self) -> Pairs<'_>
         ensures listed { result ≡ entries self.now }
 
@@ -66,7 +66,7 @@ impl Client {
         self.values.pairs()
     }
 
-    /// Holds this value for the name from now on. Fails with `ClientError::OutOfMemory` alone, and then the client is
+    /// Holds this value for the name from now on. Fails only with `ClientError::OutOfMemory`, and then the client is
     /// as before.
     pub fn hold(&mut self, name: &str, value: &str) -> Result<(), ClientError>
         ensures gives { Gives refusal.OutOfMemory result (λ _.
@@ -77,7 +77,7 @@ impl Client {
         Ok(())
     }
 
-    /// A client that holds the same values. Fails with `ClientError::OutOfMemory` alone.
+    /// A client that holds the same values. Fails only with `ClientError::OutOfMemory`.
     pub fn clone(&self) -> Result<Client, ClientError>
         ensures { Gives refusal.OutOfMemory result (λ made. made ≡ self.now) }
     {
@@ -103,7 +103,7 @@ impl Client {
 
     /// Reads the text of a `Set-Cookie` header at a moment in UTC (RFC 6265 5.3), and answers whether it is a cookie.
     /// One that is live ([`is_live`]) sets its name to its value, one that isn't drops its name, and a text that is no
-    /// cookie changes nothing. Fails with `ClientError::OutOfMemory` alone, and then the client is as before.
+    /// cookie changes nothing. Fails only with `ClientError::OutOfMemory`, and then the client is as before.
     pub fn read(&mut self, text: &str, now: DateTime) -> Result<bool, ClientError>
         ensures gives { Gives refusal.OutOfMemory result (λ is_cookie.
             (self.new ≡ after_text now text.now self.old)
@@ -125,7 +125,7 @@ impl Client {
     /// The value of its `Cookie` header (RFC 6265 5.4): each name and value, escaped, in byte order of the names.
     ///
     /// Where it holds nothing under the empty name, the header's cookies, decoded, are those names and values, and none
-    /// is refused. Fails with `ClientError::OutOfMemory` alone.
+    /// is refused. Fails only with `ClientError::OutOfMemory`.
     pub fn header(&self) -> Result<String, ClientError>
         ensures text { Gives refusal.OutOfMemory result (λ header.
             string_bytes header ≡ header_text self.now) }

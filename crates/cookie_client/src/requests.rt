@@ -24,7 +24,7 @@ use std::alloc::Global;
 /// is one `Played` for each request, in their order.
 ///
 /// The client holds nothing at first. The jar of a request is new: its originals are the cookies of the client's
-/// header, split and decoded, with a name and a value alone. The calls are made as by `replay`, and the client then
+/// header, split and decoded, with only a name and a value. The calls are made as by `replay`, and the client then
 /// reads the delta as in `mirror`, at the one moment `now` in UTC, with `pick` from its start.
 ///
 /// Where each accepted call of a request is fit at that moment (`JarCall::is_fit`) and a change (`JarCall::is_change`),

@@ -10,7 +10,7 @@ use std::marker::Model;
 /// Texts by name, in byte order of the names.
 #[derive(Drop)]
 pub(crate) struct TextMap {
-    // `BTreeMap` does not lend its own.
+    // `BTreeMap` doesn't hand out its own.
     alloc: Global,
     texts: BTreeMap<String, String>,
 }

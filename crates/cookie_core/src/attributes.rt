@@ -1,4 +1,4 @@
-//! The attributes of a cookie, read from the pieces behind its pair (RFC 6265 5.2).
+//! The attributes of a cookie, read from the pieces after its pair (RFC 6265 5.2).
 ghost use Rattle.std.specs.Prelude.{◌≡◌, ◌≢◌, ◌++◌, ◌∷◌, ◌↔◌, [], List, ℕ, pos, eqb, Option, Some, None, Ok, IfSome, IfOk, IsTrue, MatchOption, map, option_map, codes};
 ghost use Rattle.std.specs.List.{list_all, starts_with};
 ghost use Rattle.std.specs.Char.{is_ascii_digit, to_ascii_lowercase};
@@ -19,12 +19,12 @@ use crate::span::Span;
 use cookie_date::read_date;
 use jiff::SignedDuration;
 
-/// The attributes of a cookie, as the pieces behind its pair give them, if they do (RFC 6265 5.2.1 to 5.2.6).
+/// The attributes of a cookie, as the pieces after its pair give them, if they do (RFC 6265 5.2.1 to 5.2.6).
 #[derive(Clone, Copy)]
 pub struct Attributes {
     /// Whether scripts are kept from it.
     pub http_only: Option<bool>,
-    /// Whether it is for secure connections alone.
+    /// Whether it is for secure connections only.
     pub secure: Option<bool>,
     /// Whether it is kept apart for each top-level site.
     pub partitioned: Option<bool>,

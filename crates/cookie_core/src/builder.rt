@@ -19,7 +19,7 @@ use std::fmt;
 use std::marker::Model;
 
 /// Something in the making. Contracts see it as what is made.
-// It is generic so that `inner_mut` lends a value whose type names no lifetime.
+// It is generic so that `inner_mut` gives a value whose type names no lifetime.
 #[derive(Debug, Drop)]
 pub struct Builder<C> {
     inner: C,
@@ -128,7 +128,7 @@ impl<'c> Builder<Cookie<'c>> {
         self
     }
 
-    /// Sets the path to a text of its own (RFC 6265 4.1.2.4). It takes no memory.
+    /// Sets the path to a text of its own (RFC 6265 4.1.2.4). It doesn't allocate.
     pub fn path_owned(mut self, path: String) -> CookieBuilder<'c>
         ensures fields { result.fields
             ≡ record self.entry.fields { path = Some (string_bytes path) } }
@@ -138,7 +138,7 @@ impl<'c> Builder<Cookie<'c>> {
         self
     }
 
-    /// Sets whether it is for secure connections alone (RFC 6265 4.1.2.5).
+    /// Sets whether it is for secure connections only (RFC 6265 4.1.2.5).
     pub fn secure(mut self, value: bool) -> CookieBuilder<'c>
         ensures fields { result.fields ≡ record self.entry.fields { secure = Some value } }
         ensures raw { result.raw ≡ self.entry.raw }

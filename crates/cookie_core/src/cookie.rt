@@ -41,7 +41,7 @@ pub struct Cookie<'c> {
 }
 
 // Contracts see a cookie as the record of its ten fields, beside the parts of a borrowed source that
-// it lends.
+// it borrows.
 impl<'c> Model for Cookie<'c> {
     ghost use Rattle.cookie_core.specs.Record.{CookieView};
 
@@ -153,7 +153,7 @@ impl<'c> Cookie<'c> {
         self.http_only
     }
 
-    /// Whether it is for secure connections alone, if that is set (RFC 6265 4.1.2.5).
+    /// Whether it is for secure connections only, if that is set (RFC 6265 4.1.2.5).
     pub fn secure(&self) -> Option<bool>
         ensures { result ≡ self.now.fields.secure }
     {

@@ -51,7 +51,7 @@ impl<'a> Model for EncodedText<'a> {
     ghost view = { λ e. e.text.now };
 }
 
-/// The text, escaped where it is printed (RFC 3986 2.1). It takes no memory.
+/// The text, escaped where it is printed (RFC 3986 2.1). It doesn't allocate.
 pub fn encode(text: &str) -> EncodedText<'_>
     ensures { result ≡ text.now }
 {

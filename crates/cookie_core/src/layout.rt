@@ -25,7 +25,7 @@ pub struct Layout {
 }
 
 impl Layout {
-    /// Where the parts of a cookie's text stand (RFC 6265 5.2). It takes no memory, and fails as `Cookie::parse` does.
+    /// Where the parts of a cookie's text stand (RFC 6265 5.2). It doesn't allocate, and fails as `Cookie::parse` does.
     pub fn of(text: &str) -> Result<Layout, ParseError>
         ensures reads { Reads false text.now (laid_out text.now result) }
         ensures value { result_ok (laid_out text.now result) ≡ cookie_of false text.now }
@@ -45,7 +45,7 @@ impl Layout {
         Layout::of_pieces(Part::all(text), None)
     }
 
-    // The same of a first piece, and of what stands behind its `;`.
+    // The same of a first piece, and of what stands after its `;`.
     #[inline(always)]
     fn of_pieces(first: Part<'_>, later: Option<Part<'_>>) -> Result<Layout, ParseError>
         requires apart { Lacks 59 (part_text first) }

@@ -7,7 +7,7 @@ use std::fmt;
 /// To which requests from other sites a cookie is sent (RFC 6265bis 4.1.2.7).
 #[derive(Clone, Copy, Debug, PartialEq, Eq, Hash)]
 pub enum SameSite {
-    /// To requests of the cookie's own site alone.
+    /// To requests of the cookie's own site only.
     Strict,
     /// To a navigation from another site too.
     Lax,

@@ -10,7 +10,7 @@ ghost use Rattle.cookie_core.specs.Trim.{IsTrimmed, IsBarePart};
 pub struct Span {
     /// Its first byte.
     pub start: usize,
-    /// The byte behind its last.
+    /// The byte after its last.
     pub end: usize,
 }
 

@@ -123,7 +123,7 @@ fn four_rounds(words: &[u8; 240], done: usize, state: u8x16) -> u8x16
     round(words, done + 3, state)
 }
 
-// The rounds stand one behind the other, so that their tables stay in registers.
+// The rounds stand one after the other, so that their tables stay in registers.
 fn cipher(words: &[u8; 240], block: [u8; 16]) -> [u8; 16]
     ensures { result ≡ cipher words.now block }
 {

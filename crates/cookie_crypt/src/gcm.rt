@@ -159,7 +159,7 @@ impl Gcm {
     }
 }
 
-/// It takes no memory, so it never fails.
+/// It doesn't allocate, so it never fails.
 impl Clone for Gcm {
     ghost is_clone = { λ gcm copy. copy ≡ gcm };
 

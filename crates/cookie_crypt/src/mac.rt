@@ -117,7 +117,7 @@ impl Mac {
     }
 }
 
-/// It takes no memory, so it never fails.
+/// It doesn't allocate, so it never fails.
 impl Clone for Mac {
     ghost is_clone = { λ mac copy. copy ≡ mac };
 

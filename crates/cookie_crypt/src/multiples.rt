@@ -9,7 +9,7 @@ use crate::lanes::{add, look_up_both, move_on};
 use std::marker::Model;
 use std::simd::prelude::*;
 
-// The products of `h` and the sixteen blocks whose leftmost four bits alone may be set.
+// The products of `h` and the sixteen blocks in which only the leftmost four bits may be set.
 fn rows(h: u128) -> [[u8; 16]; 16]
     ensures { result ≡ rows h }
 {
@@ -49,7 +49,7 @@ fn columns(h: u128) -> [[u8; 16]; 16]
     columns
 }
 
-// The product of a block and the one whose columns are handed in. Byte `b` of what a byte of the block adds is looked
+// The product of a block and the one whose columns are passed in. Byte `b` of what a byte of the block adds is looked
 // up for all sixteen at once. From the last `b` to the first, what has been summed moves one byte on, from `first` into
 // `rest`.
 fn product(upper: &[[u8; 16]; 16], lower: &[[u8; 16]; 16], block: u128) -> u128

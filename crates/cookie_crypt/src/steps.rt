@@ -11,7 +11,7 @@ use std::marker::Model;
 /// How many blocks were encrypted, how many products were taken in the field of GCM, and how many
 /// entries of a table of multiples were looked up and added.
 ///
-/// Two calls of this file alone raise a count, each as it gives the result of the work that it counts.
+/// Only two calls of this file raise a count, each as it gives the result of the work that it counts.
 #[derive(Drop)]
 pub struct Steps {
     blocks: u64,
@@ -72,7 +72,7 @@ impl Steps {
         cipher.encrypt_block(block)
     }
 
-    // The product of a block and the block whose multiples are handed in, four bits of each byte at a time.
+    // The product of a block and the block whose multiples are passed in, four bits of each byte at a time.
     pub(crate) fn product(&mut self, multiples: &Multiples, block: u128) -> u128
         requires room { self.old.products + 1 < 2 ^ 64 }
         requires room_for_steps { self.old.table_steps + 32 < 2 ^ 64 }

@@ -46,7 +46,7 @@ pub fn html(alloc: Global, base: &str, page: &Page) -> Result<Vec<u8>, AllocErro
     Ok(text)
 }
 
-// What this page has behind what each begins with.
+// What this page has after what each begins with.
 fn push_main(alloc: Global, text: &mut Vec<u8>, base: &str, page: &Page) -> Result<(), AllocError>
     ensures { OnOk result (text.new.items ≡ text.old.items ++ main_html base.now page.now) }
 {

@@ -7,7 +7,7 @@ use cookie::{Cookie, CookieBuilder, SameSite};
 use std::alloc::{AllocError, Global};
 
 /// A cookie of the site. On a secure connection its name begins with `__Host-`: a browser then takes it from this host
-/// alone, over TLS alone, and for every path (RFC 6265bis 4.1.3.2).
+/// only, over TLS only, and for every path (RFC 6265bis 4.1.3.2).
 #[derive(Clone, Copy, Debug, PartialEq, Eq)]
 pub enum SiteCookie {
     /// Who is logged in, sealed.
@@ -34,7 +34,7 @@ impl SiteCookie {
     }
 
     /// The cookie with that value: for every path of this host, hidden from scripts, not sent with other sites' forms,
-    /// and, where it was set over a secure connection, sent over secure ones alone.
+    /// and, where it was set over a secure connection, sent over secure ones only.
     ///
     /// Fails only when memory runs out.
     pub fn with_value(

@@ -1,4 +1,4 @@
-//! The calls that change a jar behind a handle.
+//! The calls that change a jar in a handle.
 ghost use Rattle.std.specs.Prelude.{◌≡◌, ◌⊎◌, [], Some, None, IfOk, IsUtf8, true};
 ghost use Rattle.jiff.specs.Types.{DateTime};
 ghost use Rattle.cookie.specs.CookieOf.{header_cookies};
@@ -77,7 +77,7 @@ pub extern "C" fn cookie_jar_add(alloc: Global, jar: &mut Jar, text: &[u8]) -> u
 /// an original of the name, the delta gets a cookie that tells the client to drop it, without path and domain.
 ///
 /// Refuses a handle without a jar, then a moment or a name that isn't UTF-8, and then a moment that is no date; else it
-/// fails for out of memory alone. After a refusal the jar is as before.
+/// fails only when memory runs out. After a refusal the jar is as before.
 #[tactic(auto, using(crate::proofs::JarLemmas::at_none, crate::proofs::JarLemmas::at_some))]
 #[unsafe(no_mangle)]
 pub extern "C" fn cookie_jar_remove(alloc: Global, jar: &mut Jar, moment: &[u8], name: &[u8]) -> u32

@@ -1,4 +1,4 @@
-//! The calls that give a text of a jar behind a handle.
+//! The calls that give a text of a jar in a handle.
 ghost use Rattle.std.specs.Prelude.{◌≡◌, ◌++◌, IfOk, OnOk, codes, true, false, string_bytes};
 ghost use Rattle.cookie.specs.Text.{cookie_text};
 ghost use Rattle.cookie_c.specs.Jars.{HasLines, IsDeltaGiven, IsShown, OfJar};
@@ -12,7 +12,7 @@ use std::alloc::{AllocError, Global};
 /// The value of the cookie that the jar shows under the name, for the buffer. The jar is as before.
 ///
 /// Refuses a handle without a jar, then a name that isn't UTF-8, and then one under which the jar shows no cookie. It
-/// takes no memory.
+/// doesn't allocate.
 #[tactic(auto, using(crate::proofs::JarLemmas::of_none, crate::proofs::JarLemmas::of_some))]
 #[unsafe(no_mangle)]
 pub extern "C" fn cookie_jar_get(

@@ -57,7 +57,7 @@ impl<'c> Cookie<'c> {
         })
     }
 
-    /// Sets the name to a text of its own, which is no longer lent.
+    /// Sets the name to a text of its own, which is no longer borrowed.
     pub fn set_name_owned(&mut self, name: String)
         ensures fields { self.new.fields ≡ record self.old.fields { name = string_bytes name } }
         ensures raw { self.new.raw ≡ record self.old.raw { name = None } }
@@ -65,7 +65,7 @@ impl<'c> Cookie<'c> {
         self.name = CookieStr::Owned(name);
     }
 
-    /// Sets the value to a text of its own, which is no longer lent.
+    /// Sets the value to a text of its own, which is no longer borrowed.
     pub fn set_value_owned(&mut self, value: String)
         ensures fields { self.new.fields ≡ record self.old.fields { value = string_bytes value } }
         ensures raw { self.new.raw ≡ record self.old.raw { value = None } }
@@ -73,7 +73,7 @@ impl<'c> Cookie<'c> {
         self.value = CookieStr::Owned(value);
     }
 
-    /// Sets the path to a text of its own, which is no longer lent (RFC 6265 4.1.2.4).
+    /// Sets the path to a text of its own, which is no longer borrowed (RFC 6265 4.1.2.4).
     pub fn set_path_owned(&mut self, path: String)
         ensures fields { self.new.fields
             ≡ record self.old.fields { path = Some (string_bytes path) } }
@@ -82,7 +82,7 @@ impl<'c> Cookie<'c> {
         self.path = Some(CookieStr::Owned(path));
     }
 
-    /// Sets the domain to a text of its own, which is no longer lent. One leading dot isn't part of the domain
+    /// Sets the domain to a text of its own, which is no longer borrowed. One leading dot isn't part of the domain
     /// (RFC 6265 4.1.2.3, 5.2.3).
     pub fn set_domain_owned(&mut self, domain: String)
         ensures fields { self.new.fields

@@ -39,7 +39,7 @@ impl<'c> Cookie<'c> {
         self.http_only = value;
     }
 
-    /// Sets whether it is for secure connections alone; `None` unsets that (RFC 6265 4.1.2.5).
+    /// Sets whether it is for secure connections only; `None` unsets that (RFC 6265 4.1.2.5).
     pub fn set_secure(&mut self, value: Option<bool>)
         ensures fields { self.new.fields ≡ record self.old.fields { secure = value } }
         ensures raw { self.new.raw ≡ self.old.raw }
