@@ -38,7 +38,7 @@ abbrev pub is_plain_domain : Option (List ℕ) → Bool
 is_plain_domain None = true
 is_plain_domain (Some domain) = begins_plainly domain && is_plain domain
 
--- the scope is the site's host alone, at the path
+-- the scope is the site's host only, at the path
 abbrev pub gives_own : SiteView → ScopeView → Option (List ℕ) → Bool
 gives_own site scope path =
     scope.is_host_only

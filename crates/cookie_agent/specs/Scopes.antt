@@ -16,7 +16,7 @@ abbrev pub path_of : SiteView → Option (List ℕ) → List ℕ
 path_of site None = default_path site.path
 path_of site (Some path) = if starts_with eqb path (codes "/") then path else default_path site.path
 
--- the site's host alone
+-- the site's host only
 abbrev pub own_scope : SiteView → Option (List ℕ) → ScopeView
 own_scope site path = record { domain = site.host; is_host_only = true; path = path_of site path }
 

@@ -5,7 +5,7 @@ use Rattle.std.specs.List.Sorted.{IsStableByKey}
 use Rattle.cookie_agent.specs.Sent.{path_length, greater_first}
 use Rattle.cookie_agent.specs.Store.{Store, Stored}
 
--- the cookies that are lent
+-- the cookies that are borrowed
 abbrev pub targets : List (Bor Stored) → Store
 targets lent = map (λ c. c.now) lent
 

@@ -22,7 +22,7 @@ abbrev pub IsDecodingRefusal : List ℕ → ParseError → Type 0
 IsDecodingRefusal text why =
     ReadsInMemory true text (Err why) × IsCertain {C = Record} text (Err why)
 
--- The name and the value stand at the head of the buffer, the value right behind the name, where both have room; else
+-- The name and the value stand at the head of the buffer, the value right after the name, where both have room; else
 -- nothing is written. Their places are told either way.
 pub record AreGiven (first second : List ℕ) (code : ℕ) (name_place value_place : Place)
     (old new : List ℕ) : Type 0 where

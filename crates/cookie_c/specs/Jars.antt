@@ -1,4 +1,4 @@
--- The calls on a jar behind a handle: what each answers, and what it leaves. `old` is the jar at the call, and `new` at
+-- The calls on a jar in a handle: what each answers, and what it leaves. `old` is the jar at the call, and `new` at
 -- the return; of a call that gives a text they are the buffer.
 use Rattle.std.specs.Prelude.{◌≡◌, ℕ, ◌⊎◌, true, false, List, [], map, IsUtf8, Option, Some, None, option_map}
 use Rattle.std.specs.FinMap.{FinMap, get}

@@ -1,4 +1,4 @@
--- A cookie whose parts C hands in (RFC 6265 5.2.1 to 5.2.6): what its numbers say, the other way round than in
+-- A cookie whose parts C passes in (RFC 6265 5.2.1 to 5.2.6): what its numbers say, the other way round from
 -- `Numbers`.
 use Rattle.std.specs.Prelude.{◌≡◌, ◌≤◌, ◌==◌, ◌⊎◌, ℕ, pos, Bool, List, Option, Some, None, IsUtf8, if◌then◌else◌}
 use Rattle.jiff.specs.Types.{DateTime}

@@ -67,7 +67,7 @@ stored_by handling change = change
 
 -- ---- what a call asks for
 
--- the change that a call on a child jar asks for, with its cookie as it was handed in
+-- the change that a call on a child jar asks for, with its cookie as it was passed in
 abbrev pub asked_of_child : ChildCall → Change
 asked_of_child (child.AddOriginal cookie) = AddOriginal cookie.fields
 asked_of_child (child.Add cookie) = Add cookie.fields
@@ -147,6 +147,6 @@ IsFit now (Add cookie) = IsFitAddition now cookie
 IsFit now (Remove cookie moment) = cookie.name ≢ []
 IsFit now change = Unit {0}
 
--- a call that a client can follow at the moment; the cookie is looked at as it was handed in
+-- a call that a client can follow at the moment; the cookie is looked at as it was passed in
 abbrev pub IsFitCall : DateTime → JarCall → Type 0
 IsFitCall now call = IsFit now (asked_of call)

@@ -28,6 +28,6 @@ pub record IsExchange (now : DateTime) (start : JarState) (before : Values) (cal
   pub jar : played.jar ≡ after_all (changes_by calls played) start
   -- the client agrees with it
   pub agreement : Agrees now before (changes_by calls played) played.jar played.client
-  -- what is fit as it was handed in is fit as it is stored
+  -- what is fit as it was passed in is fit as it is stored
   pub fit : All (IsFitCall now) (accepted_calls calls played)
       → All (IsFit now) (changes_by calls played)

@@ -53,7 +53,7 @@ IsPlayed moment is_read old new (Err refusal.Input) = Keeps old new
 
 -- The text is the delta of a jar and the header of a client that agrees with it.
 pub record IsOfAgreement (now : DateTime) (lines : List (List ℕ)) (text : List ℕ) : Type 0 where
-  -- what the lines behind the first ask for
+  -- what the lines after the first ask for
   pub changes : List Change
   pub asked : changes_in now 2 (drop 1 lines) ≡ Ok changes
   -- was made to a new jar, whose originals are the cookies of the first line

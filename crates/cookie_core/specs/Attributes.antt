@@ -21,7 +21,7 @@ IsPair piece name value =
     (before : List ℕ) × (after : List ℕ) × (piece ≡ before ++ 61 ∷ after)
     × Lacks 61 before × (name ≡ trim before) × (value ≡ trim after)
 
--- the piece has this word before its first `=`, and the value behind it if there is a `=`
+-- the piece has this word before its first `=`, and the value after it if there is a `=`
 abbrev pub IsAttribute : List ℕ → List ℕ → Option (List ℕ) → Type 0
 IsAttribute piece word None = Lacks 61 piece × (word ≡ trim piece)
 IsAttribute piece word (Some value) = IsPair piece word value

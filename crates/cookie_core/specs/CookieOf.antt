@@ -20,7 +20,7 @@ use Rattle.cookie_core.specs.declared.expiration.Expiration.TheVariants as expir
 abbrev pub key_text : List ℕ → List ℕ
 key_text piece = trim (before_first (λ byte. byte == 61) piece)
 
--- the value of a piece: what stands behind its first `=`, trimmed, where there is one
+-- the value of a piece: what stands after its first `=`, trimmed, where there is one
 abbrev pub value_text : List ℕ → Option (List ℕ)
 value_text piece =
     if list_any (λ byte. byte == 61) piece
@@ -61,7 +61,7 @@ last_set attribute [] = None
 last_set attribute (piece ∷ later) =
     option_or (last_set attribute later) (setting_in attribute piece)
 
--- the record of a name, a value and what the pieces behind them set
+-- the record of a name, a value and what the pieces after them set
 abbrev pub record_in : List ℕ → List ℕ → List (List ℕ) → Record
 record_in name value later = record_of name value (λ attribute. last_set attribute later)
 

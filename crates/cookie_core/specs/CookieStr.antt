@@ -39,7 +39,7 @@ pub record IsSameSource (old new : Source) : Type 0 where
   pub bytes : source_bytes new ≡ source_bytes old
   pub lent : (part : CookieStr) → raw_bytes new part ≡ raw_bytes old part
 
--- both texts have the same bytes in each source, fit the same sources, and are lent the same parts
+-- both texts have the same bytes in each source, fit the same sources, and borrow the same parts
 pub record IsSameText (old new : CookieStr) : Type 0 where
   pub bytes : (whole : List ℕ) → text_bytes whole new ≡ text_bytes whole old
   pub fits : (whole : List ℕ) → Fits whole old → Fits whole new

@@ -1,4 +1,4 @@
--- What a text is read as where memory can be wanting, and what a decoded cookie lends (RFC 6265 5.2, RFC 3986 2.1).
+-- What a text is read as where memory can run out, and what a decoded cookie borrows (RFC 6265 5.2, RFC 3986 2.1).
 use Rattle.std.specs.Prelude.{◌≡◌, ◌≢◌, ℕ, ◌||◌, Bool, false, List, [], Option, Some, None, option_map, Result, Err, IsOk, IsUtf8, drop, if◌then◌else◌}
 use Rattle.std.specs.Result.{result_ok}
 use Rattle.std.specs.Str.{is_utf8, valid_up_to, error_len}
@@ -19,13 +19,13 @@ HasPair text =
     (piece : List ℕ) × (later : List (List ℕ)) × (name : List ℕ) × (value : List ℕ)
     × IsPieces text piece later × IsPair piece name value × (name ≢ [])
 
--- what the text is read as, as it stands or decoded; memory can be wanting in the place of a record or of a refusal to
+-- what the text is read as, as it stands or decoded; out of memory can come in the place of a record or of a refusal to
 -- decode
 abbrev pub ReadsInMemory : Bool → List ℕ → Result Record ParseError → Type 0
 ReadsInMemory decode text (Err refusal.OutOfMemory) = HasPair text
 ReadsInMemory decode text outcome = Reads decode text outcome
 
--- the answer is the one of `cookie_of`, unless memory was wanting
+-- the answer is the one of `cookie_of`, unless memory ran out
 abbrev pub AgreesInMemory : Bool → List ℕ → Result Record ParseError → Type 0
 AgreesInMemory decode text (Err refusal.OutOfMemory) = Unit {0}
 AgreesInMemory decode text outcome = result_ok outcome ≡ cookie_of decode text

@@ -17,7 +17,7 @@ IsHeaderTexts header texts =
 abbrev pub header_texts : List ℕ → List (List ℕ)
 header_texts header = kept_texts (pieces header)
 
--- texts, each behind `; ` (RFC 6265 4.2.1)
+-- texts, each after `; ` (RFC 6265 4.2.1)
 abbrev pub more_joined : List (List ℕ) → List ℕ
 more_joined [] = []
 more_joined (text ∷ texts) = codes "; " ++ (text ++ more_joined texts)

@@ -53,12 +53,12 @@ pub record RawForms : Type 0 where
   pub path : Option (List ℕ)
   pub domain : Option (List ℕ)
 
--- a cookie: its fields, and what it lends
+-- a cookie: its fields, and what it borrows
 pub record CookieView : Type 0 where
   pub fields : Record
   pub raw : RawForms
 
--- nothing is lent
+-- nothing is borrowed
 abbrev pub no_raw_forms : RawForms
 no_raw_forms = record { name = None; value = None; path = None; domain = None }
 

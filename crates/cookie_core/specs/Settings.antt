@@ -12,7 +12,7 @@ abbrev pub GivesNothing : Key → Option (List ℕ) → Type 0
 GivesNothing attribute value =
     (setting : Setting attribute) → ¬ (GivesSetting attribute value setting)
 
--- the record in which the field of the key alone can be set
+-- the record in which only the field of the key can be set
 abbrev pub only : (attribute : Key) → Option (Setting attribute) → Record
 only key.HttpOnly setting = record (plain [] []) { http_only = setting }
 only key.Secure setting = record (plain [] []) { secure = setting }

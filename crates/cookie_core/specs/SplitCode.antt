@@ -33,7 +33,7 @@ is_owned (header.EncodedOwned alloc text) = true
 abbrev pub texts_in : List ℕ → Option Span → List (List ℕ)
 texts_in text rest = texts_left (option_map (span_text text) rest)
 
--- the first text of the rest, which holds no `;`, and what stands behind it
+-- the first text of the rest, which holds no `;`, and what stands after it
 abbrev pub IsFirst : List ℕ → Span → Option (Span × Option Span) → Type 0
 IsFirst text rest None = header_texts (span_text text rest) ≡ []
 IsFirst text rest (Some found) =

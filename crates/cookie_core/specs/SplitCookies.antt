@@ -38,7 +38,7 @@ ReadsItem true false text outcome = ReadsInMemory true text outcome
 ReadsItem false true text outcome = ReadsInMemory false text outcome
 ReadsItem true true text outcome = ReadsInMemory true text outcome
 
--- what its cookie lends
+-- what its cookie borrows
 abbrev pub LendsItem : Bool → Bool → List ℕ → CookieView → Type 0
 LendsItem false false text cookie = cookie.raw ≡ all_lent cookie.fields
 LendsItem true false text cookie = LendsDecoded text cookie.raw

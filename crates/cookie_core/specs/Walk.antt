@@ -4,7 +4,7 @@ use Rattle.cookie_core.specs.Pieces.{Lacks}
 use Rattle.cookie_core.specs.Attributes.{SetsAttributes}
 use Rattle.cookie_core.specs.Record.{Record}
 
--- what stands behind a piece: nothing, or a `;` and the rest
+-- what stands after a piece: nothing, or a `;` and the rest
 abbrev pub behind : Option (List ℕ) → List ℕ
 behind None = []
 behind (Some rest) = 59 ∷ rest

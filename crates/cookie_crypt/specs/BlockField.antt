@@ -32,6 +32,6 @@ product_below (suc count) left right =
 unfoldable pub field_product : ℕ → ℕ → ℕ
 field_product left right = product_below 128 left right
 
--- the block 1: its leftmost bit alone is set
+-- the block 1: only its leftmost bit is set
 abbrev pub block_one : ℕ
 block_one = 2 ^ 127

@@ -22,11 +22,11 @@ with_products count steps =
       table_steps = steps.table_steps + 32 * count;
     }
 
--- how many blocks of sixteen bytes this many bytes take
+-- the number of blocks of sixteen bytes that this many bytes take
 abbrev pub block_count : ℕ → ℕ
 block_count bytes = (bytes + 15) / 16
 
--- the tag of a text under data, each of as many bytes as told: two blocks, and a product for each block of data, text and lengths
+-- the tag of a text under data, by their lengths: two blocks, and a product for each block of data, text and lengths
 abbrev pub tag_steps : ℕ → ℕ → StepCounts
 tag_steps aad text = record {
   blocks = 2;

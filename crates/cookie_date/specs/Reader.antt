@@ -6,15 +6,15 @@ use Rattle.cookie_date.specs.declared.fields.Fields.{Fields}
 use Rattle.cookie_date.specs.Names.{weekday_text, month_text}
 use Rattle.cookie_date.specs.Chains.{◌>>=◌}
 
--- what stands at the front of a text, and the text behind it
+-- what stands at the front of a text, and the text after it
 abbrev pub Front : Type 0 → Type 0
 Front A = Option (A × List ℕ)
 
--- the same, where the text behind it is a slice
+-- the same, where the text after it is a slice
 abbrev pub front : {A : Type 0} → Option (A × Bor (List ℕ)) → Front A
 front found = option_map (λ p. (p.0, p.1.now)) found
 
--- the text behind this tag
+-- the text after this tag
 abbrev pub read_tag : List ℕ → List ℕ → Option (List ℕ)
 read_tag tag text =
     if bytes_eq (take (length tag) text) tag then Some (drop (length tag) text) else None
@@ -66,7 +66,7 @@ unfoldable pub read_number : List ℕ → Front ℕ
 read_number text =
     let r = read_digits 4 0 text in if length r.1 == length text then None else Some r
 
--- whether `-` stands at the front, and the text behind the sign
+-- whether `-` stands at the front, and the text after the sign
 abbrev pub read_sign : List ℕ → Bool × List ℕ
 read_sign [] = (false, [])
 read_sign (c ∷ text) =
@@ -78,7 +78,7 @@ read_year text = do
   digits ← read_number (read_sign text).1
   Some (if (read_sign text).0 then neg_ℤ (pos digits.0) else pos digits.0, digits.1)
 
--- the number n and the text behind its name, or else what the names after it give
+-- the number n and the text after its name, or else what the names after it give
 abbrev pub or_later : Option (List ℕ) → ℕ → Front ℕ → Front ℕ
 or_later (Some rest) n later = Some (n, rest)
 or_later None n later = later
@@ -95,7 +95,7 @@ weekday_rest n = slice_index_or
     (codes "day" ∷ codes "sday" ∷ codes "nesday" ∷ codes "rsday" ∷ codes "day" ∷ codes "urday"
     ∷ codes "day" ∷ []) n []
 
--- a day and a month, with this mark behind each
+-- a day and a month, with this mark after each
 unfoldable pub read_day_month : List ℕ → List ℕ → Front (ℕ × ℕ)
 read_day_month mark text = do
   day ← read_two_digits text
@@ -103,7 +103,7 @@ read_day_month mark text = do
   rest ← read_tag mark month.1
   Some ((day.0, month.0), rest)
 
--- a blank, the time of day and ` GMT`, with nothing behind it
+-- a blank, the time of day and ` GMT`, with nothing after it
 unfoldable pub read_gmt : List ℕ → Option (ℕ × ℕ × ℕ)
 read_gmt text = do
   clock ← read_tag (codes " ") text >>= read_clock
@@ -165,7 +165,7 @@ read_named n text = if slice_index text 0 == 44
     else (read_tag (weekday_rest n) text
     >>= λ rest. read_tag (codes ", ") rest >>= read_short_year))
 
--- a date behind a weekday, if one was read, and else the other date
+-- a date after a weekday, if one was read, and else the other date
 abbrev pub named_or : Front ℕ → Option Fields → Option Fields
 named_or None other = other
 named_or (Some weekday) other = read_named weekday.0 weekday.1

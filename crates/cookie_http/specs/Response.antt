@@ -10,7 +10,7 @@ use Rattle.cookie.specs.Record.{Record}
 use Rattle.cookie.specs.Text.{cookie_text}
 use Rattle.cookie_http.specs.Fields.{set_cookie_texts}
 
--- the map with a `Set-Cookie` field for each text, in order, behind those that it has
+-- the map with a `Set-Cookie` field for each text, in order, after those that it has
 abbrev pub with_set_cookies : List (List ℕ) → Entries FieldValue → Entries FieldValue
 with_set_cookies texts m = append_all m (map (λ text. (codes "set-cookie", plain_value text)) texts)
 

@@ -73,7 +73,7 @@ reason_html OnlyPost = codes "<h1>This page answers POST alone.</h1>\n"
 abbrev pub refusal_html : List ℕ → Refusal → List ℕ
 refusal_html base refusal = reason_html refusal ++ link_html base
 
--- what a page has behind what each begins with
+-- what a page has after what each begins with
 abbrev pub main_html : List ℕ → Page → List ℕ
 main_html base (Home visitor) = home_html base visitor
 main_html base Moved = link_html base

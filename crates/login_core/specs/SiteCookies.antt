@@ -14,7 +14,7 @@ name_of false User = codes "user"
 name_of false Visits = codes "visits"
 name_of false Notice = codes "notice"
 
--- the cookie with that value: for this host alone and for every path, kept from scripts (RFC 6265 5.2.4 to 5.2.6)
+-- the cookie with that value: for this host only and for every path, kept from scripts (RFC 6265 5.2.4 to 5.2.6)
 abbrev pub kept : Bool → SiteCookie → List ℕ → Record
 kept secure which value =
     record (plain (name_of secure which) value) {
