@@ -50,12 +50,12 @@ impl Agent {
         }
     }
 
-    /// Reads the text of a `Set-Cookie` header of the site's response at a moment in UTC, and answers whether it is a
+    /// Reads the text of a `Set-Cookie` header of the site's response at a moment in UTC. Returns whether it is a
     /// cookie (RFC 6265 5.3).
     ///
-    /// A cookie whose domain the site may set takes the place of the one with its name, domain and path, or comes last,
-    /// as it stands there, with nothing decoded; what is expired is dropped, so a cookie that is expired drops the one
-    /// in whose place it comes. Fails only if out of memory, and then the agent is as before.
+    /// A cookie whose domain the site may set takes the place of the one with its name, domain and path, or comes last.
+    /// Nothing is decoded. What is expired is dropped, so a cookie that is expired drops the one whose place it takes.
+    /// Fails only if out of memory, and then the agent is as before.
     pub fn read(&mut self, site: &Site, text: &str, now: DateTime) -> Result<bool, AllocError>
         ensures gives { IfOk result (λ is_cookie.
             (self.new ≡ store_after_text standard_key site.now now text.now self.old)

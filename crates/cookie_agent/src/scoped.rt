@@ -13,10 +13,12 @@ use cookie::Cookie;
 use cookie_client::{ChildCall, JarCall, PrefixKind, is_live};
 use jiff::civil::DateTime;
 
-/// Whether a user agent at the site can follow the call at the moment `now` in UTC, where the scope is that of the
-/// call's name: an addition of a cookie that is live (`cookie_client::is_live`), a removal or a reset, whose cookie, as
-/// the jar stores it, has a name, gets that scope at the site, is sent to the site, and has a path and a domain that
-/// are read as they are printed.
+/// Whether a user agent at the site can follow the call at the moment `now` in UTC. The scope is that of the call's
+/// name.
+///
+/// It can follow an addition of a cookie that is live (`cookie_client::is_live`), a removal, and a reset. The cookie,
+/// as the jar stores it, has a name, gets that scope at the site and is sent to the site. Its path and domain are read
+/// as they are printed.
 pub fn is_scoped(call: &JarCall<'_>, site: &Site, scope: &Scope, now: DateTime) -> bool
     ensures { IsTrue result ↔ IsScopedCall site.now now (λ _. scope.now) call.now }
 {

@@ -115,7 +115,7 @@ impl StoredCookie {
         self.scope.path().len()
     }
 
-    // Writes its name and its value behind the text.
+    // Writes its name and its value after the text.
     pub(crate) fn push_pair(&self, header: &mut String) -> Result<(), AllocError>
         ensures { OnOk result (string_bytes header.new
             ≡ string_bytes header.old ++ sent_pair self.now) }

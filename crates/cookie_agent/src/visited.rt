@@ -11,6 +11,6 @@ pub struct Visited {
     pub jar: CookieJar,
     /// The user agent after the response.
     pub agent: Agent,
-    /// One outcome a call, in their order: true where it was accepted. A refused call counts as not made.
+    /// One outcome a call, in their order: true if it was accepted. A refused call counts as not made.
     pub outcomes: Vec<bool>,
 }

@@ -124,7 +124,7 @@ fn read_fields(text: &[u8]) -> Option<Fields>
 /// The text has one of four forms: the three of RFC 9110 5.6.7, as `Sun, 06 Nov 1994 08:49:37 GMT`,
 /// `Sunday, 06-Nov-94 08:49:37 GMT` and `Sun Nov  6 08:49:37 1994`, and the first with hyphens round the month.
 /// The weekday may be left out, and isn't compared with the date. In the second form the year has two digits, and
-/// in the others one to four, behind a sign or none. A year from 0 to 99 is completed to one from 1970 to 2069
+/// in the others one to four, after a sign or none. A year from 0 to 99 is completed to one from 1970 to 2069
 /// (RFC 6265 5.1.1, steps 3 and 4).
 ///
 /// `None` says that the text has none of the forms, or shows a date or a time that there isn't.

@@ -53,7 +53,7 @@ pub fn read_clock(text: &[u8]) -> Option<((u8, u8, u8), &[u8])>
     Some(((hour, minute, second), rest))
 }
 
-// ` 08:49:37 GMT`, with nothing behind it.
+// ` 08:49:37 GMT`, with nothing after it.
 #[tactic(auto, unfolding(crate::specs::Reader::read_gmt))]
 pub fn read_gmt(text: &[u8]) -> Option<(u8, u8, u8)>
     ensures { result ≡ Reader.read_gmt text.now }

@@ -11,8 +11,8 @@ use cookie::CookieJar;
 use http_header::HeaderMap;
 use std::alloc::Global;
 
-/// A new jar whose originals are the cookies of a request's `Cookie` fields, decoded. Its hash is fixed: where
-/// strangers choose the names, take `with_headers`.
+/// A new jar whose originals are the cookies of a request's `Cookie` fields, decoded. Its hash is fixed. If strangers
+/// choose the names, use `with_headers`.
 ///
 /// Several fields are read as one, joined by `; ` (RFC 9113 8.2.3). A piece between semicolons is skipped if it isn't
 /// UTF-8 or is no cookie. The other pieces count. Fails only with `HttpError::OutOfMemory`.
