@@ -17,3 +17,19 @@ pub fn is(cookie: &Cookie<'_>, other: &Cookie<'_>) -> bool {
         && cookie.expires() == other.expires()
         && are_flags_alike(cookie, other)
 }
+
+/// Whether the cookie lends these parts of the text that it was read of: its name, value, path and domain, as in
+/// `a|1|-|-`.
+pub fn lends(cookie: &Cookie<'_>, parts: &str) -> bool {
+    let mut parts = parts.split('|');
+    Some(cookie.name_raw().unwrap_or("-")) == parts.next()
+        && Some(cookie.value_raw().unwrap_or("-")) == parts.next()
+        && Some(cookie.path_raw().unwrap_or("-")) == parts.next()
+        && Some(cookie.domain_raw().unwrap_or("-")) == parts.next()
+        && parts.next().is_none()
+}
+
+/// Whether a clone equals its value, and the value no other.
+pub fn is_cloned<T: Clone + PartialEq + Drop>(value: &T, other: &T) -> bool {
+    matches!(value.clone(), Ok(copy) if copy == *value && *value != *other)
+}

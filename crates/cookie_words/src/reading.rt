@@ -19,53 +19,38 @@ fn site(word: &str) -> Option<SameSite> {
     }
 }
 
-// The thousandths that the digits after a point say.
-fn thousandths(digits: &str) -> Option<i64> {
-    let number: i64 = digits.parse().ok()?;
-    match digits.len() {
-        1 => number.checked_mul(100),
-        2 => number.checked_mul(10),
-        3 => Some(number),
-        _ => None,
-    }
-}
-
-// The words without their sign, and 1, or -1 where that is a minus.
-fn without_sign(words: &str) -> (&str, i64) {
-    match words.strip_prefix("-") {
-        Some(rest) => (rest, -1),
-        None => (words, 1),
-    }
-}
-
 // This many seconds, with up to three digits after a point.
 fn age(words: &str) -> Option<SignedDuration> {
-    let Some((seconds, digits)) = words.split_once('.') else {
-        return Some(SignedDuration::from_secs(words.parse().ok()?));
+    let (seconds, digits) = words.split_once('.').unwrap_or((words, "0"));
+    let unit = match digits.len() {
+        1 => 100,
+        2 => 10,
+        3 => 1,
+        _ => return None,
     };
-    let (seconds, sign) = without_sign(seconds);
-    let whole: i64 = seconds.parse().ok()?;
-    let millis = whole.checked_mul(1_000)?.checked_add(thousandths(digits)?)?;
-    Some(SignedDuration::from_millis(millis.checked_mul(sign)?))
+    let millis = digits.parse::<i64>().ok()?.checked_mul(unit)?;
+    let part = if words.starts_with('-') {
+        millis.checked_neg()?
+    } else {
+        millis
+    };
+    SignedDuration::from_secs(seconds.parse().ok()?).checked_add(SignedDuration::from_millis(part))
 }
 
 // A date as headers have it, or as ISO 8601 does.
 fn moment(words: &str) -> Option<DateTime> {
-    match read_date(words) {
-        Some(moment) => Some(moment),
-        None => words.parse().ok(),
-    }
+    read_date(words).or(words.parse().ok())
 }
 
 fn expiry(words: &str) -> Option<Expiration> {
-    match words {
-        "session" => Some(Expiration::Session),
-        _ => Some(Expiration::DateTime(moment(words)?)),
+    if words == "session" {
+        return Some(Expiration::Session);
     }
+    Some(Expiration::DateTime(moment(words)?))
 }
 
 /// Sets the field that the words say, such as `Path=/a`, `Secure` or `Max-Age=0.5`.
-pub fn set(cookie: &mut Cookie<'static>, field: &'static str) -> Option<()> {
+pub fn set<'c>(cookie: &mut Cookie<'c>, field: &'c str) -> Option<()> {
     let (name, value) = field.split_once('=').unwrap_or((field, ""));
     match name {
         "Path" => cookie.set_path(value),
@@ -82,14 +67,13 @@ pub fn set(cookie: &mut Cookie<'static>, field: &'static str) -> Option<()> {
 }
 
 /// The cookie that the words say, such as `a=1; Path=/a; Secure`. A text without `=` has the empty value.
-pub fn cookie(words: &'static str) -> Option<Cookie<'static>> {
-    let (pair, fields) = words.split_once("; ").unwrap_or((words, ""));
+pub fn cookie(words: &str) -> Option<Cookie<'_>> {
+    let mut fields = words.split("; ");
+    let pair = fields.next()?;
     let (name, value) = pair.split_once('=').unwrap_or((pair, ""));
     let mut cookie = Cookie::new(name, value);
-    if pair.len() < words.len() {
-        for field in fields.split("; ") {
-            set(&mut cookie, field)?;
-        }
+    for field in fields {
+        set(&mut cookie, field)?;
     }
     Some(cookie)
 }

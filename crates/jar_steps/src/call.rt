@@ -16,27 +16,15 @@ impl Call {
     /// The call that a step says, such as `add a=1; Path=/`, `private7 add a=1`, `force a` or `reset`.
     pub fn parse(step: &'static str) -> Option<Call> {
         let (word, rest) = step.split_once(' ').unwrap_or((step, ""));
-        match Child::parse(word) {
-            Some(child) => Call::parse_on(Some(child), rest),
-            None => Call::parse_on(None, step),
-        }
-    }
-
-    // The call on that child jar, or on the jar itself.
-    fn parse_on(child: Option<Child>, step: &'static str) -> Option<Call> {
+        let child = Child::parse(word);
+        let step = if child.is_some() { rest } else { step };
         let (word, words) = step.split_once(' ').unwrap_or((step, ""));
         let verb = Verb::parse(word)?;
-        if child.is_some() && !verb.is_of_child() {
-            return None;
-        }
         Some(Call { child, verb, words })
     }
 
-    /// The call's cookie, or none where the words say none. That of a forced removal has its name alone.
+    /// The call's cookie, or none where the words say none. That of a forced removal has only its name.
     pub fn cookie(self) -> Option<Cookie<'static>> {
-        match self.verb {
-            Verb::ForceRemove => Some(Cookie::named(self.words)),
-            _ => cookie_words::cookie(self.words),
-        }
+        cookie_words::cookie(self.words)
     }
 }

@@ -7,7 +7,6 @@ mod look;
 mod making;
 mod rows;
 mod sevens;
-mod step;
 mod verb;
 
 pub use call::Call;
@@ -15,6 +14,5 @@ pub use child::Child;
 pub use look::{Look, counts, shown_value};
 pub use making::{make, make_on};
 pub use rows::{moment, test_key};
-pub use sevens::{Sevens, Spent};
-pub use step::Step;
+pub use sevens::Sevens;
 pub use verb::Verb;

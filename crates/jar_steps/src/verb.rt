@@ -20,9 +20,4 @@ impl Verb {
             _ => None,
         }
     }
-
-    /// Whether child jars have the call too.
-    pub fn is_of_child(self) -> bool {
-        matches!(self, Verb::AddOriginal | Verb::Add | Verb::Remove)
-    }
 }

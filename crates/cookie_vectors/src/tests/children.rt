@@ -1,197 +1,131 @@
-//! What child jars answer.
-use super::jars::is_lent;
+//! What child jars answer: of a prefix, also of the tests' own, or of the key.
 use super::player::Player;
 use super::prefixes::{self, Bare, Team};
 use super::secrets;
 use cookie::prefix::{Host, Prefix, Secure};
 use cookie::{Cookie, CookieJar, JarError};
+use cookie_words::{is, lends};
 use jar_steps::{Call, make_on};
 
-/// A child jar: of a prefix, also of the tests' own, or of the key.
-#[derive(Clone, Copy)]
-pub(super) enum ChildKind {
-    Host,
-    Secure,
-    Team,
-    Bare,
-    Signed,
-    Private,
-}
+type Answer = Result<Option<Cookie<'static>>, JarError>;
 
-impl ChildKind {
-    pub(super) fn parse(word: &str) -> Option<ChildKind> {
-        match word {
-            "host" => Some(ChildKind::Host),
-            "secure" => Some(ChildKind::Secure),
-            "team" => Some(ChildKind::Team),
-            "bare" => Some(ChildKind::Bare),
-            "signed" => Some(ChildKind::Signed),
-            "private" => Some(ChildKind::Private),
-            _ => None,
-        }
-    }
-}
+/// What the child jar answers, and the one that can be changed.
+pub(super) type Answers = (Answer, Answer);
 
-/// What a child jar answers.
-pub(super) type Answer = Result<Option<Cookie<'static>>, JarError>;
-
-// The answers of both child jars of the prefix.
-fn prefixed<P: Prefix + Copy>(jar: &mut CookieJar, prefix: P, name: &str) -> (Answer, Answer) {
+fn prefixed<P: Prefix + Copy>(jar: &mut CookieJar, prefix: P, name: &str) -> Answers {
     let answer = jar.prefixed(prefix).get(name);
     (answer, jar.prefixed_mut(prefix).get(name))
 }
 
-// The answers of both child jars, the second of the one that can be changed.
-fn get(player: &mut Player, kind: ChildKind, name: &str) -> (Answer, Answer) {
+fn get(player: &mut Player, kind: &str, name: &str) -> Answers {
     let (jar, key) = (&mut player.jar, &player.key);
     match kind {
-        ChildKind::Host => prefixed(jar, Host, name),
-        ChildKind::Secure => prefixed(jar, Secure, name),
-        ChildKind::Team => prefixed(jar, Team, name),
-        ChildKind::Bare => prefixed(jar, Bare, name),
-        ChildKind::Signed => (jar.signed(key).get(name), jar.signed_mut(key).get(name)),
-        ChildKind::Private => (jar.private(key).get(name), jar.private_mut(key).get(name)),
+        "host" => prefixed(jar, Host, name),
+        "secure" => prefixed(jar, Secure, name),
+        "team" => prefixed(jar, Team, name),
+        "bare" => prefixed(jar, Bare, name),
+        "signed" => (jar.signed(key).get(name), jar.signed_mut(key).get(name)),
+        _ => (jar.private(key).get(name), jar.private_mut(key).get(name)),
     }
 }
 
-/// What a signed or a private jar makes of a cookie. No step wants the error that stands for the others.
-pub(super) fn open(player: &Player, kind: ChildKind, cookie: Cookie<'static>) -> Answer {
+/// What signed or private jars make of a cookie.
+pub(super) fn open(player: &mut Player, kind: &str, cookie: Cookie<'static>) -> Option<Answers> {
+    let copy = cookie.clone(player.alloc).ok()?;
+    let (jar, key) = (&mut player.jar, &player.key);
     match kind {
-        ChildKind::Signed => player.jar.signed(&player.key).verify(cookie),
-        ChildKind::Private => player.jar.private(&player.key).decrypt(cookie),
-        _ => Err(JarError::Generator),
-    }
-}
-
-// The same of the child jar that can be changed.
-fn open_mut(player: &mut Player, kind: ChildKind, cookie: Cookie<'static>) -> Answer {
-    match kind {
-        ChildKind::Signed => player.jar.signed_mut(&player.key).verify(cookie),
-        ChildKind::Private => player.jar.private_mut(&player.key).decrypt(cookie),
-        _ => Err(JarError::Generator),
+        "signed" => {
+            let answer = jar.signed(key).verify(cookie);
+            Some((answer, jar.signed_mut(key).verify(copy)))
+        }
+        "private" => {
+            let answer = jar.private(key).decrypt(cookie);
+            Some((answer, jar.private_mut(key).decrypt(copy)))
+        }
+        _ => None,
     }
 }
 
 // Whether the answer is a cookie with all fields of the wanted one, or none where none is wanted.
 fn is_answer(answer: &Answer, wanted: &Option<Cookie<'static>>) -> bool {
     match (answer, wanted) {
-        (Ok(Some(cookie)), Some(wanted)) => cookie_words::is(cookie, wanted),
+        (Ok(Some(cookie)), Some(wanted)) => is(cookie, wanted),
         (Ok(None), None) => true,
         _ => false,
     }
 }
 
-// Whether both child jars answer so under the name.
-fn answers(
-    player: &mut Player,
-    kind: ChildKind,
-    name: &str,
-    wanted: &Option<Cookie<'static>>,
-) -> bool {
-    let (one, two) = get(player, kind, name);
-    is_answer(&one, wanted) && is_answer(&two, wanted)
+fn are(answers: &Answers, wanted: &Option<Cookie<'static>>) -> bool {
+    is_answer(&answers.0, wanted) && is_answer(&answers.1, wanted)
 }
 
-// Whether both answer the cookie of the words.
-fn shows(player: &mut Player, kind: ChildKind, words: &'static str) -> bool {
-    let (name, _) = words.split_once('=').unwrap_or((words, ""));
-    let wanted = cookie_words::cookie(words);
-    wanted.is_some() && answers(player, kind, name, &wanted)
-}
-
-// Whether both open the cookie of the words as the wanted one, or neither where none is wanted.
-fn is_opened_as(
-    player: &mut Player,
-    kind: ChildKind,
-    words: &'static str,
-    wanted: &Option<Cookie<'static>>,
-) -> bool {
-    match (cookie_words::cookie(words), cookie_words::cookie(words)) {
-        (Some(one), Some(two)) => {
-            is_answer(&open(player, kind, one), wanted)
-                && is_answer(&open_mut(player, kind, two), wanted)
-        }
+// Whether both answers lend these parts of the text that was read.
+fn are_lent(answers: &Answers, parts: &str) -> bool {
+    match answers {
+        (Ok(Some(one)), Ok(Some(two))) => lends(one, parts) && lends(two, parts),
         _ => false,
     }
 }
 
-// Whether both open it with this value, as in `a=1; Path=/ -> 2`, and change nothing else.
-fn is_opened(player: &mut Player, kind: ChildKind, words: &'static str) -> bool {
-    let (words, value) = words.split_once(" -> ").unwrap_or((words, ""));
-    let mut wanted = cookie_words::cookie(words);
-    if let Some(cookie) = &mut wanted {
-        cookie.set_value(value);
-    }
-    wanted.is_some() && is_opened_as(player, kind, words, &wanted)
+fn shows(player: &mut Player, kind: &str, words: &'static str) -> Option<bool> {
+    let wanted = cookie_words::cookie(words)?;
+    let answers = get(player, kind, wanted.name());
+    Some(are(&answers, &Some(wanted)))
 }
 
-// The cookie as the jar stores it.
-fn stored(player: &Player, name: &str) -> Option<Cookie<'static>> {
-    player.jar.get(name)?.clone(player.alloc).ok()
+// Whether they open it with this value, as in `a=1; Path=/ -> 2`, and change nothing else.
+fn opens(player: &mut Player, kind: &str, row: &'static str) -> Option<bool> {
+    let (words, value) = row.split_once(" -> ")?;
+    let mut wanted = cookie_words::cookie(words)?;
+    wanted.set_value(value);
+    let answers = open(player, kind, cookie_words::cookie(words)?)?;
+    Some(are(&answers, &Some(wanted)))
 }
 
-fn is_answer_lent(answer: &Answer, raw: &str) -> bool {
-    match answer {
-        Ok(Some(cookie)) => is_lent(cookie, raw),
-        _ => false,
-    }
+fn refuses(player: &mut Player, kind: &str, words: &'static str) -> Option<bool> {
+    let answers = open(player, kind, cookie_words::cookie(words)?)?;
+    Some(are(&answers, &None))
 }
 
-// Whether both answers to the look-up, and what both make of the stored cookie, lend this of the text that was read.
-fn lends(player: &mut Player, kind: ChildKind, name: &str, raw: &str) -> bool {
-    let (one, two) = get(player, kind, name);
-    let are_lent = is_answer_lent(&one, raw) && is_answer_lent(&two, raw);
-    match (stored(player, name), stored(player, name)) {
-        (Some(one), Some(two)) => {
-            are_lent
-                && is_answer_lent(&open(player, kind, one), raw)
-                && is_answer_lent(&open_mut(player, kind, two), raw)
-        }
-        _ => false,
-    }
+// Whether what they answer under the name, and make of the stored cookie, lends these parts, as in `a a|-|/|-`.
+fn are_all_lent(player: &mut Player, kind: &str, row: &str) -> Option<bool> {
+    let (name, parts) = row.split_once(' ')?;
+    let answers = get(player, kind, name);
+    let stored = player.jar.get(name)?.clone(player.alloc).ok()?;
+    let opened = open(player, kind, stored)?;
+    Some(are_lent(&answers, parts) && are_lent(&opened, parts))
 }
 
 // Adds a cookie that is read.
-fn add_text(player: &mut Player, kind: ChildKind, text: &'static str) -> bool {
-    match (Cookie::parse(text), kind) {
-        (Ok(cookie), ChildKind::Signed) => player.jar.signed_mut(&player.key).add(cookie).is_ok(),
-        (Ok(cookie), ChildKind::Private) => player
-            .jar
-            .private_mut(&player.key)
-            .add_with_nonce(cookie, [0; 12])
-            .is_ok(),
-        _ => false,
-    }
+fn add_text(player: &mut Player, kind: &str, text: &'static str) -> Option<bool> {
+    let (jar, key, cookie) = (&mut player.jar, &player.key, Cookie::parse(text).ok()?);
+    let added = match kind {
+        "signed" => jar.signed_mut(key).add(cookie),
+        "private" => jar.private_mut(key).add_with_nonce(cookie, [0; 12]),
+        _ => return None,
+    };
+    Some(added.is_ok())
 }
 
 // Makes a call through the tests' own prefix.
-fn is_made(player: &mut Player, step: &'static str) -> bool {
-    match Call::parse(step) {
-        Some(call) if call.child.is_none() && call.verb.is_of_child() => match call.cookie() {
-            Some(cookie) => {
-                make_on(&mut player.jar.prefixed_mut(Team), call.verb, cookie).is_ok()
-            }
-            None => false,
-        },
-        _ => false,
-    }
+fn is_made(player: &mut Player, step: &'static str) -> Option<bool> {
+    let call = Call::parse(step)?;
+    let cookie = call.cookie()?;
+    Some(make_on(&mut player.jar.prefixed_mut(Team), call.verb, cookie).is_ok())
 }
 
 /// Answers whether the child jar shows or makes what it has to, or makes a call on it that `jar_steps` doesn't have.
-pub(super) fn is_right(player: &mut Player, kind: ChildKind, step: &'static str) -> bool {
-    let (verb, rest) = step.split_once(' ').unwrap_or((step, ""));
+pub(super) fn play(player: &mut Player, kind: &str, step: &'static str) -> Option<bool> {
+    let (verb, rest) = step.split_once(' ')?;
     match verb {
         "shows" => shows(player, kind, rest),
-        "lacks" => answers(player, kind, rest, &None),
-        "opens" => is_opened(player, kind, rest),
-        "refuses" => is_opened_as(player, kind, rest, &None),
+        "lacks" => Some(are(&get(player, kind, rest), &None)),
+        "opens" => opens(player, kind, rest),
+        "refuses" => refuses(player, kind, rest),
         "parse" => add_text(player, kind, rest),
-        "lends" => {
-            let (name, raw) = rest.split_once(' ').unwrap_or((rest, ""));
-            lends(player, kind, name, raw)
-        }
-        "brittle" => secrets::is_each_found(player, kind, rest),
-        "add" => matches!(kind, ChildKind::Team) && is_made(player, step),
-        _ => prefixes::is_right(player.alloc, kind, verb, rest),
+        "lends" => are_all_lent(player, kind, rest),
+        "brittle" => secrets::is_brittle(player, kind, rest),
+        "add" if kind == "team" => is_made(player, step),
+        _ => prefixes::play(player.alloc, kind, verb, rest),
     }
 }

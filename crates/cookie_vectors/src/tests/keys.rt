@@ -34,31 +34,6 @@ fn derived(bytes: &[u8]) -> Option<Result<Key, KeyError>> {
     }
 }
 
-// Whether the key's bytes are these in base64, or the refusal is told so.
-fn is_told(alloc: Global, made: &Result<Key, KeyError>, wanted: &str) -> bool {
-    let told = match made {
-        Ok(key) => STANDARD.encode(alloc, key.master()),
-        Err(error) => format!(in alloc; "{error}"),
-    };
-    match told {
-        Ok(text) => text.as_str() == wanted,
-        Err(_) => false,
-    }
-}
-
-// Whether the call makes of the bytes what it has to.
-fn is_made(alloc: Global, call: &str, bytes: &[u8], wanted: &str) -> bool {
-    let made = match call {
-        "take" => taken(bytes),
-        "derive" => derived(bytes),
-        _ => None,
-    };
-    match made {
-        Some(made) => is_told(alloc, &made, wanted),
-        None => false,
-    }
-}
-
 // What a call makes of bytes: the number of the bytes, how many of them are those from 0 up, where the others are 255,
 // and the key in base64 or the refusal. Only the first 64 bytes are a key. What HKDF's expansion derives was worked out by
 // Python's hmac; all halves differ, and one master key has more than the 64 bytes that HMAC takes as they are.
@@ -74,17 +49,25 @@ derive 65 65: Zjr2dCOTePS/HrRUkPsSD1XbRuMTXZobKjoR/IRhTYVKkuVkwJNs+MXUW9wV7E4DGR
 derive 64 32: wZV6o4t7qRvY/T55dEeDvVCJQLHM4owWzrQeBwkqtnlrMQ9YD6W2eyr8u7MtqkMOnIh352KuZ3Hqn0TcqSRMqg==
 derive 32 0: C+rz1hFfouLszIWZYFqbQfSnc+kBTufb4T0sdeGzP0mbQQZrQGnxsb7WqDnhRWdOiCzgoYwy3LsX0JHM1CsYWw==";
 
-// Whether a row such as `take 63 63` is right, with what it has to make.
-fn is_right(alloc: Global, words: &str, wanted: &str) -> bool {
-    let (call, numbers) = words.split_once(' ').unwrap_or((words, ""));
-    let (length, counted) = numbers.split_once(' ').unwrap_or((numbers, ""));
-    match (length.parse::<usize>(), counted.parse()) {
-        (Ok(length), Ok(counted)) => match count_up(counted).get(..length) {
-            Some(bytes) => is_made(alloc, call, bytes, wanted),
-            None => false,
-        },
-        _ => false,
+// What the words of a row, such as `take 63 63`, make: the key in base64, or the refusal.
+fn made(alloc: Global, words: &str) -> Option<String> {
+    let (call, numbers) = words.split_once(' ')?;
+    let (length, counted) = numbers.split_once(' ')?;
+    let bytes = count_up(counted.parse().ok()?);
+    let bytes = bytes.get(..length.parse().ok()?)?;
+    let made = match call {
+        "take" => taken(bytes)?,
+        "derive" => derived(bytes)?,
+        _ => return None,
+    };
+    match made {
+        Ok(key) => STANDARD.encode(alloc, key.master()).ok(),
+        Err(error) => format!(in alloc; "{error}").ok(),
     }
+}
+
+fn is_right(alloc: Global, words: &str, wanted: &str) -> bool {
+    matches!(made(alloc, words), Some(made) if made.as_str() == wanted)
 }
 
 #[test]
@@ -111,25 +94,17 @@ taken 64 64";
 const OTHER_BYTE: &str =
     "oFlXPrf48Irva0dvcHwvF8vpuxGUpIy9Vp5GBxdl3xLSB7V8NVMQRKy7luS4eUYW4tZWg1DK4Krk/6RF9wz1sg==";
 
-// Whether the words make what no row has.
-fn is_other(alloc: Global, words: &str) -> bool {
-    for row in ROWS.lines() {
-        let (_, wanted) = row.split_once(": ").unwrap_or((row, ""));
-        if is_right(alloc, words, wanted) {
-            return false;
-        }
-    }
-    true
-}
-
 #[test]
 fn a_wrong_row_is_found(rt: HostRuntime) {
     for words in OTHERS.lines() {
-        assert!(rt; is_other(rt.alloc(), words), "{words}");
+        for row in ROWS.lines() {
+            let (_, wanted) = row.split_once(": ").unwrap_or((row, ""));
+            assert!(rt; !is_right(rt.alloc(), words, wanted), "{words}");
+        }
     }
-    assert!(rt; !is_right(rt.alloc(), "derive 32 32", OTHER_BYTE));
-    assert!(rt; !is_right(rt.alloc(), "derive 33 33", OTHER_BYTE));
-    assert!(rt; !is_right(rt.alloc(), "derive 31 31", OTHER_BYTE));
+    for words in ["derive 32 32", "derive 33 33", "derive 31 31"] {
+        assert!(rt; !is_right(rt.alloc(), words, OTHER_BYTE), "{words}");
+    }
 }
 
 // Whether the halves and the whole of the key are the first of these bytes.
@@ -146,10 +121,7 @@ fn from_works(rt: HostRuntime) {
 
 // Whether the key has these bytes from that place on.
 fn has_at(key: &Key, place: usize, bytes: &[u8]) -> bool {
-    match key.master().get(place..) {
-        Some(rest) => rest.starts_with(bytes),
-        None => false,
-    }
+    matches!(key.master().get(place..), Some(rest) if rest.starts_with(bytes))
 }
 
 // Whether both keys are those that the generator that counts from 5 gives one after the other.
@@ -169,18 +141,11 @@ fn a_key_is_the_next_64_bytes_of_a_stream(rt: HostRuntime) {
     assert!(rt; Key::try_generate(&mut Counting(5)) == Some(first));
 }
 
-// Whether a key is drawn of a generator that fails after this many bytes, and is theirs.
-fn is_drawn(left: usize) -> bool {
-    match Key::try_generate(&mut Sevens { left }) {
-        Some(key) => key.master() == [7; 64].as_slice(),
-        None => false,
-    }
-}
-
 #[test]
 fn no_key_is_drawn_of_a_generator_that_fails(rt: HostRuntime) {
     for left in 0..64usize {
         assert!(rt; Key::try_generate(&mut Sevens { left }).is_none(), "{left}");
     }
-    assert!(rt; is_drawn(64));
+    let drawn = Key::try_generate(&mut Sevens { left: 64 });
+    assert!(rt; matches!(drawn, Some(key) if key.master() == [7; 64].as_slice()));
 }

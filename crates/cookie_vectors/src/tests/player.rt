@@ -1,10 +1,9 @@
 //! Plays rows: steps of `jar_steps`, and those that only this crate has, on a new jar.
-use super::children::ChildKind;
 use super::generators::Counting;
 use super::{children, jars};
-use cookie::{Cookie, CookieJar, JarError, Key};
-use jar_steps::{Call, Child, Sevens, Step, Verb, make, test_key};
-use std::alloc::{AllocError, Global};
+use cookie::{CookieJar, JarError, Key};
+use jar_steps::{Call, Child, Look, Sevens, Verb, make, test_key};
+use std::alloc::Global;
 
 /// A jar, the key of its child jars, and the generator that they draw of.
 #[derive(Drop)]
@@ -26,95 +25,77 @@ impl Player {
         }
     }
 
-    fn set_seed(&mut self, number: &str) -> bool {
-        match number.parse() {
-            Ok(number) => {
-                self.rng = Counting(number);
-                true
-            }
-            Err(_) => false,
-        }
+    fn set_seed(&mut self, number: &str) -> Option<bool> {
+        self.rng = Counting(number.parse().ok()?);
+        Some(true)
     }
 
     // Sets the key: `zero`, or a seed, of whose generator it is drawn.
-    fn set_key(&mut self, word: &str) -> bool {
+    fn set_key(&mut self, word: &str) -> Option<bool> {
         if word == "zero" {
             self.key = Key::from(&[0; 64]);
-            return true;
+            return Some(true);
         }
-        let is_set = self.set_seed(word);
+        self.set_seed(word)?;
         self.key = Key::generate(&mut self.rng);
-        is_set
+        Some(true)
     }
 
     // Makes a call that draws of a generator that fails after this many bytes, as in `12 private add a=2`.
-    fn is_made_before_failure(&mut self, words: &'static str) -> bool {
-        let (left, step) = words.split_once(' ').unwrap_or((words, ""));
-        match (left.parse(), Step::parse(step)) {
-            (Ok(left), Some(step)) => {
-                step.is_right(self.alloc, &mut self.jar, &self.key, &mut Sevens { left })
-            }
-            _ => false,
-        }
+    fn is_made_before_failure(&mut self, words: &'static str) -> Option<bool> {
+        let (left, step) = words.split_once(' ')?;
+        let left = left.parse().ok()?;
+        let call = Call::parse(step)?;
+        Some(make(call, &mut self.jar, &self.key, &mut Sevens { left }).is_ok())
     }
 
-    // Whether the jar tells of a generator that fails after this many bytes.
-    fn is_refused(&mut self, verb: Verb, name: &'static str, left: usize) -> bool {
-        let call = Call {
-            child: Some(Child::Private(None)),
-            verb,
-            words: name,
-        };
-        let cookie = Cookie::new(name, "2");
-        let made = make(call, cookie, &mut self.jar, &self.key, &mut Sevens { left });
-        made.err() == Some(JarError::Generator)
-    }
-
-    // The same of too few bytes for a nonce, however many, at an addition and at an original.
-    fn is_each_refused(&mut self, name: &'static str) -> bool {
+    // Whether the jar tells of a generator that fails after too few bytes for a nonce, however many.
+    fn is_refused(&mut self, verb: Verb, words: &'static str) -> bool {
+        let child = Some(Child::Private(None));
+        let call = Call { child, verb, words };
         for left in 0..12usize {
-            for verb in [Verb::Add, Verb::AddOriginal] {
-                if !self.is_refused(verb, name, left) {
-                    return false;
-                }
+            let made = make(call, &mut self.jar, &self.key, &mut Sevens { left });
+            if made.err() != Some(JarError::Generator) {
+                return false;
             }
         }
         true
     }
 
-    fn debugged(&self) -> Result<String, AllocError> {
+    fn debugged(&self) -> Option<String> {
         let jar = &self.jar;
-        format!(in self.alloc; "{jar:?}")
+        format!(in self.alloc; "{jar:?}").ok()
     }
 
-    // Whether it is told, and the jar holds the cookies that it held before, with all their attributes.
-    fn is_left(&mut self, name: &'static str) -> bool {
-        let before = self.debugged();
-        let is_refused = self.is_each_refused(name);
-        match (before, self.debugged()) {
-            (Ok(before), Ok(after)) => is_refused && before == after,
-            _ => false,
-        }
+    // Whether it does at an addition and at an original, and holds what it held before, with all attributes.
+    fn is_left(&mut self, name: &'static str) -> Option<bool> {
+        let before = self.debugged()?;
+        let are_refused = self.is_refused(Verb::Add, name)
+            && self.is_refused(Verb::AddOriginal, name);
+        Some(are_refused && before == self.debugged()?)
     }
 
     // Does a step that `jar_steps` doesn't have, and answers whether it is right.
-    fn is_own_right(&mut self, step: &'static str) -> bool {
+    fn play_own(&mut self, step: &'static str) -> Option<bool> {
         let (word, rest) = step.split_once(' ').unwrap_or((step, ""));
-        match (word, ChildKind::parse(word)) {
-            (_, Some(kind)) => children::is_right(self, kind, rest),
-            ("key", _) => self.set_key(rest),
-            ("seed", _) => self.set_seed(rest),
-            ("next", _) => rest.parse() == Ok(self.rng.0),
-            ("failing", _) => self.is_made_before_failure(rest),
-            ("unsealed", _) => self.is_left(rest),
-            _ => jars::is_right(self.alloc, &mut self.jar, word, rest),
+        match word {
+            "host" | "secure" | "team" | "bare" | "signed" | "private" => {
+                children::play(self, word, rest)
+            }
+            "key" => self.set_key(rest),
+            "seed" => self.set_seed(rest),
+            "next" => Some(self.rng.0 == rest.parse().ok()?),
+            "failing" => self.is_made_before_failure(rest),
+            "unsealed" => self.is_left(rest),
+            _ => jars::play(self.alloc, &mut self.jar, word, rest),
         }
     }
 
     fn is_right(&mut self, step: &'static str) -> bool {
-        match Step::parse(step) {
-            Some(step) => step.is_right(self.alloc, &mut self.jar, &self.key, &mut self.rng),
-            None => self.is_own_right(step),
+        match (Call::parse(step), Look::parse(step)) {
+            (Some(call), _) => make(call, &mut self.jar, &self.key, &mut self.rng).is_ok(),
+            (_, Some(look)) => look.is_right(self.alloc, &self.jar),
+            _ => self.play_own(step) == Some(true),
         }
     }
 

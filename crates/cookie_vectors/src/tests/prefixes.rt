@@ -1,8 +1,7 @@
 //! Two prefixes of the tests' own, and what a prefix makes of names and cookies.
-use super::children::ChildKind;
-use super::jars::is_lent;
+use cookie::Cookie;
 use cookie::prefix::{Host, NamePrefix, Prefix, Prefixing, Secure};
-use cookie::{Cookie, ParseError};
+use cookie_words::{is, lends};
 use std::alloc::Global;
 
 /// A prefix of the tests' own: a cookie that is kept from scripts.
@@ -54,58 +53,47 @@ impl Prefix for Bare {
     ghost is_conforming = { λ _. refl };
 }
 
-fn is_named<P: Prefix>(alloc: Global, name: &str, wanted: &str) -> bool {
-    match P::prefixed_name(alloc, name) {
-        Ok(made) => made.as_str() == wanted,
-        Err(_) => false,
-    }
-}
-
 // What the prefix makes of the text's cookie.
-fn made<P: Prefix>(
-    alloc: Global,
-    verb: &str,
-    text: &'static str,
-) -> Result<Cookie<'static>, ParseError> {
-    let cookie = Cookie::parse(text)?;
+fn made<P: Prefix>(alloc: Global, verb: &str, text: &'static str) -> Option<Cookie<'static>> {
+    let cookie = Cookie::parse(text).ok()?;
     match verb {
-        "clips" => Ok(P::clip(alloc, cookie)?),
-        "prefixes" => Ok(P::prefix(alloc, cookie)?),
-        "applies" => Ok(P::apply(alloc, cookie)?),
-        "conforms" => Ok(P::conform(cookie)),
-        _ => Err(ParseError::EmptyName),
+        "clips" => P::clip(alloc, cookie).ok(),
+        "prefixes" => P::prefix(alloc, cookie).ok(),
+        "applies" => P::apply(alloc, cookie).ok(),
+        "conforms" => Some(P::conform(cookie)),
+        _ => None,
     }
 }
 
-// Whether the cookie has all these fields and lends these parts of its text, as in `a=1; Path=/ lends a|1|-|-`.
-fn is_seen(cookie: &Cookie<'_>, wanted: &'static str) -> bool {
-    let (words, raw) = wanted.split_once(" lends ").unwrap_or((wanted, ""));
-    match cookie_words::cookie(words) {
-        Some(wanted) => cookie_words::is(cookie, &wanted) && is_lent(cookie, raw),
-        None => false,
-    }
+// Whether it has all these fields and lends these parts of its text, as in `a=1 -> a=1; Path=/ lends a|1|-|-`.
+fn is_made<P: Prefix>(alloc: Global, verb: &str, row: &'static str) -> Option<bool> {
+    let (text, wanted) = row.split_once(" -> ")?;
+    let (words, parts) = wanted.split_once(" lends ")?;
+    let cookie = made::<P>(alloc, verb, text)?;
+    Some(is(&cookie, &cookie_words::cookie(words)?) && lends(&cookie, parts))
+}
+
+fn is_named<P: Prefix>(alloc: Global, row: &str) -> Option<bool> {
+    let (name, wanted) = row.split_once(" -> ")?;
+    Some(P::prefixed_name(alloc, name).ok()?.as_str() == wanted)
 }
 
 // Whether the prefix begins so, or makes of a name or of a text's cookie what it has to.
-fn makes<P: Prefix>(alloc: Global, verb: &str, rest: &'static str) -> bool {
-    let (text, wanted) = rest.split_once(" -> ").unwrap_or((rest, ""));
+fn makes<P: Prefix>(alloc: Global, verb: &str, rest: &'static str) -> Option<bool> {
     match verb {
-        "begins" => P::PREFIX.as_str() == rest,
-        "names" => is_named::<P>(alloc, text, wanted),
-        _ => match made::<P>(alloc, verb, text) {
-            Ok(cookie) => is_seen(&cookie, wanted),
-            Err(_) => false,
-        },
+        "begins" => Some(P::PREFIX.as_str() == rest),
+        "names" => is_named::<P>(alloc, rest),
+        _ => is_made::<P>(alloc, verb, rest),
     }
 }
 
 /// The same of the prefix of the child jar.
-pub(super) fn is_right(alloc: Global, kind: ChildKind, verb: &str, rest: &'static str) -> bool {
+pub(super) fn play(alloc: Global, kind: &str, verb: &str, rest: &'static str) -> Option<bool> {
     match kind {
-        ChildKind::Host => makes::<Host>(alloc, verb, rest),
-        ChildKind::Secure => makes::<Secure>(alloc, verb, rest),
-        ChildKind::Team => makes::<Team>(alloc, verb, rest),
-        ChildKind::Bare => makes::<Bare>(alloc, verb, rest),
-        ChildKind::Signed | ChildKind::Private => false,
+        "host" => makes::<Host>(alloc, verb, rest),
+        "secure" => makes::<Secure>(alloc, verb, rest),
+        "team" => makes::<Team>(alloc, verb, rest),
+        "bare" => makes::<Bare>(alloc, verb, rest),
+        _ => None,
     }
 }

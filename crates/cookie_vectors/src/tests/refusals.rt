@@ -1,16 +1,7 @@
 //! Refusals of jars and keys as values.
 use cookie::{Error, JarError, Key, KeyError, ParseError};
+use cookie_words::is_cloned;
 use jar_steps::test_key;
-use std::alloc::AllocError;
-
-// Whether a clone equals its value, and the value no other.
-fn is_cloned<T: Clone + PartialEq>(value: &T, other: &T) -> bool {
-    let copy: Result<T, AllocError> = value.clone();
-    match copy {
-        Ok(copy) => copy == *value && *value != *other,
-        Err(_) => false,
-    }
-}
 
 #[test]
 fn refusals_and_keys_are_cloned_and_compared(rt: HostRuntime) {
