@@ -20,8 +20,7 @@ parse encoded [%41=%zz; Path=/x] lends -|-|/x|-
 parse encoded [a=%41; Path=/x] has a=A; Path=/x
 parse encoded [a=%41; Path=/x] lends -|-|/x|-
 parse encoded [%20=1; Path=/x] has  =1; Path=/x
-parse encoded [%20=1; Path=/x] lends -|-|/x|-
-";
+parse encoded [%20=1; Path=/x] lends -|-|/x|-";
 
 #[test]
 fn odd_characters_encoded(rt: HostRuntime) -> Result<(), Fail> {
@@ -35,8 +34,7 @@ parse encoded [=%FF] has no name
 parse encoded [%FF=1] has no UTF-8 from 0
 parse encoded [a=%FF] has no UTF-8 from 0
 parse encoded [a%FF=b%20%FF] has no UTF-8 from 1
-parse encoded [a=b%20%FF] has no UTF-8 from 2
-";
+parse encoded [a=b%20%FF] has no UTF-8 from 2";
 
 #[test]
 fn refusals_come_in_order(rt: HostRuntime) -> Result<(), Fail> {

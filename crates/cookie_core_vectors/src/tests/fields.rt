@@ -45,8 +45,7 @@ set own [a=1; own name b; own value 2; own Path=/x; own Domain=.c.d] prints b=2;
 # a builder gives a removal
 build [a=1; Path=/x; Path=/y; removal Wed, 21 Oct 2015 07:28:00 GMT] prints a=; Path=/y; Max-Age=0; Expires=Tue, 21 Oct 2014 07:28:00 GMT
 # a cookie is shown field by field
-build [a=x \"y\"; Secure; SameSite=Lax; Path=/; Expires=session] debugs Cookie { name: \"a\", value: \"x \\\"y\\\"\", http_only: None, secure: Some(true), partitioned: None, same_site: Some(Lax), path: Some(\"/\"), domain: None, max_age: None, expires: Some(Session) }
-";
+build [a=x \"y\"; Secure; SameSite=Lax; Path=/; Expires=session] debugs Cookie { name: \"a\", value: \"x \\\"y\\\"\", http_only: None, secure: Some(true), partitioned: None, same_site: Some(Lax), path: Some(\"/\"), domain: None, max_age: None, expires: Some(Session) }";
 
 #[test]
 fn each_field_is_set_and_unset(rt: HostRuntime) -> Result<(), Fail> {
@@ -79,29 +78,22 @@ parse [a=1; Path=] != parse [a=1]
 parse [a=1; Path=] != set [a=1]
 parse [a=1; Domain=.B.c] == parse [a=1; Domain=b.C]
 set [id=x y; HttpOnly; Path=/; Max-Age=90.7; Expires=session; no HttpOnly; no Path; no Max-Age; no Expires] == set [id=x y]
-set own [a=1; own name b; own value 2; own Path=/x; own Domain=.c.d] == build [b=2; Path=/x; Domain=.c.d]
-";
+set own [a=1; own name b; own value 2; own Path=/x; own Domain=.c.d] == build [b=2; Path=/x; Domain=.c.d]";
 
 #[test]
 fn cookies_are_compared(rt: HostRuntime) -> Result<(), Fail> {
     play(rt.alloc(), COMPARED)
 }
 
-const EACH: &str =
-    "a=1; HttpOnly; Secure=false; Partitioned; SameSite=Lax; Path=/x; Domain=.b.c; Max-Age=90.7; Expires=session";
-
-const PERMANENT: &str = "a=1; Max-Age=630720000; Expires=2035-10-16T07:28:00";
-
-const GREATEST: &str = "a=1; Max-Age=630720000; Expires=9999-12-31T23:59:59.999999";
-
-const REMOVAL: &str = "a=; Path=/y; Max-Age=0; Expires=2014-10-21T07:28:00";
+const BUILT: &str = "\
+a=1; HttpOnly; Secure=false; Partitioned; SameSite=Lax; Path=/x; Domain=.b.c; Max-Age=90.7; Expires=session
+a=1; Path=/x; Domain=.c.d
+a=1; Max-Age=630720000; Expires=2035-10-16T07:28:00
+a=1; Max-Age=630720000; Expires=9999-12-31T23:59:59.999999
+a=; Path=/y; Max-Age=0; Expires=2014-10-21T07:28:00";
 
 fn pair() -> CookieBuilder<'static> {
     CookieBuilder::new("a", "1")
-}
-
-fn is_built(builder: CookieBuilder<'_>, words: &'static str) -> bool {
-    has(&builder.build(), words)
 }
 
 #[test]
@@ -109,18 +101,19 @@ fn a_builder_sets_each_field(rt: HostRuntime) -> Result<(), AllocError> {
     let flags = pair().http_only(true).secure(false).partitioned(true);
     let texts = flags.same_site(SameSite::Lax).path("/x").domain(".b.c");
     let age = texts.max_age(SignedDuration::from_millis(90_700));
-    assert!(rt; is_built(age.expires(Expiration::Session), EACH));
     let path = String::from_str(rt.alloc(), "/x")?;
     let domain = String::from_str(rt.alloc(), ".c.d")?;
-    let own = pair().path_owned(path).domain_owned(domain);
-    assert!(rt; is_built(own, "a=1; Path=/x; Domain=.c.d"));
-    let (now, late) = (
-        datetime(2015, 10, 21, 7, 28, 0, 0),
-        datetime(9999, 6, 1, 0, 0, 0, 0),
-    );
-    assert!(rt; is_built(pair().permanent(now), PERMANENT));
-    assert!(rt; is_built(pair().permanent(late), GREATEST));
-    assert!(rt; is_built(pair().path("/x").path("/y").removal(now), REMOVAL));
+    let now = datetime(2015, 10, 21, 7, 28, 0, 0);
+    let builders = [
+        age.expires(Expiration::Session),
+        pair().path_owned(path).domain_owned(domain),
+        pair().permanent(now),
+        pair().permanent(datetime(9999, 6, 1, 0, 0, 0, 0)),
+        pair().path("/x").path("/y").removal(now),
+    ];
+    for (builder, words) in builders.into_iter().zip(BUILT.lines()) {
+        assert!(rt; has(&builder.build(), words), "{words}");
+    }
     Ok(())
 }
 

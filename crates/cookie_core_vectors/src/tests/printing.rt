@@ -42,8 +42,7 @@ set [name=val; removal Wed, 21 Oct 2015 07:28:00 GMT] prints name=; Max-Age=0; E
 parse [id=x y; HttpOnly; SameSite=Lax; Secure; Path=/; Domain=b.c; Max-Age=90; Expires=Wed, 21 Oct 2015 07:28:00 GMT] prints id=x y; HttpOnly; SameSite=Lax; Secure; Path=/; Domain=b.c; Max-Age=90; Expires=Wed, 21 Oct 2015 07:28:00 GMT
 parse [id=x y; HttpOnly; SameSite=Lax; Secure; Path=/; Domain=b.c; Max-Age=90; Expires=Wed, 21 Oct 2015 07:28:00 GMT] prints-encoded id=x%20y; HttpOnly; SameSite=Lax; Secure; Path=/; Domain=b.c; Max-Age=90; Expires=Wed, 21 Oct 2015 07:28:00 GMT
 parse [id=x y; HttpOnly; SameSite=Lax; Secure; Path=/; Domain=b.c; Max-Age=90; Expires=Wed, 21 Oct 2015 07:28:00 GMT] prints-stripped id=x y
-parse [id=x y; HttpOnly; SameSite=Lax; Secure; Path=/; Domain=b.c; Max-Age=90; Expires=Wed, 21 Oct 2015 07:28:00 GMT] prints-encoded-stripped id=x%20y
-";
+parse [id=x y; HttpOnly; SameSite=Lax; Secure; Path=/; Domain=b.c; Max-Age=90; Expires=Wed, 21 Oct 2015 07:28:00 GMT] prints-encoded-stripped id=x%20y";
 
 #[test]
 fn cookies_are_printed(rt: HostRuntime) -> Result<(), Fail> {

@@ -4,23 +4,17 @@ use cookie_core::{Cookie, Layout, ParseError, Span};
 use std::test::Fail;
 
 // Whether the forms that a text's cookie lends outlive it.
-fn are_lent_for_long() -> bool {
-    let text = "bar=baz; Path=/subdir; HttpOnly; Domain=crates.io";
-    let forms = match Cookie::parse(text) {
-        Ok(cookie) => (
-            cookie.name_raw(),
-            cookie.value_raw(),
-            cookie.path_raw(),
-            cookie.domain_raw(),
-        ),
-        Err(_) => return false,
-    };
-    forms == (Some("bar"), Some("baz"), Some("/subdir"), Some("crates.io"))
+fn are_lent_for_long() -> Option<bool> {
+    let cookie = Cookie::parse("bar=baz; Path=/subdir; HttpOnly; Domain=crates.io").ok()?;
+    let pair = (cookie.name_raw(), cookie.value_raw());
+    let scope = (cookie.path_raw(), cookie.domain_raw());
+    drop(cookie);
+    Some(pair == (Some("bar"), Some("baz")) && scope == (Some("/subdir"), Some("crates.io")))
 }
 
 #[test]
 fn cookie_string_long_lifetimes(rt: HostRuntime) {
-    assert!(rt; are_lent_for_long());
+    assert!(rt; are_lent_for_long() == Some(true));
 }
 
 const COPIES: &str = "\
@@ -38,8 +32,7 @@ set parsed [ bar = baz ; Path=/subdir; HttpOnly; Domain=.crates.io|own value x] 
 parse [a=%41; Secure] has a=%41; Secure
 parse [a=%41; Secure] lends a|%41|-|-
 # copies are equal
-parse [a=1; SameSite=Strict; Path=/x; Domain=b.c; Max-Age=5] prints a=1; SameSite=Strict; Path=/x; Domain=b.c; Max-Age=5
-";
+parse [a=1; SameSite=Strict; Path=/x; Domain=b.c; Max-Age=5] prints a=1; SameSite=Strict; Path=/x; Domain=b.c; Max-Age=5";
 
 #[test]
 fn own_cookies_lend_nothing(rt: HostRuntime) -> Result<(), Fail> {

@@ -58,8 +58,7 @@ parse [foo=bar; Max-Age=-129] has foo=bar; Max-Age=0
 parse [foo=bar; Max-Age=-9223372036854775807] has foo=bar; Max-Age=0
 parse [foo=bar; Max-Age=-1267650600228229401496703205376] has foo=bar; Max-Age=0
 parse [ foo=bar; Max-Age=9223372036854775808] has foo=bar; Max-Age=9223372036854775807
-parse [foo=bar; Max-Age=9223372036854775808] has foo=bar; Max-Age=9223372036854775807
-";
+parse [foo=bar; Max-Age=9223372036854775808] has foo=bar; Max-Age=9223372036854775807";
 
 #[test]
 fn texts_are_read(rt: HostRuntime) -> Result<(), Fail> {
@@ -89,8 +88,7 @@ parse [foo=bar; expires=Sunday, 06-Nov-94 08:49:37 GMT] has foo=bar; Expires=199
 parse [foo=bar; expires=06-Nov-94 08:49:37 GMT] has foo=bar; Expires=1994-11-06T08:49:37
 parse [foo=bar; expires=Sun Nov  6 08:49:37 1994] has foo=bar; Expires=1994-11-06T08:49:37
 parse [foo=bar; expires=Nov  6 08:49:37 1994] has foo=bar; Expires=1994-11-06T08:49:37
-parse [foo=bar; expires=06-Nov-1994 08:49:37 GMT] has foo=bar; Expires=1994-11-06T08:49:37
-";
+parse [foo=bar; expires=06-Nov-1994 08:49:37 GMT] has foo=bar; Expires=1994-11-06T08:49:37";
 
 #[test]
 fn an_expiry_is_read_in_each_form(rt: HostRuntime) -> Result<(), Fail> {
@@ -102,8 +100,7 @@ parse [bar] has no pair
 parse [=bar] has no name
 parse [ =bar] has no name
 parse [=1] has no name
-parse encoded [a] has no pair
-";
+parse encoded [a] has no pair";
 
 #[test]
 fn a_text_with_no_pair_or_no_name_is_refused(rt: HostRuntime) -> Result<(), Fail> {

@@ -27,8 +27,7 @@ split [ a=1 ; ;=v;b=2] has [a=1][no name][b=2]
 split [ a=1 ; ;=v;b=2] lends [a|1|-|-][no name][b|2|-|-]
 # escapes are undone
 split encoded [name=val%20ue ; ; foo%20!%25%3F%3D=bar%3B%3B%2C%20a] prints [name=val ue][foo !%?==bar;;, a]
-split encoded [name=val%20ue ; ; foo%20!%25%3F%3D=bar%3B%3B%2C%20a] lends [-|-|-|-][-|-|-|-]
-";
+split encoded [name=val%20ue ; ; foo%20!%25%3F%3D=bar%3B%3B%2C%20a] lends [-|-|-|-][-|-|-|-]";
 
 #[test]
 fn headers_are_split(rt: HostRuntime) -> Result<(), Fail> {

@@ -1,8 +1,9 @@
 //! Expirations, same-site rules and refusals as values, and the texts of other values.
-use super::showing::{is_debugged, is_printed, is_spread};
 use cookie_core::{Cookie, DateText, Expiration, ParseError, SameSite, days_after, encode};
+use cookie_words::{debugs, is_cloned, prints};
 use jiff::civil::{DateTime, datetime};
 use std::alloc::Global;
+use std::fmt::Debug;
 use std::hash::{FoldHasher, Hash, Hasher};
 
 // Whether this is the expiry at the moment, or at the end of the session where there is none, by each call.
@@ -19,13 +20,9 @@ fn a_day_later(moment: Option<DateTime>) -> Expiration {
 #[test]
 fn an_expiration_is_a_moment_or_the_session(rt: HostRuntime) {
     let moment = datetime(2015, 10, 21, 7, 28, 0, 0);
+    let later = datetime(2015, 10, 22, 7, 28, 0, 0);
     assert!(rt; is_expiry(Expiration::DateTime(moment), Some(moment)));
-    assert!(rt;
-        is_expiry(
-            a_day_later(Some(moment)),
-            Some(datetime(2015, 10, 22, 7, 28, 0, 0))
-        )
-    );
+    assert!(rt; is_expiry(a_day_later(Some(moment)), Some(later)));
     assert!(rt; is_expiry(Expiration::Session, None));
     assert!(rt; a_day_later(None) == Expiration::Session);
     assert!(rt; !is_expiry(Expiration::Session, Some(DateTime::MIN)));
@@ -39,24 +36,20 @@ fn hash_of(value: SameSite) -> u64 {
 
 #[test]
 fn same_site_has_three_values(rt: HostRuntime) {
-    let rows = [
-        (SameSite::Strict, (true, false, false)),
-        (SameSite::Lax, (false, true, false)),
-        (SameSite::None, (false, false, true)),
-    ];
-    for (value, wanted) in rows {
+    for (value, name, wanted) in [
+        (SameSite::Strict, "Strict", (true, false, false)),
+        (SameSite::Lax, "Lax", (false, true, false)),
+        (SameSite::None, "None", (false, false, true)),
+    ] {
         assert!(rt; (value.is_strict(), value.is_lax(), value.is_none()) == wanted);
+        assert!(rt;
+            prints(rt.alloc(), &value, name) && debugs(rt.alloc(), &value, name),
+            "{name}"
+        );
         assert!(rt; hash_of(value) == hash_of(value));
     }
     assert!(rt; hash_of(SameSite::Lax) != hash_of(SameSite::Strict));
-}
-
-// Whether a clone equals its value, and the value no other.
-fn is_cloned<T: Clone + PartialEq + Drop>(value: &T, other: &T) -> bool {
-    match value.clone() {
-        Ok(copy) => copy == *value && *value != *other,
-        Err(_) => false,
-    }
+    assert!(rt; !prints(rt.alloc(), &SameSite::Strict, "Lax"));
 }
 
 #[test]
@@ -67,11 +60,6 @@ fn small_values_are_cloned_and_compared(rt: HostRuntime) {
     assert!(rt; is_cloned(&ParseError::EmptyName, &ParseError::MissingPair));
 }
 
-// Whether the refusal has this text, by both calls.
-fn has_text(alloc: Global, refusal: ParseError, text: &str) -> bool {
-    refusal.as_str() == text && is_printed(alloc, &refusal, text)
-}
-
 // The refusal of a text's bytes, made of its fault.
 fn refusal_of_bytes(alloc: Global) -> Option<ParseError> {
     match Cookie::parse_encoded(alloc, "a=%FF") {
@@ -80,27 +68,25 @@ fn refusal_of_bytes(alloc: Global) -> Option<ParseError> {
     }
 }
 
+const REFUSED: &str = "\
+the cookie is missing a name/value pair
+the cookie's name is empty
+memory ran out while reading the cookie
+decoding the cookie's name or value resulted in invalid UTF-8";
+
 #[test]
 fn refusals_have_their_texts(rt: HostRuntime) {
-    let alloc = rt.alloc();
-    let no_bytes = refusal_of_bytes(alloc).unwrap_or(ParseError::EmptyName);
-    let rows = [
-        (
-            ParseError::MissingPair,
-            "the cookie is missing a name/value pair",
-        ),
-        (ParseError::EmptyName, "the cookie's name is empty"),
-        (
-            ParseError::OutOfMemory,
-            "memory ran out while reading the cookie",
-        ),
-        (
-            no_bytes,
-            "decoding the cookie's name or value resulted in invalid UTF-8",
-        ),
+    let refusals = [
+        ParseError::MissingPair,
+        ParseError::EmptyName,
+        ParseError::OutOfMemory,
+        refusal_of_bytes(rt.alloc()).unwrap_or(ParseError::EmptyName),
     ];
-    for (refusal, text) in rows {
-        assert!(rt; has_text(alloc, refusal, text), "{text}");
+    for (refusal, text) in refusals.iter().zip(REFUSED.lines()) {
+        assert!(rt;
+            refusal.as_str() == text && prints(rt.alloc(), refusal, text),
+            "{text}"
+        );
     }
 }
 
@@ -108,26 +94,16 @@ fn refusals_have_their_texts(rt: HostRuntime) {
 fn values_have_their_texts(rt: HostRuntime) {
     let alloc = rt.alloc();
     let moment = datetime(2015, 10, 21, 7, 28, 0, 0);
-    assert!(rt; is_printed(alloc, &DateText(moment), "Wed, 21 Oct 2015 07:28:00 GMT"));
-    assert!(rt; is_printed(alloc, &SameSite::Strict, "Strict"));
-    assert!(rt; is_printed(alloc, &SameSite::Lax, "Lax"));
-    assert!(rt; is_printed(alloc, &SameSite::None, "None"));
-    assert!(rt; !is_printed(alloc, &"Strict", "Strict"));
-    assert!(rt; !is_printed(alloc, &SameSite::Strict, "Lax"));
+    assert!(rt; prints(alloc, &DateText(moment), "Wed, 21 Oct 2015 07:28:00 GMT"));
+    assert!(rt; !prints(alloc, &"Strict", "Strict"));
     for (text, escaped) in [
         ("\u{e9}(", "%C3%A9%28"),
         ("az09-_.~!*'$&+", "az09-_.~!*'$&+"),
         ("\t\u{7f}", "%09%7F"),
     ] {
-        assert!(rt; is_printed(alloc, &encode(text), escaped), "{text}");
+        assert!(rt; prints(alloc, &encode(text), escaped), "{text}");
     }
-    assert!(rt; !is_printed(alloc, &encode("("), "("));
-}
-
-// A struct whose text is derived.
-#[derive(Clone, Copy, Debug)]
-struct Held<V> {
-    held: V,
+    assert!(rt; !prints(alloc, &encode("("), "("));
 }
 
 const SPREAD: &str = "\
@@ -166,28 +142,24 @@ Builder {
     },
 }";
 
+fn is_spread<T: Debug>(alloc: Global, value: &T, text: &str) -> bool {
+    matches!(format!(in alloc; "{value:#?}"), Ok(spread) if spread.as_str() == text)
+}
+
+// By the precision the crate `jiff` shows parts of a second.
+const MOMENT: &str = "\
+DateTime(2015-10-21T07:28:00)|# DateTime(\n    2015-10-21T07:28:00,\n)|.3 DateTime(2015-10-21T07:28:00.000)|\
+all DateTime(\n    2015-10-21T07:28:00.000,\n)|in DateTime(\n        2015-10-21T07:28:00,\n    )";
+
 #[test]
 fn debug_texts_are_those_of_derives(rt: HostRuntime) {
     let alloc = rt.alloc();
-    let site = Held {
-        held: SameSite::Lax,
-    };
-    let refusal = Held {
-        held: ParseError::EmptyName,
-    };
-    let expiry = Expiration::DateTime(datetime(2015, 10, 21, 7, 28, 0, 0));
-    let cookie = Cookie::build(Cookie::new("a", "b"));
-    assert!(rt; is_spread(alloc, &cookie, SPREAD_BUILDER));
-    let cookie = cookie
-        .http_only(true)
-        .same_site(SameSite::Lax)
-        .path("/x")
-        .build();
-    assert!(rt; is_spread(alloc, &cookie, SPREAD));
-    assert!(rt; is_debugged(alloc, &site, "Held { held: Lax }"));
-    assert!(rt; is_debugged(alloc, &expiry, "DateTime(2015-10-21T07:28:00)"));
-    assert!(rt; is_spread(alloc, &site, "Held {\n    held: Lax,\n}"));
-    assert!(rt; is_spread(alloc, &refusal, "Held {\n    held: EmptyName,\n}"));
-    assert!(rt; is_spread(alloc, &Expiration::Session, "Session"));
-    assert!(rt; is_spread(alloc, &expiry, "DateTime(\n    2015-10-21T07:28:00,\n)"));
+    let builder = Cookie::build(Cookie::new("a", "b"));
+    assert!(rt; is_spread(alloc, &builder, SPREAD_BUILDER));
+    let builder = builder.http_only(true).same_site(SameSite::Lax);
+    assert!(rt; is_spread(alloc, &builder.path("/x").build(), SPREAD));
+    let moment = Expiration::DateTime(datetime(2015, 10, 21, 7, 28, 0, 0));
+    assert!(rt; debugs(alloc, &moment, MOMENT));
+    assert!(rt; debugs(alloc, &Expiration::Session, "Session"));
+    assert!(rt; debugs(alloc, &ParseError::EmptyName, "EmptyName"));
 }
