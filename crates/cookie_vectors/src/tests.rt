@@ -7,6 +7,5 @@ mod jars;
 mod keys;
 mod player;
 mod prefixes;
-mod refusals;
 mod rows;
 mod secrets;

@@ -39,8 +39,10 @@ fn debugged<T: Debug>(alloc: Global, it: &T) -> Option<String> {
         .strip_prefix("Some(\n    ")?
         .strip_suffix(",\n)")?;
     format!(in alloc;
-        "{it:?}|# {it:#?}|+ {it:+?}|> {it:>16?}|< {it:<16?}|^ {it:*^16?}|0 {it:016?}|.3 {it:.3?}|all {it:+#016.3?}|in {held}"
-    ).ok()
+        "{it:?}|# {it:#?}|+ {it:+?}|> {it:>16?}|< {it:<16?}|^ {it:*^16?}|\
+        0 {it:016?}|.3 {it:.3?}|all {it:+#016.3?}|in {held}"
+    )
+    .ok()
 }
 
 /// The same of the text for a programmer. `in` is that within another value, under `#`.

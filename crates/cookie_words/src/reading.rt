@@ -1,6 +1,5 @@
 use cookie_core::{Cookie, Expiration, SameSite, read_date};
 use jiff::SignedDuration;
-use jiff::civil::DateTime;
 
 fn flag(word: &str) -> Option<bool> {
     match word {
@@ -22,31 +21,21 @@ fn site(word: &str) -> Option<SameSite> {
 // This many seconds, with up to three digits after a point.
 fn age(words: &str) -> Option<SignedDuration> {
     let (seconds, digits) = words.split_once('.').unwrap_or((words, "0"));
-    let unit = match digits.len() {
-        1 => 100,
-        2 => 10,
-        3 => 1,
-        _ => return None,
-    };
-    let millis = digits.parse::<i64>().ok()?.checked_mul(unit)?;
-    let part = if words.starts_with('-') {
-        millis.checked_neg()?
-    } else {
-        millis
-    };
-    SignedDuration::from_secs(seconds.parse().ok()?).checked_add(SignedDuration::from_millis(part))
+    let unit: i64 = *[1_000, 100, 10, 1].get(digits.len())?;
+    let sign = if words.starts_with('-') { -1 } else { 1 };
+    let part: i64 = digits.parse().ok()?;
+    let millis = part.checked_mul(unit)?.checked_mul(sign)?;
+    let whole = SignedDuration::from_secs(seconds.parse().ok()?);
+    whole.checked_add(SignedDuration::from_millis(millis))
 }
 
 // A date as headers have it, or as ISO 8601 does.
-fn moment(words: &str) -> Option<DateTime> {
-    read_date(words).or(words.parse().ok())
-}
-
 fn expiry(words: &str) -> Option<Expiration> {
     if words == "session" {
         return Some(Expiration::Session);
     }
-    Some(Expiration::DateTime(moment(words)?))
+    let moment = read_date(words).or(words.parse().ok())?;
+    Some(Expiration::DateTime(moment))
 }
 
 /// Sets the field that the words say, such as `Path=/a`, `Secure` or `Max-Age=0.5`.

@@ -1,58 +1,43 @@
 //! Texts that a stranger may send: of other alphabets, long ones, and one that is cut at every place.
-use super::rows::{is_right, play};
-use std::alloc::Global;
-use std::test::Fail;
+use super::rows::first_wrong;
+use std::alloc::{AllocError, Global};
 
 // White space of other alphabets is trimmed, but a space of no width isn't White_Space in Unicode. The case of keys is
 // that of ASCII: U+017F is a small s of another shape, and U+212A a capital K: in Unicode both have ASCII letters in
 // the other case.
 const ALPHABETS: &str = "\
-read [\u{3000}a\u{a0}=\u{85}1\u{3000}] has-lent a=1
-read [\u{200b}=1] has-lent \u{200b}=1
-read [ \u{200b} = 1 ] has-lent \u{200b}=1
-read [a=1; \u{17f}ecure] has-lent a=1
-read [a=1; \u{17f}ame\u{17f}ite=Lax] has-lent a=1
-read [a=1; SameSite=\u{17f}trict] has-lent a=1
-read [a=1; SameSite=\u{17f}TRICT] has-lent a=1
-read [a=1; expire\u{17f}=Wed, 21 Oct 2015 07:28:00 GMT] has-lent a=1
-read [a=1; Expires=Wed, 21 Oct 2015 07:28:00 GMT\u{17f}] has-lent a=1
-read [a=1; Max-Age=\u{663}] has-lent a=1
-read [a=1; Max-Age=\u{ff11}] has-lent a=1
-read [a=1; Max\u{2010}Age=1] has-lent a=1";
+read [\u{3000}a\u{a0}=\u{85}1\u{3000} || a=1; \u{17f}ecure || a=1; \u{17f}ame\u{17f}ite=Lax] has a=1 & lends a|1|-|-
+read [\u{200b}=1 ||  \u{200b} = 1 ] has \u{200b}=1 & lends \u{200b}|1|-|-
+read [a=1; SameSite=\u{17f}trict || a=1; SameSite=\u{17f}TRICT || a=1; Max-Age=\u{663}] has a=1 & lends a|1|-|-
+read [a=1; expire\u{17f}=Wed, 21 Oct 2015 07:28:00 GMT || a=1; Max-Age=\u{ff11} || a=1; Max\u{2010}Age=1] has a=1 & lends a|1|-|-
+read [a=1; Expires=Wed, 21 Oct 2015 07:28:00 GMT\u{17f}] has a=1 & lends a|1|-|-";
 
 #[test]
-fn texts_of_other_alphabets_are_read_as_pairs(rt: HostRuntime) -> Result<(), Fail> {
-    play(rt.alloc(), ALPHABETS)
+fn texts_of_other_alphabets_are_read_as_pairs(rt: HostRuntime) {
+    assert_eq!(rt; first_wrong(rt.alloc(), ALPHABETS), None);
 }
 
-// Whether ten thousand empty names are as many refusals, by each call that splits.
-fn are_all_refused(alloc: Global) -> Option<bool> {
-    let names = "=;".repeat(alloc, 10_000).ok()?;
-    let refusals = "[no name]".repeat(alloc, 10_000).ok()?;
-    let row = format!(in alloc; "split [{names}] has {refusals}").ok()?;
-    let other = format!(in alloc; "split encoded [{names}] has {refusals}").ok()?;
-    let is_split = is_right(alloc, row.as_str())?;
-    Some(is_split && is_right(alloc, other.as_str())?)
+// Ten thousand empty names are as many refusals.
+fn empty_names(alloc: Global) -> Result<String, AllocError> {
+    let names = "=;".repeat(alloc, 10_000)?;
+    let refusals = "[no name]".repeat(alloc, 10_000)?;
+    format!(in alloc; "split [{names}] has {refusals}\nsplit encoded [{names}] has {refusals}")
 }
 
-#[test]
-fn ten_thousand_empty_names_are_ten_thousand_refusals(rt: HostRuntime) {
-    assert!(rt; are_all_refused(rt.alloc()) == Some(true));
-}
-
-// Whether an age of 100,000 digits is the greatest, and there is none where a letter stands after it.
-fn is_long_age_greatest(alloc: Global) -> Option<bool> {
-    let digits = "9".repeat(alloc, 100_000).ok()?;
+// An age of 100,000 digits is the greatest, and there is none where a letter stands after it.
+fn long_ages(alloc: Global) -> Result<String, AllocError> {
+    let digits = "9".repeat(alloc, 100_000)?;
     let greatest = "a=1; Max-Age=9223372036854775807";
-    let row = format!(in alloc; "read [a=1; Max-Age={digits}] has {greatest}").ok()?;
-    let other = format!(in alloc; "read [a=1; Max-Age={digits}x] has a=1").ok()?;
-    let is_greatest = is_right(alloc, row.as_str())?;
-    Some(is_greatest && is_right(alloc, other.as_str())?)
+    format!(in alloc;
+        "read [a=1; Max-Age={digits}] has {greatest}\nread [a=1; Max-Age={digits}x] has a=1"
+    )
 }
 
 #[test]
-fn an_age_of_many_digits_is_the_greatest(rt: HostRuntime) {
-    assert!(rt; is_long_age_greatest(rt.alloc()) == Some(true));
+fn long_texts_are_read_and_split(rt: HostRuntime) -> Result<(), AllocError> {
+    assert!(rt; first_wrong(rt.alloc(), empty_names(rt.alloc())?.as_str()).is_none());
+    assert!(rt; first_wrong(rt.alloc(), long_ages(rt.alloc())?.as_str()).is_none());
+    Ok(())
 }
 
 const LONG: &str =
@@ -111,27 +96,25 @@ fn split_at(length: usize) -> Option<&'static str> {
     found
 }
 
-// Whether the text is read or split so, by the calls that leave its escape and by those that undo it.
-fn is_way_right(alloc: Global, way: &str, text: &str, answer: &str) -> Option<bool> {
-    let undone = answer.replace(alloc, "x%20", "x ").ok()?;
-    let row = format!(in alloc; "{way} [{text}] has {answer}").ok()?;
-    let other = format!(in alloc; "{way} encoded [{text}] has {undone}").ok()?;
-    let is_left = is_right(alloc, row.as_str())?;
-    Some(is_left && is_right(alloc, other.as_str())?)
-}
-
-// Whether the long text, cut to that length, is read and split as the rows say.
-fn is_cut_right(alloc: Global, length: usize) -> Option<bool> {
-    let text = LONG.get(..length)?;
+// The rows of the text that is cut to that length, by the calls that leave its escape and by those that undo it.
+fn cut_rows(alloc: Global, length: usize) -> Option<String> {
+    let (text, read) = (LONG.get(..length)?, read_at(length)?);
     let last = text.rsplit(';').next()?.trim();
     let items = split_at(length)?.replace(alloc, "~", last).ok()?;
-    let is_read = is_way_right(alloc, "parse", text, read_at(length)?)?;
-    Some(is_read && is_way_right(alloc, "split", text, items.as_str())?)
+    let left = format!(in alloc; "parse [{text}] has {read}\nsplit [{text}] has {items}").ok()?;
+    let read = read.replace(alloc, "x%20", "x ").ok()?;
+    let items = items.as_str().replace(alloc, "x%20", "x ").ok()?;
+    format!(in alloc;
+        "{left}\nparse encoded [{text}] has {read}\nsplit encoded [{text}] has {items}"
+    ).ok()
 }
 
 #[test]
 fn a_cut_text_is_read_and_split_as_what_is_left(rt: HostRuntime) {
     for length in 0..=LONG.len() {
-        assert!(rt; is_cut_right(rt.alloc(), length) == Some(true), "{length}");
+        let rows = cut_rows(rt.alloc(), length);
+        let is_right =
+            matches!(rows, Some(rows) if first_wrong(rt.alloc(), rows.as_str()).is_none());
+        assert!(rt; is_right, "{length}");
     }
 }

@@ -1,22 +1,7 @@
 //! Cookies that rows make: of a text that is read, by setters, or by a builder.
-use cookie_core::{Cookie, CookieBuilder, Expiration, ParseError, days_after, read_date};
+use cookie_core::{Cookie, CookieBuilder, Expiration, days_after, read_date};
+use jiff::civil::DateTime;
 use std::alloc::Global;
-
-/// Of what was read, a clone. What `?` makes of the two errors is one.
-pub(super) fn clone_of(
-    alloc: Global,
-    read: Result<Cookie<'_>, ParseError>,
-) -> Result<Cookie<'_>, ParseError> {
-    Ok(read?.clone(alloc)?)
-}
-
-/// The same with an own copy.
-pub(super) fn own_copy(
-    alloc: Global,
-    read: Result<Cookie<'_>, ParseError>,
-) -> Result<Cookie<'static>, ParseError> {
-    Ok(read?.into_owned(alloc)?)
-}
 
 // Sets an own text, such as `Path=/` or `name b`.
 fn set_own(alloc: Global, cookie: &mut Cookie<'_>, words: &str) -> Option<()> {
@@ -47,6 +32,10 @@ fn unset(cookie: &mut Cookie<'_>, name: &str) -> Option<()> {
     Some(())
 }
 
+fn a_day_after(moment: Option<DateTime>) -> Expiration {
+    Expiration::from_option(moment).map(|moment| days_after(moment, 1))
+}
+
 // Changes the cookie as the words say: a field of `cookie_words`, or such as `no Path`, `own Path=/`, `name b`.
 fn change<'c>(alloc: Global, cookie: &mut Cookie<'c>, words: &'c str) -> Option<()> {
     let (verb, rest) = words.split_once(' ').unwrap_or((words, ""));
@@ -57,15 +46,10 @@ fn change<'c>(alloc: Global, cookie: &mut Cookie<'c>, words: &'c str) -> Option<
         "value" => cookie.set_value(rest),
         "permanent" => cookie.make_permanent(read_date(rest)?),
         "removal" => cookie.make_removal(read_date(rest)?),
-        "day-after" => cookie.set_expires(Expiration::DateTime(days_after(read_date(rest)?, 1))),
+        "day-after" => cookie.set_expires(a_day_after(read_date(rest))),
         _ => return cookie_words::set(cookie, words),
     }
     Some(())
-}
-
-fn of_own_pair(alloc: Global, name: &str, value: &str) -> Option<Cookie<'static>> {
-    let name = String::from_str(alloc, name).ok()?;
-    Some(Cookie::new_owned(name, String::from_str(alloc, value).ok()?))
 }
 
 // The cookie that the changes of a row begin with: of a pair, of a name alone, of own texts, or of a text that is read.
@@ -73,7 +57,10 @@ fn begun<'c>(alloc: Global, way: &str, text: &'c str) -> Option<Cookie<'c>> {
     match (way, text.split_once('=')) {
         ("set", Some((name, value))) => Some(Cookie::new(name, value)),
         ("set", None) => Some(Cookie::named(text)),
-        ("set own", Some((name, value))) => of_own_pair(alloc, name, value),
+        ("set own", Some((name, value))) => {
+            let name = String::from_str(alloc, name).ok()?;
+            Some(Cookie::new_owned(name, String::from_str(alloc, value).ok()?))
+        }
         _ => Cookie::parse(text).ok(),
     }
 }

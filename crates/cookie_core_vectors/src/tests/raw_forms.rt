@@ -1,7 +1,5 @@
 //! Borrowed and own texts, and the raw forms that are left of them.
-use super::rows::play;
 use cookie_core::{Cookie, Layout, ParseError, Span};
-use std::test::Fail;
 
 // Whether the forms that a text's cookie lends outlive it.
 fn are_lent_for_long() -> Option<bool> {
@@ -15,28 +13,6 @@ fn are_lent_for_long() -> Option<bool> {
 #[test]
 fn cookie_string_long_lifetimes(rt: HostRuntime) {
     assert!(rt; are_lent_for_long() == Some(true));
-}
-
-const COPIES: &str = "\
-# the crate's owned_cookie_string and owned_cookie_struct
-parse [bar=baz; Path=/subdir; HttpOnly; Domain=crates.io] has bar=baz; HttpOnly; Path=/subdir; Domain=crates.io
-parse [bar=baz; Path=/subdir; HttpOnly; Domain=crates.io] lends bar|baz|/subdir|crates.io
-parse [ bar = baz ; Path=/subdir; HttpOnly; Domain=.crates.io] has bar=baz; HttpOnly; Path=/subdir; Domain=crates.io
-parse [ bar = baz ; Path=/subdir; HttpOnly; Domain=.crates.io] lends bar|baz|/subdir|crates.io
-# the raw value alone is gone where the value was set
-set parsed [ bar = baz ; Path=/subdir; HttpOnly; Domain=.crates.io|value x] prints-stripped bar=x
-set parsed [ bar = baz ; Path=/subdir; HttpOnly; Domain=.crates.io|value x] lends bar|-|/subdir|crates.io
-set parsed [ bar = baz ; Path=/subdir; HttpOnly; Domain=.crates.io|own value x] prints-stripped bar=x
-set parsed [ bar = baz ; Path=/subdir; HttpOnly; Domain=.crates.io|own value x] lends bar|-|/subdir|crates.io
-# a text is copied
-parse [a=%41; Secure] has a=%41; Secure
-parse [a=%41; Secure] lends a|%41|-|-
-# copies are equal
-parse [a=1; SameSite=Strict; Path=/x; Domain=b.c; Max-Age=5] prints a=1; SameSite=Strict; Path=/x; Domain=b.c; Max-Age=5";
-
-#[test]
-fn own_cookies_lend_nothing(rt: HostRuntime) -> Result<(), Fail> {
-    play(rt.alloc(), COPIES)
 }
 
 const SPACED: &str = " bar = baz ; Path=/subdir; HttpOnly; Domain=.crates.io";

@@ -1,6 +1,6 @@
-//! Texts that are read as one cookie, and those that are refused.
-use super::rows::play;
-use std::test::Fail;
+//! Texts that are read as one cookie, and headers that are split; and those that are refused.
+use super::rows::first_wrong;
+use cookie_core::Cookie;
 
 const READ: &str = "\
 # a name may have the empty value
@@ -28,44 +28,24 @@ parse [a=%20] has a=%20
 parse [a=1; Path=/x; path=; Path; Domain=b.c; Domain=; SameSite=Lax; SameSite=odd; Secure=no] has a=1; Secure; SameSite=Lax; Path=; Domain=b.c
 parse [a=1; Expires=Wed, 21 Oct 2015 07:28:00 GMT; Expires=soon] has a=1; Expires=2015-10-21T07:28:00
 # the crate's parse_same_site
-parse [foo=bar; SameSite=Lax] has foo=bar; SameSite=Lax
-parse [foo=bar; SameSite=lax] has foo=bar; SameSite=Lax
-parse [foo=bar; SameSite=LAX] has foo=bar; SameSite=Lax
-parse [foo=bar; samesite=Lax] has foo=bar; SameSite=Lax
-parse [foo=bar; SAMESITE=Lax] has foo=bar; SameSite=Lax
-parse [foo=bar; SameSITE=Strict] has foo=bar; SameSite=Strict
-parse [foo=bar; SameSite=STrICT] has foo=bar; SameSite=Strict
-parse [foo=bar; samesite=strict] has foo=bar; SameSite=Strict
-parse [foo=bar; SAMESITE=nOne] has foo=bar; SameSite=None
-parse [foo=bar; SameSite= None ] has foo=bar; SameSite=None
+parse [foo=bar; SameSite=Lax || foo=bar; SameSite=lax || foo=bar; SameSite=LAX] has foo=bar; SameSite=Lax
+parse [foo=bar; samesite=Lax || foo=bar; SAMESITE=Lax] has foo=bar; SameSite=Lax
+parse [foo=bar; SameSITE=Strict || foo=bar; SameSite=STrICT || foo=bar; samesite=strict] has foo=bar; SameSite=Strict
+parse [foo=bar; SAMESITE=nOne || foo=bar; SameSite= None ] has foo=bar; SameSite=None
 parse [foo=bar; SameSite=odd] has foo=bar
 # the last valid age counts
-parse [foo=bar; Max-Age=10; Max-Age=x] has foo=bar; Max-Age=10
+parse [foo=bar; Max-Age=10; Max-Age=x || foo=bar; Max-Age=10; Max-Age=] has foo=bar; Max-Age=10
 parse [foo=bar; Max-Age=10; max-age = 60 ] has foo=bar; Max-Age=60
-parse [foo=bar; Max-Age=10; Max-Age=] has foo=bar; Max-Age=10
 parse [foo=bar; Max-Age=10; Max-Age=-] has foo=bar; Max-Age=10
-parse [foo=bar; Max-Age=] has foo=bar
-parse [foo=bar; Max-Age=-] has foo=bar
-parse [foo=bar; Max-Age=-0] has foo=bar; Max-Age=0
-parse [foo=bar; Max-Age=00] has foo=bar; Max-Age=0
-parse [foo=bar; Max-Age=--1] has foo=bar
-parse [foo=bar; Max-Age=+1] has foo=bar
-parse [foo=bar] has foo=bar
+parse [foo=bar; Max-Age= || foo=bar; Max-Age=- || foo=bar; Max-Age=--1 || foo=bar; Max-Age=+1 || foo=bar] has foo=bar
+parse [foo=bar; Max-Age=-0 || foo=bar; Max-Age=00] has foo=bar; Max-Age=0
 # the crate's parse_very_large_max_ages and do_not_panic_on_large_max_ages
 parse [foo=bar; Max-Age=1267650600228229401496703205376] has foo=bar; Max-Age=9223372036854775807
 parse [foo=bar; Max-Age=9223372036854775807] has foo=bar; Max-Age=9223372036854775807
-parse [foo=bar; Max-Age=-129] has foo=bar; Max-Age=0
-parse [foo=bar; Max-Age=-9223372036854775807] has foo=bar; Max-Age=0
+parse [foo=bar; Max-Age=-129 || foo=bar; Max-Age=-9223372036854775807] has foo=bar; Max-Age=0
 parse [foo=bar; Max-Age=-1267650600228229401496703205376] has foo=bar; Max-Age=0
 parse [ foo=bar; Max-Age=9223372036854775808] has foo=bar; Max-Age=9223372036854775807
-parse [foo=bar; Max-Age=9223372036854775808] has foo=bar; Max-Age=9223372036854775807";
-
-#[test]
-fn texts_are_read(rt: HostRuntime) -> Result<(), Fail> {
-    play(rt.alloc(), READ)
-}
-
-const EXPIRIES: &str = "\
+parse [foo=bar; Max-Age=9223372036854775808] has foo=bar; Max-Age=9223372036854775807
 # the crate's parse_abbreviated_years
 parse [foo=bar; expires=Thu, 10-Sep-20 20:00:00 GMT] has foo=bar; Expires=2020-09-10T20:00:00
 parse [foo=bar; expires=Thu, 10-Sep-68 20:00:00 GMT] has foo=bar; Expires=2068-09-10T20:00:00
@@ -76,11 +56,9 @@ parse [foo=bar; expires=Thu, 10-Sep-0 20:00:00 GMT] has foo=bar; Expires=2000-09
 parse [foo=bar; expires=Thu, 10-Sep-00 20:00:00 GMT] has foo=bar; Expires=2000-09-10T20:00:00
 parse [foo=bar; expires=Thu, 10-Sep-70 20:00:00 GMT] has foo=bar; Expires=1970-09-10T20:00:00
 # a long weekday requires a year of two digits
-parse [foo=bar; expires=Sunday, 06-Nov-0 08:49:37 GMT] has foo=bar
-parse [foo=bar; expires=Sunday, 06-Nov-000 08:49:37 GMT] has foo=bar
+parse [foo=bar; expires=Sunday, 06-Nov-0 08:49:37 GMT || foo=bar; expires=Sunday, 06-Nov-000 08:49:37 GMT] has foo=bar
 parse [foo=bar; expires=Sunday, 06-Nov-1994 08:49:37 GMT] has foo=bar
-parse [foo=bar; expires=Sunday, 06-Nov-+94 08:49:37 GMT] has foo=bar
-parse [foo=bar; expires=Sunday, 06-Nov--94 08:49:37 GMT] has foo=bar
+parse [foo=bar; expires=Sunday, 06-Nov-+94 08:49:37 GMT || foo=bar; expires=Sunday, 06-Nov--94 08:49:37 GMT] has foo=bar
 # the crate's parse_variant_date_fmts
 parse [foo=bar; expires=Sun, 06 Nov 1994 08:49:37 GMT] has foo=bar; Expires=1994-11-06T08:49:37
 parse [foo=bar; expires=06 Nov 1994 08:49:37 GMT] has foo=bar; Expires=1994-11-06T08:49:37
@@ -88,21 +66,68 @@ parse [foo=bar; expires=Sunday, 06-Nov-94 08:49:37 GMT] has foo=bar; Expires=199
 parse [foo=bar; expires=06-Nov-94 08:49:37 GMT] has foo=bar; Expires=1994-11-06T08:49:37
 parse [foo=bar; expires=Sun Nov  6 08:49:37 1994] has foo=bar; Expires=1994-11-06T08:49:37
 parse [foo=bar; expires=Nov  6 08:49:37 1994] has foo=bar; Expires=1994-11-06T08:49:37
-parse [foo=bar; expires=06-Nov-1994 08:49:37 GMT] has foo=bar; Expires=1994-11-06T08:49:37";
+parse [foo=bar; expires=06-Nov-1994 08:49:37 GMT] has foo=bar; Expires=1994-11-06T08:49:37
+# escapes are undone, as in the crate's odd_characters_encoded
+parse encoded [foo=b%2Fr] has foo=b/r & lends -|-|-|-
+parse encoded [foo%20!%25%3F%3D=bar%3B%3B%2C%20a] prints foo !%?==bar;;, a
+parse encoded [a=%31] has a=1
+# a text without an escape is lent
+parse encoded [a%=b%4] has a%=b%4 & lends a%|b%4|-|-
+parse encoded [a=100%] has a=100% & lends a|100%|-|-
+parse encoded [foo=] has foo= & lends foo||-|-
+# an escape makes both texts own
+parse encoded [%41=%zz; Path=/x] has A=%zz; Path=/x & lends -|-|/x|-
+parse encoded [a=%41; Path=/x] has a=A; Path=/x & lends -|-|/x|-
+parse encoded [%20=1; Path=/x] has  =1; Path=/x & lends -|-|/x|-";
 
 #[test]
-fn an_expiry_is_read_in_each_form(rt: HostRuntime) -> Result<(), Fail> {
-    play(rt.alloc(), EXPIRIES)
+fn texts_are_read(rt: HostRuntime) {
+    assert_eq!(rt; first_wrong(rt.alloc(), READ), None);
 }
 
 const REFUSED: &str = "\
-parse [bar] has no pair
-parse [=bar] has no name
-parse [ =bar] has no name
-parse [=1] has no name
+parse [bar] has no pair & prints the cookie is missing a name/value pair
+parse [=bar ||  =bar || =1] has no name & prints the cookie's name is empty
 parse encoded [a] has no pair";
 
 #[test]
-fn a_text_with_no_pair_or_no_name_is_refused(rt: HostRuntime) -> Result<(), Fail> {
-    play(rt.alloc(), REFUSED)
+fn a_text_with_no_pair_or_no_name_is_refused(rt: HostRuntime) {
+    assert_eq!(rt; first_wrong(rt.alloc(), REFUSED), None);
+}
+
+const UNDECODED: &str = "\
+parse encoded [%FF] has no pair
+parse encoded [=%FF] has no name
+# the first fault of the name is named
+parse encoded [%FF=1 || a=%FF] has no UTF-8 from 0
+parse encoded [a%FF=b%20%FF] has no UTF-8 from 1
+parse encoded [a=b%20%FF] has no UTF-8 from 2 & prints decoding the cookie's name or value resulted in invalid UTF-8";
+
+#[test]
+fn refusals_come_in_order(rt: HostRuntime) {
+    assert_eq!(rt; first_wrong(rt.alloc(), UNDECODED), None);
+}
+
+const SPLIT: &str = "\
+# a blank header has no items
+split [ || ;;] has 
+split [name=value ;  ; other=key;; ] has [name=value][other=key] & lends [name|value|-|-][other|key|-|-]
+# the items come in order, and go on behind a refused piece
+split [ ;   a=1 ;  ; =v ; ;;c===  ] has [a=1][no name][c===] & lends [a|1|-|-][no name][c|==|-|-]
+split [ a=1 ; ;=v;b=2] has [a=1][no name][b=2] & lends [a|1|-|-][no name][b|2|-|-]
+# escapes are undone
+split encoded [name=val%20ue ; ; foo%20!%25%3F%3D=bar%3B%3B%2C%20a] prints [name=val ue][foo !%?==bar;;, a]
+split encoded [name=val%20ue ; ; foo%20!%25%3F%3D=bar%3B%3B%2C%20a] lends [-|-|-|-][-|-|-|-]";
+
+#[test]
+fn headers_are_split(rt: HostRuntime) {
+    assert_eq!(rt; first_wrong(rt.alloc(), SPLIT), None);
+}
+
+#[test]
+fn a_header_that_has_ended_gives_no_items(rt: HostRuntime) {
+    let mut items = Cookie::split_parse(" ;");
+    for _ in 0..3 {
+        assert!(rt; items.next().is_none());
+    }
 }

@@ -1,29 +1,25 @@
-//! Rows `WAY [TEXT] LOOK ANSWER`: how a cookie is made, of which text, how it is looked at, and what is seen.
-use super::making::{builder, clone_of, made, own_copy};
+//! Rows `WAY [TEXT || TEXT ..] LOOK ANSWER & LOOK ANSWER ..`: how a cookie is made, of which texts each, how it is
+//! looked at, and what is seen.
+use super::making::{builder, made};
 use super::showing::Look;
 use cookie_core::{Cookie, SplitCookies};
 use cookie_words::prints;
 use std::alloc::Global;
-use std::test::Fail;
 
-// Whether the text is read so by each call that leaves its escapes, and each kind of copy is the same.
+// Whether the text is read so by each call that leaves its escapes.
 fn is_parsed(text: &str, look: Look<'_>) -> Option<bool> {
-    let (alloc, own) = (look.alloc, look.of_own());
-    let owned = Cookie::parse_owned(String::from_str(alloc, text).ok()?);
-    let is_lent = look.is_right(&Cookie::parse(text))
-        && look.is_right(&clone_of(alloc, Cookie::parse(text)));
-    let is_own = own.is_right(&Cookie::from_str(alloc, text))
-        && own.is_right(&own_copy(alloc, Cookie::parse(text)));
-    Some(is_lent && is_own && own.is_right(&owned))
+    let own = look.of_own();
+    let owned = Cookie::parse_owned(String::from_str(look.alloc, text).ok()?);
+    let is_own = own.is_right(&Cookie::from_str(look.alloc, text)) && own.is_right(&owned);
+    Some(is_own && look.is_right(&Cookie::parse(text)))
 }
 
-// The same of the calls that undo escapes.
+// The same of those that undo escapes.
 fn is_decoded(text: &str, look: Look<'_>) -> Option<bool> {
-    let (alloc, own) = (look.alloc, look.of_own());
+    let alloc = look.alloc;
     let owned = Cookie::parse_encoded_owned(alloc, String::from_str(alloc, text).ok()?);
     let is_lent = look.is_right(&Cookie::parse_encoded(alloc, text));
-    let is_own = own.is_right(&own_copy(alloc, Cookie::parse_encoded(alloc, text)));
-    Some(is_lent && is_own && own.is_right(&owned))
+    Some(is_lent && look.of_own().is_right(&owned))
 }
 
 // The same of all of them.
@@ -85,27 +81,28 @@ fn is_seen(way: &str, text: &str, look: Look<'_>) -> Option<bool> {
     }
 }
 
-/// Whether the row is right. One that lacks a part isn't.
-pub(super) fn is_right(alloc: Global, row: &str) -> Option<bool> {
+// Whether the row is right. One that lacks a part isn't.
+fn is_right(alloc: Global, row: &str) -> Option<bool> {
     let (way, rest) = row.split_once(" [")?;
-    let (text, rest) = rest.split_once("] ")?;
-    let (verb, answer) = rest.split_once(' ')?;
-    let look = Look {
-        alloc,
-        verb,
-        answer,
-    };
-    is_seen(way, text, look)
-}
-
-/// Fails with the first row that is wrong, if any. A line that begins with `#` is a comment.
-pub(super) fn play(alloc: Global, rows: &'static str) -> Result<(), Fail> {
-    for row in rows.lines() {
-        if !row.starts_with('#') && is_right(alloc, row) != Some(true) {
-            return Err(Fail::new(row));
+    let (texts, looks) = rest.split_once("] ")?;
+    for text in texts.split(" || ") {
+        for look in looks.split(" & ") {
+            if !is_seen(way, text, Look::parse(alloc, look)?)? {
+                return Some(false);
+            }
         }
     }
-    Ok(())
+    Some(true)
+}
+
+/// The first row that is wrong, if any. A line that begins with `#` is a comment.
+pub(super) fn first_wrong(alloc: Global, rows: &str) -> Option<&str> {
+    for row in rows.lines() {
+        if !row.starts_with('#') && is_right(alloc, row) != Some(true) {
+            return Some(row);
+        }
+    }
+    None
 }
 
 // Rows that are wrong: another name, another value, another attribute or none, another refusal, another form,
@@ -126,9 +123,12 @@ parse [foo=bar] has foo=bar; Expires=session
 parse [foo=bar; SameSite=Lax] has foo=bar
 parse [foo] has foo
 parse [=bar] has no pair
+parse [=bar] prints the cookie is missing a name/value pair
+parse [a=1 || a=2] has a=1
+parse [a=1] has a=1 & has a=2
 parse [foo=bar] has no name
 parse [foo=bar] lends -|-|-|-
-parse encoded [a=%31] has-lent a=1
+parse encoded [a=%31] lends a|1|-|-
 parse encoded [a%FF=1] has no UTF-8 from 0
 parse [a=1] prints a=2
 parse [a=1] trims a=2 and 1

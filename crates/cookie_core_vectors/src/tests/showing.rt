@@ -1,35 +1,44 @@
 //! What is seen of a cookie or of a refusal.
-use cookie_core::{Cookie, ParseError};
+use cookie_core::{Cookie, Expiration, ParseError};
 use cookie_words::{is, lends, prints};
+use jiff::civil::DateTime;
 use std::alloc::{AllocError, Global};
 
 fn is_text(shown: Result<String, AllocError>, text: &str) -> bool {
     matches!(shown, Ok(shown) if shown.as_str() == text)
 }
 
-// Whether the refusal is told so.
-fn is_refused(refusal: ParseError, answer: &str) -> bool {
-    match (refusal, answer.strip_prefix("no UTF-8 from ")) {
-        (ParseError::MissingPair, _) => answer == "no pair",
-        (ParseError::EmptyName, _) => answer == "no name",
-        (ParseError::Utf8Error(fault), Some(place)) => place.parse() == Ok(fault.valid_up_to()),
+// Whether the refusal is told so, or has this text.
+fn is_refused(refusal: ParseError, look: Look<'_>) -> bool {
+    let place = look.answer.strip_prefix("no UTF-8 from ");
+    match (look.verb, refusal, place) {
+        ("prints", _, _) => {
+            refusal.as_str() == look.answer && prints(look.alloc, &refusal, look.answer)
+        }
+        (_, ParseError::MissingPair, _) => look.answer == "no pair",
+        (_, ParseError::EmptyName, _) => look.answer == "no name",
+        (_, ParseError::Utf8Error(fault), Some(place)) => {
+            refusal == ParseError::from(fault) && place.parse() == Ok(fault.valid_up_to())
+        }
         _ => false,
     }
 }
 
-/// Whether the cookie has just these fields, and both calls that show an expiry agree.
-pub(super) fn has(cookie: &Cookie<'_>, words: &str) -> bool {
-    let moment = match cookie.expires() {
-        Some(expiry) => expiry.datetime(),
-        None => None,
-    };
-    let is_wanted = matches!(cookie_words::cookie(words), Some(wanted) if is(cookie, &wanted));
-    is_wanted && cookie.expires_datetime() == moment
+// Whether the expiry is that at the moment, or at the end of the session where there is none, by each call.
+fn is_expiry(expiry: Expiration, moment: Option<DateTime>) -> bool {
+    Expiration::from_option(moment) == expiry
+        && (expiry.is_datetime(), expiry.is_session()) == (moment.is_some(), moment.is_none())
+        && expiry.datetime() == moment
 }
 
-// Whether the cookie lends this name and value.
-fn lends_pair(cookie: &Cookie<'_>) -> bool {
-    (cookie.name_raw(), cookie.value_raw()) == (Some(cookie.name()), Some(cookie.value()))
+/// Whether the cookie has just these fields, and all calls that show an expiry agree.
+pub(super) fn has(cookie: &Cookie<'_>, words: &str) -> bool {
+    let moment = cookie.expires_datetime();
+    let is_agreed = match cookie.expires() {
+        Some(expiry) => is_expiry(expiry, moment),
+        None => moment.is_none(),
+    };
+    is_agreed && matches!(cookie_words::cookie(words), Some(wanted) if is(cookie, &wanted))
 }
 
 // Whether these are the pair without the quotes of its value, and the value by its own call.
@@ -48,16 +57,22 @@ pub(super) struct Look<'a> {
 }
 
 impl<'a> Look<'a> {
+    /// The look that the words say, such as `has a=1`.
+    pub(super) fn parse(alloc: Global, words: &'a str) -> Option<Look<'a>> {
+        let (verb, answer) = words.split_once(' ')?;
+        Some(Look {
+            alloc,
+            verb,
+            answer,
+        })
+    }
+
     /// The same look at a cookie that keeps its texts, and so lends none.
     pub(super) fn of_own(self) -> Look<'a> {
-        match self.verb {
-            "lends" if self.answer.contains('|') => self.of("-|-|-|-"),
-            "has-lent" => Look {
-                verb: "has",
-                ..self
-            },
-            _ => self,
+        if self.verb == "lends" && self.answer.contains('|') {
+            return self.of("-|-|-|-");
         }
+        self
     }
 
     /// The same look, at which this is to be seen.
@@ -70,7 +85,6 @@ impl<'a> Look<'a> {
         let (alloc, answer) = (self.alloc, self.answer);
         match self.verb {
             "has" => has(cookie, answer),
-            "has-lent" => lends_pair(cookie) && has(cookie, answer),
             "lends" => lends(cookie, answer),
             "trims" => is_trimmed(alloc, cookie, answer),
             "debugs" => is_text(format!(in alloc; "{cookie:?}"), answer),
@@ -83,11 +97,18 @@ impl<'a> Look<'a> {
         }
     }
 
+    // Whether a clone is seen so too, and an own copy, which lends nothing.
+    fn is_copied(self, cookie: &Cookie<'_>) -> Option<bool> {
+        let copy = cookie.clone(self.alloc).ok()?;
+        let is_cloned = self.shows(&copy);
+        Some(is_cloned && self.of_own().shows(&copy.into_owned(self.alloc).ok()?))
+    }
+
     /// Whether the cookie, or the refusal, is seen so.
     pub(super) fn is_right(self, read: &Result<Cookie<'_>, ParseError>) -> bool {
         match read {
-            Ok(cookie) => self.shows(cookie),
-            Err(refusal) => is_refused(*refusal, self.answer),
+            Ok(cookie) => self.shows(cookie) && self.is_copied(cookie) == Some(true),
+            Err(refusal) => is_refused(*refusal, self),
         }
     }
 }

@@ -1,32 +1,10 @@
 //! Expirations, same-site rules and refusals as values, and the texts of other values.
-use cookie_core::{Cookie, DateText, Expiration, ParseError, SameSite, days_after, encode};
+use cookie_core::{Cookie, DateText, Expiration, ParseError, SameSite, encode};
 use cookie_words::{debugs, is_cloned, prints};
 use jiff::civil::{DateTime, datetime};
 use std::alloc::Global;
 use std::fmt::Debug;
 use std::hash::{FoldHasher, Hash, Hasher};
-
-// Whether this is the expiry at the moment, or at the end of the session where there is none, by each call.
-fn is_expiry(expiry: Expiration, moment: Option<DateTime>) -> bool {
-    Expiration::from_option(moment) == expiry
-        && (expiry.is_datetime(), expiry.is_session()) == (moment.is_some(), moment.is_none())
-        && expiry.datetime() == moment
-}
-
-fn a_day_later(moment: Option<DateTime>) -> Expiration {
-    Expiration::from_option(moment).map(|moment| days_after(moment, 1))
-}
-
-#[test]
-fn an_expiration_is_a_moment_or_the_session(rt: HostRuntime) {
-    let moment = datetime(2015, 10, 21, 7, 28, 0, 0);
-    let later = datetime(2015, 10, 22, 7, 28, 0, 0);
-    assert!(rt; is_expiry(Expiration::DateTime(moment), Some(moment)));
-    assert!(rt; is_expiry(a_day_later(Some(moment)), Some(later)));
-    assert!(rt; is_expiry(Expiration::Session, None));
-    assert!(rt; a_day_later(None) == Expiration::Session);
-    assert!(rt; !is_expiry(Expiration::Session, Some(DateTime::MIN)));
-}
 
 fn hash_of(value: SameSite) -> u64 {
     let mut hasher = FoldHasher::default();
@@ -60,41 +38,14 @@ fn small_values_are_cloned_and_compared(rt: HostRuntime) {
     assert!(rt; is_cloned(&ParseError::EmptyName, &ParseError::MissingPair));
 }
 
-// The refusal of a text's bytes, made of its fault.
-fn refusal_of_bytes(alloc: Global) -> Option<ParseError> {
-    match Cookie::parse_encoded(alloc, "a=%FF") {
-        Err(ParseError::Utf8Error(fault)) => Some(ParseError::from(fault)),
-        _ => None,
-    }
-}
-
-const REFUSED: &str = "\
-the cookie is missing a name/value pair
-the cookie's name is empty
-memory ran out while reading the cookie
-decoding the cookie's name or value resulted in invalid UTF-8";
-
-#[test]
-fn refusals_have_their_texts(rt: HostRuntime) {
-    let refusals = [
-        ParseError::MissingPair,
-        ParseError::EmptyName,
-        ParseError::OutOfMemory,
-        refusal_of_bytes(rt.alloc()).unwrap_or(ParseError::EmptyName),
-    ];
-    for (refusal, text) in refusals.iter().zip(REFUSED.lines()) {
-        assert!(rt;
-            refusal.as_str() == text && prints(rt.alloc(), refusal, text),
-            "{text}"
-        );
-    }
-}
-
 #[test]
 fn values_have_their_texts(rt: HostRuntime) {
     let alloc = rt.alloc();
     let moment = datetime(2015, 10, 21, 7, 28, 0, 0);
     assert!(rt; prints(alloc, &DateText(moment), "Wed, 21 Oct 2015 07:28:00 GMT"));
+    let refusal = ParseError::OutOfMemory;
+    assert!(rt; refusal.as_str() == "memory ran out while reading the cookie");
+    assert!(rt; prints(alloc, &refusal, refusal.as_str()));
     assert!(rt; !prints(alloc, &"Strict", "Strict"));
     for (text, escaped) in [
         ("\u{e9}(", "%C3%A9%28"),
@@ -107,40 +58,14 @@ fn values_have_their_texts(rt: HostRuntime) {
 }
 
 const SPREAD: &str = "\
-Cookie {
-    name: \"a\",
-    value: \"b\",
-    http_only: Some(
-        true,
-    ),
-    secure: None,
-    partitioned: None,
-    same_site: Some(
-        Lax,
-    ),
-    path: Some(
-        \"/x\",
-    ),
-    domain: None,
-    max_age: None,
-    expires: None,
-}";
+Cookie {\n    name: \"a\",\n    value: \"b\",\n    http_only: Some(\n        true,\n    ),\n    secure: None,\n    \
+partitioned: None,\n    same_site: Some(\n        Lax,\n    ),\n    path: Some(\n        \"/x\",\n    ),\n    \
+domain: None,\n    max_age: None,\n    expires: None,\n}";
 
 const SPREAD_BUILDER: &str = "\
-Builder {
-    inner: Cookie {
-        name: \"a\",
-        value: \"b\",
-        http_only: None,
-        secure: None,
-        partitioned: None,
-        same_site: None,
-        path: None,
-        domain: None,
-        max_age: None,
-        expires: None,
-    },
-}";
+Builder {\n    inner: Cookie {\n        name: \"a\",\n        value: \"b\",\n        http_only: None,\n        \
+secure: None,\n        partitioned: None,\n        same_site: None,\n        path: None,\n        \
+domain: None,\n        max_age: None,\n        expires: None,\n    },\n}";
 
 fn is_spread<T: Debug>(alloc: Global, value: &T, text: &str) -> bool {
     matches!(format!(in alloc; "{value:#?}"), Ok(spread) if spread.as_str() == text)

@@ -1,8 +1,6 @@
 //! Blocks that are encrypted.
-use super::rows::{Words, draw, play};
+use super::rows::{Words, draw, first_wrong};
 use cookie_crypt::{Aes256, hmac};
-use std::alloc::Global;
-use std::test::Fail;
 
 // Key, block and encrypted block: FIPS 197 C.3, the hash subkey of GCM's test cases 13 and 14, AESAVS known answers and
 // multi-block messages of NIST's CAVP (ECB, 256 bits), and NESSIE's. The last row is of tools/cipher-rows.
@@ -50,33 +48,28 @@ block 0000000000000000000000000000000000000000000002000000000000000000 09b9e8a8b
 block 0000000000000000000000000000000000000000000000000000000000000000 7dbaefa494a06c8e0bf9eb5ba715bec5 -> 00000000010000000000000000000000
 block 9999999999999999999999999999999999999999999999999999999999999999 b065c7bb6e6a90bcc82b6ca40fd42566 -> 99999999999999999999999999999999
 block 6161616161616161616161616161616161616161616161616161616161616161 a78e79faffe4ec7b0fd00f87e2af3cc4 -> 61616161616161616161616161616161
-blocks 200 -> 597b2eccd9623e87e7e8ccc81cd7649e5a9967278ea881a40db8b8055f3fbe51
-";
+blocks 200 -> 597b2eccd9623e87e7e8ccc81cd7649e5a9967278ea881a40db8b8055f3fbe51";
 
 #[test]
-fn blocks_are_encrypted(rt: HostRuntime) -> Result<(), Fail> {
-    play(rt.alloc(), BLOCKS)
+fn blocks_are_encrypted(rt: HostRuntime) {
+    assert_eq!(rt; first_wrong(rt.alloc(), BLOCKS), None);
 }
 
 /// Whether the block of `KEY BLOCK` is encrypted so.
-pub(super) fn is_encrypted(mut input: Words<'_>, mut answer: Words<'_>) -> Option<bool> {
-    let encrypted = Aes256::new(&input.array()?).encrypt_block(input.array()?);
-    Some(encrypted == answer.array()?)
+pub(super) fn is_encrypted(mut words: Words<'_>) -> Option<bool> {
+    let encrypted = Aes256::new(&words.array()?).encrypt_block(words.array()?);
+    Some(encrypted == words.array()?)
 }
 
 /// Whether this many drawn blocks, each encrypted under a drawn key, have this code under the empty key.
-pub(super) fn have_code(
-    alloc: Global,
-    mut input: Words<'_>,
-    mut answer: Words<'_>,
-) -> Option<bool> {
-    let (mut state, mut all) = (1, Vec::new(alloc));
-    for _ in 0..input.number()? {
+pub(super) fn have_code(mut words: Words<'_>) -> Option<bool> {
+    let (mut state, mut all) = (1, Vec::new(words.alloc));
+    for _ in 0..words.number()? {
         let (mut key, mut block) = ([0; 32], [0; 16]);
         draw(&mut state, &mut key);
         draw(&mut state, &mut block);
-        all.extend_from_slice(&Aes256::new(&key).encrypt_block(block))
-            .ok()?;
+        let encrypted = Aes256::new(&key).encrypt_block(block);
+        all.extend_from_slice(&encrypted).ok()?;
     }
-    Some(hmac(b"", &[all.as_slice()]) == answer.array()?)
+    Some(hmac(b"", &[all.as_slice()]) == words.array()?)
 }

@@ -1,12 +1,10 @@
 //! HMAC-SHA256, its expansion, and the comparison of codes.
-use super::rows::{Words, play};
+use super::rows::{Words, first_wrong};
 use cookie_crypt::{Mac, are_equal, expand64, hmac};
-use std::alloc::{AllocError, Global};
-use std::test::Fail;
 
-// Key, message and the first bytes of its HMAC: RFC 4231 4.3 and 4.2, Wycheproof, RFC 4231 4.7, whose key is longer
-// than a block, and by another implementation (Python's hmac) keys of a block and of one byte more.
-const CODES: &str = "\
+const ROWS: &str = "\
+# key, message and the first bytes of its HMAC: RFC 4231 4.3 and 4.2, Wycheproof, RFC 4231 4.7, whose key is longer than
+# a block, and by another implementation (Python's hmac) keys of a block and of one byte more
 code 4a656665 7768617420646f2079612077616e7420666f72206e6f7468696e673f -> 5bdcc146bf60754e6a042426089575c75a003f089d2739839dec58b964ec3843
 code 0b0b0b0b0b0b0b0b0b0b0b0b0b0b0b0b0b0b0b0b 4869205468657265 -> b0344c61d8db38535ca8afceaf0bf12b881dc200c9833da726e9376c2e32cff7
 code 85a7cbaae825bb82c9b6f6c5c2af5ac03d1f6daa63d2a93c189948ec41b9ded9 a59b -> 0fe2f13bba2198f6dda1a084be928e304e9cb16a56bc0b7b939a073280244373
@@ -21,16 +19,7 @@ code 0c0c0c0c0c0c0c0c0c0c0c0c0c0c0c0c0c0c0c0c 546573742057697468205472756e636174
 code aaaaaaaaaaaaaaaaaaaaaaaaaaaaaaaaaaaaaaaaaaaaaaaaaaaaaaaaaaaaaaaaaaaaaaaaaaaaaaaaaaaaaaaaaaaaaaaaaaaaaaaaaaaaaaaaaaaaaaaaaaaaaaaaaaaaaaaaaaaaaaaaaaaaaaaaaaaaaaaaaaaaaaaaaaaaaaaaaaaaaaaaaaaaaaaaaaaaaaaaaaaaaaaaaaaaaaaaaaaaaaaaaaaaaaaaaaaaaaaaaaaaaaaaaaaaaaaaaaaaaa 54657374205573696e67204c6172676572205468616e20426c6f636b2d53697a65204b6579202d2048617368204b6579204669727374 -> 60e431591ee0b67f0d8a26aacbf5b77f8e0bc6213728c5140546040f0ee37f54
 code 000102030405060708090a0b0c0d0e0f101112131415161718191a1b1c1d1e1f202122232425262728292a2b2c2d2e2f303132333435363738393a3b3c3d3e3f 61206b65792074686174206973206c6f6e676572207468616e206120626c6f636b -> 468af2eda6e48435012c1d0730652d0f71b5dec41071a4b0dcf057a82046e2df
 code 000102030405060708090a0b0c0d0e0f101112131415161718191a1b1c1d1e1f202122232425262728292a2b2c2d2e2f303132333435363738393a3b3c3d3e3f40 61206b65792074686174206973206c6f6e676572207468616e206120626c6f636b -> dfc12d40c4e6694a0e8ac8d2c410ee161741587b59055fe7785fc8c1f04e0a89
-";
-
-#[test]
-fn messages_are_hashed_under_a_key(rt: HostRuntime) -> Result<(), Fail> {
-    play(rt.alloc(), CODES)
-}
-
-// Pseudorandom key, info and the first bytes of the expansion: RFC 5869, A.1, and Wycheproof. Then bytes that are the
-// same, and others.
-const EXPANSIONS: &str = "\
+# pseudorandom key, info and the first bytes of the expansion: RFC 5869, A.1, and Wycheproof
 expansion 077709362c2e32df0ddc3f0dc47bba6390b6c73bb50f9c3122ec844ad7c2b3e5 f0f1f2f3f4f5f6f7f8f9 -> 3cb25f25faacd57a90434f64d0362f2a2d2d0a90cf1a5a4c5db02d56ecc4c5bf34007208d5b887185865
 expansion b1dd4015af48241285b0ae4e26e27fa367cd6a52ea03e4d01c28f717ee23224e 2094768a8816f7df070d6e08b7ad93755dc9024b -> b10173a66a08fffa6cf7c1057744eba73cbbde83a3d8674bb0bc1a46d80792a9d5a0d2ca72510e02a6e4
 expansion f912b424aaeda2a7972822d5d1e7f496d46815ef7ddc01c80b00212f07deaa52 - -> ff23874bcf844f88f2fb57c0c3a4e3a7a498965c
@@ -41,6 +30,7 @@ expansion 0d899988c6889ed53caae6aecbf72d177861372b29221f7afaf8a6bc256ad1a2 583af
 expansion 7825ee8776479c739b24391162baa561f249bc90420ed7503605141c2fec8df5 9eaddd1e7edb6b84c96fb5ac7e0d673a8f5084f2 -> c746740b67f49da7bb6f5d5e6cb5e23509bece3637f33c45abd96fd8b1da48772baf655f24049af16451
 expansion 2c60f0891a1fb9b23ec59eb0f06dd62919fc752c30a61d9e86bb0a17342b4c16 - -> 8d910333d171e6ac3bdbfc703a1eb64e1db04cdc
 expansion 92633895a78d9ac5cdcd30152811ea0c781030f36131741ba7fb56b406f5d024 2ef76656956e76c6 -> 7c46dbc4ff032e1f51eff7e5b42f7964c0033d2eb1fb9792c9a2e881abf28cf3
+# bytes that are the same, and others
 compared - - -> equal
 compared 61 61 -> equal
 compared 30313233343536373839616263646566 30313233343536373839616263646566 -> equal
@@ -48,22 +38,11 @@ compared 61 62 -> other
 compared 61 - -> other
 compared - 61 -> other
 compared 30313233343536373839616263646566 31313233343536373839616263646566 -> other
-compared 30313233343536373839616263646566 30313233343536373839616263646567 -> other
-";
+compared 30313233343536373839616263646566 30313233343536373839616263646567 -> other";
 
 #[test]
-fn keys_are_expanded_and_codes_compared(rt: HostRuntime) -> Result<(), Fail> {
-    play(rt.alloc(), EXPANSIONS)
-}
-
-// The bytes of the message as a piece each, with an empty piece after it.
-fn pieces_of(alloc: Global, message: &[u8]) -> Result<Vec<&[u8]>, AllocError> {
-    let mut pieces = Vec::new(alloc);
-    for byte in message.chunks(1) {
-        pieces.push(byte)?;
-        pieces.push(b"".as_slice())?;
-    }
-    Ok(pieces)
+fn messages_are_hashed_keys_expanded_and_codes_compared(rt: HostRuntime) {
+    assert_eq!(rt; first_wrong(rt.alloc(), ROWS), None);
 }
 
 // Whether the state of a key of 32 bytes and its copy give the code, whole and in pieces.
@@ -74,37 +53,38 @@ fn has_code_by_states(key: &[u8], message: &[u8], code: &[u8]) -> Option<bool> {
     Some(copy.code(&[message]).starts_with(code) && mac.code(&[front, back]).starts_with(code))
 }
 
-// Whether the code begins so, of the message whole, in two pieces and byte by byte.
-fn has_code_by_pieces(alloc: Global, key: &[u8], message: &[u8], code: &[u8]) -> Option<bool> {
-    let pieces = pieces_of(alloc, message).ok()?;
+/// Whether the message of `KEY MESSAGE` has a code that begins so: whole, in two pieces, and byte by byte with an empty
+/// piece after each.
+pub(super) fn has_code(mut words: Words<'_>) -> Option<bool> {
+    let (key, message, code) = (words.bytes()?, words.bytes()?, words.bytes()?);
+    let (key, message, code) = (key.as_slice(), message.as_slice(), code.as_slice());
+    let mut pieces = Vec::new(words.alloc);
+    for byte in message.chunks(1) {
+        pieces.push(byte).ok()?;
+        pieces.push(b"".as_slice()).ok()?;
+    }
     let (front, back) = message.split_at(message.len() / 2);
     let is_whole = hmac(key, &[message]).starts_with(code);
     let is_halved = hmac(key, &[front, &[], back]).starts_with(code);
-    Some(is_whole && is_halved && hmac(key, pieces.as_slice()).starts_with(code))
-}
-
-/// Whether the message of `KEY MESSAGE` has a code that begins so, in each way.
-pub(super) fn has_code(alloc: Global, mut input: Words<'_>, mut answer: Words<'_>) -> Option<bool> {
-    let (key, message, code) = (input.bytes()?, input.bytes()?, answer.bytes()?);
-    let (key, message, code) = (key.as_slice(), message.as_slice(), code.as_slice());
-    let is_right = has_code_by_pieces(alloc, key, message, code)?
-        && (key.len() != 32 || has_code_by_states(key, message, code)?);
-    Some(is_right && !code.is_empty())
+    let is_cut = hmac(key, pieces.as_slice()).starts_with(code) && !code.is_empty();
+    let is_state = key.len() != 32 || has_code_by_states(key, message, code)?;
+    Some(is_whole && is_halved && is_cut && is_state)
 }
 
 /// Whether the expansion of `KEY INFO` begins so.
-pub(super) fn is_expanded(mut input: Words<'_>, mut answer: Words<'_>) -> Option<bool> {
-    let (key, info, expansion) = (input.bytes()?, input.bytes()?, answer.bytes()?);
-    let is_right = expand64(key.as_slice(), info.as_slice()).starts_with(expansion.as_slice());
-    Some(is_right && !expansion.as_slice().is_empty())
+pub(super) fn is_expanded(mut words: Words<'_>) -> Option<bool> {
+    let (key, info, expansion) = (words.bytes()?, words.bytes()?, words.bytes()?);
+    let expanded = expand64(key.as_slice(), info.as_slice());
+    Some(expanded.starts_with(expansion.as_slice()) && !expansion.is_empty())
 }
 
 /// Whether the two are equal, or others, as told.
-pub(super) fn are_compared(mut input: Words<'_>, mut answer: Words<'_>) -> Option<bool> {
-    let (one, other) = (input.bytes()?, input.bytes()?);
-    match answer.word()? {
-        "equal" => Some(are_equal(one.as_slice(), other.as_slice())),
-        "other" => Some(!are_equal(one.as_slice(), other.as_slice())),
+pub(super) fn are_compared(mut words: Words<'_>) -> Option<bool> {
+    let (one, other) = (words.bytes()?, words.bytes()?);
+    let are_alike = are_equal(one.as_slice(), other.as_slice());
+    match words.word()? {
+        "equal" => Some(are_alike),
+        "other" => Some(!are_alike),
         _ => None,
     }
 }

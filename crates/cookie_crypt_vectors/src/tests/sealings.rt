@@ -1,13 +1,11 @@
 //! Texts that are sealed, and texts that must not open.
-use super::rows::{Words, draw, play};
+use super::rows::{Words, draw, first_wrong};
 use cookie_crypt::{Gcm, Steps, hmac};
-use std::alloc::Global;
-use std::test::Fail;
 
-// Key, nonce, associated data, plain text, encrypted text and tag: GCM's test cases 13 and 14, gcmEncryptExtIV256 and
-// gcmDecrypt256 of NIST's CAVP, one of ring's, and GCM's test cases 15 and 16 (McGrew and Viega, appendix B), of which
-// the last has a short last block. The last row is of tools/cipher-rows.
-const SEALED: &str = "\
+const ROWS: &str = "\
+# key, nonce, associated data, plain text, encrypted text and tag: GCM's test cases 13 and 14, gcmEncryptExtIV256 and
+# gcmDecrypt256 of NIST's CAVP, one of ring's, and GCM's test cases 15 and 16 (McGrew and Viega, appendix B), of which
+# the last has a short last block
 sealed 0000000000000000000000000000000000000000000000000000000000000000 000000000000000000000000 - - -> - 530f8afbc74536b9a963b4f1c4cb738b
 sealed 0000000000000000000000000000000000000000000000000000000000000000 000000000000000000000000 - 00000000000000000000000000000000 -> cea7403d4d606b6e074ec5d3baf39d18 d0d1c8a799996bf0265b98b5d48ab919
 sealed b52c505a37d78eda5dd34f20c22540ea1b58963cf8e5bf8ffa85f9f2492505b4 516c33929df5a3284ff463d7 - - -> - bdc1ac884d332457a1d2664f168c76f0
@@ -40,16 +38,9 @@ sealed 5033338bf7526cca0425f4a620424662ebc58364c8d985d130e525fd1f598f3f b40842b3
 sealed 4f2edc967b11983f05ef5ee2a4364039ac02dbcccef3f3719913ae2719c8217c 255f8209b0c67a6277bdb42e 1dc7065f1585384b88be47598ca484782716c78f49b3b6bf5d24a5b0d24fbd7831f18d77d80951d2c4fafb6f939d46362a69b558afadb3bb4d8aa27f7fcf3dd9624e1e075fce9bb239926d51ea9dff03619d64d5828103a414e360adcda8fd864fca55c21df86c76972c3765ab1d68ce89f708e7e5a3e06cd4de08573cf750c6f5f9 f8217163bcaf77c1383089e396b271e22c517e8ccda244256cc39315fab7d0c291078d90e9b6e336992f015282caa1ec0ea858a179c9735b7a2f0d50f6f1eecaf3b9308772279ebb95f8aa53826e9dd60fb354de0c50c10001c98812b59d7c0f36daa1aecda6782ca36130fbb559363fe07704b0b91ea85be319ada027e47840c764 -> 6719849b7cea3f7f2a8e4de13d7a864d581b7c638f49fb06378a768d2034548179963c33f0ad099254c2edda9ef771daf5d299f58850033e2e449d7bc21ca3f7d3b7408429b596da615c8582886a6d8c1a9ba81fec4a41a38b7cbf1a80ee0ec8bd71451e727051fbf2a1d1e3c6ca98ee113e47650ba4fe80451e79b04abc8bb99a2a 2ac7f962553a8007de3369c7795bc876
 sealed feffe9928665731c6d6a8f9467308308feffe9928665731c6d6a8f9467308308 cafebabefacedbaddecaf888 - d9313225f88406e5a55909c5aff5269a86a7a9531534f7da2e4c303d8a318a721c3c0c95956809532fcf0e2449a6b525b16aedf5aa0de657ba637b391aafd255 -> 522dc1f099567d07f47f37a32a84427d643a8cdcbfe5c0c97598a2bd2555d1aa8cb08e48590dbb3da7b08b1056828838c5f61e6393ba7a0abcc9f662898015ad b094dac5d93471bdec1a502270e3cc6c
 sealed feffe9928665731c6d6a8f9467308308feffe9928665731c6d6a8f9467308308 cafebabefacedbaddecaf888 feedfacedeadbeeffeedfacedeadbeefabaddad2 d9313225f88406e5a55909c5aff5269a86a7a9531534f7da2e4c303d8a318a721c3c0c95956809532fcf0e2449a6b525b16aedf5aa0de657ba637b39 -> 522dc1f099567d07f47f37a32a84427d643a8cdcbfe5c0c97598a2bd2555d1aa8cb08e48590dbb3da7b08b1056828838c5f61e6393ba7a0abcc9f662 76fc6ece0f4e1768cddf8853bb2d551b
+# by tools/cipher-rows
 texts 100 -> 181de5aa3fac11a42e5516343813d007e2c42b2fa5257deca9a03ea1ea5ff260
-";
-
-#[test]
-fn texts_are_sealed_and_opened(rt: HostRuntime) -> Result<(), Fail> {
-    play(rt.alloc(), SEALED)
-}
-
-// Key, nonce, associated data, text and a tag that is not its own: gcmDecrypt256 of NIST's CAVP.
-const REFUSED: &str = "\
+# key, nonce, associated data, text and a tag that is not its own: gcmDecrypt256 of NIST's CAVP
 opened e5a8123f2e2e007d4e379ba114a2fb66e6613f57c72d4e4f024964053028a831 51e43385bf533e168427e1ad - - 38fe845c66e66bdd884c2aecafd280e6 -> refused
 opened 577cd9f1a9f0f4b61455db0d5183536c2e5d000df5c812e140ca746ea9d05cbd 7d6a93560b53453681028e45 7b4114eb668366fc26bc2078f04cac9a - 294409118a4ac46ee9444464ac352cd6 -> refused
 opened ef785e34ea523c87619d8591239de3423fd1c7a9ee203fc74477aa48ed7e3c67 de7f230450a033556951adfc ab00dd4c8f1cc65ccd5121233aecbaed9a30bb38 - 00846778ff579c8986f3a37055c15208 -> refused
@@ -74,25 +65,16 @@ opened b52ef964164f84607d57ef8a428ae2446ca7a5e62db16344ce16d55127de00ac 8b8733e1
 opened bfb348738b190879894e42b5b76c88eac54a50a76fe3b85ee1e09828da1ea314 8ba1d6adb61ca5dcea06ff96 bcacb62238a0bf13a4b074d84e1eb5992007161c e9579d82327be4c7958b08723b4d1d658dafcbaa2184f8a3838c645056588e3984d8e87bb599fcdb12f3b0f5605d62614692ed 7e652eb509f990f2c733322990a81ee9 -> refused
 opened ae02edd322afbf5002a22f6d745f6b93c946d34089a9943fcf9114060b942b74 f345788b7cf2a0f5e1e6fdcf d08ecc2575a5cce9190815e0ac2874aae09c11c606963c365d8bde182b6a7ccdaa2489a1e1f82e8bd1bdc890f842ecd2 403946a53b57fd644d2033e9feb5e70ee0d7760c2d4136033b26edf22d1eb430a22b5641fe11cbff9ea704630465eaede5fa5b 154a3811c02b635a0400577e82a486dd -> refused
 opened 8ce43539dc92ac0cae5333d1a672fdc15cff4e5b82c7571c9ae57d90b5f10bd3 4db5773306c66e2be6c2e689 944c4ac629c39e4ec21e497f46477cdcb092952cd9f7a86b499962a8aa1a246007a9f1d4cf7bdf9f477bccc226a2056b63785f397b74e8b816beb86fda7bf5a354c6caca4c97d606d463fb5cc486792069a625bdefa065b430e9 83751e2ad6cc0c6ffb9cd5a09b2c4985cc8c29def9c51708d4b008b25719ee3db38ed8c775e0a58ec6611355520a55b6379ca8 c1cffde06139c4b356ec35b563bfd7b7 -> refused
-";
-
-#[test]
-fn texts_of_another_tag_are_refused(rt: HostRuntime) -> Result<(), Fail> {
-    play(rt.alloc(), REFUSED)
-}
-
-// What a sealing counts, of data and a text of this many bytes: blocks, products and look-ups by SP 800-38D 7.1, with a
-// block each for H and J0, and four bits a look-up.
-const COUNTED: &str = "\
+# what a sealing counts, of data and a text of this many bytes: blocks, products and look-ups by SP 800-38D 7.1, with a
+# block each for H and J0, and four bits a look-up
 steps 22 12 -> 3 4 128
 steps 0 0 -> 2 1 32
 steps 16 16 -> 3 3 96
-steps 0 17 -> 4 3 96
-";
+steps 0 17 -> 4 3 96";
 
 #[test]
-fn steps_are_counted(rt: HostRuntime) -> Result<(), Fail> {
-    play(rt.alloc(), COUNTED)
+fn texts_are_sealed_opened_refused_and_counted(rt: HostRuntime) {
+    assert_eq!(rt; first_wrong(rt.alloc(), ROWS), None);
 }
 
 fn opens(gcm: &Gcm, nonce: &[u8; 12], data: &[u8], text: &mut [u8], tag: &[u8; 16]) -> bool {
@@ -100,11 +82,11 @@ fn opens(gcm: &Gcm, nonce: &[u8; 12], data: &[u8], text: &mut [u8], tag: &[u8; 1
 }
 
 /// Whether the text of `KEY NONCE DATA TEXT` is sealed as `SEALED TAG`, and opened by that tag and by no other.
-pub(super) fn is_sealed(mut input: Words<'_>, mut answer: Words<'_>) -> Option<bool> {
-    let gcm = Gcm::new(&input.array()?);
-    let (nonce, data, plain) = (input.array()?, input.bytes()?, input.bytes()?);
-    let (sealed, tag) = (answer.bytes()?, answer.array()?);
-    let (data, mut bytes, mut other) = (data.as_slice(), plain, tag);
+pub(super) fn is_sealed(mut words: Words<'_>) -> Option<bool> {
+    let gcm = Gcm::new(&words.array()?);
+    let (nonce, data, plain) = (words.array()?, words.bytes()?, words.bytes()?);
+    let (sealed, tag) = (words.bytes()?, words.array()?);
+    let (data, mut bytes, mut other) = (data.as_slice(), plain.clone().ok()?, tag);
     let text = bytes.as_mut_slice();
     other[3] ^= 1;
     let given = gcm.seal_in_place(&nonce, data, text, &mut Steps::new());
@@ -115,13 +97,12 @@ pub(super) fn is_sealed(mut input: Words<'_>, mut answer: Words<'_>) -> Option<b
 }
 
 /// Whether the sealed text of `KEY NONCE DATA SEALED TAG` isn't opened by its tag, and stays.
-pub(super) fn is_refused(mut input: Words<'_>, mut answer: Words<'_>) -> Option<bool> {
-    let gcm = Gcm::new(&input.array()?);
-    let (nonce, data, sealed) = (input.array()?, input.bytes()?, input.bytes()?);
-    let (tag, mut bytes) = (input.array()?, sealed);
-    let text = bytes.as_mut_slice();
-    let is_opened = opens(&gcm, &nonce, data.as_slice(), text, &tag);
-    Some(answer.word()? == "refused" && !is_opened && *text == *sealed.as_slice())
+pub(super) fn is_refused(mut words: Words<'_>) -> Option<bool> {
+    let gcm = Gcm::new(&words.array()?);
+    let (nonce, data, sealed) = (words.array()?, words.bytes()?, words.bytes()?);
+    let (tag, mut bytes) = (words.array()?, sealed.clone().ok()?);
+    let is_opened = opens(&gcm, &nonce, data.as_slice(), bytes.as_mut_slice(), &tag);
+    Some(words.word()? == "refused" && !is_opened && bytes == sealed)
 }
 
 const LONGEST: usize = 100;
@@ -133,41 +114,29 @@ fn push_sealed(all: &mut Vec<u8>, state: &mut u64, size: usize) -> Option<()> {
     draw(state, &mut nonce);
     draw(state, &mut data);
     draw(state, &mut text);
-    let (data, text) = (
-        data.get(..size.wrapping_mul(7) % LONGEST)?,
-        text.get_mut(..size)?,
-    );
+    let data = data.get(..size.wrapping_mul(7) % LONGEST)?;
+    let text = text.get_mut(..size)?;
     let tag = Gcm::new(&key).seal_in_place(&nonce, data, text, &mut Steps::new())?;
     all.extend_from_slice(text).ok()?;
     all.extend_from_slice(&tag).ok()
 }
 
 /// Whether a drawn text of each length below the number, sealed, and its tag have this code under the empty key.
-pub(super) fn have_code(
-    alloc: Global,
-    mut input: Words<'_>,
-    mut answer: Words<'_>,
-) -> Option<bool> {
-    let (mut state, mut all) = (2, Vec::new(alloc));
-    for size in 0..input.number()? {
+pub(super) fn have_code(mut words: Words<'_>) -> Option<bool> {
+    let (mut state, mut all) = (2, Vec::new(words.alloc));
+    for size in 0..words.number()? {
         push_sealed(&mut all, &mut state, size)?;
     }
-    Some(hmac(b"", &[all.as_slice()]) == answer.array()?)
+    Some(hmac(b"", &[all.as_slice()]) == words.array()?)
 }
 
 /// Whether a text of this many bytes, sealed with this many bytes of data, comes to these steps.
-pub(super) fn has_steps(mut input: Words<'_>, mut answer: Words<'_>) -> Option<bool> {
+pub(super) fn has_steps(mut words: Words<'_>) -> Option<bool> {
     let (data, mut text, mut steps) = ([0; 32], [0; 32], Steps::new());
-    let data = data.get(..input.number()?)?;
-    let text = text.get_mut(..input.number()?)?;
+    let data = data.get(..words.number()?)?;
+    let text = text.get_mut(..words.number()?)?;
     Gcm::new(&[7; 32]).seal_in_place(&[0; 12], data, text, &mut steps)?;
-    let counts = (steps.blocks(), steps.products(), steps.table_steps());
-    Some(
-        counts
-            == (
-                answer.number()? as u64,
-                answer.number()? as u64,
-                answer.number()? as u64,
-            ),
-    )
+    let is_blocks = steps.blocks() == words.number()? as u64;
+    let is_products = steps.products() == words.number()? as u64;
+    Some(is_blocks && is_products && steps.table_steps() == words.number()? as u64)
 }

@@ -24,8 +24,7 @@ const YEAR_INSIDE: &str = "\
 20 with 01235 -> 1994-11-06T08:_9:37
 21 with 012345678 -> 1994-11-06T08:4_:37
 23 with 01245 -> 1994-11-06T08:49:_7
-24 with 012345689 -> 1994-11-06T08:49:3_
-";
+24 with 012345689 -> 1994-11-06T08:49:3_";
 
 // Of `Sunday, 06-Nov-94 08:49:37 GMT`, with the day at 8, the year at 15 and the hour at 18.
 const YEAR_SHORT: &str = "\
@@ -39,8 +38,7 @@ const YEAR_SHORT: &str = "\
 21 with 01235 -> 1994-11-06T08:_9:37
 22 with 012345678 -> 1994-11-06T08:4_:37
 24 with 01245 -> 1994-11-06T08:49:_7
-25 with 012345689 -> 1994-11-06T08:49:3_
-";
+25 with 012345689 -> 1994-11-06T08:49:3_";
 
 // Of `Sun Nov  6 08:49:37 1994`, with the day at 8, the hour at 11 and the year at 20.
 const YEAR_LAST: &str = "\
@@ -64,8 +62,7 @@ const YEAR_LAST: &str = "\
 22 cut -> 2019-11-06T08:49:37
 23 with 012356789 -> 199_-11-06T08:49:37
 23 without -> 0199-11-06T08:49:37
-23 cut -> 0199-11-06T08:49:37
-";
+23 cut -> 0199-11-06T08:49:37";
 
 const FORMS: [(&str, &str); 4] = [
     ("Sun, 06 Nov 1994 08:49:37 GMT", YEAR_INSIDE),
@@ -87,65 +84,56 @@ fn wanted(alloc: Global, rows: &str, place: usize, verb: &str, other: &str) -> O
     None
 }
 
-// Finds whether the text is read as that date, or as none where none is wanted.
-fn check_date(alloc: Global, text: &str, wanted: Option<String>) -> Option<()> {
-    match (read_date(text), wanted) {
-        (Some(date), Some(wanted)) => (date.to_string(alloc).ok()? == wanted).then_some(()),
-        (date, wanted) => (date.is_none() && wanted.is_none()).then_some(()),
-    }
-}
-
-// Finds whether the text is read as the rows say where the place has another character or none, or where the text ends
-// there.
-pub(super) fn check(
-    alloc: Global,
-    text: &str,
-    rows: &str,
-    place: usize,
-    verb: &str,
-    other: &str,
-) -> Option<()> {
+// Whether the text of the form is read as its rows say after the edit: another character in the place, as `with A`, or
+// none, `without `, or an end there, `cut `.
+fn is_right(alloc: Global, form: (&str, &str), place: usize, edit: &str) -> Option<bool> {
+    let ((text, rows), (verb, other)) = (form, edit.split_once(' ')?);
     let front = text.get(..place)?;
-    let back = text.get(place.saturating_add(1)..)?;
-    let back = if verb == "cut" { "" } else { back };
+    let rest = text.get(place.saturating_add(1)..)?;
+    let back = if verb == "cut" { "" } else { rest };
     let edited = format!(in alloc; "{front}{other}{back}").ok()?;
-    if edited.as_str() == text {
-        return Some(());
+    let wanted = wanted(alloc, rows, place, verb, other);
+    match read_date(edited.as_str()) {
+        Some(date) => Some(edited.as_str() == text || wanted == Some(date.to_string(alloc).ok()?)),
+        None => Some(wanted.is_none()),
     }
-    check_date(
-        alloc,
-        edited.as_str(),
-        wanted(alloc, rows, place, verb, other),
-    )
 }
 
-// The same of each character of ASCII, one of two bytes and one of four.
-fn check_place(alloc: Global, text: &str, rows: &str, place: usize) -> Option<()> {
+// The same of each character of ASCII, one of two bytes and one of four, and of the other edits.
+fn are_right(alloc: Global, form: (&str, &str), place: usize) -> Option<bool> {
+    let mut are_right = true;
     for code in 0..128u8 {
         let other = char::from(code);
-        check(
-            alloc,
-            text,
-            rows,
-            place,
-            "with",
-            other.encode_utf8(&mut [0; 4]),
-        )?;
+        let edit = format!(in alloc; "with {other}").ok()?;
+        are_right &= is_right(alloc, form, place, edit.as_str())?;
     }
-    check(alloc, text, rows, place, "with", "\u{e9}")?;
-    check(alloc, text, rows, place, "with", "\u{1f36a}")?;
-    check(alloc, text, rows, place, "without", "")?;
-    check(alloc, text, rows, place, "cut", "")
+    for edit in ["with \u{e9}", "with \u{1f36a}", "without ", "cut "] {
+        are_right &= is_right(alloc, form, place, edit)?;
+    }
+    Some(are_right)
 }
 
 #[test]
 fn an_edited_date_is_read_or_refused(rt: HostRuntime) {
-    for (text, rows) in FORMS {
-        for place in 0..text.len() {
-            assert!(rt;
-                check_place(rt.alloc(), text, rows, place).is_some(),
-                "{text}, {place}"
-            );
+    for form in FORMS {
+        for place in 0..form.0.len() {
+            assert!(rt; are_right(rt.alloc(), form, place) == Some(true), "{place}");
+        }
+    }
+}
+
+// Another date for each edit, and none.
+const WRONG: &str = "\
+22 with 0 -> 1914-11-06T08:49:37
+22 without -> 0195-11-06T08:49:37
+22 cut -> 2018-11-06T08:49:37";
+
+#[test]
+fn a_wrong_edit_is_found(rt: HostRuntime) {
+    for edit in ["with 0", "without ", "cut "] {
+        for rows in [WRONG, ""] {
+            let form = ("Sun Nov  6 08:49:37 1994", rows);
+            assert!(rt; is_right(rt.alloc(), form, 22, edit) == Some(false));
         }
     }
 }

@@ -17,9 +17,7 @@ const NAMES: u32 = 1_000;
 
 fn chosen(alloc: Global, number: u32) -> Option<Cookie<'static>> {
     let name = format!(in alloc; "{FRONT}{number:08}").ok()?;
-    let mut cookie = Cookie::named("");
-    cookie.set_name_owned(name);
-    Some(cookie)
+    Some(Cookie::new_owned(name, String::new(alloc)))
 }
 
 // The jar with an original and an addition of each name.
@@ -33,13 +31,8 @@ fn filled(alloc: Global, mut jar: CookieJar) -> Option<CookieJar> {
 
 // Whether each name is found among the changes and among the originals.
 fn are_found(jar: &CookieJar) -> bool {
-    for cookie in jar.delta() {
-        let name = cookie.name();
-        if jar.get(name).is_none() || jar.original(name).is_none() {
-            return false;
-        }
-    }
-    true
+    let mut changes = jar.delta();
+    changes.all(|one| jar.get(one.name()).is_some() && jar.original(one.name()).is_some())
 }
 
 // The least time of this many tries to find them all.
@@ -55,34 +48,28 @@ fn least_time<C: Clock>(clock: &C, jar: &CookieJar, tries: u32) -> Option<Durati
     Some(least)
 }
 
-// Whether the jar finds them in a fifth of the time that one of `CookieJar::new` takes.
-fn is_fast<C: Clock>(alloc: Global, clock: &C, jar: &CookieJar) -> Option<bool> {
+// Whether a jar with drawn keys, or its clone, finds them in a fifth of the time that one of `CookieJar::new` takes.
+fn is_fast<C: Clock>(alloc: Global, clock: &C, keys: RandomState, is_clone: bool) -> Option<bool> {
     let slow = filled(alloc, CookieJar::new(alloc))?;
     let slow = least_time(clock, &slow, 2)?.as_nanos();
-    let time = least_time(clock, jar, 10)?.as_nanos();
+    let mut jar = filled(alloc, CookieJar::with_hasher(alloc, keys))?;
+    if is_clone {
+        jar = jar.clone().ok()?;
+    }
+    let time = least_time(clock, &jar, 10)?.as_nanos();
     Some(time.saturating_mul(5) < slow)
-}
-
-fn is_jar_fast<C: Clock>(alloc: Global, clock: &C, state: RandomState) -> Option<bool> {
-    let jar = filled(alloc, CookieJar::with_hasher(alloc, state))?;
-    is_fast(alloc, clock, &jar)
-}
-
-fn is_clone_fast<C: Clock>(alloc: Global, clock: &C, state: RandomState) -> Option<bool> {
-    let jar = filled(alloc, CookieJar::with_hasher(alloc, state))?;
-    is_fast(alloc, clock, &jar.clone().ok()?)
 }
 
 #[test]
 fn a_jar_with_drawn_keys_keeps_chosen_names_apart(rt: HostRuntime) -> Result<(), Fail> {
-    let state = RandomState::new(&rt)?;
-    assert!(rt; is_jar_fast(rt.alloc(), &rt, state) == Some(true));
+    let keys = RandomState::new(&rt)?;
+    assert!(rt; is_fast(rt.alloc(), &rt, keys, false) == Some(true));
     Ok(())
 }
 
 #[test]
 fn a_clone_keeps_chosen_names_apart_too(rt: HostRuntime) -> Result<(), Fail> {
-    let state = RandomState::new(&rt)?;
-    assert!(rt; is_clone_fast(rt.alloc(), &rt, state) == Some(true));
+    let keys = RandomState::new(&rt)?;
+    assert!(rt; is_fast(rt.alloc(), &rt, keys, true) == Some(true));
     Ok(())
 }

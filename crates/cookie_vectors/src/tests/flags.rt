@@ -1,28 +1,19 @@
-//! Texts under the flags of a formatter, by the rules of `std::fmt`: what stands in the parentheses of a case heeds them.
+//! Refusals and keys as values, and texts under the flags of a formatter, by the rules of `std::fmt`.
 use cookie::prefix::{Host, Prefix, Secure};
-use cookie::{CookieBuilder, CookieJar, Error, Expiration, JarError, KeyError, ParseError};
-use cookie_words::{debugs, prints};
+use cookie::{CookieBuilder, CookieJar, Error, Expiration, JarError, Key, KeyError, ParseError};
+use cookie_words::{debugs, is_cloned, prints};
 use jar_steps::test_key;
 use std::alloc::Global;
 
-// No flag adds to a key's.
-fn are_names(alloc: Global) -> bool {
-    debugs(alloc, &test_key(), "Key")
-        && debugs(alloc, &Host, "Host")
-        && debugs(alloc, &Secure, "Secure")
-        && debugs(alloc, &Expiration::Session, "Session")
-}
-
-#[test]
-fn no_flag_changes_a_name(rt: HostRuntime) {
-    assert!(rt; are_names(rt.alloc()));
-    assert!(rt; !debugs(rt.alloc(), &Host, "Secure"));
-}
-
 const TOO_LONG: &str = "the value or name is too long to seal";
 
+// No flag adds to a key's.
 #[test]
-fn no_flag_changes_a_refusal_of_a_jar(rt: HostRuntime) {
+fn no_flag_changes_a_name_or_a_refusal_of_a_jar(rt: HostRuntime) {
+    assert!(rt; debugs(rt.alloc(), &test_key(), "Key"));
+    assert!(rt; debugs(rt.alloc(), &Host, "Host"));
+    assert!(rt; debugs(rt.alloc(), &Secure, "Secure"));
+    assert!(rt; debugs(rt.alloc(), &Expiration::Session, "Session"));
     for (refusal, text, name) in [
         (JarError::OutOfMemory, "out of memory", "OutOfMemory"),
         (JarError::TooLong, TOO_LONG, "TooLong"),
@@ -32,6 +23,7 @@ fn no_flag_changes_a_refusal_of_a_jar(rt: HostRuntime) {
         assert!(rt; debugs(rt.alloc(), &refusal, name), "{name}");
     }
     assert!(rt; !prints(rt.alloc(), &JarError::TooLong, "out of memory"));
+    assert!(rt; !debugs(rt.alloc(), &Host, "Secure"));
 }
 
 const SHORT_KEY: &str = "key material is too short: expected >= 64 bytes, got 6 bytes";
@@ -107,27 +99,11 @@ secure: None, partitioned: None, same_site: None, path: Some(\"/a\"), domain: No
 expires: None } }}, delta: {} }";
 
 const JAR_IN_LINES: &str = "\
-CookieJar {
-    originals: {
-        \"o\": Original {
-            cookie: Cookie {
-                name: \"o\",
-                value: \"1\",
-                http_only: None,
-                secure: None,
-                partitioned: None,
-                same_site: None,
-                path: Some(
-                    \"/a\",
-                ),
-                domain: None,
-                max_age: None,
-                expires: None,
-            },
-        },
-    },
-    delta: {},
-}";
+CookieJar {\n    originals: {\n        \"o\": Original {\n            cookie: Cookie {\n                \
+name: \"o\",\n                value: \"1\",\n                http_only: None,\n                secure: None,\n                \
+partitioned: None,\n                same_site: None,\n                path: Some(\n                    \
+\"/a\",\n                ),\n                domain: None,\n                max_age: None,\n                \
+expires: None,\n            },\n        },\n    },\n    delta: {},\n}";
 
 // Whether a jar is shown so, in lines under `#` and in no other way under another flag.
 fn is_jar_shown(alloc: Global) -> Option<bool> {
@@ -143,4 +119,21 @@ fn is_jar_shown(alloc: Global) -> Option<bool> {
 fn texts_are_shown_alike_under_each_flag(rt: HostRuntime) {
     assert!(rt; debugs(rt.alloc(), &Host::PREFIX, PREFIX));
     assert!(rt; is_jar_shown(rt.alloc()) == Some(true));
+}
+
+#[test]
+fn refusals_and_keys_are_cloned_and_compared(rt: HostRuntime) {
+    assert!(rt; is_cloned(&JarError::TooLong, &JarError::Generator));
+    assert!(rt; is_cloned(&KeyError::TooShort(6), &KeyError::TooShort(7)));
+    assert!(rt; is_cloned(&test_key(), &Key::from(&[0; 64])));
+}
+
+#[test]
+fn one_error_holds_each(rt: HostRuntime) {
+    let short = KeyError::TooShort(6);
+    assert!(rt; Error::from(ParseError::EmptyName) == Error::Parse(ParseError::EmptyName));
+    assert!(rt; Error::from(short) == Error::Key(short));
+    assert!(rt; Error::from(JarError::TooLong) == Error::Jar(JarError::TooLong));
+    assert!(rt; Error::from(ParseError::OutOfMemory) == Error::OutOfMemory);
+    assert!(rt; Error::from(JarError::OutOfMemory) == Error::OutOfMemory);
 }

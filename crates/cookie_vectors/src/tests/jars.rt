@@ -1,27 +1,18 @@
 //! What a jar holds, and what the walks over it meet.
+use super::player::Player;
 use cookie::{Cookie, CookieJar};
+use cookie_words::is;
 use jar_steps::counts;
 use std::alloc::Global;
 use std::mem;
 
-// Whether the delta has a cookie with all fields of the wanted one.
-fn has_change(jar: &CookieJar, wanted: &Cookie<'_>) -> bool {
-    for cookie in jar.delta() {
-        if cookie_words::is(cookie, wanted) {
-            return true;
-        }
+// Whether the delta, or else the walk over the jar, has a cookie with all fields of the words.
+fn has(jar: &CookieJar, is_in_delta: bool, words: &str) -> Option<bool> {
+    let wanted = cookie_words::cookie(words)?;
+    if is_in_delta {
+        return Some(jar.delta().any(|cookie| is(cookie, &wanted)));
     }
-    false
-}
-
-// Whether the walk over the jar meets such a cookie.
-fn meets(jar: &CookieJar, wanted: &Cookie<'_>) -> bool {
-    for cookie in jar.iter() {
-        if cookie_words::is(cookie, wanted) {
-            return true;
-        }
-    }
-    false
+    Some(jar.iter().any(|cookie| is(cookie, &wanted)))
 }
 
 // Puts a clone in the jar's place, once the jar has lost its changes and that original, and shows this many.
@@ -67,15 +58,11 @@ fn is_read(alloc: Global, jar: &mut CookieJar, verb: &str, text: &str) -> Option
 }
 
 /// Makes a call on the jar, or answers whether it shows what it has to.
-pub(super) fn play(
-    alloc: Global,
-    jar: &mut CookieJar,
-    verb: &str,
-    rest: &'static str,
-) -> Option<bool> {
+pub(super) fn play(player: &mut Player, verb: &str, rest: &'static str) -> Option<bool> {
+    let (alloc, jar) = (player.alloc, &mut player.jar);
     match verb {
-        "changed" => Some(has_change(jar, &cookie_words::cookie(rest)?)),
-        "meets" => Some(meets(jar, &cookie_words::cookie(rest)?)),
+        "changed" => has(jar, true, rest),
+        "meets" => has(jar, false, rest),
         "clone" => is_cloned(jar, rest),
         "parse" => Some(jar.add(Cookie::parse(rest).ok()?).is_ok()),
         "parse-original" => Some(jar.add_original(Cookie::parse(rest).ok()?).is_ok()),

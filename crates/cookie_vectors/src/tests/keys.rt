@@ -47,17 +47,28 @@ derive 32 32: oFlXPrf48Irva0dvcHwvF8vpuxGUpIy9Vp5GBxdl3xLSB7V8NVMQRKy7luS4eUYW4t
 derive 33 33: bprLc0gqx5XEKWlZi54OiBCUioQXWLLSlsut9U+940kp6OM/TV0HnF2r2glhxkZzmGkroUN6kcv/A1sfWxpZuQ==
 derive 65 65: Zjr2dCOTePS/HrRUkPsSD1XbRuMTXZobKjoR/IRhTYVKkuVkwJNs+MXUW9wV7E4DGRCLOcFgWkxBu/wGF+VvUg==
 derive 64 32: wZV6o4t7qRvY/T55dEeDvVCJQLHM4owWzrQeBwkqtnlrMQ9YD6W2eyr8u7MtqkMOnIh352KuZ3Hqn0TcqSRMqg==
-derive 32 0: C+rz1hFfouLszIWZYFqbQfSnc+kBTufb4T0sdeGzP0mbQQZrQGnxsb7WqDnhRWdOiCzgoYwy3LsX0JHM1CsYWw==";
+derive 32 0: C+rz1hFfouLszIWZYFqbQfSnc+kBTufb4T0sdeGzP0mbQQZrQGnxsb7WqDnhRWdOiCzgoYwy3LsX0JHM1CsYWw==
+draw 5 0: BgAAAAcAAAAIAAAACQAAAAoAAAALAAAADAAAAA0AAAAOAAAADwAAABAAAAARAAAAEgAAABMAAAAUAAAAFQAAAA==
+draw 5 1: FgAAABcAAAAYAAAAGQAAABoAAAAbAAAAHAAAAB0AAAAeAAAAHwAAACAAAAAhAAAAIgAAACMAAAAkAAAAJQAAAA==";
+
+// The key that is drawn of the generator that counts from the seed, once so many are drawn.
+fn drawn(seed: u32, earlier: usize) -> Key {
+    let mut rng = Counting(seed);
+    for _ in 0..earlier {
+        Key::generate(&mut rng);
+    }
+    Key::generate(&mut rng)
+}
 
 // What the words of a row, such as `take 63 63`, make: the key in base64, or the refusal.
 fn made(alloc: Global, words: &str) -> Option<String> {
     let (call, numbers) = words.split_once(' ')?;
-    let (length, counted) = numbers.split_once(' ')?;
-    let bytes = count_up(counted.parse().ok()?);
-    let bytes = bytes.get(..length.parse().ok()?)?;
-    let made = match call {
-        "take" => taken(bytes)?,
-        "derive" => derived(bytes)?,
+    let (length, count) = numbers.split_once(' ')?;
+    let bytes = count_up(count.parse().ok()?);
+    let made = match (call, bytes.get(..length.parse().ok()?)) {
+        ("draw", _) => Ok(drawn(length.parse().ok()?, count.parse().ok()?)),
+        ("take", Some(bytes)) => taken(bytes)?,
+        ("derive", Some(bytes)) => derived(bytes)?,
         _ => return None,
     };
     match made {
@@ -88,6 +99,8 @@ derive
 take 64 63
 take 64 0
 take 62 62
+draw 5 2
+draw 6 0
 taken 64 64";
 
 // The first key that is derived, with another last byte.
@@ -107,38 +120,12 @@ fn a_wrong_row_is_found(rt: HostRuntime) {
     }
 }
 
-// Whether the halves and the whole of the key are the first of these bytes.
-fn is_made_of(key: &Key, bytes: &[u8]) -> bool {
-    Some(key.signing()) == bytes.get(..32)
-        && Some(key.encryption()) == bytes.get(32..64)
-        && Some(key.master()) == bytes.get(..64)
-}
-
 #[test]
 fn from_works(rt: HostRuntime) {
-    assert!(rt; is_made_of(&Key::from(&count_up(70)), &count_up(70)));
-}
-
-// Whether the key has these bytes from that place on.
-fn has_at(key: &Key, place: usize, bytes: &[u8]) -> bool {
-    matches!(key.master().get(place..), Some(rest) if rest.starts_with(bytes))
-}
-
-// Whether both keys are those that the generator that counts from 5 gives one after the other.
-fn are_next(first: &Key, second: &Key) -> bool {
-    has_at(first, 0, &[6, 0, 0, 0, 7, 0, 0, 0])
-        && has_at(first, 60, &[21, 0, 0, 0])
-        && has_at(second, 0, &[22, 0, 0, 0])
-        && second != first
-        && second.signing() != first.signing()
-}
-
-#[test]
-fn a_key_is_the_next_64_bytes_of_a_stream(rt: HostRuntime) {
-    let mut rng = Counting(5);
-    let first = Key::generate(&mut rng);
-    assert!(rt; are_next(&first, &Key::generate(&mut rng)));
-    assert!(rt; Key::try_generate(&mut Counting(5)) == Some(first));
+    let (bytes, key) = (count_up(70), Key::from(&count_up(70)));
+    assert!(rt; Some(key.signing()) == bytes.get(..32));
+    assert!(rt; Some(key.encryption()) == bytes.get(32..64));
+    assert!(rt; Some(key.master()) == bytes.get(..64));
 }
 
 #[test]
@@ -146,6 +133,7 @@ fn no_key_is_drawn_of_a_generator_that_fails(rt: HostRuntime) {
     for left in 0..64usize {
         assert!(rt; Key::try_generate(&mut Sevens { left }).is_none(), "{left}");
     }
-    let drawn = Key::try_generate(&mut Sevens { left: 64 });
-    assert!(rt; matches!(drawn, Some(key) if key.master() == [7; 64].as_slice()));
+    let key = Key::try_generate(&mut Sevens { left: 64 });
+    assert!(rt; matches!(key, Some(key) if key.master() == [7; 64].as_slice()));
+    assert!(rt; Key::try_generate(&mut Counting(5)) == Some(drawn(5, 0)));
 }

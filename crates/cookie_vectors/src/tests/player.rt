@@ -87,7 +87,7 @@ impl Player {
             "next" => Some(self.rng.0 == rest.parse().ok()?),
             "failing" => self.is_made_before_failure(rest),
             "unsealed" => self.is_left(rest),
-            _ => jars::play(self.alloc, &mut self.jar, word, rest),
+            _ => jars::play(self, word, rest),
         }
     }
 
