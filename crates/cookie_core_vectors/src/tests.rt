@@ -2,7 +2,6 @@
 mod fields;
 mod hostile;
 mod making;
-mod raw_forms;
 mod reading;
 mod rows;
 mod showing;

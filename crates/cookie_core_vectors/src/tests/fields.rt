@@ -113,7 +113,8 @@ set own [a=1; own name b; own value 2; own Path=/x; own Domain=.c.d] == build [b
 
 #[test]
 fn cookies_are_set_printed_and_compared(rt: HostRuntime) {
-    assert_eq!(rt; first_wrong(rt.alloc(), ROWS), None);
+    let wrong = first_wrong(rt.alloc(), ROWS);
+    assert!(rt; wrong.is_none(), "{wrong:?}");
 }
 
 const BUILT: &str = "\

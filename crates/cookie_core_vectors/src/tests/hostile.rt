@@ -14,7 +14,8 @@ read [a=1; Expires=Wed, 21 Oct 2015 07:28:00 GMT\u{17f}] has a=1 & lends a|1|-|-
 
 #[test]
 fn texts_of_other_alphabets_are_read_as_pairs(rt: HostRuntime) {
-    assert_eq!(rt; first_wrong(rt.alloc(), ALPHABETS), None);
+    let wrong = first_wrong(rt.alloc(), ALPHABETS);
+    assert!(rt; wrong.is_none(), "{wrong:?}");
 }
 
 // Ten thousand empty names are as many refusals.
@@ -96,25 +97,24 @@ fn split_at(length: usize) -> Option<&'static str> {
     found
 }
 
-// The rows of the text that is cut to that length, by the calls that leave its escape and by those that undo it.
-fn cut_rows(alloc: Global, length: usize) -> Option<String> {
+// Whether the text, cut to that length, is read and split so by the calls that leave its escape, and by the others.
+fn is_cut_right(alloc: Global, length: usize) -> Option<bool> {
     let (text, read) = (LONG.get(..length)?, read_at(length)?);
     let last = text.rsplit(';').next()?.trim();
     let items = split_at(length)?.replace(alloc, "~", last).ok()?;
-    let left = format!(in alloc; "parse [{text}] has {read}\nsplit [{text}] has {items}").ok()?;
+    let rows = format!(in alloc; "parse [{text}] has {read}\nsplit [{text}] has {items}").ok()?;
     let read = read.replace(alloc, "x%20", "x ").ok()?;
     let items = items.as_str().replace(alloc, "x%20", "x ").ok()?;
-    format!(in alloc;
-        "{left}\nparse encoded [{text}] has {read}\nsplit encoded [{text}] has {items}"
-    ).ok()
+    let others = format!(in alloc;
+        "parse encoded [{text}] has {read}\nsplit encoded [{text}] has {items}"
+    ).ok()?;
+    let are_left = first_wrong(alloc, rows.as_str()).is_none();
+    Some(are_left && first_wrong(alloc, others.as_str()).is_none())
 }
 
 #[test]
 fn a_cut_text_is_read_and_split_as_what_is_left(rt: HostRuntime) {
     for length in 0..=LONG.len() {
-        let rows = cut_rows(rt.alloc(), length);
-        let is_right =
-            matches!(rows, Some(rows) if first_wrong(rt.alloc(), rows.as_str()).is_none());
-        assert!(rt; is_right, "{length}");
+        assert!(rt; is_cut_right(rt.alloc(), length) == Some(true), "{length}");
     }
 }

@@ -1,6 +1,6 @@
 //! Texts that are read as one cookie, and headers that are split; and those that are refused.
 use super::rows::first_wrong;
-use cookie_core::Cookie;
+use cookie_core::{Cookie, Layout, ParseError, Span};
 
 const READ: &str = "\
 # a name may have the empty value
@@ -82,7 +82,8 @@ parse encoded [%20=1; Path=/x] has  =1; Path=/x & lends -|-|/x|-";
 
 #[test]
 fn texts_are_read(rt: HostRuntime) {
-    assert_eq!(rt; first_wrong(rt.alloc(), READ), None);
+    let wrong = first_wrong(rt.alloc(), READ);
+    assert!(rt; wrong.is_none(), "{wrong:?}");
 }
 
 const REFUSED: &str = "\
@@ -92,7 +93,8 @@ parse encoded [a] has no pair";
 
 #[test]
 fn a_text_with_no_pair_or_no_name_is_refused(rt: HostRuntime) {
-    assert_eq!(rt; first_wrong(rt.alloc(), REFUSED), None);
+    let wrong = first_wrong(rt.alloc(), REFUSED);
+    assert!(rt; wrong.is_none(), "{wrong:?}");
 }
 
 const UNDECODED: &str = "\
@@ -105,7 +107,8 @@ parse encoded [a=b%20%FF] has no UTF-8 from 2 & prints decoding the cookie's nam
 
 #[test]
 fn refusals_come_in_order(rt: HostRuntime) {
-    assert_eq!(rt; first_wrong(rt.alloc(), UNDECODED), None);
+    let wrong = first_wrong(rt.alloc(), UNDECODED);
+    assert!(rt; wrong.is_none(), "{wrong:?}");
 }
 
 const SPLIT: &str = "\
@@ -121,7 +124,8 @@ split encoded [name=val%20ue ; ; foo%20!%25%3F%3D=bar%3B%3B%2C%20a] lends [-|-|-
 
 #[test]
 fn headers_are_split(rt: HostRuntime) {
-    assert_eq!(rt; first_wrong(rt.alloc(), SPLIT), None);
+    let wrong = first_wrong(rt.alloc(), SPLIT);
+    assert!(rt; wrong.is_none(), "{wrong:?}");
 }
 
 #[test]
@@ -130,4 +134,47 @@ fn a_header_that_has_ended_gives_no_items(rt: HostRuntime) {
     for _ in 0..3 {
         assert!(rt; items.next().is_none());
     }
+}
+
+// Whether the forms that a text's cookie lends outlive it.
+fn are_lent_for_long() -> Option<bool> {
+    let cookie = Cookie::parse("bar=baz; Path=/subdir; HttpOnly; Domain=crates.io").ok()?;
+    let pair = (cookie.name_raw(), cookie.value_raw());
+    let scope = (cookie.path_raw(), cookie.domain_raw());
+    drop(cookie);
+    Some(pair == (Some("bar"), Some("baz")) && scope == (Some("/subdir"), Some("crates.io")))
+}
+
+#[test]
+fn cookie_string_long_lifetimes(rt: HostRuntime) {
+    assert!(rt; are_lent_for_long() == Some(true));
+}
+
+fn is_at(span: Span, start: usize, end: usize) -> bool {
+    (span.start, span.end) == (start, end)
+}
+
+// Whether the parts of a text have their places.
+fn is_laid_out() -> Option<bool> {
+    let layout = Layout::of(" bar = baz ; Path=/subdir; HttpOnly; Domain=.crates.io").ok()?;
+    let attributes = layout.attributes;
+    let (path, domain) = (attributes.path?, attributes.domain?);
+    let is_pair = is_at(layout.name, 1, 4) && is_at(layout.value, 7, 10);
+    let is_scope = is_at(path, 18, 25) && is_at(domain, 44, 54);
+    let are_set = (attributes.http_only, attributes.secure) == (Some(true), None);
+    Some(is_pair && is_scope && are_set && attributes.expires.is_none())
+}
+
+#[test]
+fn the_parts_of_a_text_have_their_places(rt: HostRuntime) {
+    assert!(rt; is_laid_out() == Some(true));
+    assert!(rt; matches!(Layout::of("bar"), Err(ParseError::MissingPair)));
+}
+
+#[test]
+fn white_space_at_the_ends_is_left_out(rt: HostRuntime) {
+    assert!(rt; is_at(Span::trim("\u{2003} a = 1 \u{85}"), 4, 9));
+    assert!(rt; is_at(Span::trim("a"), 0, 1));
+    let blank = Span::trim(" \t\u{3000}");
+    assert!(rt; blank.start == blank.end);
 }

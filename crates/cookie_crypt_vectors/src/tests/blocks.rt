@@ -52,7 +52,8 @@ blocks 200 -> 597b2eccd9623e87e7e8ccc81cd7649e5a9967278ea881a40db8b8055f3fbe51";
 
 #[test]
 fn blocks_are_encrypted(rt: HostRuntime) {
-    assert_eq!(rt; first_wrong(rt.alloc(), BLOCKS), None);
+    let wrong = first_wrong(rt.alloc(), BLOCKS);
+    assert!(rt; wrong.is_none(), "{wrong:?}");
 }
 
 /// Whether the block of `KEY BLOCK` is encrypted so.

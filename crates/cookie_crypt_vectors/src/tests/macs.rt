@@ -42,7 +42,8 @@ compared 30313233343536373839616263646566 30313233343536373839616263646567 -> ot
 
 #[test]
 fn messages_are_hashed_keys_expanded_and_codes_compared(rt: HostRuntime) {
-    assert_eq!(rt; first_wrong(rt.alloc(), ROWS), None);
+    let wrong = first_wrong(rt.alloc(), ROWS);
+    assert!(rt; wrong.is_none(), "{wrong:?}");
 }
 
 // Whether the state of a key of 32 bytes and its copy give the code, whole and in pieces.
