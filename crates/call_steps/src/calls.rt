@@ -12,14 +12,12 @@ fn removed(mut cookie: Cookie<'static>) -> Cookie<'static> {
 
 // The cookie of the call. The last of its words may be `removed`, which makes it a removal, or `copied`, which makes it
 // a copy that owns its texts.
-fn cookie_of(alloc: Global, mut call: Call) -> Option<Cookie<'static>> {
+fn cookie_of(alloc: Global, call: Call) -> Option<Cookie<'static>> {
     let (words, last) = call.words.rsplit_once("; ").unwrap_or((call.words, ""));
-    if last == "removed" || last == "copied" {
-        call.words = words;
-    }
+    let plain = Call { words, ..call };
     match last {
-        "removed" => Some(removed(call.cookie()?)),
-        "copied" => call.cookie()?.clone(alloc).ok()?.into_owned(alloc).ok(),
+        "removed" => Some(removed(plain.cookie()?)),
+        "copied" => plain.cookie()?.clone(alloc).ok()?.into_owned(alloc).ok(),
         _ => call.cookie(),
     }
 }
@@ -36,16 +34,13 @@ fn child_call(verb: Verb, cookie: Cookie<'static>) -> Option<ChildCall> {
 
 /// The call with the cookie on the jar itself. A forced removal has its name alone, and a reset nothing of it.
 pub fn own_call(alloc: Global, verb: Verb, cookie: Cookie<'static>) -> Option<JarCall<'static>> {
-    match verb {
-        Verb::AddOriginal => Some(JarCall::AddOriginal(cookie)),
-        Verb::Add => Some(JarCall::Add(cookie)),
-        Verb::Remove => Some(JarCall::Remove(cookie, moment())),
-        Verb::ForceRemove => Some(JarCall::ForceRemove(String::from_str(
-            alloc,
-            cookie.name(),
-        ).ok()?)),
-        Verb::ResetDelta => Some(JarCall::ResetDelta),
-    }
+    Some(match verb {
+        Verb::AddOriginal => JarCall::AddOriginal(cookie),
+        Verb::Add => JarCall::Add(cookie),
+        Verb::Remove => JarCall::Remove(cookie, moment()),
+        Verb::ForceRemove => JarCall::ForceRemove(String::from_str(alloc, cookie.name()).ok()?),
+        Verb::ResetDelta => JarCall::ResetDelta,
+    })
 }
 
 /// The call that the step says. `earlier a=1` is a removal at the least moment.

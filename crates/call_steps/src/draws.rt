@@ -16,19 +16,17 @@ pub struct Tables {
     pub fields: &'static [&'static str],
 }
 
-/// Numbers from a fixed seed, by the shifts of a xorshift generator (Marsaglia, 2003).
+/// Numbers from a seed, by the shifts of a xorshift generator (Marsaglia, 2003).
 #[derive(Drop)]
-pub struct Draws {
-    pub state: u64,
-}
+pub struct Draws(pub u64);
 
 impl Draws {
     /// The next number.
     pub fn next(&mut self) -> u64 {
-        self.state ^= self.state << 13;
-        self.state ^= self.state >> 7;
-        self.state ^= self.state << 17;
-        self.state
+        self.0 ^= self.0 << 13;
+        self.0 ^= self.0 >> 7;
+        self.0 ^= self.0 << 17;
+        self.0
     }
 
     /// A number below the bound.
@@ -41,7 +39,8 @@ impl Draws {
         texts.split('|').nth(place).unwrap_or("")
     }
 
-    fn cookie(&mut self, tables: Tables) -> Option<Cookie<'static>> {
+    fn call(&mut self, alloc: Global, tables: Tables) -> Option<JarCall<'static>> {
+        let verb = Verb::parse(self.text(tables.verbs))?;
         let mut cookie = Cookie::new(self.text(tables.names), self.text(tables.values));
         for fields in tables.fields {
             let field = self.text(*fields);
@@ -49,24 +48,19 @@ impl Draws {
                 set(&mut cookie, field)?;
             }
         }
-        Some(cookie)
+        own_call(alloc, verb, cookie)
     }
 
-    fn call(&mut self, alloc: Global, tables: Tables) -> Option<JarCall<'static>> {
-        let verb = Verb::parse(self.text(tables.verbs))?;
-        own_call(alloc, verb, self.cookie(tables)?)
-    }
-
-    /// Fewer than this many calls.
+    /// Fewer calls than the bound.
     pub fn calls(
         &mut self,
         alloc: Global,
-        tables: Tables,
+        of: Tables,
         bound: u64,
     ) -> Option<Vec<JarCall<'static>>> {
         let mut calls = Vec::new(alloc);
         for _ in 0..self.below(bound) {
-            calls.push(self.call(alloc, tables)?).ok()?;
+            calls.push(self.call(alloc, of)?).ok()?;
         }
         Some(calls)
     }

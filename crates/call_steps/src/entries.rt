@@ -24,27 +24,24 @@ pub struct Entries<'c> {
 
 impl<'c> Entries<'c> {
     pub fn new(alloc: Global) -> Entries<'c> {
-        Entries {
-            list: Vec::new(alloc),
-        }
+        let list = Vec::new(alloc);
+        Entries { list }
     }
 
     /// What stands under the name.
     pub fn find(&self, name: &str) -> Option<Entry<'c>> {
-        self.list
-            .iter()
-            .find(|held| held.cookie.name() == name)
-            .copied()
+        let mut entries = self.list.iter().copied();
+        entries.find(|held| held.cookie.name() == name)
     }
 
     pub fn forget(&mut self, name: &str) {
         self.list.retain(|held| held.cookie.name() != name);
     }
 
-    /// Puts the entry last, in the place of the one of its name.
-    pub fn put(&mut self, entry: Entry<'c>) -> Result<(), AllocError> {
-        self.forget(entry.cookie.name());
-        self.list.push(entry)?;
+    /// Puts the cookie last, in the place of the one of its name.
+    pub fn put(&mut self, cookie: &'c Cookie<'static>, is_removal: bool) -> Result<(), AllocError> {
+        self.forget(cookie.name());
+        self.list.push(Entry { cookie, is_removal })?;
         Ok(())
     }
 
@@ -53,7 +50,7 @@ impl<'c> Entries<'c> {
         for change in &changes.list {
             self.forget(change.cookie.name());
             if !change.is_removal && !change.cookie.name().is_empty() {
-                self.put(*change)?;
+                self.put(change.cookie, false)?;
             }
         }
         Ok(())

@@ -1,12 +1,9 @@
 //! A second body of the jar: two lists, without a contract.
-use crate::entries::{Entries, Entry};
-use cookie::{Cookie, CookieJar};
+use crate::entries::Entries;
+use cookie::CookieJar;
 use cookie_client::JarCall;
-use jar_steps::shown_value;
+use jar_steps::{counts, shown_value};
 use std::alloc::{AllocError, Global};
-
-/// Whether it is of the changes or of what the jar shows, the name, and the value.
-type Walked<'a> = (bool, &'a str, &'a str);
 
 /// Originals and changes.
 #[derive(Drop)]
@@ -23,13 +20,6 @@ impl<'c> FlatJar<'c> {
         }
     }
 
-    pub fn add_original(&mut self, cookie: &'c Cookie<'static>) -> Result<(), AllocError> {
-        self.originals.put(Entry {
-            cookie,
-            is_removal: false,
-        })
-    }
-
     /// Makes the calls in order. It accepts each.
     pub fn replay(&mut self, calls: &'c [JarCall<'_>]) -> Result<(), AllocError> {
         for call in calls {
@@ -40,84 +30,52 @@ impl<'c> FlatJar<'c> {
 
     fn play(&mut self, call: &'c JarCall<'_>) -> Result<(), AllocError> {
         match call {
-            JarCall::AddOriginal(cookie) => self.add_original(cookie),
-            JarCall::Add(cookie) => self.change(cookie, false),
-            JarCall::Remove(cookie, _) => self.remove(cookie),
+            JarCall::AddOriginal(cookie) => self.originals.put(cookie, false)?,
+            JarCall::Add(cookie) => self.changes.put(cookie, false)?,
+            JarCall::Remove(cookie, _) if self.originals.find(cookie.name()).is_some() => {
+                self.changes.put(cookie, true)?;
+            }
+            JarCall::Remove(cookie, _) => self.changes.forget(cookie.name()),
             JarCall::ForceRemove(name) => {
                 self.originals.forget(name.as_str());
                 self.changes.forget(name.as_str());
-                Ok(())
             }
-            JarCall::ResetDelta => {
-                self.changes.list.clear();
-                Ok(())
-            }
+            JarCall::ResetDelta => self.changes.list.clear(),
             // No call on a child jar is drawn.
-            JarCall::Prefixed(_, _) | JarCall::Signed(_, _) | JarCall::Private(_, _, _) => Ok(()),
+            JarCall::Prefixed(_, _) | JarCall::Signed(_, _) | JarCall::Private(_, _, _) => (),
         }
-    }
-
-    fn change(&mut self, cookie: &'c Cookie<'static>, is_removal: bool) -> Result<(), AllocError> {
-        self.changes.put(Entry { cookie, is_removal })
-    }
-
-    fn remove(&mut self, cookie: &'c Cookie<'static>) -> Result<(), AllocError> {
-        if self.originals.find(cookie.name()).is_some() {
-            return self.change(cookie, true);
-        }
-        self.changes.forget(cookie.name());
         Ok(())
     }
 
     /// The value that the jar shows under the name.
     pub fn get(&self, name: &str) -> Option<&'c str> {
-        self.changes
-            .find(name)
-            .or(self.originals.find(name))?
-            .value()
+        let original = self.originals.find(name);
+        self.changes.find(name).or(original)?.value()
     }
 
-    // What is changed and what the jar shows, sorted. The value of a removal is empty.
-    fn walked(&self, alloc: Global) -> Result<Vec<Walked<'c>>, AllocError> {
-        let mut walked = Vec::new(alloc);
-        for held in &self.changes.list {
-            walked.push((true, held.cookie.name(), held.value().unwrap_or("")))?;
-            if let Some(value) = held.value() {
-                walked.push((false, held.cookie.name(), value))?;
-            }
-        }
-        for held in &self.originals.list {
-            if self.changes.find(held.cookie.name()).is_none() {
-                walked.push((false, held.cookie.name(), held.cookie.value()))?;
-            }
-        }
-        walked.sort()?;
-        Ok(walked)
+    // Whether the jar has the same change of the name, if any, and shows the same under it. The value of a removal is
+    // empty.
+    fn is_like_at(&self, jar: &CookieJar, name: &str) -> bool {
+        let change = jar.delta().find(|cookie| cookie.name() == name);
+        let wanted = self.changes.find(name);
+        let shown = jar.iter().find(|cookie| cookie.name() == name);
+        shown_value(jar, name) == self.get(name)
+            && shown.map(|cookie| cookie.value()) == self.get(name)
+            && change.map(|cookie| cookie.value()) == wanted.map(|held| held.value().unwrap_or(""))
     }
 
-    /// Whether the jar has the same changes, and shows the same, by its walks and under each of the names, which have
-    /// bars between them.
-    pub fn is_like(&self, alloc: Global, jar: &CookieJar, names: &str) -> bool {
+    /// Whether the jar has the same changes and shows the same, by its walks and by its look-ups. The names are all
+    /// that there are, with bars between them.
+    pub fn is_like(&self, jar: &CookieJar, names: &str) -> bool {
+        let mut shown = 0usize;
         for name in names.split('|') {
-            if shown_value(jar, name) != self.get(name) {
+            if !self.is_like_at(jar, name) {
                 return false;
             }
+            if self.get(name).is_some() {
+                shown = shown.saturating_add(1);
+            }
         }
-        let (Ok(walked), Ok(wanted)) = (walked(alloc, jar), self.walked(alloc)) else {
-            return false;
-        };
-        walked == wanted
+        counts(jar) == (self.changes.list.len(), shown)
     }
-}
-
-fn walked(alloc: Global, jar: &CookieJar) -> Result<Vec<Walked<'_>>, AllocError> {
-    let mut walked = Vec::new(alloc);
-    for cookie in jar.delta() {
-        walked.push((true, cookie.name(), cookie.value()))?;
-    }
-    for cookie in jar.iter() {
-        walked.push((false, cookie.name(), cookie.value()))?;
-    }
-    walked.sort()?;
-    Ok(walked)
 }

@@ -1,14 +1,13 @@
 //! Rows whose answers come from RFC 6265, curl and Python's `http.cookiejar`, and a second body of the agent.
-mod agents;
 mod comparison;
-mod owned_request;
+mod drawn;
 mod plain_agent;
 mod requests;
+mod rows;
 mod sites;
 mod spots;
 mod steps;
 mod stores;
-mod wrong_rows;
 
 use jiff::civil::DateTime;
 

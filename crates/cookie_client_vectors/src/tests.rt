@@ -3,7 +3,7 @@ mod clients;
 mod comparison;
 mod devices;
 mod exchanges;
-mod flags;
+mod faults;
 mod judged;
 mod orders;
 mod rows;

@@ -15,39 +15,6 @@ fn escaped(text: &str) -> &str {
     }
 }
 
-/// A stored cookie. Its expiry is a second of the minute of all rows, or a later one, or the greatest number.
-#[derive(Clone, Copy)]
-struct Held<'c> {
-    cookie: &'c Cookie<'static>,
-    domain: &'c str,
-    is_host_only: bool,
-    path: &'c str,
-    expiry: i64,
-}
-
-impl<'c> Held<'c> {
-    fn is_unexpired(&self, second: i8) -> bool {
-        (second as i64) < self.expiry
-    }
-
-    fn is_sent(&self, spot: Spot, second: i8) -> bool {
-        let is_host = if self.is_host_only {
-            self.domain == spot.host
-        } else {
-            takes_in(self.domain, spot)
-        };
-        self.is_unexpired(second)
-            && is_host
-            && is_below(spot.path, self.path)
-            && (spot.is_secure || self.cookie.secure().is_none())
-    }
-
-    fn is_same(&self, other: &Held<'c>) -> bool {
-        let (name, other_name) = (self.cookie.name(), other.cookie.name());
-        name == other_name && self.domain == other.domain && self.path == other.path
-    }
-}
-
 // Whether the domain takes in the host.
 fn takes_in(domain: &str, spot: Spot) -> bool {
     match spot.host.as_bytes().strip_suffix(domain.as_bytes()) {
@@ -82,22 +49,50 @@ fn path_at<'c>(spot: Spot, path: Option<&'c str>) -> &'c str {
     }
 }
 
-// What is stored of a change that the site sends at the second.
-fn stored_from<'c>(spot: Spot, change: Entry<'c>, second: i8) -> Option<Held<'c>> {
-    let cookie = change.cookie;
-    let (domain, is_host_only) = domain_at(spot, cookie.domain())?;
-    let age = match cookie.max_age() {
-        _ if change.is_removal => 0,
-        Some(age) => age.as_secs(),
-        None => i64::MAX,
-    };
-    Some(Held {
-        cookie,
-        domain,
-        is_host_only,
-        path: path_at(spot, cookie.path()),
-        expiry: age.saturating_add(second as i64),
-    })
+/// A stored cookie. Its expiry is a second of the minute of all rows, or a later one, or the greatest number.
+#[derive(Clone, Copy)]
+struct Held<'c> {
+    cookie: &'c Cookie<'static>,
+    domain: &'c str,
+    is_host_only: bool,
+    path: &'c str,
+    expiry: i64,
+}
+
+impl<'c> Held<'c> {
+    // What is stored of a change that the site sends at the second. No agent reads a cookie without a name.
+    fn of(spot: Spot, change: Entry<'c>, second: i8) -> Option<Held<'c>> {
+        let cookie = change.cookie;
+        let (domain, is_host_only) = domain_at(spot, cookie.domain())?;
+        let age = match cookie.max_age() {
+            _ if change.is_removal => 0,
+            Some(age) => age.as_secs(),
+            None => i64::MAX,
+        };
+        let held = Held {
+            cookie,
+            domain,
+            is_host_only,
+            path: path_at(spot, cookie.path()),
+            expiry: age.saturating_add(second as i64),
+        };
+        (!cookie.name().is_empty()).then_some(held)
+    }
+
+    fn key(&self) -> (&'c str, &'c str, &'c str) {
+        (self.cookie.name(), self.domain, self.path)
+    }
+
+    fn is_unexpired(&self, second: i8) -> bool {
+        (second as i64) < self.expiry
+    }
+
+    fn is_sent(&self, spot: Spot, second: i8) -> bool {
+        self.is_unexpired(second)
+            && (self.domain == spot.host || !self.is_host_only && takes_in(self.domain, spot))
+            && is_below(spot.path, self.path)
+            && (spot.is_secure || self.cookie.secure().is_none())
+    }
 }
 
 /// Stored cookies in the order of their creation.
@@ -109,16 +104,14 @@ pub(super) struct PlainAgent<'c> {
 
 impl<'c> PlainAgent<'c> {
     pub(super) fn new(alloc: Global) -> PlainAgent<'c> {
-        PlainAgent {
-            alloc,
-            cookies: Vec::new(alloc),
-        }
+        let cookies = Vec::new(alloc);
+        PlainAgent { alloc, cookies }
     }
 
     // Puts a cookie in the place of the same one, or last.
     fn put(&mut self, cookie: Held<'c>) -> Result<(), AllocError> {
         for held in self.cookies.iter_mut() {
-            if held.is_same(&cookie) {
+            if held.key() == cookie.key() {
                 *held = cookie;
                 return Ok(());
             }
@@ -131,7 +124,7 @@ impl<'c> PlainAgent<'c> {
         self.cookies.retain(|held| held.is_unexpired(second));
     }
 
-    /// Takes what the site sends at the second. No agent reads a cookie without a name.
+    /// Takes what the site sends at the second.
     pub(super) fn read(
         &mut self,
         spot: Spot,
@@ -139,10 +132,7 @@ impl<'c> PlainAgent<'c> {
         second: i8,
     ) -> Result<(), AllocError> {
         self.drop_expired(second);
-        if change.cookie.name().is_empty() {
-            return Ok(());
-        }
-        if let Some(cookie) = stored_from(spot, change, second) {
+        if let Some(cookie) = Held::of(spot, change, second) {
             self.put(cookie)?;
         }
         self.drop_expired(second);
@@ -150,7 +140,7 @@ impl<'c> PlainAgent<'c> {
     }
 
     // What is sent to the site: longer paths first, and then the earlier.
-    fn pairs_for(&self, spot: Spot, second: i8) -> Result<Vec<Held<'c>>, AllocError> {
+    fn sent(&self, spot: Spot, second: i8) -> Result<Vec<Held<'c>>, AllocError> {
         let mut sent = Vec::new(self.alloc);
         for length in [2usize, 1] {
             for held in &self.cookies {
@@ -162,21 +152,16 @@ impl<'c> PlainAgent<'c> {
         Ok(sent)
     }
 
-    // The header of a request to the site.
-    fn header(&self, spot: Spot, second: i8) -> Result<String, AllocError> {
+    /// The header of a request to the site.
+    pub(super) fn header(&self, spot: Spot, second: i8) -> Result<String, AllocError> {
         let mut header = String::new(self.alloc);
-        for held in &self.pairs_for(spot, second)? {
+        for held in &self.sent(spot, second)? {
             let separator = if header.is_empty() { "" } else { "; " };
             let name = escaped(held.cookie.name());
             let value = escaped(held.cookie.value());
             write!(header, "{separator}{name}={value}")?;
         }
         Ok(header)
-    }
-
-    /// Whether this is the header of a request to the site at the second.
-    pub(super) fn is_header(&self, spot: Spot, second: i8, header: &str) -> bool {
-        matches!(self.header(spot, second), Ok(text) if text.as_str() == header)
     }
 
     /// The jar of a request after its calls. It begins with what is sent, the last of a name alone.
@@ -187,8 +172,8 @@ impl<'c> PlainAgent<'c> {
         calls: &'c [JarCall<'_>],
     ) -> Result<FlatJar<'c>, AllocError> {
         let mut jar = FlatJar::new(self.alloc);
-        for held in &self.pairs_for(spot, second)? {
-            jar.add_original(held.cookie)?;
+        for held in &self.sent(spot, second)? {
+            jar.originals.put(held.cookie, false)?;
         }
         jar.replay(calls)?;
         Ok(jar)

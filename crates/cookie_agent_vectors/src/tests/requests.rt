@@ -1,101 +1,13 @@
 //! Many requests of one user agent, and the trap of removals.
-use super::owned_request::{OwnedRequest, visit_each};
-use super::steps::{first_unlike, is_sent};
+use super::at;
+use super::sites::site_of;
+use super::steps::is_sent;
 use call_steps::calls_of;
-use cookie::Key;
-use cookie_agent::Visited;
+use cookie_agent::{Agent, AgentRequest, Visited, visit};
 use jar_steps::{Look, test_key};
 use std::alloc::Global;
 
-// A request of the rows: where and when it is made, its calls, the header that the agent sends there after it, and what
-// was sent and what its jar shows.
-#[derive(Clone, Copy)]
-struct Line {
-    url: &'static str,
-    second: i8,
-    steps: &'static str,
-    header: &'static str,
-    looks: &'static str,
-}
-
-impl Line {
-    // The request that the line says, such as `https://example.com/login 0 [add n=1 | remove m] -> [n=1] -> lacks m`.
-    fn parse(line: &'static str) -> Option<Line> {
-        let (spot, rest) = line.split_once(" [")?;
-        let (steps, told) = rest.split_once("] -> [")?;
-        let (header, looks) = told.split_once(']')?;
-        let (url, second) = spot.split_once(' ')?;
-        Some(Line {
-            url,
-            second: second.parse().ok()?,
-            steps,
-            header,
-            looks,
-        })
-    }
-
-    fn request<'k>(self, alloc: Global, key: &'k Key) -> Option<OwnedRequest<'k>> {
-        OwnedRequest::new(
-            alloc,
-            self.url,
-            self.second,
-            calls_of(alloc, key, self.steps)?,
-        )
-    }
-
-    // Whether the request was made so: all its calls were accepted, and then the agent sends the header.
-    fn is_right(self, alloc: Global, request: &OwnedRequest<'_>, one: &Visited) -> Option<bool> {
-        let is_sent = is_sent(&one.agent, &request.site, self.second, self.header);
-        let is_accepted = one.outcomes.len() == request.calls.len()
-            && !one.outcomes.contains(&false);
-        Some(is_sent && is_accepted && shows(alloc, one, self.looks)?)
-    }
-}
-
-// Whether the request shows what the words say, such as ` -> sent n=1 | lacks m`.
-fn shows(alloc: Global, one: &Visited, looks: &'static str) -> Option<bool> {
-    for look in looks.strip_prefix(" -> ").unwrap_or("").split(" | ") {
-        let is_right = match look.strip_prefix("sent ") {
-            Some(header) => one.header.as_str() == header,
-            None => look.is_empty() || Look::parse(look)?.is_right(alloc, &one.jar),
-        };
-        if !is_right {
-            return Some(false);
-        }
-    }
-    Some(true)
-}
-
-// Whether each line's request comes out as it says.
-fn are_right(
-    alloc: Global,
-    lines: &'static str,
-    requests: &[OwnedRequest<'_>],
-    visited: &[Visited],
-) -> Option<bool> {
-    for ((line, request), one) in lines.lines().zip(requests).zip(visited) {
-        if !Line::parse(line)?.is_right(alloc, request, one)? {
-            return Some(false);
-        }
-    }
-    Some(visited.len() == requests.len())
-}
-
-fn plays_with(alloc: Global, key: &Key, lines: &'static str) -> Option<bool> {
-    let mut requests = Vec::new(alloc);
-    for line in lines.lines() {
-        requests.push(Line::parse(line)?.request(alloc, key)?).ok()?;
-    }
-    let visited = visit_each(alloc, &requests, &[])?;
-    are_right(alloc, lines, &requests, &visited)
-}
-
-/// Whether the lines' requests, once they are made, come out as they say.
-pub(super) fn plays(alloc: Global, lines: &'static str) -> Option<bool> {
-    plays_with(alloc, &test_key(), lines)
-}
-
-const ROWS: &str = "\
+pub(super) const ROWS: &str = "\
 a removal without the path removes nothing (the trap: it asks for `/account`):
 https://example.com/login 0 [add n=1; Path=/] -> [n=1]
 https://example.com/account/mail 1 [remove n] -> [n=1]
@@ -133,9 +45,51 @@ a jar begins with what the header brought, and calls that change nothing are acc
 https://example.com/login 0 [add n=1; Path=/ | add m=2; Path=/] -> [n=1; m=2]
 https://example.com/account/mail 0 [remove n | remove absent] -> [n=1; m=2] -> sent n=1; m=2 | lacks n | shows m=2";
 
-#[test]
-fn each_request_leaves_its_header(rt: HostRuntime) {
-    let unlike = first_unlike(rt.alloc(), ROWS, "\n\n", Some(true));
-    assert!(rt; unlike.is_none(), "{unlike:?}");
-    assert!(rt; plays(rt.alloc(), "") == Some(true));
+// Whether the request shows what the words say, such as ` -> sent n=1 | lacks m`.
+fn shows(alloc: Global, one: &Visited, looks: &'static str) -> Option<bool> {
+    for look in looks.strip_prefix(" -> ").unwrap_or("").split(" | ") {
+        let is_right = match look.strip_prefix("sent ") {
+            Some(header) => one.header.as_str() == header,
+            None => look.is_empty() || Look::parse(look)?.is_right(alloc, &one.jar),
+        };
+        if !is_right {
+            return Some(false);
+        }
+    }
+    Some(true)
+}
+
+// Makes the agent's request of a line such as `https://example.com/login 0 [add n=1 | remove m] -> [n=1] -> lacks m`:
+// where and when it is made, its calls, the header that the agent sends there after it, and what was sent and what its
+// jar shows. Answers whether it came out so, and each call was accepted.
+fn is_right(alloc: Global, agent: &mut Agent, line: &'static str) -> Option<bool> {
+    let (spot, rest) = line.split_once(" [")?;
+    let (steps, told) = rest.split_once("] -> [")?;
+    let (header, looks) = told.split_once(']')?;
+    let (url, second) = spot.split_once(' ')?;
+    let second = second.parse().ok()?;
+    let site = site_of(alloc, url)?;
+    let key = test_key();
+    let calls = calls_of(alloc, &key, steps)?;
+    let request = AgentRequest {
+        site: &site,
+        calls: &calls,
+        moment: at(second),
+    };
+    let one = visit(alloc, agent, &request, &[]).ok()?;
+    *agent = one.agent.clone().ok()?;
+    let is_accepted = one.outcomes.len() == calls.len() && !one.outcomes.contains(&false);
+    let is_shown = shows(alloc, &one, looks)?;
+    Some(is_accepted && is_shown && is_sent(agent, &site, second, header))
+}
+
+/// Whether the lines' requests, which one agent makes one after the other, come out as they say.
+pub(super) fn plays(alloc: Global, lines: &'static str) -> Option<bool> {
+    let mut agent = Agent::new(alloc);
+    for line in lines.lines() {
+        if !is_right(alloc, &mut agent, line)? {
+            return Some(false);
+        }
+    }
+    Some(true)
 }

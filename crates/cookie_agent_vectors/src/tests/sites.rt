@@ -1,25 +1,9 @@
 //! Sites and scopes (RFC 6265 5.1.3, 5.1.4 and 5.3, steps 4 to 7), and which calls a user agent can follow.
 use super::at;
-use super::steps::first_unlike;
-use call_steps::calls_of;
-use cookie::Key;
+use call_steps::call_of;
 use cookie_agent::{Scope, Site, is_scoped};
 use jar_steps::test_key;
 use std::alloc::Global;
-
-/// The site of a URL such as `http://example.com/a/b`. A host that is an IP address has the scheme `address`, or over a
-/// secure connection `secure-address`.
-pub(super) fn site_of(alloc: Global, url: &str) -> Option<Site> {
-    let (scheme, rest) = url.split_once("://")?;
-    let (host, path) = rest.split_at_checked(rest.find('/')?)?;
-    match scheme {
-        "http" | "https" => Site::new(alloc, host, path, scheme == "https").ok(),
-        "address" | "secure-address" => {
-            Site::of_address(alloc, host, path, scheme == "secure-address").ok()
-        }
-        _ => None,
-    }
-}
 
 // Questions of a site, and its answers:
 // `domain`: whether the domain takes in the host of the site.
@@ -32,7 +16,7 @@ pub(super) fn site_of(alloc: Global, url: &str) -> Option<Site> {
 // `reached`: whether a cookie of `http://www.example.com/a/b` with the attributes is sent to the site.
 // `scoped`: whether an addition for the domain `Example.com` is in the scope of such a cookie, at the site.
 // `whole`: whether the call is in the scope of the whole host, at the site.
-const ROWS: &str = "\
+pub(super) const ROWS: &str = "\
 domains: \
     on http://www.example.com/a/b | domain www.example.com -> true | domain example.com -> true | \
     domain com -> true | domain ample.com -> false | domain .example.com -> false | domain example.com. -> false | \
@@ -100,8 +84,28 @@ calls on child jars: \
     whole secure add n -> false | whole secure add n=1; Path=/ -> true | whole signed add n=1; Path=/ -> true | \
     whole signed add n -> false | whole private0 remove n=1; Path=/ -> true";
 
-// The path and the domain of attributes such as `Path=/; Domain=.example.com`, as they stand.
-fn path_and_domain(attributes: &str) -> Option<(Option<&str>, Option<&str>)> {
+/// The site of a URL such as `http://example.com/a/b`. A host that is an IP address has the scheme `address`, or over a
+/// secure connection `secure-address`.
+pub(super) fn site_of(alloc: Global, url: &str) -> Option<Site> {
+    let (scheme, rest) = url.split_once("://")?;
+    let (host, path) = rest.split_at_checked(rest.find('/')?)?;
+    match scheme {
+        "http" => Site::new(alloc, host, path, false).ok(),
+        "https" => Site::new(alloc, host, path, true).ok(),
+        "address" => Site::of_address(alloc, host, path, false).ok(),
+        "secure-address" => Site::of_address(alloc, host, path, true).ok(),
+        _ => None,
+    }
+}
+
+// A site with the path, which may be none that a URL has.
+fn site_at(alloc: Global, path: &str) -> Option<Site> {
+    Site::new(alloc, "example.com", path, true).ok()
+}
+
+// What the site gives to a cookie with the attributes as they stand, such as `Path=/; Domain=.example.com`, if it may
+// set the domain.
+fn scope(alloc: Global, site: &Site, attributes: &str) -> Option<Option<Scope>> {
     let (mut path, mut domain) = (None, None);
     for words in attributes.split("; ") {
         match words.split_once('=') {
@@ -111,12 +115,6 @@ fn path_and_domain(attributes: &str) -> Option<(Option<&str>, Option<&str>)> {
             _ => return None,
         }
     }
-    Some((path, domain))
-}
-
-// What the site gives to a cookie with the attributes, if it may set the domain.
-fn scope(alloc: Global, site: &Site, attributes: &str) -> Option<Option<Scope>> {
-    let (path, domain) = path_and_domain(attributes)?;
     site.scope(alloc, path, domain).ok()
 }
 
@@ -137,49 +135,31 @@ fn is_scope(alloc: Global, scope: Option<&Scope>, wanted: &str) -> bool {
 }
 
 // Whether the call of the step is in the scope, at the site.
-fn is_in(alloc: Global, key: &Key, site: &Site, scope: &Scope, step: &'static str) -> Option<bool> {
-    let calls = calls_of(alloc, key, step)?;
-    Some(is_scoped(calls.first()?, site, scope, at(0)))
-}
-
-fn is_secure(site: &Site) -> bool {
-    site.is_secure()
+fn is_in(alloc: Global, site: &Site, scope: &Scope, step: &'static str) -> Option<bool> {
+    let key = test_key();
+    let call = call_of(alloc, &key, step)?;
+    Some(is_scoped(&call, site, scope, at(0)))
 }
 
 // Whether it is so at the site.
 fn answer(alloc: Global, site: &Site, question: &str, text: &'static str) -> Option<bool> {
-    match question {
-        "domain" => Some(site.matches_domain(text)),
+    Some(match question {
+        "domain" => site.matches_domain(text),
         "path" => {
             let (place, path) = text.split_once(' ')?;
-            Some(site_at(alloc, place)?.matches_path(path))
+            site_at(alloc, place)?.matches_path(path)
         }
-        "secure" => Some(is_secure(site)),
-        "reached" => Some(site.is_reached(&usual_scope(alloc, text)?)),
-        "whole" => is_in(
+        "secure" => site.is_secure(),
+        "reached" => site.is_reached(&usual_scope(alloc, text)?),
+        "whole" => is_in(alloc, site, &site.host_scope(alloc).ok()?, text)?,
+        "scoped" => is_in(
             alloc,
-            &test_key(),
             site,
-            &site.host_scope(alloc).ok()?,
-            text,
-        ),
-        "scoped" => {
-            let scope = usual_scope(alloc, text)?;
-            is_in(
-                alloc,
-                &test_key(),
-                site,
-                &scope,
-                "add n=1; Domain=Example.com",
-            )
-        }
-        _ => None,
-    }
-}
-
-// A site with the path, which may be none that a URL has.
-fn site_at(alloc: Global, path: &str) -> Option<Site> {
-    Site::new(alloc, "example.com", path, true).ok()
+            &usual_scope(alloc, text)?,
+            "add n=1; Domain=Example.com",
+        )?,
+        _ => return None,
+    })
 }
 
 /// Whether the site has the wanted answer to a question such as `domain com` or `path /a/b /a`.
@@ -196,10 +176,4 @@ pub(super) fn is_answer(
         "host" => Some(is_scope(alloc, site.host_scope(alloc).ok().as_ref(), wanted)),
         _ => Some(answer(alloc, site, question, text)? == wanted.parse().ok()?),
     }
-}
-
-#[test]
-fn sites_and_scopes_answer_as_the_rows(rt: HostRuntime) {
-    let unlike = first_unlike(rt.alloc(), ROWS, "\n", Some(true));
-    assert!(rt; unlike.is_none(), "{unlike:?}");
 }

@@ -5,34 +5,31 @@
 pub(super) struct Spot {
     pub(super) url: &'static str,
     pub(super) host: &'static str,
-    pub(super) is_address: bool,
     pub(super) path: &'static str,
     pub(super) folder: &'static str,
+    pub(super) is_address: bool,
     pub(super) is_secure: bool,
 }
 
-/// The sites.
-pub(super) const URLS: [&str; 4] = [
-    "http://example.com/",
-    "https://WWW.example.com/a/b",
-    "https://www.example.com/ab",
-    "address://10.0.0.1/a/",
-];
-
-/// The site of one of the URLs.
-pub(super) fn spot_of(url: &'static str) -> Spot {
-    let (host, path, folder) = match url {
-        "http://example.com/" => ("example.com", "/", "/"),
-        "https://WWW.example.com/a/b" => ("www.example.com", "/a/b", "/a"),
-        "https://www.example.com/ab" => ("www.example.com", "/ab", "/"),
-        _ => ("10.0.0.1", "/a/", "/a"),
+/// One of the four sites.
+pub(super) fn spot_of(number: usize) -> Spot {
+    let (url, host, path, folder) = match number {
+        0 => ("http://example.com/", "example.com", "/", "/"),
+        1 => (
+            "https://WWW.example.com/a/b",
+            "www.example.com",
+            "/a/b",
+            "/a",
+        ),
+        2 => ("https://www.example.com/ab", "www.example.com", "/ab", "/"),
+        _ => ("address://10.0.0.1/a/", "10.0.0.1", "/a/", "/a"),
     };
     Spot {
         url,
         host,
-        is_address: url.starts_with("address"),
         path,
         folder,
+        is_address: url.starts_with("address"),
         is_secure: url.starts_with("https"),
     }
 }

@@ -1,8 +1,9 @@
-//! Rows: steps of one user agent, and lists of requests.
+//! Steps of one user agent.
+use super::at;
 use super::sites::{is_answer, site_of};
-use super::{at, requests};
 use cookie_agent::{Agent, Site};
 use std::alloc::Global;
+use std::mem::swap;
 
 /// Whether the agent sends the header to the site at the second.
 pub(super) fn is_sent(agent: &Agent, site: &Site, second: i8, header: &str) -> bool {
@@ -32,51 +33,30 @@ fn is_done(
     }
 }
 
-/// Whether all comes out as the steps say:
+/// Whether all comes out for a new agent as the steps say:
 /// `on http://example.com/a`: the site of the next steps, `http://example.com/` at first;
 /// `at 5`: the second, 0 at first;
 /// `sets n=1`: the site sets a cookie by this text;
 /// `refuses n`: the site's text is no cookie;
 /// `sends n=1`: the agent sends this header to the site;
 /// `evicts`: the agent drops what is expired;
+/// `copied`: a copy is made of the agent;
+/// `swapped`: the next steps are of the copy;
 /// `domain com -> true`: a question of the site, and its answer.
-pub(super) fn plays(alloc: Global, agent: &mut Agent, steps: &'static str) -> Option<bool> {
+pub(super) fn plays(alloc: Global, steps: &'static str) -> Option<bool> {
+    let (mut agent, mut copy) = (Agent::new(alloc), Agent::new(alloc));
     let mut second = 0i8;
     let mut site = site_of(alloc, "http://example.com/")?;
     for step in steps.split(" | ") {
-        if let Some(url) = step.strip_prefix("on ") {
-            site = site_of(alloc, url)?;
-        } else if let Some(number) = step.strip_prefix("at ") {
-            second = number.parse().ok()?;
-        } else if !is_done(alloc, agent, &site, second, step)? {
-            return Some(false);
+        let (verb, rest) = step.split_once(' ').unwrap_or((step, ""));
+        match verb {
+            "on" => site = site_of(alloc, rest)?,
+            "at" => second = rest.parse().ok()?,
+            "copied" => copy = agent.clone().ok()?,
+            "swapped" => swap(&mut agent, &mut copy),
+            _ if is_done(alloc, &mut agent, &site, second, step)? => (),
+            _ => return Some(false),
         }
     }
     Some(true)
-}
-
-// Whether the row is right, or `None` where it says nothing: a title and steps of a new agent, or requests, which have
-// brackets.
-fn is_right(alloc: Global, row: &'static str) -> Option<bool> {
-    if row.contains("] -> [") {
-        let (_, lines) = row.split_once(":\n").unwrap_or(("", row));
-        return requests::plays(alloc, lines);
-    }
-    let (_, steps) = row.split_once(": ").unwrap_or(("", row));
-    plays(alloc, &mut Agent::new(alloc), steps)
-}
-
-/// The first of the rows, between which the separator stands, that isn't told to be so.
-pub(super) fn first_unlike(
-    alloc: Global,
-    rows: &'static str,
-    separator: &'static str,
-    wanted: Option<bool>,
-) -> Option<&'static str> {
-    for row in rows.split(separator) {
-        if is_right(alloc, row) != wanted {
-            return Some(row);
-        }
-    }
-    None
 }

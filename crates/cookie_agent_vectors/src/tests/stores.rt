@@ -1,8 +1,6 @@
 //! What is stored, replaced, removed and sent (RFC 6265 5.3, 5.4). Where a row's answer isn't curl's and Python's
 //! `http.cookiejar`'s too, its title says so.
-use super::steps::first_unlike;
-
-const ROWS: &str = "\
+pub(super) const ROWS: &str = "\
 a new agent sends nothing: on https://example.com/ | sends
 a removal without the path is missed: \
     on http://example.com/a/b | sets n=1; Path=/ | sets n=; Max-Age=0 | sends n=1 | sets n=; Max-Age=0; Path=/ | \
@@ -47,6 +45,9 @@ an age counts from the reading: \
 an expiry is a moment: \
     sets n=1; Expires=Wed, 21 Oct 2015 07:28:09 GMT | sets m=2; Expires=Wed, 21 Oct 2015 07:28:00 GMT | sends n=1 | \
     at 8 | sends n=1 | at 9 | sends
+a copy goes its own way: \
+    on https://example.com/a/b | sets a=1; Max-Age=5 | sets b=2; Path=/; Secure | copied | sets a=; Max-Age=0 | \
+    sends b=2 | swapped | at 4 | sends a=1; b=2 | at 5 | sends b=2
 an expired cookie loses its place: sets a=1; Max-Age=5 | sets b=2 | at 5 | sets a=3 | sends b=2; a=3
 what is evicted is gone: sets n=1; Max-Age=5 | sets m=2; Max-Age=6 | at 5 | evicts | at 0 | sends m=2
 a domain is for each host below it (this and the six below were asked of curl alone, and curl refuses `com`, since \
@@ -61,9 +62,3 @@ the host itself: \
     on http://www.example.com/ | sets n=1; Domain=www.example.com | sends n=1 | on http://example.com/ | sends
 an empty one: on http://www.example.com/ | sets n=1; Domain= | sends n=1 | on http://example.com/ | sends
 none: on http://www.example.com/ | sets n=1 | sends n=1 | on http://example.com/ | sends";
-
-#[test]
-fn what_is_stored_is_sent(rt: HostRuntime) {
-    let unlike = first_unlike(rt.alloc(), ROWS, "\n", Some(true));
-    assert!(rt; unlike.is_none(), "{unlike:?}");
-}

@@ -10,14 +10,8 @@ fn fault() -> io::Error {
 /// A reader that gives its text by one byte a call, and fails after this many calls.
 #[derive(Drop)]
 pub(super) struct FailingReader<'t> {
-    text: &'t [u8],
-    left: usize,
-}
-
-impl<'t> FailingReader<'t> {
-    pub(super) fn new(text: &'t [u8], left: usize) -> FailingReader<'t> {
-        FailingReader { text, left }
-    }
+    pub(super) text: &'t [u8],
+    pub(super) left: usize,
 }
 
 impl<'t> Read for FailingReader<'t> {
@@ -40,23 +34,15 @@ impl<'t> Read for FailingReader<'t> {
 /// A writer that takes this many bytes a call at most, or none, and fails after this many calls.
 #[derive(Drop)]
 pub(super) struct ShortWriter {
-    taken: Vec<u8>,
+    pub(super) taken: Vec<u8>,
     most: usize,
     left: usize,
 }
 
 impl ShortWriter {
     pub(super) fn new(alloc: Global, most: usize, left: usize) -> ShortWriter {
-        ShortWriter {
-            taken: Vec::new(alloc),
-            most,
-            left,
-        }
-    }
-
-    /// The bytes that it took.
-    pub(super) fn bytes(&self) -> &[u8] {
-        self.taken.as_slice()
+        let taken = Vec::new(alloc);
+        ShortWriter { taken, most, left }
     }
 }
 

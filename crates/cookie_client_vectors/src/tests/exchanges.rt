@@ -3,7 +3,7 @@
 use super::rows::is_right;
 use call_steps::calls_of;
 use cookie::{Cookie, CookieJar, Key};
-use cookie_client::{Client, ClientError, ClientRequest, JarCall, Played, mirror, replay, rounds};
+use cookie_client::{Client, ClientRequest, JarCall, Played, mirror, replay, rounds};
 use cookie_words::is;
 use jar_steps::{Look, shown_value, test_key};
 use jiff::civil::DateTime;
@@ -17,12 +17,12 @@ use std::alloc::{AllocError, Global};
 const ROWS: &str = "\
 replay calls are made in order on the jar handed in: \
     [original o=1 | add gone=1] [add gone=2 | reset | original p=1 | original f=1 | add n=1 | add n=2 | remove o | \
-    remove absent | force f] -> [] -> counts 2 2 | shows n=2 | shows p=1 | lacks o | lacks f | lacks gone | \
+    remove absent | force f] -> [] [] -> counts 2 2 | shows n=2 | shows p=1 | lacks o | lacks f | lacks gone | \
     lacks absent
 replay calls that bring nothing new are accepted: \
-    [original o=1 | add gone=1] [original o=1 | add gone=1 | remove absent | force absent] -> [] -> counts 1 2 | \
+    [original o=1 | add gone=1] [original o=1 | add gone=1 | remove absent | force absent] -> [] [] -> counts 1 2 | \
     shows o=1 | shows gone=1 | lacks absent
-replay no calls have no outcomes: [original o=1 | add gone=1] [] -> [] -> counts 1 2
+replay no calls have no outcomes: [original o=1 | add gone=1] [] -> [] [] -> counts 1 2
 mirror two originals, of which one is changed and one is removed, and an addition: \
     [original a=1 | original b=2 | add a=3 | remove b | add c=4] -> [a=3; c=4] -> counts 3 2
 mirror two originals: [original b=1 | original d=1] -> [b=1; d=1] -> counts 0 2
@@ -99,46 +99,26 @@ fn have_headers(played: &[Played], lists: &[Vec<JarCall<'_>>], headers: &str) ->
     played.len() == lists.len() && headers.next().is_none()
 }
 
-// Whether the private jar of the key, or its signed jar, answers this value.
-fn is_opened(jar: &CookieJar, key: &Key, is_private: bool, name: &str, value: &str) -> bool {
-    let found = if is_private {
-        jar.private(key).get(name)
-    } else {
-        jar.signed(key).get(name)
-    };
-    matches!(&found, Ok(Some(cookie)) if cookie.name_value() == (name, value))
-}
-
 // Whether the jar, or its client, shows what the step says.
-fn shows(
-    alloc: Global,
-    jar: &CookieJar,
-    client: &Client,
-    key: &Key,
-    step: &'static str,
-) -> Option<bool> {
+fn shows(alloc: Global, one: &Played, key: &Key, step: &'static str) -> Option<bool> {
     let (verb, rest) = step.split_once(' ')?;
     let (name, value) = rest.split_once('=').unwrap_or((rest, ""));
+    let (jar, client) = (&one.jar, &one.client);
     Some(match verb {
         "bare" => is(jar.get(name)?, &Cookie::new(name, value)),
-        "signed" => is_opened(jar, key, false, name, value),
-        "private" => is_opened(jar, key, true, name, value),
+        "signed" => jar.signed(key).get(name).ok()??.name_value() == (name, value),
+        "private" => jar.private(key).get(name).ok()??.name_value() == (name, value),
         "follows" => client.get(name)? == shown_value(jar, name)?,
         "drops" => client.get(name).is_none(),
         _ => Look::parse(step)?.is_right(alloc, jar),
     })
 }
 
-// Whether the jar and its client show each thing, as in `counts 1 1 | shows a=1`.
-fn shows_all(
-    alloc: Global,
-    jar: &CookieJar,
-    client: &Client,
-    key: &Key,
-    steps: &'static str,
-) -> Option<bool> {
+// Whether the last jar and its client show each thing, as in `counts 1 1 | shows a=1`.
+fn shows_all(alloc: Global, played: &[Played], key: &Key, steps: &'static str) -> Option<bool> {
+    let last = played.last()?;
     for step in steps.split(" | ") {
-        if !shows(alloc, jar, client, key, step)? {
+        if !shows(alloc, last, key, step)? {
             return Some(false);
         }
     }
@@ -150,11 +130,10 @@ pub(super) fn requests<'c, 'k>(
     alloc: Global,
     lists: &'c [Vec<JarCall<'k>>],
 ) -> Result<Vec<ClientRequest<'c, 'k>>, AllocError> {
-    let mut requests = Vec::new(alloc);
-    for calls in lists {
-        requests.push(ClientRequest { calls })?;
-    }
-    Ok(requests)
+    lists
+        .iter()
+        .map(|calls| ClientRequest { calls })
+        .collect(alloc)
 }
 
 // The lists of calls of steps such as `add a=1] [remove a | reset`.
@@ -166,119 +145,85 @@ fn lists_of<'k>(alloc: Global, key: &'k Key, lists: &'static str) -> Option<Vec<
     Some(read)
 }
 
-// Makes each list of calls on the jar. Whether all were accepted.
-fn is_replayed(alloc: Global, jar: &mut CookieJar, lists: &[Vec<JarCall<'_>>]) -> bool {
-    for calls in lists {
-        let outcomes = replay(alloc, jar, calls);
-        if !matches!(&outcomes, Ok(outcomes) if are_accepted(outcomes, calls.len())) {
-            return false;
-        }
-    }
-    true
+// What the jar comes to, which no client follows.
+fn replayed(alloc: Global, jar: &mut CookieJar, calls: &[JarCall<'_>]) -> Option<Played> {
+    let outcomes = replay(alloc, jar, calls).ok()?;
+    let client = Client::new(alloc);
+    let jar = jar.clone().ok()?;
+    Some(Played {
+        jar,
+        client,
+        outcomes,
+    })
 }
 
-fn is_left(
-    alloc: Global,
-    key: &Key,
-    lists: &[Vec<JarCall<'_>>],
-    shown: &'static str,
-) -> Option<bool> {
-    let mut jar = CookieJar::new(alloc);
-    let is_replayed = is_replayed(alloc, &mut jar, lists);
-    let is_shown = shows_all(alloc, &jar, &Client::new(alloc), key, shown)?;
-    Some(is_replayed && is_shown)
-}
-
-// What comes of each list of calls, by `mirror`, or of the requests.
+// What comes of each list of calls, by `replay` or `mirror`, or of the requests.
 fn play(
     alloc: Global,
     form: &str,
     lists: &[Vec<JarCall<'_>>],
     pick: &[usize],
     now: DateTime,
-) -> Result<Vec<Played>, ClientError> {
+) -> Option<Vec<Played>> {
     if form == "rounds" {
-        return rounds(alloc, &requests(alloc, lists)?, pick, now);
+        return rounds(alloc, &requests(alloc, lists).ok()?, pick, now).ok();
     }
+    let mut jar = CookieJar::new(alloc);
     let mut played = Vec::new(alloc);
     for calls in lists {
-        played.push(mirror(alloc, calls, pick, now)?)?;
+        let one = match form {
+            "mirror" => mirror(alloc, calls, pick, now).ok()?,
+            "replay" => replayed(alloc, &mut jar, calls)?,
+            _ => return None,
+        };
+        played.push(one).ok()?;
     }
-    Ok(played)
-}
-
-// Whether each list of calls comes to its header, and the last to what is shown.
-fn is_played(
-    alloc: Global,
-    key: &Key,
-    lists: &[Vec<JarCall<'_>>],
-    played: &[Played],
-    told: &'static str,
-) -> Option<bool> {
-    let (headers, shown) = told.split_once("] -> ")?;
-    let last = played.last()?;
-    let is_shown = shows_all(alloc, &last.jar, &last.client, key, shown)?;
-    Some(is_shown && have_headers(played, lists, headers))
+    Some(played)
 }
 
 // The numbers that pick the order in which texts are read, and how many of them count. Below 72 they have each order of
 // up to four changes, with two numbers more; then come numbers past the count of any texts, and fewer numbers.
-fn pick_of(number: usize) -> ([usize; 5], usize) {
-    match number {
+fn pick_of(order: usize) -> ([usize; 5], usize) {
+    match order {
         72 => ([usize::MAX, 5, 0, 0, 0], 2),
         73 => ([7, usize::MAX, 0, 0, 0], 2),
-        74..=78 => ([3, 2, 1, 2, 1], number - 74),
+        74..=78 => ([3, 2, 1, 2, 1], order - 74),
         _ => {
-            let third = number / 3 % 2;
-            ([number / 18, number / 6 % 3, third, number % 3, third], 5)
+            let third = order / 3 % 2;
+            ([order / 18, order / 6 % 3, third, order % 3, third], 5)
         }
     }
 }
 
-// Whether that comes of the calls in each of this many orders.
-fn is_played_in(
-    alloc: Global,
-    form: &str,
-    now: DateTime,
-    key: &Key,
-    lists: &[Vec<JarCall<'_>>],
-    told: &'static str,
-    orders: usize,
-) -> Option<bool> {
-    for number in 0..orders {
-        let (pick, length) = pick_of(number);
-        let played = play(alloc, form, lists, pick.get(..length)?, now).ok()?;
-        if !is_played(alloc, key, lists, &played, told)? {
-            return Some(false);
-        }
-    }
-    Some(true)
-}
-
-/// Whether what the row says comes of its calls: `title: [add a=1] -> [a=1] -> shows a=1`.
+/// Whether what the row says comes of its calls in that order: `title: [add a=1] -> [a=1] -> shows a=1`.
 pub(super) fn is_followed(
     alloc: Global,
     form: &str,
     now: DateTime,
     row: &'static str,
-    orders: usize,
+    order: usize,
 ) -> Option<bool> {
     let (_, row) = row.split_once(": [")?;
     let (words, told) = row.split_once("] -> [")?;
+    let (headers, shown) = told.split_once("] -> ")?;
+    let (pick, length) = pick_of(order);
     let key = test_key();
     let lists = lists_of(alloc, &key, words)?;
-    match form {
-        "replay" => is_left(alloc, &key, &lists, told.strip_prefix("] -> ")?),
-        "mirror" | "rounds" => is_played_in(alloc, form, now, &key, &lists, told, orders),
-        _ => None,
-    }
+    let played = play(alloc, form, &lists, pick.get(..length)?, now)?;
+    let is_shown = shows_all(alloc, &played, &key, shown)?;
+    Some(is_shown && have_headers(&played, &lists, headers))
 }
 
 // No order of reading makes another client, so nothing tells with which number of `pick` a request begins: each `pick`,
 // longer than the first delta or not, has to give the same.
 #[test]
 fn no_order_makes_another_client(rt: HostRuntime) {
-    for row in ROWS.lines() {
-        assert!(rt; is_right(rt.alloc(), row, 79) == Some(true), "{row}");
+    for order in 0..79 {
+        for row in ROWS.lines() {
+            assert!(rt;
+                is_right(rt.alloc(), row, order) == Some(true),
+                "{order}: {row}"
+            );
+        }
     }
 }

@@ -1,9 +1,5 @@
 //! The forms of rows. The first word of a row says which it has.
-use super::clients::are_steps_right;
-use super::exchanges::is_followed;
-use super::judged::is_judged;
-use super::orders::are_ordered;
-use super::sessions::{has_text, is_fault};
+use super::{clients, exchanges, faults, judged, orders, sessions};
 use jar_steps::moment;
 use jiff::civil::DateTime;
 use std::alloc::Global;
@@ -16,38 +12,30 @@ fn form_of(word: &str) -> (&str, DateTime) {
     }
 }
 
-/// Whether what the row says is so, in this many orders of reading. `None` where it says nothing.
-pub(super) fn is_right(alloc: Global, row: &'static str, orders: usize) -> Option<bool> {
+/// Whether what the row says is so, with texts read in that order. `None` where it says nothing.
+pub(super) fn is_right(alloc: Global, row: &'static str, order: usize) -> Option<bool> {
     let (word, rest) = row.split_once(' ')?;
     let (form, now) = form_of(word);
     match form {
-        "client" => are_steps_right(alloc, rest),
-        "fault" => is_fault(alloc, rest),
-        "judge" => is_judged(alloc, now, rest),
-        "orders" => are_ordered(alloc, rest),
-        "run" => has_text(alloc, rest),
-        _ => is_followed(alloc, form, now, rest, orders),
+        "client" => clients::are_steps_right(alloc, rest),
+        "fault" => faults::is_fault(alloc, rest),
+        "judge" => judged::is_judged(alloc, now, rest),
+        "orders" => orders::are_ordered(alloc, rest),
+        "run" => sessions::has_text(alloc, None, rest),
+        _ => exchanges::is_followed(alloc, form, now, rest, order),
     }
 }
 
-/// The first row of the text that is right, or that isn't, as is asked.
-pub(super) fn first_row(
-    alloc: Global,
-    rows: &'static str,
-    separator: &'static str,
-    wanted: bool,
-) -> Option<&'static str> {
-    for row in rows.split(separator) {
-        if (is_right(alloc, row, 1) == Some(true)) == wanted {
-            return Some(row);
+#[test]
+fn rows_are_right(rt: HostRuntime) {
+    for rows in [clients::ROWS, faults::ROWS, judged::ROWS, orders::ROWS] {
+        for row in rows.lines() {
+            assert!(rt; is_right(rt.alloc(), row, 0) == Some(true), "{row}");
         }
     }
-    None
-}
-
-/// The first line that isn't right.
-pub(super) fn first_wrong(alloc: Global, rows: &'static str) -> Option<&'static str> {
-    first_row(alloc, rows, "\n", false)
+    for row in sessions::ROWS.split('|') {
+        assert!(rt; is_right(rt.alloc(), row, 0) == Some(true), "{row}");
+    }
 }
 
 // Each of them says what isn't so, or nothing, in the order of the forms: of a call, of a jar alone, of a jar or its
@@ -58,9 +46,9 @@ judge one: [add a=1] -> unfit change
 judge one: [add a=1; Max-Age=0.5] -> fit change
 judge one: [puts a=1] -> fit change
 judge one: [add a=1; Max-Age=one] -> fit change
-replay one: [original o=1 | add gone=1] [add a=1] -> [] -> shows a=2
-replay one: [original o=1 | add gone=1] [remove o] -> [] -> lacks o | counts 1 1
-replay one: [original o=1 | add gone=1] [reset] -> [] -> counts 1 1
+replay one: [original o=1 | add gone=1] [add a=1] -> [] [] -> shows a=2
+replay one: [original o=1 | add gone=1] [remove o] -> [] [] -> lacks o | counts 1 1
+replay one: [original o=1 | add gone=1] [reset] -> [] [] -> counts 1 1
 mirror one: [add a=1] -> [a=2] -> shows a=1
 mirror one: [add a=1] -> [] -> shows a=1
 mirror one: [add a=1] -> [a=1] -> shows a=2
@@ -98,8 +86,9 @@ client one: hold a:1 | copied | hold b:2 | copy header a=1; b=2
 client one: puts a:1
 orders one: 1
 orders 1: one
-fault input -> 2 cookiejar: input or output failed
-fault input -> 1 cookiejar: out of memory
+fault input -> 2 Input cookiejar: input or output failed
+fault input -> 1 Input cookiejar: out of memory
+fault input -> 1 Output cookiejar: input or output failed
 mirror50 one: [add a=1; Expires=0060-01-01T00:00:00] -> [] -> shows a=1
 judge50 one: [add a=1; Expires=0040-01-01T00:00:00] -> fit change";
 
@@ -112,8 +101,7 @@ run a=1\nadd -> cookiejar: bad input";
 
 #[test]
 fn a_wrong_row_is_found(rt: HostRuntime) {
-    let right = first_row(rt.alloc(), WRONG_ROWS, "\n", true);
-    assert!(rt; right.is_none(), "{right:?}");
-    let right = first_row(rt.alloc(), WRONG_SESSIONS, "|", true);
-    assert!(rt; right.is_none(), "{right:?}");
+    for row in WRONG_ROWS.lines().chain(WRONG_SESSIONS.split('|')) {
+        assert!(rt; is_right(rt.alloc(), row, 0) != Some(true), "{row}");
+    }
 }

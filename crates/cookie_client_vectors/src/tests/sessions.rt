@@ -1,8 +1,7 @@
 //! Sessions of the program, over bytes in memory.
 use super::MOMENT;
-use super::rows::{first_row, first_wrong};
 use call_steps::prints;
-use cookie_client::{ClientError, RunError, moment_of, run, run_with_hasher};
+use cookie_client::{moment_of, run, run_with_hasher};
 use jar_steps::moment;
 use jiff::civil::DateTime;
 use std::alloc::Global;
@@ -10,7 +9,7 @@ use std::hash::RandomState;
 use std::test::Fail;
 
 // Sessions and their texts, or the text of the first bad line, with a bar between them.
-const SESSIONS: &str = "\
+pub(super) const ROWS: &str = "\
 run name=val\nadd a=1\nremove name\n \
     -> Set-Cookie: a=1\nSet-Cookie: name=; Max-Age=0; Expires=Tue, 21 Oct 2014 07:28:00 GMT\nCookie: a=1\n|\
 run  x = 1 ;y=2; =3\nremove y\nadd x=5 \
@@ -39,30 +38,43 @@ run \nforce  \n -> cookiejar: bad line 2|\
 run \nreset \n -> cookiejar: bad line 2|\
 run \n  -> cookiejar: bad line 2";
 
-fn is_told(alloc: Global, error: &RunError, status: u8, wanted: &str) -> bool {
-    error.status() == status && prints(alloc, error, wanted)
-}
-
-// Whether a session at the moment has the text, or was asked wrongly and has the text of that.
-fn comes_to(alloc: Global, moment: &str, input: &[u8], wanted: &str) -> bool {
-    let mut reader = input;
+// Whether a session at the moment has the text, or was asked wrongly and has the text of that. Its hash has the drawn
+// keys, if there are any.
+fn comes_to(
+    alloc: Global,
+    state: Option<RandomState>,
+    moment: &str,
+    mut input: &[u8],
+    wanted: &str,
+) -> bool {
     let mut written = Vec::new(alloc);
-    match run(alloc, moment, &mut reader, &mut written) {
+    let outcome = match state {
+        Some(state) => run_with_hasher(alloc, state, moment, &mut input, &mut written),
+        None => run(alloc, moment, &mut input, &mut written),
+    };
+    match outcome {
         Ok(()) => written.as_slice() == wanted.as_bytes(),
-        Err(error) => written.is_empty() && is_told(alloc, &error, 2, wanted),
+        Err(fault) => written.is_empty() && fault.status() == 2 && prints(alloc, &fault, wanted),
     }
 }
 
 /// Whether the session has the text that stands after it, or is refused with it.
-pub(super) fn has_text(alloc: Global, row: &str) -> Option<bool> {
+pub(super) fn has_text(alloc: Global, state: Option<RandomState>, row: &str) -> Option<bool> {
     let (input, wanted) = row.split_once(" -> ")?;
-    Some(comes_to(alloc, MOMENT, input.as_bytes(), wanted))
+    Some(comes_to(alloc, state, MOMENT, input.as_bytes(), wanted))
 }
 
 #[test]
-fn sessions_have_their_texts(rt: HostRuntime) {
-    let wrong = first_row(rt.alloc(), SESSIONS, "|", false);
-    assert!(rt; wrong.is_none(), "{wrong:?}");
+fn drawn_keys_change_no_text(rt: HostRuntime) -> Result<(), Fail> {
+    let state = RandomState::new(&rt)?;
+    for row in ROWS.split('|') {
+        let session = row.strip_prefix("run ").unwrap_or("");
+        assert!(rt;
+            has_text(rt.alloc(), Some(state), session) == Some(true),
+            "{row}"
+        );
+    }
+    Ok(())
 }
 
 // By RFC 9110 5.6.7, but for the years.
@@ -83,62 +95,21 @@ fn moments_are_of_the_year_100_or_later(rt: HostRuntime) {
 // A bad moment is told though the input is bad too, and an input that isn't UTF-8 though a line is bad.
 #[test]
 fn faults_are_told_in_their_order(rt: HostRuntime) {
-    assert!(rt; comes_to(rt.alloc(), MOMENT, b"\xff\nbad", "cookiejar: bad input"));
+    let bad_moment = "cookiejar: bad moment";
+    assert!(rt;
+        comes_to(
+            rt.alloc(),
+            None,
+            MOMENT,
+            b"\xff\nbad",
+            "cookiejar: bad input"
+        )
+    );
     for moment in [
         "now",
         "21 Oct -5 00:00:00 GMT",
         "Wed, 21 Oct -15 07:28:00 GMT",
     ] {
-        assert!(rt; comes_to(rt.alloc(), moment, b"\xff", "cookiejar: bad moment"));
+        assert!(rt; comes_to(rt.alloc(), None, moment, b"\xff", bad_moment));
     }
-}
-
-const DRAWN_TEXT: &str = "\
-Set-Cookie: a=1\nSet-Cookie: name=; Max-Age=0; Expires=Tue, 21 Oct 2014 07:28:00 GMT\nCookie: a=1\n";
-
-// Whether a session with these drawn keys has the same text as without.
-fn has_text_with(alloc: Global, state: RandomState) -> bool {
-    let mut reader: &[u8] = b"name=val\nadd a=1\nremove name\n";
-    let mut written = Vec::new(alloc);
-    run_with_hasher(alloc, state, MOMENT, &mut reader, &mut written).is_ok()
-        && written.as_slice() == DRAWN_TEXT.as_bytes()
-}
-
-#[test]
-fn drawn_keys_change_no_text(rt: HostRuntime) -> Result<(), Fail> {
-    let state = RandomState::new(&rt)?;
-    assert!(rt; has_text_with(rt.alloc(), state));
-    Ok(())
-}
-
-// Faults, and for each its status and its text.
-const FAULTS: &str = "\
-fault memory -> 1 cookiejar: out of memory
-fault a client's memory -> 1 cookiejar: out of memory
-fault input -> 1 cookiejar: input or output failed
-fault output -> 1 cookiejar: input or output failed
-fault line 3 -> 2 cookiejar: bad line 3";
-
-fn fault(words: &str) -> Option<RunError> {
-    match words {
-        "memory" => Some(RunError::OutOfMemory),
-        "a client's memory" => Some(RunError::from(ClientError::OutOfMemory)),
-        "input" => Some(RunError::Input),
-        "output" => Some(RunError::Output),
-        "line 3" => Some(RunError::BadLine(3)),
-        _ => None,
-    }
-}
-
-/// Whether the fault has the status and the text: `input -> 1 cookiejar: input or output failed`.
-pub(super) fn is_fault(alloc: Global, row: &str) -> Option<bool> {
-    let (words, told) = row.split_once(" -> ")?;
-    let (status, text) = told.split_once(' ')?;
-    Some(is_told(alloc, &fault(words)?, status.parse().ok()?, text))
-}
-
-#[test]
-fn other_faults_have_their_texts(rt: HostRuntime) {
-    let wrong = first_wrong(rt.alloc(), FAULTS);
-    assert!(rt; wrong.is_none(), "{wrong:?}");
 }

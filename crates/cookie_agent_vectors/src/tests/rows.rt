@@ -1,5 +1,28 @@
-//! Rows that are wrong, and rows that say nothing.
-use super::steps::first_unlike;
+//! Rows, and rows that are wrong or say nothing.
+use super::{requests, sites, steps, stores};
+use std::alloc::Global;
+
+// Whether the row is right, or `None` where it says nothing: a title and steps of a new agent, or requests, which have
+// brackets.
+fn is_right(alloc: Global, row: &'static str) -> Option<bool> {
+    if row.contains("] -> [") {
+        let (_, lines) = row.split_once(":\n").unwrap_or(("", row));
+        return requests::plays(alloc, lines);
+    }
+    let (_, steps) = row.split_once(": ").unwrap_or(("", row));
+    steps::plays(alloc, steps)
+}
+
+#[test]
+fn what_the_rows_say_is_so(rt: HostRuntime) {
+    for row in sites::ROWS
+        .lines()
+        .chain(stores::ROWS.lines())
+        .chain(requests::ROWS.split("\n\n"))
+    {
+        assert!(rt; is_right(rt.alloc(), row) == Some(true), "{row}");
+    }
+}
 
 // A step of each is wrong, or the answer to its question.
 const WRONG: &str = "\
@@ -80,12 +103,10 @@ scope Size=5 -> none";
 
 #[test]
 fn a_wrong_row_is_found(rt: HostRuntime) {
-    for (rows, separator, wanted) in [
-        (WRONG, "\n", Some(false)),
-        (WRONG_REQUESTS, "\n\n", Some(false)),
-        (MALFORMED, "\n", None),
-    ] {
-        let unlike = first_unlike(rt.alloc(), rows, separator, wanted);
-        assert!(rt; unlike.is_none(), "{unlike:?}");
+    for row in WRONG.lines().chain(WRONG_REQUESTS.split("\n\n")) {
+        assert!(rt; is_right(rt.alloc(), row) == Some(false), "{row}");
+    }
+    for row in MALFORMED.lines() {
+        assert!(rt; is_right(rt.alloc(), row).is_none(), "{row}");
     }
 }
