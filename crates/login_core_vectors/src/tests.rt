@@ -9,22 +9,13 @@ use login_core::{LoginSite, Page, Request, Response, User, answer};
 use std::alloc::{AllocError, Global};
 use std::hash::RandomState;
 
-// A row is a request to a site of the users `ann` and `<b>bo</b>`, and what is answered: the method and the path,
-// after `plain` where the connection isn't secure, and then steps between ` | `: `cookies` and `form` of the request, `is`
-// with the status, `greets` with the user who is greeted, `sets` with the text of a `Set-Cookie` field, in any order and
-// each once, and `has` or `line` with a part or a line of the response's text.
-
-fn user(alloc: Global, name: &str, password: &str) -> Result<User, AllocError> {
-    Ok(User {
-        name: String::from_str(alloc, name)?,
-        password: String::from_str(alloc, password)?,
-    })
-}
-
-fn users(alloc: Global) -> Result<Vec<User>, JarError> {
+fn users(alloc: Global) -> Result<Vec<User>, AllocError> {
     let mut users = Vec::new(alloc);
-    users.push(user(alloc, "ann", "open sesame")?)?;
-    users.push(user(alloc, "<b>bo</b>", "x&y=z")?)?;
+    for (name, password) in [("ann", "open sesame"), ("<b>bo</b>", "x&y=z")] {
+        let name = String::from_str(alloc, name)?;
+        let password = String::from_str(alloc, password)?;
+        users.push(User { name, password })?;
+    }
     Ok(users)
 }
 
@@ -46,112 +37,88 @@ fn play(
     answer(alloc, state, &site, request, moment(), &mut Sevens { left })
 }
 
-// What the row's step says that begins so, and nothing where there is none.
-fn part<'r>(row: &'r str, start: &str) -> &'r str {
-    for step in row.split(" | ") {
-        if let Some(rest) = step.strip_prefix(start) {
-            return rest;
-        }
-    }
-    ""
-}
-
-// Whether the page greets that user, and nobody where there is none.
-fn greets(page: &Page, wanted: &str) -> bool {
+// The user whom the page greets.
+fn greeted(page: &Page) -> Option<&str> {
     match page {
-        Page::Home(visitor) => match &visitor.user {
-            Some(user) => !wanted.is_empty() && user.as_str() == wanted,
-            None => wanted.is_empty(),
-        },
-        _ => wanted.is_empty(),
+        Page::Home(visitor) => Some(visitor.user.as_ref()?.as_str()),
+        _ => None,
     }
 }
 
-fn is_among(cookies: &[String], text: &str) -> bool {
-    cookies.iter().any(|cookie| cookie.as_str() == text)
-}
-
-// Whether these are the row's steps that begin with `sets`, in any order.
-fn are_set(cookies: &[String], row: &str) -> bool {
-    let mut count = 0usize;
-    for step in row.split(" | ") {
-        if let Some(text) = step.strip_prefix("sets ") {
-            if !is_among(cookies, text) {
-                return false;
-            }
-            count = count.saturating_add(1);
-        }
+// The row with each word in braces replaced by what it stands for.
+fn spelled(alloc: Global, row: &str) -> Result<String, AllocError> {
+    let mut text = String::from_str(alloc, row)?;
+    for line in rows::WORDS.lines() {
+        let (word, meaning) = line.split_once(": ").unwrap_or((line, ""));
+        text = text.as_str().replace(alloc, word, meaning)?;
     }
-    count == cookies.len()
+    Ok(text)
 }
 
-fn has_part(text: &[u8], part: &str) -> bool {
-    match std::str::from_utf8(text) {
-        Ok(text) => text.find(part).is_some(),
-        Err(_) => false,
-    }
+// What the first of the steps says that begins so.
+fn part<'r>(steps: &'r str, start: &str) -> Option<&'r str> {
+    steps.split(" | ").find_map(|step| step.strip_prefix(start))
 }
 
-// Whether the text has the lines of the row's steps that begin with `line`.
-fn has_lines(text: &[u8], row: &str) -> bool {
-    let Ok(text) = std::str::from_utf8(text) else {
-        return false;
-    };
-    for step in row.split(" | ") {
-        if let Some(wanted) = step.strip_prefix("line ") {
-            if !text.split("\r\n").any(|line| line == wanted) {
-                return false;
-            }
-        }
-    }
-    true
-}
-
-// Whether the response's text has the part and the lines of the row.
-fn has_text(alloc: Global, row: &str, response: &Response) -> bool {
-    match response.text(alloc, "/cgi-bin/login.cgi") {
-        Ok(text) => has_part(&text, part(row, "has ")) && has_lines(&text, row),
-        Err(_) => false,
+// Whether the response, which has that text, is as the step says. Steps of the request say nothing of it.
+fn is_step_right(response: &Response, text: &str, step: &str) -> bool {
+    let (verb, wanted) = step.split_once(' ').unwrap_or((step, ""));
+    match verb {
+        "cookies" | "form" => true,
+        "is" => wanted.parse() == Ok(response.page.status()),
+        "greets" => greeted(&response.page) == Some(wanted),
+        "sets" => response
+            .cookies
+            .iter()
+            .any(|cookie| cookie.as_str() == wanted),
+        "has" => text.find(wanted).is_some(),
+        "line" => text.split("\r\n").any(|line| line == wanted),
+        _ => false,
     }
 }
 
-fn is_answered(alloc: Global, row: &str, response: &Response) -> bool {
-    part(row, "is ").parse::<u16>().unwrap_or(0) == response.page.status()
-        && greets(&response.page, part(row, "greets "))
-        && are_set(&response.cookies, row)
-        && has_text(alloc, row, response)
+// Whether the response is as the steps say, sets as many cookies, and greets nobody where they say nothing.
+fn is_answered(alloc: Global, response: &Response, steps: &str) -> Option<bool> {
+    let text = response.text(alloc, "/cgi-bin/login.cgi").ok()?;
+    let text = std::str::from_utf8(&text).ok()?;
+    let count = steps
+        .split(" | ")
+        .filter(|step| step.starts_with("sets "))
+        .count();
+    let are_right = steps
+        .split(" | ")
+        .all(|step| is_step_right(response, text, step));
+    let is_greeted = greeted(&response.page) == part(steps, "greets ");
+    Some(are_right && is_greeted && response.cookies.len() == count)
 }
 
-// The bytes of a `Cookie` field. `<FF>` stands for a byte that stands in no text.
-fn field_of(text: &str) -> &[u8] {
-    match text {
-        "x=<FF>; ann" => b"x=\xff; __Host-user=BwcHBwcHBwcHBwcH0e62VErjlKMSyUcYcYWUm4/brQ==",
-        "ann; <FF>" => b"__Host-user=BwcHBwcHBwcHBwcH0e62VErjlKMSyUcYcYWUm4/brQ==;\xff",
-        "ann<FF>" => b"__Host-user=BwcHBwcHBwcHBwcH0e62VErjlKMSyUcYcYWUm4/brQ==\xff",
-        _ => text.as_bytes(),
+// Whether the request of the steps over such a connection is answered as they say.
+fn is_right_over(alloc: Global, state: RandomState, is_secure: bool, row: &str) -> Option<bool> {
+    let (head, steps) = row.split_once(" | ")?;
+    let (method, path) = head.split_once(' ')?;
+    let mut cookies = Vec::new(alloc);
+    for letter in part(steps, "cookies ").unwrap_or("").chars() {
+        cookies.push(u8::try_from(letter as u32).ok()?).ok()?;
     }
-}
-
-// Whether the row's request over such a connection is answered as it says.
-fn is_right_over(alloc: Global, state: RandomState, is_secure: bool, row: &str) -> bool {
-    let (head, _) = row.split_once(" | ").unwrap_or((row, ""));
-    let (method, path) = head.split_once(' ').unwrap_or((head, ""));
     let request = Request {
         method,
         path,
-        cookies: field_of(part(row, "cookies ")),
-        form: part(row, "form ").as_bytes(),
+        cookies: &cookies,
+        form: part(steps, "form ").unwrap_or("").as_bytes(),
     };
-    match play(alloc, state, is_secure, &request, 12) {
-        Ok(response) => is_answered(alloc, row, &response),
-        Err(_) => false,
-    }
+    let response = play(alloc, state, is_secure, &request, 12).ok()?;
+    is_answered(alloc, &response, steps)
 }
 
-// Whether the row's request is answered as it says.
-fn is_right(alloc: Global, state: RandomState, row: &str) -> bool {
-    match row.strip_prefix("plain ") {
+// Whether the row's request is answered as it says: `plain GET / | cookies a=b | is 200 | has Hello`. A row is a request
+// to a site of the users `ann` and `<b>bo</b>`, and what is answered: the method and the path, after `plain` where the
+// connection isn't secure, and then steps: `cookies`, where each letter is one byte, and `form` of the request, `is` with
+// the status, `greets` with the user who is greeted, `sets` with the text of a `Set-Cookie` field, in any order and each
+// once, and `has` or `line` with a part or a line of the response's text.
+fn is_right(alloc: Global, state: RandomState, row: &str) -> Option<bool> {
+    let row = spelled(alloc, row).ok()?;
+    match row.as_str().strip_prefix("plain ") {
         Some(row) => is_right_over(alloc, state, false, row),
-        None => is_right_over(alloc, state, true, row),
+        None => is_right_over(alloc, state, true, row.as_str()),
     }
 }
