@@ -34,7 +34,10 @@ two cookies: Set-Cookie: SID=31d4d96e407aad42; Path=/; Secure; HttpOnly | Set-Co
 sends SID=31d4d96e407aad42; b=1; lang=en-US | counts 0 3 | shows SID=31d4d96e407aad42 | shows b=1 | shows lang=en-US
 one that has expired: Set-Cookie: c=3; Expires=Tue, 21 Oct 2014 07:28:00 GMT | sends b=1 | counts 0 1 | shows b=1
 fields that are no cookies: Set-Cookie: a=1 | Set-Cookie: a=2 | Set-Cookie: a | Set-Cookie: a=\u{ff} | \
-sends a=2; b=1 | counts 0 2 | shows a=2 | shows b=1";
+sends a=2; b=1 | counts 0 2 | shows a=2 | shows b=1
+[original a=1 | original b=2 | remove a=; Path=/] \
+-> [a=; Path=/; Max-Age=0; Expires=Tue, 21 Oct 2014 07:28:00 GMT] -> sends b=2 | counts 0 1 | shows b=2
+[original a=1 | add a=2;3] -> [a=2%3B3] -> sends a=2%3B3 | counts 0 1 | shows a=2;3";
 
 const LINE_BREAKS: &str = "\
 line breaks in escapes: Set-Cookie: a%0A=%0D%0A%3B | sends a%0A=%0D%0A%3B; b=1 | counts 0 2 | \
@@ -49,6 +52,7 @@ fn requests_and_clients_have_these_cookies(rt: HostRuntime) {
 }
 
 // Of requests another value, another name, a cookie too many, and one too few. Of clients another text, another cookie.
+// Of calls another field.
 const WRONG: &str = "\
 one: Cookie: a=1 | shows a=2
 one: Cookie: a=1 | shows b=1
@@ -58,7 +62,8 @@ one: shows a=1
 one: Cookie: a=1 | counts 0 0
 one: Cookie: a=1 | lacks a
 one: sends b=2 | shows b=1
-one: sends b=1 | shows b=2";
+one: sends b=1 | shows b=2
+[add a=1] -> [a=2] -> sends a=1 | shows a=1";
 
 #[test]
 fn a_wrong_row_is_found(rt: HostRuntime) {

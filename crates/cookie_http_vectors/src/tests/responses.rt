@@ -49,16 +49,19 @@ fn no_field_is_split(rt: HostRuntime) {
     }
 }
 
-// Whether a cookie with the row's name and value, and with more, is printed as the row says.
+// The cookie of this name and value with a path, a domain and a flag.
+fn scoped(name: &'static str, value: &'static str) -> Cookie<'static> {
+    let cookie = CookieBuilder::new(name, value)
+        .path("/")
+        .domain("example.com");
+    cookie.secure(true).build()
+}
+
+// Whether such a cookie is printed as the row says.
 fn is_pair_printed(alloc: Global, row: &'static str) -> Option<bool> {
     let (pair, text) = row.split_once(" | ")?;
     let (name, value) = pair.split_once('=')?;
-    let cookie = CookieBuilder::new(name, value)
-        .path("/")
-        .domain("example.com")
-        .secure(true)
-        .build();
-    is_answer(alloc, cookie, text)
+    is_answer(alloc, scoped(name, value), text)
 }
 
 // A name and a value, and the field.
@@ -83,69 +86,54 @@ fn a_response_has_these_fields(rt: HostRuntime) {
     assert!(rt; is_pair_printed(rt.alloc(), wrong) == Some(false));
 }
 
-// Adds a name with that number.
-fn put_name(alloc: Global, headers: &mut HeaderMap, number: usize) -> Option<()> {
-    let text = format!(in alloc; "x-{number}").ok()?;
-    let name = HeaderName::from_bytes(alloc, text.as_bytes()).ok()?;
-    headers.append(name, HeaderValue::from_static("1")).ok()?;
-    Some(())
-}
-
 // A map with this many names.
 fn full_map(alloc: Global, names: usize) -> Option<HeaderMap> {
     let mut headers = HeaderMap::new(alloc);
     for number in 0..names {
-        put_name(alloc, &mut headers, number)?;
+        let text = format!(in alloc; "x-{number}").ok()?;
+        let name = HeaderName::from_bytes(alloc, text.as_bytes()).ok()?;
+        headers.append(name, HeaderValue::from_static("1")).ok()?;
     }
     Some(headers)
 }
 
-// Whether a map with all its names refuses the jar, and is as it was.
-fn is_full(alloc: Global, jar: &CookieJar) -> Option<bool> {
-    let mut headers = full_map(alloc, 24_576)?;
-    let is_refused = append_delta(alloc, jar, &mut headers) == Err(HttpError::TooManyFields);
-    Some(is_refused && headers.len() == 24_576 && headers.get("set-cookie").is_none())
-}
-
-// Whether such a map takes a jar without changes, which needs no room.
-fn takes_nothing(alloc: Global) -> Option<bool> {
-    let mut headers = full_map(alloc, 24_576)?;
-    let outcome = append_delta(alloc, &CookieJar::new(alloc), &mut headers);
-    Some(outcome == Ok(()) && headers.len() == 24_576)
-}
-
-// Whether a map that has room for one more name takes the jar twice.
-fn has_room(alloc: Global, jar: &CookieJar) -> Option<bool> {
-    let mut headers = full_map(alloc, 24_575)?;
-    append_delta(alloc, jar, &mut headers).ok()?;
-    append_delta(alloc, jar, &mut headers).ok()?;
-    Some(has_values(&headers, "set-cookie", &["a=1", "a=1"]))
-}
-
-// Whether the full map refuses a jar with one cookie and takes one without, and the other takes it.
-fn are_told(alloc: Global) -> bool {
+// Whether a map with this many names, to which a jar with a change or without is appended twice, answers so each time,
+// and has these fields then.
+fn is_appended(
+    alloc: Global,
+    names: usize,
+    is_changed: bool,
+    outcome: Result<(), HttpError>,
+    fields: &[&str],
+) -> Option<bool> {
+    let mut headers = full_map(alloc, names)?;
     let mut jar = CookieJar::new(alloc);
-    jar.add(Cookie::new("a", "1")).is_ok()
-        && is_full(alloc, &jar) == Some(true)
-        && takes_nothing(alloc) == Some(true)
-        && has_room(alloc, &jar) == Some(true)
+    if is_changed {
+        jar.add(Cookie::new("a", "1")).ok()?;
+    }
+    let first = append_delta(alloc, &jar, &mut headers);
+    let is_told = first == outcome && append_delta(alloc, &jar, &mut headers) == outcome;
+    let is_long = headers.len() == names.saturating_add(fields.len());
+    Some(is_told && is_long && has_values(&headers, "set-cookie", fields))
 }
 
-// A map holds 24,576 names at most.
+// A map holds 24,576 names at most. A jar without changes needs no room.
 #[test]
 fn a_full_map_is_told(rt: HostRuntime) {
-    assert!(rt; are_told(rt.alloc()));
+    let (alloc, full) = (rt.alloc(), Err(HttpError::TooManyFields));
+    assert!(rt; is_appended(alloc, 24_576, true, full, &[]) == Some(true));
+    assert!(rt; is_appended(alloc, 24_576, false, Ok(()), &[]) == Some(true));
+    assert!(rt; is_appended(alloc, 24_575, true, Ok(()), &["a=1", "a=1"]) == Some(true));
 }
 
 // Whether the response of a jar whose original was removed as it was set has this field alone.
 fn is_removed(alloc: Global, field: &str) -> Option<bool> {
     let set = CookieBuilder::new("a", "1")
         .path("/shop")
-        .domain("example.com")
-        .build();
+        .domain("example.com");
     let mut jar = CookieJar::new(alloc);
     jar.add_original(Cookie::new("a", "1")).ok()?;
-    remove_as_set(alloc, &mut jar, &set, moment()).ok()?;
+    remove_as_set(alloc, &mut jar, &set.build(), moment()).ok()?;
     let mut headers = HeaderMap::new(alloc);
     append_delta(alloc, &jar, &mut headers).ok()?;
     Some(has_values(&headers, "set-cookie", &[field]))
@@ -159,37 +147,19 @@ fn a_removal_names_path_and_domain(rt: HostRuntime) {
     assert!(rt; is_removed(rt.alloc(), field) == Some(true));
 }
 
-fn answer(
-    alloc: Global,
-    state: RandomState,
-    request: &HeaderMap,
-    response: &mut HeaderMap,
-) -> Result<(), Fail> {
-    let jar = CookieJar::with_hasher(alloc, state);
-    let mut jar = with_headers(jar, request)?;
-    jar.add(Cookie::new("theme", "dark"))?;
-    append_delta(alloc, &jar, response)?;
-    Ok(())
-}
-
 // Whether the response to the request, whose jar hashes with drawn keys, has the change alone.
 fn is_answered(alloc: Global, state: RandomState, request: &HeaderMap) -> Result<bool, Fail> {
     let mut response = HeaderMap::new(alloc);
-    answer(alloc, state, request, &mut response)?;
+    let mut jar = with_headers(CookieJar::with_hasher(alloc, state), request)?;
+    jar.add(Cookie::new("theme", "dark"))?;
+    append_delta(alloc, &jar, &mut response)?;
     Ok(has_values(&response, "set-cookie", &["theme=dark"]) && response.len() == 1)
-}
-
-fn is_row_answered(alloc: Global, state: RandomState, steps: &str) -> Result<bool, Fail> {
-    match fields_of(alloc, steps) {
-        Some(request) => is_answered(alloc, state, &request),
-        None => Ok(false),
-    }
 }
 
 #[test]
 fn a_response_has_the_changes_alone(rt: HostRuntime) -> Result<(), Fail> {
     let state = RandomState::new(&rt)?;
-    let steps = "Cookie: lang=en | Cookie: theme=light";
-    assert!(rt; is_row_answered(rt.alloc(), state, steps)?);
+    let request = fields_of(rt.alloc(), "Cookie: lang=en | Cookie: theme=light");
+    assert!(rt; matches!(&request, Some(request) if is_answered(rt.alloc(), state, request)?));
     Ok(())
 }
