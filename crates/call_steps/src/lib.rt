@@ -6,10 +6,8 @@ mod calls;
 mod draws;
 mod entries;
 mod flat_jar;
-mod printed;
 
 pub use calls::{call_of, calls_of};
 pub use draws::{Draws, Tables};
 pub use entries::{Entries, Entry};
 pub use flat_jar::FlatJar;
-pub use printed::{debugs, holds, prints};

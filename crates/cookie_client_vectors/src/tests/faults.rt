@@ -1,7 +1,7 @@
 //! The statuses and texts of faults, and how errors and kinds are printed under each flag of a formatter.
-use call_steps::{debugs, holds, prints};
 use cookie_client::{ClientError, PrefixKind, RunError};
-use std::alloc::{AllocError, Global};
+use cookie_words::{debugs, prints};
+use std::alloc::Global;
 
 // Faults, and for each its status, the name of its variant and its text.
 pub(super) const ROWS: &str = "\
@@ -50,20 +50,11 @@ fn no_flag_changes_a_text_or_the_name_of_a_variant(rt: HostRuntime) {
 
 // The number of a bad line heeds the flags; a precision says nothing of a whole number.
 const BAD_LINE: &str = "\
-BadLine(7)|BadLine(   7)|BadLine(7   )|BadLine(**7**)|BadLine(+7)|BadLine(0007)|BadLine(7)|\
-BadLine(\n    7,\n)|BadLine(\n    0007,\n)|BadLine(\n    +7,\n)";
-
-fn bad_line(alloc: Global, it: &RunError) -> Result<String, AllocError> {
-    format!(in alloc;
-        "{it:?}|{it:4?}|{it:<4?}|{it:*^5?}|{it:+?}|{it:04?}|{it:.3?}|{it:#?}|{it:#04?}|{it:+#?}"
-    )
-}
+BadLine(7)|# BadLine(\n    7,\n)|+ BadLine(+7)|> BadLine(               7)|< BadLine(7               )|\
+^ BadLine(*******7********)|0 BadLine(0000000000000007)|all BadLine(\n    +000000000000007,\n)|\
+in BadLine(\n        7,\n    )";
 
 #[test]
 fn the_number_of_a_bad_line_heeds_the_flags(rt: HostRuntime) {
-    let fault = RunError::BadLine(7);
-    assert!(rt; matches!(bad_line(rt.alloc(), &fault), Ok(text) if text.as_str() == BAD_LINE));
-    let wide = "BadLine(                   7)";
-    let tall = "BadLine(\n        7,\n    )";
-    assert!(rt; holds(rt.alloc(), &fault, "BadLine(7)", wide, tall));
+    assert!(rt; debugs(rt.alloc(), &RunError::BadLine(7), BAD_LINE));
 }

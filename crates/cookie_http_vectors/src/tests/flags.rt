@@ -1,6 +1,6 @@
 //! The texts of refusals under each flag of a format.
-use call_steps::{debugs, prints};
 use cookie_http::HttpError;
+use cookie_words::{debugs, prints};
 
 #[test]
 fn no_flag_changes_a_refusal(rt: HostRuntime) {
