@@ -40,21 +40,17 @@ run Wed, 21 Oct 2015 07:28:00 GMT|x=1\\x0aadd a=1\\x0aadd bar\\x0a -> 12 3
 
 // Makes the call with the buffer.
 fn play(alloc: Global, call: &str, words: &str, out: &mut [u8]) -> Option<Answer> {
-    let (first, second, third) = (
-        word(alloc, words, 0)?,
-        word(alloc, words, 1)?,
-        word(alloc, words, 2)?,
-    );
-    let (first, second, third) = (first.as_slice(), second.as_slice(), third.as_slice());
+    let (first, second) = (word(alloc, words, 0)?, word(alloc, words, 1)?);
+    let third = word(alloc, words, 2)?;
     Some(match call {
-        "sign" => cookie_sign(alloc, KEY, first, second, out),
-        "sign-63" => cookie_sign(alloc, &KEY[..63], first, second, out),
-        "verify" => cookie_verify(alloc, KEY, first, second, out),
-        "seal" => cookie_seal(alloc, KEY, third, first, second, out),
-        "open" => cookie_open(alloc, KEY, first, second, out),
+        "sign" => cookie_sign(alloc, KEY, &first, &second, out),
+        "sign-63" => cookie_sign(alloc, &KEY[..63], &first, &second, out),
+        "verify" => cookie_verify(alloc, KEY, &first, &second, out),
+        "seal" => cookie_seal(alloc, KEY, &third, &first, &second, out),
+        "open" => cookie_open(alloc, KEY, &first, &second, out),
         "derive" => cookie_derive_key([0; 64].get(..words.parse().ok()?)?, out),
         "print-date" => cookie_print_date(alloc, 2015, 10, words.parse().ok()?, 7, 28, 0, out),
-        "run" => cookie_run(alloc, 1, 2, first, second, out),
+        "run" => cookie_run(alloc, 1, 2, &first, &second, out),
         _ => return None,
     })
 }

@@ -43,53 +43,34 @@ plain id|x|\\xff|unset -> 0 id=x
 
 // The attributes of that name.
 fn attributes(words: &str) -> Option<Attributes> {
-    let unset = Attributes::none();
-    let bad = Attributes {
-        expires: Moment {
-            month: 13,
-            ..SET.expires
-        },
-        ..SET
-    };
-    Some(match words {
-        "set" => SET,
-        "unset" => unset,
-        "falsely" => Attributes {
-            http_only: 2,
-            secure: 2,
-            same_site: 3,
-            ..unset
-        },
-        "bad flag" => Attributes { secure: 3, ..SET },
-        "bad date" => bad,
-        "bad site and date" => Attributes {
-            same_site: 4,
-            ..bad
-        },
+    let mut numbers = SET;
+    match words {
+        "set" => (),
+        "unset" => numbers = Attributes::none(),
+        "falsely" => {
+            numbers = Attributes::none();
+            numbers.http_only = 2;
+            numbers.secure = 2;
+            numbers.same_site = 3;
+        }
+        "bad flag" => numbers.secure = 3,
+        "bad date" => numbers.expires.month = 13,
+        "bad site and date" => {
+            numbers.same_site = 4;
+            numbers.expires.month = 13;
+        }
         _ => return None,
-    })
+    }
+    Some(numbers)
 }
 
 fn is_right(alloc: Global, row: &str) -> Option<bool> {
     let (form, words, wanted) = parts(row)?;
-    let (name, value, path) = (
-        word(alloc, words, 0)?,
-        word(alloc, words, 1)?,
-        word(alloc, words, 2)?,
-    );
-    let numbers = attributes(words.split('|').nth(3)?)?;
-    let (name, value, path) = (name.as_slice(), value.as_slice(), path.as_slice());
-    let (mut out, is_escaped) = ([0xa5; 160], form == "escaped");
-    let answer = cookie_print(
-        alloc,
-        name,
-        value,
-        path,
-        b".a.example",
-        &numbers,
-        is_escaped,
-        &mut out,
-    );
+    let (name, value) = (word(alloc, words, 0)?, word(alloc, words, 1)?);
+    let path = word(alloc, words, 2)?;
+    let set = attributes(words.split('|').nth(3)?)?;
+    let (domain, escape, mut out) = (b".a.example", form == "escaped", [0xa5; 160]);
+    let answer = cookie_print(alloc, &name, &value, &path, domain, &set, escape, &mut out);
     is_answered(alloc, answer, &out, wanted)
 }
 
@@ -98,6 +79,10 @@ fn cookies_are_printed(rt: HostRuntime) {
     for row in ROWS.lines() {
         assert!(rt; is_right(rt.alloc(), row) == Some(true), "{row}");
     }
-    assert!(rt; is_right(rt.alloc(), "plain id|x|/|unset -> 0 id=y") == Some(false));
-    assert!(rt; is_right(rt.alloc(), "plain id|x|/|bad flag -> 10") == Some(false));
+    for row in [
+        "plain id|x|/|unset -> 0 id=y",
+        "plain id|x|/|bad flag -> 10",
+    ] {
+        assert!(rt; is_right(rt.alloc(), row) == Some(false), "{row}");
+    }
 }
