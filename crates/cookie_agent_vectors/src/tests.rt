@@ -1,11 +1,9 @@
 //! Rows whose answers come from RFC 6265, curl and Python's `http.cookiejar`, and a second body of the agent.
 mod comparison;
-mod drawn;
 mod plain_agent;
 mod requests;
 mod rows;
 mod sites;
-mod spots;
 mod steps;
 mod stores;
 

@@ -1,9 +1,69 @@
 //! A second body of the user agent over plain values (RFC 6265 5.3, 5.4).
-use super::spots::Spot;
 use call_steps::{Entry, FlatJar};
 use cookie::Cookie;
 use cookie_client::JarCall;
 use std::alloc::{AllocError, Global};
+
+/// Where and when a request goes, with the host in lower case and the folder of the path, worked by hand.
+#[derive(Clone, Copy)]
+pub(super) struct Spot {
+    pub(super) url: &'static str,
+    pub(super) second: i8,
+    host: &'static str,
+    path: &'static str,
+    folder: &'static str,
+}
+
+impl Spot {
+    /// One of four sites, at that second of the minute of all rows.
+    pub(super) fn of(number: usize, second: i8) -> Spot {
+        let (url, host, path, folder) = match number {
+            0 => ("http://example.com/", "example.com", "/", "/"),
+            1 => (
+                "https://WWW.example.com/a/b",
+                "www.example.com",
+                "/a/b",
+                "/a",
+            ),
+            2 => ("https://www.example.com/ab", "www.example.com", "/ab", "/"),
+            _ => ("address://10.0.0.1/a/", "10.0.0.1", "/a/", "/a"),
+        };
+        Spot {
+            url,
+            second,
+            host,
+            path,
+            folder,
+        }
+    }
+
+    // Whether the domain takes in the host.
+    fn is_in(self, domain: &str) -> bool {
+        match self.host.as_bytes().strip_suffix(domain.as_bytes()) {
+            Some([]) => true,
+            Some([.., before]) => *before == b'.' && !self.url.starts_with("address"),
+            None => false,
+        }
+    }
+
+    // Whether its path is at or below the one of a cookie.
+    fn is_below(self, path: &str) -> bool {
+        match self.path.as_bytes().strip_prefix(path.as_bytes()) {
+            Some([]) => true,
+            Some([next, ..]) => *next == b'/' || path.ends_with('/'),
+            None => false,
+        }
+    }
+
+    // The domain of a cookie and whether it is one host's alone, if the site may set it.
+    fn domain<'c>(self, domain: Option<&'c str>) -> Option<(&'c str, bool)> {
+        match domain {
+            None | Some("") => Some((self.host, true)),
+            Some(domain) if self.is_in(domain) => Some((domain, false)),
+            Some(_) => None,
+        }
+    }
+}
 
 // The escapes of a name or a value that is drawn, worked by hand.
 fn escaped(text: &str) -> &str {
@@ -15,41 +75,7 @@ fn escaped(text: &str) -> &str {
     }
 }
 
-// Whether the domain takes in the host.
-fn takes_in(domain: &str, spot: Spot) -> bool {
-    match spot.host.as_bytes().strip_suffix(domain.as_bytes()) {
-        Some([]) => true,
-        Some([.., before]) => *before == b'.' && !spot.is_address,
-        None => false,
-    }
-}
-
-// Whether the path of a request is at or below the one of a cookie.
-fn is_below(request: &str, path: &str) -> bool {
-    match request.as_bytes().strip_prefix(path.as_bytes()) {
-        Some([]) => true,
-        Some([next, ..]) => *next == b'/' || path.as_bytes().last() == Some(&b'/'),
-        None => false,
-    }
-}
-
-// The domain of a cookie and whether it is one host's alone, if the site may set it.
-fn domain_at<'c>(spot: Spot, domain: Option<&'c str>) -> Option<(&'c str, bool)> {
-    match domain {
-        None | Some("") => Some((spot.host, true)),
-        Some(domain) if takes_in(domain, spot) => Some((domain, false)),
-        Some(_) => None,
-    }
-}
-
-fn path_at<'c>(spot: Spot, path: Option<&'c str>) -> &'c str {
-    match path {
-        Some(path) if path.as_bytes().first() == Some(&b'/') => path,
-        _ => spot.folder,
-    }
-}
-
-/// A stored cookie. Its expiry is a second of the minute of all rows, or a later one, or the greatest number.
+// A stored cookie. Its expiry is a second of the minute of all rows, or a later one, or the greatest number.
 #[derive(Clone, Copy)]
 struct Held<'c> {
     cookie: &'c Cookie<'static>,
@@ -60,21 +86,22 @@ struct Held<'c> {
 }
 
 impl<'c> Held<'c> {
-    // What is stored of a change that the site sends at the second. No agent reads a cookie without a name.
-    fn of(spot: Spot, change: Entry<'c>, second: i8) -> Option<Held<'c>> {
+    // What is stored of a change that the site sends. No agent reads a cookie without a name.
+    fn of(spot: Spot, change: Entry<'c>) -> Option<Held<'c>> {
         let cookie = change.cookie;
-        let (domain, is_host_only) = domain_at(spot, cookie.domain())?;
+        let (domain, is_host_only) = spot.domain(cookie.domain())?;
         let age = match cookie.max_age() {
             _ if change.is_removal => 0,
             Some(age) => age.as_secs(),
             None => i64::MAX,
         };
+        let path = cookie.path().filter(|path| path.starts_with('/'));
         let held = Held {
             cookie,
             domain,
             is_host_only,
-            path: path_at(spot, cookie.path()),
-            expiry: age.saturating_add(second as i64),
+            path: path.unwrap_or(spot.folder),
+            expiry: age.saturating_add(spot.second as i64),
         };
         (!cookie.name().is_empty()).then_some(held)
     }
@@ -83,15 +110,15 @@ impl<'c> Held<'c> {
         (self.cookie.name(), self.domain, self.path)
     }
 
-    fn is_unexpired(&self, second: i8) -> bool {
-        (second as i64) < self.expiry
+    fn is_unexpired(&self, spot: Spot) -> bool {
+        (spot.second as i64) < self.expiry
     }
 
-    fn is_sent(&self, spot: Spot, second: i8) -> bool {
-        self.is_unexpired(second)
-            && (self.domain == spot.host || !self.is_host_only && takes_in(self.domain, spot))
-            && is_below(spot.path, self.path)
-            && (spot.is_secure || self.cookie.secure().is_none())
+    fn is_sent(&self, spot: Spot) -> bool {
+        self.is_unexpired(spot)
+            && (self.domain == spot.host || !self.is_host_only && spot.is_in(self.domain))
+            && spot.is_below(self.path)
+            && (spot.url.starts_with("https") || self.cookie.secure().is_none())
     }
 }
 
@@ -120,31 +147,22 @@ impl<'c> PlainAgent<'c> {
         Ok(())
     }
 
-    fn drop_expired(&mut self, second: i8) {
-        self.cookies.retain(|held| held.is_unexpired(second));
-    }
-
-    /// Takes what the site sends at the second.
-    pub(super) fn read(
-        &mut self,
-        spot: Spot,
-        change: Entry<'c>,
-        second: i8,
-    ) -> Result<(), AllocError> {
-        self.drop_expired(second);
-        if let Some(cookie) = Held::of(spot, change, second) {
+    /// Takes what the site sends.
+    pub(super) fn read(&mut self, spot: Spot, change: Entry<'c>) -> Result<(), AllocError> {
+        self.cookies.retain(|held| held.is_unexpired(spot));
+        if let Some(cookie) = Held::of(spot, change) {
             self.put(cookie)?;
         }
-        self.drop_expired(second);
+        self.cookies.retain(|held| held.is_unexpired(spot));
         Ok(())
     }
 
     // What is sent to the site: longer paths first, and then the earlier.
-    fn sent(&self, spot: Spot, second: i8) -> Result<Vec<Held<'c>>, AllocError> {
+    fn sent(&self, spot: Spot) -> Result<Vec<Held<'c>>, AllocError> {
         let mut sent = Vec::new(self.alloc);
         for length in [2usize, 1] {
             for held in &self.cookies {
-                if held.path.len() == length && held.is_sent(spot, second) {
+                if held.path.len() == length && held.is_sent(spot) {
                     sent.push(*held)?;
                 }
             }
@@ -153,29 +171,23 @@ impl<'c> PlainAgent<'c> {
     }
 
     /// The header of a request to the site.
-    pub(super) fn header(&self, spot: Spot, second: i8) -> Result<String, AllocError> {
+    pub(super) fn header(&self, spot: Spot) -> Result<String, AllocError> {
         let mut header = String::new(self.alloc);
-        for held in &self.sent(spot, second)? {
+        for held in &self.sent(spot)? {
             let separator = if header.is_empty() { "" } else { "; " };
-            let name = escaped(held.cookie.name());
-            let value = escaped(held.cookie.value());
-            write!(header, "{separator}{name}={value}")?;
+            let (name, value) = held.cookie.name_value();
+            write!(header, "{separator}{}={}", escaped(name), escaped(value))?;
         }
         Ok(header)
     }
 
     /// The jar of a request after its calls. It begins with what is sent, the last of a name alone.
-    pub(super) fn jar_after(
-        &self,
-        spot: Spot,
-        second: i8,
-        calls: &'c [JarCall<'_>],
-    ) -> Result<FlatJar<'c>, AllocError> {
+    pub(super) fn jar_after(&self, spot: Spot, calls: &'c [JarCall<'_>]) -> Option<FlatJar<'c>> {
         let mut jar = FlatJar::new(self.alloc);
-        for held in &self.sent(spot, second)? {
-            jar.originals.put(held.cookie, false)?;
+        for held in &self.sent(spot).ok()? {
+            jar.originals.put(held.cookie, false).ok()?;
         }
-        jar.replay(calls)?;
-        Ok(jar)
+        jar.replay(calls).ok()?;
+        Some(jar)
     }
 }

@@ -162,13 +162,9 @@ fn answer(alloc: Global, site: &Site, question: &str, text: &'static str) -> Opt
     })
 }
 
-/// Whether the site has the wanted answer to a question such as `domain com` or `path /a/b /a`.
-pub(super) fn is_answer(
-    alloc: Global,
-    site: &Site,
-    asked: &'static str,
-    wanted: &str,
-) -> Option<bool> {
+/// Whether the site has the answer of a step such as `domain com -> true` or `path /a/b /a -> true`.
+pub(super) fn is_answer(alloc: Global, site: &Site, step: &'static str) -> Option<bool> {
+    let (asked, wanted) = step.split_once(" -> ")?;
     let (question, text) = asked.split_once(' ').unwrap_or((asked, ""));
     match question {
         "default" => Some(site_at(alloc, text)?.default_path() == wanted),

@@ -1,4 +1,4 @@
-//! Steps of one user agent.
+//! Steps of one user agent. README.md lists them.
 use super::at;
 use super::sites::{is_answer, site_of};
 use cookie_agent::{Agent, Site};
@@ -10,17 +10,8 @@ pub(super) fn is_sent(agent: &Agent, site: &Site, second: i8, header: &str) -> b
     matches!(agent.header(site, at(second)), Ok(sent) if sent.as_str() == header)
 }
 
-// Lets happen at the site what the step says, and answers whether it comes out so.
-fn is_done(
-    alloc: Global,
-    agent: &mut Agent,
-    site: &Site,
-    second: i8,
-    step: &'static str,
-) -> Option<bool> {
-    if let Some((asked, wanted)) = step.split_once(" -> ") {
-        return is_answer(alloc, site, asked, wanted);
-    }
+// Whether it comes out so, if the step is one of the agent at the site and the second.
+fn is_done(agent: &mut Agent, site: &Site, second: i8, step: &str) -> Option<bool> {
     let (verb, text) = step.split_once(' ').unwrap_or((step, ""));
     match verb {
         "sets" | "refuses" => Some(agent.read(site, text, at(second)) == Ok(verb == "sets")),
@@ -33,20 +24,10 @@ fn is_done(
     }
 }
 
-/// Whether all comes out for a new agent as the steps say:
-/// `on http://example.com/a`: the site of the next steps, `http://example.com/` at first;
-/// `at 5`: the second, 0 at first;
-/// `sets n=1`: the site sets a cookie by this text;
-/// `refuses n`: the site's text is no cookie;
-/// `sends n=1`: the agent sends this header to the site;
-/// `evicts`: the agent drops what is expired;
-/// `copied`: a copy is made of the agent;
-/// `swapped`: the next steps are of the copy;
-/// `domain com -> true`: a question of the site, and its answer.
+/// Whether all comes out for a new agent as the steps say.
 pub(super) fn plays(alloc: Global, steps: &'static str) -> Option<bool> {
     let (mut agent, mut copy) = (Agent::new(alloc), Agent::new(alloc));
-    let mut second = 0i8;
-    let mut site = site_of(alloc, "http://example.com/")?;
+    let (mut site, mut second) = (site_of(alloc, "http://example.com/")?, 0i8);
     for step in steps.split(" | ") {
         let (verb, rest) = step.split_once(' ').unwrap_or((step, ""));
         match verb {
@@ -54,7 +35,7 @@ pub(super) fn plays(alloc: Global, steps: &'static str) -> Option<bool> {
             "at" => second = rest.parse().ok()?,
             "copied" => copy = agent.clone().ok()?,
             "swapped" => swap(&mut agent, &mut copy),
-            _ if is_done(alloc, &mut agent, &site, second, step)? => (),
+            _ if is_done(&mut agent, &site, second, step).or(is_answer(alloc, &site, step))? => (),
             _ => return Some(false),
         }
     }
