@@ -1,5 +1,4 @@
 //! Rows whose answers come from the standards.
-mod flags;
 mod requests;
 mod responses;
 mod rows;

@@ -108,7 +108,7 @@ fn is_kept(alloc: Global, steps: &'static str) -> Option<bool> {
     jar.add_original(Cookie::new("a", "1")).ok()?;
     jar.add_original(Cookie::new("z", "0")).ok()?;
     jar.add(Cookie::new("b", "4")).ok()?;
-    shows(alloc, &headers, &with_headers(jar, &headers).ok()?, steps)
+    Some(shows(alloc, &headers, &with_headers(jar, &headers).ok()?, steps))
 }
 
 #[test]

@@ -2,6 +2,7 @@
 use super::rows::{fields_of, has_values};
 use cookie::{Cookie, CookieBuilder, CookieJar};
 use cookie_http::{HttpError, append_delta, remove_as_set, with_headers};
+use cookie_words::{debugs, prints};
 use http_header::{HeaderMap, HeaderName, HeaderValue};
 use jar_steps::moment;
 use std::alloc::Global;
@@ -97,22 +98,22 @@ fn full_map(alloc: Global, names: usize) -> Option<HeaderMap> {
     Some(headers)
 }
 
-// Whether a map with this many names, to which a jar with a change or without is appended twice, answers so each time,
-// and has these fields then.
-fn is_appended(
-    alloc: Global,
-    names: usize,
-    is_changed: bool,
-    outcome: Result<(), HttpError>,
-    fields: &[&str],
-) -> Option<bool> {
+// Whether a map with this many names, to which a jar with these changes is appended twice, has these fields then, or is
+// full each time where there are none.
+fn takes(alloc: Global, names: usize, changes: &[&'static str], fields: &[&str]) -> Option<bool> {
     let mut headers = full_map(alloc, names)?;
     let mut jar = CookieJar::new(alloc);
-    if is_changed {
-        jar.add(Cookie::new("a", "1")).ok()?;
+    for name in changes {
+        jar.add(Cookie::new(*name, "1")).ok()?;
     }
-    let first = append_delta(alloc, &jar, &mut headers);
-    let is_told = first == outcome && append_delta(alloc, &jar, &mut headers) == outcome;
+    let is_full = fields.len() < changes.len();
+    let outcome = if is_full {
+        Err(HttpError::TooManyFields)
+    } else {
+        Ok(())
+    };
+    let is_told = append_delta(alloc, &jar, &mut headers) == outcome
+        && append_delta(alloc, &jar, &mut headers) == outcome;
     let is_long = headers.len() == names.saturating_add(fields.len());
     Some(is_told && is_long && has_values(&headers, "set-cookie", fields))
 }
@@ -120,10 +121,9 @@ fn is_appended(
 // A map holds 24,576 names at most. A jar without changes needs no room.
 #[test]
 fn a_full_map_is_told(rt: HostRuntime) {
-    let (alloc, full) = (rt.alloc(), Err(HttpError::TooManyFields));
-    assert!(rt; is_appended(alloc, 24_576, true, full, &[]) == Some(true));
-    assert!(rt; is_appended(alloc, 24_576, false, Ok(()), &[]) == Some(true));
-    assert!(rt; is_appended(alloc, 24_575, true, Ok(()), &["a=1", "a=1"]) == Some(true));
+    assert!(rt; takes(rt.alloc(), 24_576, &["a"], &[]) == Some(true));
+    assert!(rt; takes(rt.alloc(), 24_576, &[], &[]) == Some(true));
+    assert!(rt; takes(rt.alloc(), 24_575, &["a"], &["a=1", "a=1"]) == Some(true));
 }
 
 // Whether the response of a jar whose original was removed as it was set has this field alone.
@@ -162,4 +162,18 @@ fn a_response_has_the_changes_alone(rt: HostRuntime) -> Result<(), Fail> {
     let request = fields_of(rt.alloc(), "Cookie: lang=en | Cookie: theme=light");
     assert!(rt; matches!(&request, Some(request) if is_answered(rt.alloc(), state, request)?));
     Ok(())
+}
+
+#[test]
+fn no_flag_changes_a_refusal(rt: HostRuntime) {
+    let value = "a cookie's path or domain is no attribute value";
+    let fields = "too many header fields";
+    for (refusal, text, name) in [
+        (HttpError::OutOfMemory, "out of memory", "OutOfMemory"),
+        (HttpError::InvalidValue, value, "InvalidValue"),
+        (HttpError::TooManyFields, fields, "TooManyFields"),
+    ] {
+        assert!(rt; prints(rt.alloc(), &refusal, text) && debugs(rt.alloc(), &refusal, name));
+        assert!(rt; !prints(rt.alloc(), &refusal, name) && !debugs(rt.alloc(), &refusal, text));
+    }
 }
