@@ -51,15 +51,10 @@ impl Draws {
         own_call(alloc, verb, cookie)
     }
 
-    /// Fewer calls than the bound.
-    pub fn calls(
-        &mut self,
-        alloc: Global,
-        of: Tables,
-        bound: u64,
-    ) -> Option<Vec<JarCall<'static>>> {
+    /// Fewer calls than that number.
+    pub fn calls(&mut self, alloc: Global, of: Tables, end: u64) -> Option<Vec<JarCall<'static>>> {
         let mut calls = Vec::new(alloc);
-        for _ in 0..self.below(bound) {
+        for _ in 0..self.below(end) {
             calls.push(self.call(alloc, of)?).ok()?;
         }
         Some(calls)

@@ -3,10 +3,11 @@ use super::exchanges::has_header;
 use cookie_client::Client;
 use jar_steps::moment;
 use std::alloc::{AllocError, Global};
+use std::mem::swap;
 
 // What a new client does, step by step. `cookie` and `none` say of a text that is read whether it is a cookie. Names
-// are listed in byte order: `B` is 66 and `a` 97; `ab` goes before `b`, and what begins another before that one. What
-// is told after `copy` is done by the client's copy.
+// are listed in byte order: `B` is 66 and `a` 97; `ab` goes before `b`, and what begins another before that
+// one. What comes after `swapped` is done by the client's copy, or again by the client.
 pub(super) const ROWS: &str = "\
 client what is read is followed: header  | hold c:3 | \
 cookie b=2; Max-Age=1; Expires=Wed, 21 Oct 2015 07:28:00 GMT | header b=2; c=3 | \
@@ -22,8 +23,8 @@ cookie foo%20!%25%3F%3D=bar%3B%3B%2C%20a; Path=/ | has foo !%?=:bar;;, a | \
 header foo%20!%25%3F%3D=bar%3B%3B%2C%20a
 client what is held is listed: counts 0 | hold b:1 | hold ab:; | hold B:3 | hold a: | hold b:4 | counts 4 | \
 lists B:3,a:,ab:;,b:4,
-client a copy goes its own way: hold a:1 | hold b:2 | copied | hold a:3 | copy hold c:4 | \
-copy header a=1; b=2; c=4 | header a=3; b=2";
+client a copy goes its own way: hold a:1 | hold b:2 | copied | hold a:3 | swapped | hold c:4 | \
+header a=1; b=2; c=4 | swapped | header a=3; b=2";
 
 // The client's names and values, in the order of its walk.
 fn listed(alloc: Global, client: &Client) -> Result<String, AllocError> {
@@ -54,19 +55,13 @@ fn is_step_right(alloc: Global, client: &mut Client, words: &str) -> bool {
 /// Whether a new client does what the row says: `title: hold a:1 | header a=1`.
 pub(super) fn are_steps_right(alloc: Global, row: &str) -> Option<bool> {
     let (_, steps) = row.split_once(": ")?;
-    let mut client = Client::new(alloc);
-    let mut copy = Client::new(alloc);
+    let (mut client, mut copy) = (Client::new(alloc), Client::new(alloc));
     for step in steps.split(" | ") {
-        let is_right = match step.strip_prefix("copy ") {
-            Some(step) => is_step_right(alloc, &mut copy, step),
-            None if step == "copied" => {
-                copy = client.clone().ok()?;
-                true
-            }
-            None => is_step_right(alloc, &mut client, step),
-        };
-        if !is_right {
-            return Some(false);
+        match step {
+            "copied" => copy = client.clone().ok()?,
+            "swapped" => swap(&mut client, &mut copy),
+            _ if is_step_right(alloc, &mut client, step) => (),
+            _ => return Some(false),
         }
     }
     Some(true)

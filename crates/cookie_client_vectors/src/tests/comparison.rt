@@ -32,13 +32,8 @@ fn is_held(client: &Client, held: &Entries<'_>) -> bool {
 }
 
 // Makes the request's calls on a flat jar, has a plain client follow it, and answers whether the same came of them.
-fn is_one_alike<'c>(
-    alloc: Global,
-    held: &mut Entries<'c>,
-    calls: &'c [JarCall<'_>],
-    one: &Played,
-) -> Option<bool> {
-    let mut flat = FlatJar::new(alloc);
+fn is_alike<'c>(held: &mut Entries<'c>, calls: &'c [JarCall<'_>], one: &Played) -> Option<bool> {
+    let mut flat = FlatJar::new(*held.list.allocator());
     for entry in &held.list {
         flat.originals.put(entry.cookie, false).ok()?;
     }
@@ -53,7 +48,7 @@ fn are_alike(alloc: Global, lists: &[Vec<JarCall<'_>>], pick: &[usize]) -> Optio
     let played = rounds(alloc, &requests(alloc, lists).ok()?, pick, moment()).ok()?;
     let mut held = Entries::new(alloc);
     for (calls, one) in lists.iter().zip(&played) {
-        if !is_replayed_alike(alloc, calls)? || !is_one_alike(alloc, &mut held, calls, one)? {
+        if !is_replayed_alike(alloc, calls)? || !is_alike(&mut held, calls, one)? {
             return Some(false);
         }
     }
@@ -78,10 +73,8 @@ fn is_next_alike(alloc: Global, draws: &mut Draws) -> Option<bool> {
 fn two_bodies_of_the_jar_are_alike(rt: HostRuntime) {
     let mut draws = Draws(0x9E37_79B9_7F4A_7C15);
     for number in 0..1000 {
-        assert!(rt;
-            is_next_alike(rt.alloc(), &mut draws) == Some(true),
-            "list {number}"
-        );
+        let is_alike = is_next_alike(rt.alloc(), &mut draws);
+        assert!(rt; is_alike == Some(true), "list {number}");
     }
     assert!(rt; are_alike(rt.alloc(), &[], &[0]) == Some(true));
 }

@@ -1,6 +1,6 @@
 //! Rows on a jar and a client that follows it: `replay` makes calls on a jar alone, `mirror` has a client follow them,
 //! and `rounds` plays requests.
-use super::rows::is_right;
+use super::rows::{form_of, is_right};
 use call_steps::calls_of;
 use cookie::{Cookie, CookieJar, Key};
 use cookie_client::{Client, ClientRequest, JarCall, Played, mirror, replay, rounds};
@@ -114,17 +114,6 @@ fn shows(alloc: Global, one: &Played, key: &Key, step: &'static str) -> Option<b
     })
 }
 
-// Whether the last jar and its client show each thing, as in `counts 1 1 | shows a=1`.
-fn shows_all(alloc: Global, played: &[Played], key: &Key, steps: &'static str) -> Option<bool> {
-    let last = played.last()?;
-    for step in steps.split(" | ") {
-        if !shows(alloc, last, key, step)? {
-            return Some(false);
-        }
-    }
-    Some(true)
-}
-
 // A request for each list of calls.
 pub(super) fn requests<'c, 'k>(
     alloc: Global,
@@ -195,22 +184,20 @@ fn pick_of(order: usize) -> ([usize; 5], usize) {
     }
 }
 
-/// Whether what the row says comes of its calls in that order: `title: [add a=1] -> [a=1] -> shows a=1`.
-pub(super) fn is_followed(
-    alloc: Global,
-    form: &str,
-    now: DateTime,
-    row: &'static str,
-    order: usize,
-) -> Option<bool> {
-    let (_, row) = row.split_once(": [")?;
+/// Whether what the row says comes of its calls in that order: `mirror title: [add a=1] -> [a=1] -> shows a=1`.
+pub(super) fn is_followed(alloc: Global, row: &'static str, order: usize) -> Option<bool> {
+    let (title, row) = row.split_once(": [")?;
     let (words, told) = row.split_once("] -> [")?;
     let (headers, shown) = told.split_once("] -> ")?;
+    let (form, now) = form_of(title);
     let (pick, length) = pick_of(order);
     let key = test_key();
     let lists = lists_of(alloc, &key, words)?;
     let played = play(alloc, form, &lists, pick.get(..length)?, now)?;
-    let is_shown = shows_all(alloc, &played, &key, shown)?;
+    let last = played.last()?;
+    let is_shown = shown
+        .split(" | ")
+        .all(|step| shows(alloc, last, &key, step) == Some(true));
     Some(is_shown && have_headers(&played, &lists, headers))
 }
 
@@ -220,10 +207,8 @@ pub(super) fn is_followed(
 fn no_order_makes_another_client(rt: HostRuntime) {
     for order in 0..79 {
         for row in ROWS.lines() {
-            assert!(rt;
-                is_right(rt.alloc(), row, order) == Some(true),
-                "{order}: {row}"
-            );
+            let is_right = is_right(rt.alloc(), row, order) == Some(true);
+            assert!(rt; is_right, "{order}: {row}");
         }
     }
 }

@@ -1,7 +1,7 @@
 //! The order in which a response's texts are read.
 use cookie::{Cookie, CookieJar};
 use cookie_client::delta_texts;
-use std::alloc::{AllocError, Global};
+use std::alloc::Global;
 
 // How many names are changed, and the steps by which the numbers that pick their texts grow: the last two are the
 // greatest number and a third of it.
@@ -16,13 +16,6 @@ fn jar_of(alloc: Global, count: usize) -> Option<CookieJar> {
         jar.add(Cookie::new_owned(name, String::new(alloc))).ok()?;
     }
     Some(jar)
-}
-
-// Fifty numbers, each this step after the one before.
-fn numbers(alloc: Global, step: usize) -> Result<Vec<usize>, AllocError> {
-    (1..51usize)
-        .map(|number| step.wrapping_mul(number))
-        .collect(alloc)
 }
 
 // Takes the texts out of the list one by one, and answers whether they are these, in this order.
@@ -40,9 +33,12 @@ fn is_plain_order(left: &mut Vec<String>, pick: &[usize], wanted: &[String]) -> 
     left.is_empty()
 }
 
-// Whether the texts of the delta come in the order of the first numbers, however many of them.
+// Whether the texts of the delta come in the order of the first of fifty numbers, each this step after the one before,
+// however many of them.
 fn are_picked(alloc: Global, jar: &CookieJar, step: &str) -> Option<bool> {
-    let numbers = numbers(alloc, step.parse().ok()?).ok()?;
+    let step: usize = step.parse().ok()?;
+    let numbers = (1..51usize).map(|number| step.wrapping_mul(number));
+    let numbers: Vec<usize> = numbers.collect(alloc).ok()?;
     for length in 0..=numbers.len() {
         let pick = numbers.get(..length)?;
         let picked = delta_texts(alloc, jar, pick).ok()?;

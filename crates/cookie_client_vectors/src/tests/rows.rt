@@ -4,8 +4,10 @@ use jar_steps::moment;
 use jiff::civil::DateTime;
 use std::alloc::Global;
 
-// The moment of the rows, or for a form such as `mirror50` the beginning of the year 50.
-fn form_of(word: &str) -> (&str, DateTime) {
+/// The form that a title begins with, and the moment of the rows, or for one such as `mirror50` the beginning of the
+/// year 50.
+pub(super) fn form_of(title: &str) -> (&str, DateTime) {
+    let (word, _) = title.split_once(' ').unwrap_or((title, ""));
     match word.strip_suffix("50") {
         Some(form) => (form, DateTime::constant(50, 1, 1, 0, 0, 0, 0)),
         None => (word, moment()),
@@ -14,15 +16,15 @@ fn form_of(word: &str) -> (&str, DateTime) {
 
 /// Whether what the row says is so, with texts read in that order. `None` where it says nothing.
 pub(super) fn is_right(alloc: Global, row: &'static str, order: usize) -> Option<bool> {
-    let (word, rest) = row.split_once(' ')?;
-    let (form, now) = form_of(word);
+    let (form, now) = form_of(row);
+    let (_, rest) = row.split_once(' ')?;
     match form {
         "client" => clients::are_steps_right(alloc, rest),
         "fault" => faults::is_fault(alloc, rest),
         "judge" => judged::is_judged(alloc, now, rest),
         "orders" => orders::are_ordered(alloc, rest),
         "run" => sessions::has_text(alloc, None, rest),
-        _ => exchanges::is_followed(alloc, form, now, rest, order),
+        _ => exchanges::is_followed(alloc, row, order),
     }
 }
 
@@ -82,7 +84,7 @@ client one: hold a:1 | has a:2
 client one: hold a:1 | lacks a
 client one: hold a:1 | lists a:1
 client one: hold a:1 | counts 2
-client one: hold a:1 | copied | hold b:2 | copy header a=1; b=2
+client one: hold a:1 | copied | hold b:2 | swapped | header a=1; b=2
 client one: puts a:1
 orders one: 1
 orders 1: one

@@ -38,17 +38,13 @@ run \nforce  \n -> cookiejar: bad line 2|\
 run \nreset \n -> cookiejar: bad line 2|\
 run \n  -> cookiejar: bad line 2";
 
-// Whether a session at the moment has the text, or was asked wrongly and has the text of that. Its hash has the drawn
-// keys, if there are any.
-fn comes_to(
-    alloc: Global,
-    state: Option<RandomState>,
-    moment: &str,
-    mut input: &[u8],
-    wanted: &str,
-) -> bool {
+// The drawn keys of a hash, if there are any.
+type Keys = Option<RandomState>;
+
+// Whether a session at the moment has the text, or was asked wrongly and has the text of that.
+fn comes_to(alloc: Global, keys: Keys, moment: &str, mut input: &[u8], wanted: &str) -> bool {
     let mut written = Vec::new(alloc);
-    let outcome = match state {
+    let outcome = match keys {
         Some(state) => run_with_hasher(alloc, state, moment, &mut input, &mut written),
         None => run(alloc, moment, &mut input, &mut written),
     };
@@ -59,20 +55,17 @@ fn comes_to(
 }
 
 /// Whether the session has the text that stands after it, or is refused with it.
-pub(super) fn has_text(alloc: Global, state: Option<RandomState>, row: &str) -> Option<bool> {
+pub(super) fn has_text(alloc: Global, keys: Keys, row: &str) -> Option<bool> {
     let (input, wanted) = row.split_once(" -> ")?;
-    Some(comes_to(alloc, state, MOMENT, input.as_bytes(), wanted))
+    Some(comes_to(alloc, keys, MOMENT, input.as_bytes(), wanted))
 }
 
 #[test]
 fn drawn_keys_change_no_text(rt: HostRuntime) -> Result<(), Fail> {
-    let state = RandomState::new(&rt)?;
+    let keys = Some(RandomState::new(&rt)?);
     for row in ROWS.split('|') {
         let session = row.strip_prefix("run ").unwrap_or("");
-        assert!(rt;
-            has_text(rt.alloc(), Some(state), session) == Some(true),
-            "{row}"
-        );
+        assert!(rt; has_text(rt.alloc(), keys, session) == Some(true), "{row}");
     }
     Ok(())
 }

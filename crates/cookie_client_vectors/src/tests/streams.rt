@@ -14,67 +14,58 @@ name=val; x=%C3%A9\nadd a=1; Path=/; Secure\nadd b=2%3B; HttpOnly\nremove name\n
 const CHANGES_TEXT: &[u8] = b"\
 Set-Cookie: c=3\nSet-Cookie: x=; Max-Age=0; Expires=Tue, 21 Oct 2014 07:28:00 GMT\nCookie: c=3; name=val\n";
 
-// Whether a session comes to the outcome, such as `Err(Input)`, and leaves the bytes in the writer. Its reader gives a
-// byte a call, and fails after this many calls.
-fn leaves(
-    moment: &str,
-    input: &[u8],
-    reads: usize,
-    mut writer: ShortWriter,
-    bytes: &[u8],
-    outcome: &str,
-) -> bool {
+// A session: its moment, its input, and after how many calls its reader fails, which gives a byte a call.
+type Session<'t> = (&'t str, &'t [u8], usize);
+
+// Whether a session comes to the outcome, such as `Err(Input)`, and leaves the bytes in the writer.
+fn leaves(session: Session<'_>, mut writer: ShortWriter, bytes: &[u8], outcome: &str) -> bool {
     let alloc = *writer.taken.allocator();
-    let mut reader = FailingReader {
-        text: input,
-        left: reads,
-    };
-    let told = run(alloc, moment, &mut reader, &mut writer);
+    let (moment, text, left) = session;
+    let told = run(
+        alloc,
+        moment,
+        &mut FailingReader { text, left },
+        &mut writer,
+    );
     let is_told = matches!(format!(in alloc; "{told:?}"), Ok(text) if text.as_str() == outcome);
     is_told && writer.taken.as_slice() == bytes
 }
 
 // Whether a session comes to the outcome and writes nothing: with a writer that takes whatever it is given, and with
 // one that fails as soon as anything is written.
-fn is_unwritten(alloc: Global, moment: &str, input: &[u8], reads: usize, outcome: &str) -> bool {
-    let taking = ShortWriter::new(alloc, 1, usize::MAX);
-    let failing = ShortWriter::new(alloc, 1, 0);
-    leaves(moment, input, reads, taking, b"", outcome)
-        && leaves(moment, input, reads, failing, b"", outcome)
-}
-
-// Whether the writer has the bytes after the session with changes.
-fn has_changes(writer: ShortWriter, bytes: &[u8], outcome: &str) -> bool {
-    leaves(MOMENT, CHANGES, usize::MAX, writer, bytes, outcome)
+fn is_unwritten(alloc: Global, session: Session<'_>, outcome: &str) -> bool {
+    leaves(
+        session,
+        ShortWriter::new(alloc, 1, usize::MAX),
+        b"",
+        outcome,
+    ) && leaves(session, ShortWriter::new(alloc, 1, 0), b"", outcome)
 }
 
 #[test]
 fn a_failed_read_writes_nothing(rt: HostRuntime) {
-    let alloc = rt.alloc();
     for reads in 0..=CHANGES.len() {
-        assert!(rt;
-            is_unwritten(alloc, MOMENT, CHANGES, reads, "Err(Input)"),
-            "{reads}"
-        );
+        let session = (MOMENT, CHANGES, reads);
+        assert!(rt; is_unwritten(rt.alloc(), session, "Err(Input)"), "{reads}");
     }
-    assert!(rt; is_unwritten(alloc, "", INPUT, 0, "Err(BadMoment)"));
+    assert!(rt; is_unwritten(rt.alloc(), ("", INPUT, 0), "Err(BadMoment)"));
 }
 
 // A writer that takes no byte is told, too.
 #[test]
 fn a_failed_write_leaves_a_beginning(rt: HostRuntime) {
-    let (alloc, end) = (rt.alloc(), CHANGES_TEXT.len());
+    let (session, end) = ((MOMENT, CHANGES, usize::MAX), CHANGES_TEXT.len());
     for writes in 0..end {
         let left = CHANGES_TEXT.get(..writes).unwrap_or(b"none");
-        let writer = ShortWriter::new(alloc, 1, writes);
-        assert!(rt; has_changes(writer, left, "Err(Output)"), "{writes}");
+        let writer = ShortWriter::new(rt.alloc(), 1, writes);
+        assert!(rt; leaves(session, writer, left, "Err(Output)"), "{writes}");
     }
     for writes in [end, end.saturating_add(7), usize::MAX] {
-        let writer = ShortWriter::new(alloc, 1, writes);
-        assert!(rt; has_changes(writer, CHANGES_TEXT, "Ok(())"), "{writes}");
+        let writer = ShortWriter::new(rt.alloc(), 1, writes);
+        assert!(rt; leaves(session, writer, CHANGES_TEXT, "Ok(())"), "{writes}");
     }
-    let unmoved = ShortWriter::new(alloc, 0, usize::MAX);
-    assert!(rt; has_changes(unmoved, b"", "Err(Output)"));
+    let unmoved = ShortWriter::new(rt.alloc(), 0, usize::MAX);
+    assert!(rt; leaves(session, unmoved, b"", "Err(Output)"));
 }
 
 // Sessions that are refused, each with its moment and its outcome.
@@ -92,15 +83,12 @@ const REFUSED: [(&str, &[u8], &str); 9] = [
 
 #[test]
 fn nothing_is_written_before_another_refusal(rt: HostRuntime) {
-    let alloc = rt.alloc();
     for (moment, input, outcome) in REFUSED {
-        assert!(rt;
-            is_unwritten(alloc, moment, input, usize::MAX, outcome),
-            "{input:?}"
-        );
+        let session = (moment, input, usize::MAX);
+        assert!(rt; is_unwritten(rt.alloc(), session, outcome), "{input:?}");
     }
     for outcome in ["Err(BadLine(3))", "Ok(())"] {
-        assert!(rt; !is_unwritten(alloc, MOMENT, INPUT, usize::MAX, outcome));
+        assert!(rt; !is_unwritten(rt.alloc(), (MOMENT, INPUT, usize::MAX), outcome));
     }
 }
 
@@ -125,10 +113,10 @@ fn long_row(alloc: Global) -> Result<String, AllocError> {
 fn is_long_one_written(alloc: Global) -> Option<bool> {
     let row = long_row(alloc).ok()?;
     let (input, text) = row.as_str().split_once(" -> ")?;
-    let (input, bytes) = (input.as_bytes(), text.as_bytes());
+    let session = (MOMENT, input.as_bytes(), usize::MAX);
     let writer = ShortWriter::new(alloc, 7, usize::MAX);
-    let is_written = leaves(MOMENT, input, usize::MAX, writer, bytes, "Ok(())");
-    Some(bytes.len() == 102_507 && is_written && has_text(alloc, None, row.as_str())?)
+    let is_written = leaves(session, writer, text.as_bytes(), "Ok(())");
+    Some(text.len() == 102_507 && is_written && has_text(alloc, None, row.as_str())?)
 }
 
 #[test]
