@@ -2,7 +2,6 @@
 //! too short.
 mod decoded;
 mod jars;
-mod pairs;
 mod prints;
 mod rows;
 

@@ -1,5 +1,4 @@
 //! Requests as rows, and what the site has to answer.
-mod flags;
 mod rows;
 mod texts;
 
@@ -92,10 +91,15 @@ fn is_answered(alloc: Global, response: &Response, steps: &str) -> Option<bool> 
     Some(are_right && is_greeted && response.cookies.len() == count)
 }
 
-// Whether the request of the steps over such a connection is answered as they say.
-fn is_right_over(alloc: Global, state: RandomState, is_secure: bool, row: &str) -> Option<bool> {
-    let (head, steps) = row.split_once(" | ")?;
-    let (method, path) = head.split_once(' ')?;
+// Whether the row's request is answered as it says: `plain GET / | cookies a=b | is 200 | has Hello`. It goes to a site
+// of the users `ann` and `<b>bo</b>`: a method and a path, after `plain` where the connection isn't secure, and `cookies`,
+// where each letter is one byte, and `form`. The answer has the status (`is`), the user who is greeted (`greets`), the
+// text of each `Set-Cookie` field (`sets`), and a part or a line of the response's text (`has`, `line`).
+fn is_right(alloc: Global, state: RandomState, row: &str) -> Option<bool> {
+    let row = spelled(alloc, row).ok()?;
+    let (head, steps) = row.as_str().split_once(" | ")?;
+    let plain = head.strip_prefix("plain ");
+    let (method, path) = plain.unwrap_or(head).split_once(' ')?;
     let mut cookies = Vec::new(alloc);
     for letter in part(steps, "cookies ").unwrap_or("").chars() {
         cookies.push(u8::try_from(letter as u32).ok()?).ok()?;
@@ -106,19 +110,6 @@ fn is_right_over(alloc: Global, state: RandomState, is_secure: bool, row: &str) 
         cookies: &cookies,
         form: part(steps, "form ").unwrap_or("").as_bytes(),
     };
-    let response = play(alloc, state, is_secure, &request, 12).ok()?;
+    let response = play(alloc, state, plain.is_none(), &request, 12).ok()?;
     is_answered(alloc, &response, steps)
-}
-
-// Whether the row's request is answered as it says: `plain GET / | cookies a=b | is 200 | has Hello`. A row is a request
-// to a site of the users `ann` and `<b>bo</b>`, and what is answered: the method and the path, after `plain` where the
-// connection isn't secure, and then steps: `cookies`, where each letter is one byte, and `form` of the request, `is` with
-// the status, `greets` with the user who is greeted, `sets` with the text of a `Set-Cookie` field, in any order and each
-// once, and `has` or `line` with a part or a line of the response's text.
-fn is_right(alloc: Global, state: RandomState, row: &str) -> Option<bool> {
-    let row = spelled(alloc, row).ok()?;
-    match row.as_str().strip_prefix("plain ") {
-        Some(row) => is_right_over(alloc, state, false, row),
-        None => is_right_over(alloc, state, true, row.as_str()),
-    }
 }

@@ -8,40 +8,33 @@ use jar_steps::{Look, test_key};
 use std::alloc::Global;
 
 pub(super) const ROWS: &str = "\
-a removal without the path removes nothing (the trap: it asks for `/account`):
+# a removal without the path removes nothing (the trap: it asks for `/account`):
 https://example.com/login 0 [add n=1; Path=/] -> [n=1]
 https://example.com/account/mail 1 [remove n] -> [n=1]
 https://example.com/account/mail 2 [remove n; Path=/] -> []
-
-a removal without the path removes at the top (at `/login` it asks for `/`):
+# a removal without the path removes at the top (at `/login` it asks for `/`):
 https://example.com/login 0 [add n=1; Path=/] -> [n=1]
 https://example.com/login 1 [remove n] -> []
-
-a removal without the domain removes nothing:
+# a removal without the domain removes nothing:
 http://www.example.com/a/b 0 [add n=1; Path=/; Domain=example.com] -> [n=1]
 https://example.com/login 0 [] -> [n=1]
 http://www.example.com/a/b 1 [remove n; Path=/] -> [n=1]
 http://www.example.com/a/b 2 [remove n; Path=/; Domain=example.com] -> []
-
-a jar of the host prefix always removes:
+# a jar of the host prefix always removes:
 https://example.com/login 0 [host add n=1] -> [__Host-n=1]
 https://example.com/account/mail 1 [host remove n] -> []
-
-an age ends between requests:
+# an age ends between requests:
 https://example.com/login 0 [add n=1; Path=/; Max-Age=5 | add m=2; Path=/] -> [n=1; m=2]
 https://example.com/account/mail 4 [] -> [n=1; m=2]
 https://example.com/account/mail 5 [] -> [m=2]
-
-what is reset is not sent:
+# what is reset is not sent:
 https://example.com/login 0 [add n=1; Path=/ | reset] -> []
 https://example.com/login 0 [add m=2; Path=/ | reset | add o=3; Path=/] -> [o=3]
-
-escapes go through the requests:
+# escapes go through the requests:
 https://example.com/login 0 [add a b=;; Path=/] -> [a%20b=%3B]
 https://example.com/account/mail 0 [] -> [a%20b=%3B]
 https://example.com/account/mail 0 [add \u{e9}=; Path=/ | remove a b; Path=/] -> [%C3%A9=]
-
-a jar begins with what the header brought, and calls that change nothing are accepted:
+# a jar begins with what the header brought, and calls that change nothing are accepted:
 https://example.com/login 0 [add n=1; Path=/ | add m=2; Path=/] -> [n=1; m=2]
 https://example.com/account/mail 0 [remove n | remove absent] -> [n=1; m=2] -> sent n=1; m=2 | lacks n | shows m=2";
 

@@ -18,7 +18,7 @@ fn what_the_rows_say_is_so(rt: HostRuntime) {
     for row in sites::ROWS
         .lines()
         .chain(stores::ROWS.lines())
-        .chain(requests::ROWS.split("\n\n"))
+        .chain(requests::ROWS.split("\n# "))
     {
         assert!(rt; is_right(rt.alloc(), row) == Some(true), "{row}");
     }
@@ -55,28 +55,22 @@ one: on https://www.example.com/a/b | scoped -> true";
 
 // The header that the last request of each leaves is wrong, or what that shows.
 const WRONG_REQUESTS: &str = "\
-it is added:
+# it is added:
 https://example.com/login 0 [add n=1; Path=/] -> [n=1]
 https://example.com/account/mail 0 [] -> [n=2]
-
-its age has ended:
+# its age has ended:
 https://example.com/login 0 [add n=1; Path=/; Max-Age=5] -> [n=1]
 https://example.com/account/mail 5 [] -> [n=1]
-
-it stays without the path:
+# it stays without the path:
 https://example.com/login 0 [add n=1; Path=/] -> [n=1]
 https://example.com/account/mail 1 [remove n] -> []
-
-it has the prefix:
+# it has the prefix:
 https://example.com/login 0 [host add n=1] -> [n=1]
-
-it is reset:
+# it is reset:
 https://example.com/login 0 [add n=1; Path=/ | reset] -> [n=1]
-
-another header was sent:
+# another header was sent:
 https://example.com/login 0 [add n=1; Path=/] -> [n=1] -> sent n=1
-
-its jar lacks it:
+# its jar lacks it:
 https://example.com/login 0 [add n=1; Path=/] -> [n=1] -> lacks n";
 
 const MALFORMED: &str = "\
@@ -103,7 +97,7 @@ scope Size=5 -> none";
 
 #[test]
 fn a_wrong_row_is_found(rt: HostRuntime) {
-    for row in WRONG.lines().chain(WRONG_REQUESTS.split("\n\n")) {
+    for row in WRONG.lines().chain(WRONG_REQUESTS.split("\n# ")) {
         assert!(rt; is_right(rt.alloc(), row) == Some(false), "{row}");
     }
     for row in MALFORMED.lines() {

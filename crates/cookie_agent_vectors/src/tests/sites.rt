@@ -5,17 +5,11 @@ use cookie_agent::{Scope, Site, is_scoped};
 use jar_steps::test_key;
 use std::alloc::Global;
 
-// Questions of a site, and its answers:
-// `domain`: whether the domain takes in the host of the site.
-// `path`: whether the path that comes last, of a cookie, takes in the one of a request, which comes first.
-// `default`: the default path of a path.
-// `secure`: whether the connection is secure.
-// `scope`: what the site gives to a cookie with the attributes, a domain, whether it is one host, and a path. Where
-// there is none, the site may not set the domain.
-// `host`: the scope of the whole host.
-// `reached`: whether a cookie of `http://www.example.com/a/b` with the attributes is sent to the site.
-// `scoped`: whether an addition for the domain `Example.com` is in the scope of such a cookie, at the site.
-// `whole`: whether the call is in the scope of the whole host, at the site.
+// Questions of a site, and its answers. `path` asks whether a cookie's path, the last, takes in the one of a request,
+// and `scope` and `host` what the site gives to a cookie with the attributes or to the whole host: a domain, whether it
+// is one host, and a path. A cookie of `http://www.example.com/a/b` with the attributes is sent to the site (`reached`),
+// and an addition for the domain `Example.com` is in its scope there (`scoped`), as a call is in the whole host's
+// (`whole`).
 pub(super) const ROWS: &str = "\
 domains: \
     on http://www.example.com/a/b | domain www.example.com -> true | domain example.com -> true | \
@@ -125,13 +119,12 @@ fn usual_scope(alloc: Global, attributes: &str) -> Option<Scope> {
 }
 
 // Whether the scope has this domain, this flag and this path, or is `none`.
-fn is_scope(alloc: Global, scope: Option<&Scope>, wanted: &str) -> bool {
+fn is_scope(alloc: Global, scope: Option<Scope>, wanted: &str) -> bool {
     let Some(scope) = scope else {
         return wanted == "none";
     };
-    let flag = scope.is_host_only();
-    let text = format!(in alloc; "{} {flag} {}", scope.domain(), scope.path());
-    matches!(&text, Ok(text) if text.as_str() == wanted)
+    let (domain, flag, path) = (scope.domain(), scope.is_host_only(), scope.path());
+    matches!(format!(in alloc; "{domain} {flag} {path}"), Ok(text) if text.as_str() == wanted)
 }
 
 // Whether the call of the step is in the scope, at the site.
@@ -141,9 +134,14 @@ fn is_in(alloc: Global, site: &Site, scope: &Scope, step: &'static str) -> Optio
     Some(is_scoped(&call, site, scope, at(0)))
 }
 
-// Whether it is so at the site.
-fn answer(alloc: Global, site: &Site, question: &str, text: &'static str) -> Option<bool> {
-    Some(match question {
+/// Whether the site has the answer of a step such as `domain com -> true` or `path /a/b /a -> true`.
+pub(super) fn is_answer(alloc: Global, site: &Site, step: &'static str) -> Option<bool> {
+    let (asked, wanted) = step.split_once(" -> ")?;
+    let (question, text) = asked.split_once(' ').unwrap_or((asked, ""));
+    let is_so = match question {
+        "default" => return Some(site_at(alloc, text)?.default_path() == wanted),
+        "scope" => return Some(is_scope(alloc, scope(alloc, site, text)?, wanted)),
+        "host" => return Some(is_scope(alloc, site.host_scope(alloc).ok(), wanted)),
         "domain" => site.matches_domain(text),
         "path" => {
             let (place, path) = text.split_once(' ')?;
@@ -159,17 +157,6 @@ fn answer(alloc: Global, site: &Site, question: &str, text: &'static str) -> Opt
             "add n=1; Domain=Example.com",
         )?,
         _ => return None,
-    })
-}
-
-/// Whether the site has the answer of a step such as `domain com -> true` or `path /a/b /a -> true`.
-pub(super) fn is_answer(alloc: Global, site: &Site, step: &'static str) -> Option<bool> {
-    let (asked, wanted) = step.split_once(" -> ")?;
-    let (question, text) = asked.split_once(' ').unwrap_or((asked, ""));
-    match question {
-        "default" => Some(site_at(alloc, text)?.default_path() == wanted),
-        "scope" => Some(is_scope(alloc, scope(alloc, site, text)?.as_ref(), wanted)),
-        "host" => Some(is_scope(alloc, site.host_scope(alloc).ok().as_ref(), wanted)),
-        _ => Some(answer(alloc, site, question, text)? == wanted.parse().ok()?),
-    }
+    };
+    Some(is_so == wanted.parse().ok()?)
 }

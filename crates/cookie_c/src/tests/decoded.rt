@@ -1,40 +1,34 @@
-//! Calls that decode. The answers are from RFC 6265 4.2.1 and 5.2 and RFC 3986 2.1, by hand.
+//! Reading with and without decoding. The answers are from RFC 6265 4.2.1 and 5.2, RFC 3629 3 and RFC 3986 2.1, by hand.
 use super::rows::holds;
 use crate::decoded::{cookie_next_pair_decoded, cookie_read_decoded};
+use crate::pair::cookie_next_pair;
 use crate::place::Place;
 
-// Whether these are the places of a name and a value that stand in a buffer, one right after the other.
-fn are_at(name: Place, value: Place, name_length: usize, value_length: usize) -> bool {
-    (name.start, name.length) == (0, name_length)
-        && (value.start, value.length) == (name_length, value_length)
+// Whether a name of this length and a value stand as this text in a buffer, one right after the other.
+fn are_at(name: Place, value: Place, length: usize, text: &[u8]) -> bool {
+    (name.start, name.length, value.start) == (0, length, length)
+        && length.saturating_add(value.length) == text.len()
 }
 
 #[test]
 fn cookies_are_decoded(rt: HostRuntime) {
-    let mut out = [0xa5; 8];
-    let text = b"a%20b = c%3D; Secure; Path=/%41";
-    let read = cookie_read_decoded(rt.alloc(), text, &mut out);
-    assert!(rt; read.status == 0);
-    assert!(rt; holds(&out, b"a bc="));
-    assert!(rt; are_at(read.name, read.value, 3, 2));
-    assert!(rt; (read.path.start, read.path.length) == (27, 4));
-    assert!(rt; (read.attributes.secure, read.attributes.has_path) == (1, 1));
-}
-
-#[test]
-fn texts_that_are_not_cookies_are_refused(rt: HostRuntime) {
-    let rows: [(&[u8], u32); 5] = [
-        (b"a=\xff", 3),
-        (b"a%3Db", 13),
-        (b" =%20", 14),
-        (b"a=%FF", 15),
-        (b"%C3=%A9", 15),
+    let rows: [(&[u8], u32, &[u8], usize); 6] = [
+        (b"a%20b = c%3D; Secure; Path=/%41", 0, b"a bc=", 3),
+        (b"a=\xff", 3, b"", 0),
+        (b"a%3Db", 13, b"", 0),
+        (b" =%20", 14, b"", 0),
+        (b"a=%FF", 15, b"", 0),
+        (b"%C3=%A9", 15, b"", 0),
     ];
-    for (text, status) in rows {
+    for (text, status, decoded, cut) in rows {
         let mut out = [0xa5; 8];
         let read = cookie_read_decoded(rt.alloc(), text, &mut out);
-        assert!(rt; read.status == status);
-        assert!(rt; holds(&out, b"") && are_at(read.name, read.value, 0, 0));
+        assert!(rt; read.status == status && holds(&out, decoded));
+        assert!(rt; are_at(read.name, read.value, cut, decoded));
+        if status == 0 {
+            assert!(rt; (read.path.start, read.path.length) == (27, 4));
+            assert!(rt; (read.attributes.secure, read.attributes.has_path) == (1, 1));
+        }
     }
 }
 
@@ -50,26 +44,49 @@ fn pairs_are_decoded(rt: HostRuntime) {
         (32, 0, 40, b"dA%g", 1),
         (40, 16, 0, b"", 0),
     ];
-    for (from, status, next, text, cut) in rows {
+    for (from, status, next, decoded, cut) in rows {
         let mut out = [0xa5; 8];
         let pair = cookie_next_pair_decoded(rt.alloc(), header, from, &mut out);
-        assert!(rt; (pair.status, pair.next) == (status, next));
-        assert!(rt; holds(&out, text));
-        assert!(rt; cut <= text.len() && are_at(pair.name, pair.value, cut, text.len() - cut));
+        assert!(rt; (pair.status, pair.next) == (status, next) && holds(&out, decoded));
+        assert!(rt; are_at(pair.name, pair.value, cut, decoded));
     }
 }
 
 #[test]
 fn a_short_buffer_is_left_as_it_is(rt: HostRuntime) {
-    let text = b"a%20b=c%3D; Secure";
+    let (text, decoded) = (b"a%20b=c%3D; Secure", b"a bc=");
     for room in [0, 4] {
         let mut out = [0xa5; 4];
         let read = cookie_read_decoded(rt.alloc(), text, &mut out[..room]);
         let pair = cookie_next_pair_decoded(rt.alloc(), text, 0, &mut out[..room]);
         assert!(rt; (read.status, read.attributes.secure) == (1, 1));
-        assert!(rt; are_at(read.name, read.value, 3, 2));
-        assert!(rt; (pair.status, pair.next) == (1, 11));
-        assert!(rt; are_at(pair.name, pair.value, 3, 2));
-        assert!(rt; holds(&out, b""));
+        assert!(rt; (pair.status, pair.next) == (1, 11) && holds(&out, b""));
+        assert!(rt; are_at(read.name, read.value, 3, decoded));
+        assert!(rt; are_at(pair.name, pair.value, 3, decoded));
+    }
+}
+
+// A header whose pieces are a pair, a byte that isn't UTF-8, white space (U+2009), an overlong form of `a` as a value,
+// a pair after U+2009, and a text without `=`.
+const HEADER: &[u8] = b" a = 1 ;\xc3; \xe2\x80\x89;b=\xc1\xa1;\xe2\x80\x89c=2;d";
+
+#[test]
+fn pieces_are_looked_at_for_utf8(rt: HostRuntime) {
+    for (from, status, next, name, value) in [
+        (0, 0, 8, 1, 5),
+        (8, 3, 10, 0, 0),
+        (10, 3, 20, 0, 0),
+        (20, 0, 27, 23, 25),
+        (27, 13, 29, 0, 0),
+        (29, 16, 0, 0, 0),
+        (1000, 16, 0, 0, 0),
+    ] {
+        let length = if status == 0 { 1 } else { 0 };
+        let pair = cookie_next_pair(HEADER, from);
+        assert!(rt; (pair.status, pair.next) == (status, next));
+        assert!(rt; (pair.name.start, pair.name.length) == (name, length));
+        assert!(rt; (pair.value.start, pair.value.length) == (value, length));
+        let pair = cookie_next_pair_decoded(rt.alloc(), HEADER, from, &mut [0xa5; 2]);
+        assert!(rt; (pair.status, pair.next) == (status, next));
     }
 }

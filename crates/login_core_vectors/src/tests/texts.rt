@@ -1,6 +1,8 @@
-//! The texts of responses.
+//! The texts of responses, and the names of values that have a `Debug`. No value that holds a key, a password or a
+//! visitor has one.
 use super::play;
-use login_core::{Page, Request, Visitor, html};
+use cookie_words::debugs;
+use login_core::{Page, Refusal, Request, Route, SiteCookie, Visitor, html};
 use std::alloc::Global;
 use std::hash::RandomState;
 use std::test::Fail;
@@ -66,4 +68,21 @@ fn fields_come_before_the_page(rt: HostRuntime) -> Result<(), Fail> {
     let state = RandomState::new(&rt)?;
     assert!(rt; are_fields_first(rt.alloc(), state) == Some(true));
     Ok(())
+}
+
+#[test]
+fn no_flag_changes_a_name(rt: HostRuntime) {
+    let alloc = rt.alloc();
+    assert!(rt; debugs(alloc, &Refusal::BadRequest, "BadRequest"));
+    assert!(rt; debugs(alloc, &Refusal::Forbidden, "Forbidden"));
+    assert!(rt; debugs(alloc, &Refusal::NotFound, "NotFound"));
+    assert!(rt; debugs(alloc, &Refusal::OnlyGet, "OnlyGet"));
+    assert!(rt; debugs(alloc, &Refusal::OnlyPost, "OnlyPost"));
+    assert!(rt; debugs(alloc, &Route::Home, "Home"));
+    assert!(rt; debugs(alloc, &Route::LogIn, "LogIn"));
+    assert!(rt; debugs(alloc, &Route::LogOut, "LogOut"));
+    assert!(rt; debugs(alloc, &SiteCookie::User, "User"));
+    assert!(rt; debugs(alloc, &SiteCookie::Visits, "Visits"));
+    assert!(rt; debugs(alloc, &SiteCookie::Notice, "Notice"));
+    assert!(rt; !debugs(alloc, &Route::Home, "LogIn"));
 }
