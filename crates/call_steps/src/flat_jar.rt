@@ -1,9 +1,63 @@
-//! A second body of the jar: two lists, without a contract.
-use crate::entries::Entries;
-use cookie::CookieJar;
+//! A second body of the jar: two lists, in which a name is found by going over all of them, without a contract.
+use cookie::{Cookie, CookieJar};
 use cookie_client::JarCall;
 use jar_steps::{counts, shown_value};
 use std::alloc::{AllocError, Global};
+
+/// A cookie, or one that tells a client to drop its name.
+#[derive(Clone, Copy)]
+pub struct Entry<'c> {
+    pub cookie: &'c Cookie<'static>,
+    pub is_removal: bool,
+}
+
+impl<'c> Entry<'c> {
+    /// The value that a jar shows for it.
+    pub fn value(self) -> Option<&'c str> {
+        (!self.is_removal).then_some(self.cookie.value())
+    }
+}
+
+/// Entries, each name at most once.
+#[derive(Drop)]
+pub struct Entries<'c> {
+    pub list: Vec<Entry<'c>>,
+}
+
+impl<'c> Entries<'c> {
+    pub fn new(alloc: Global) -> Entries<'c> {
+        let list = Vec::new(alloc);
+        Entries { list }
+    }
+
+    /// What stands under the name.
+    pub fn find(&self, name: &str) -> Option<Entry<'c>> {
+        let mut entries = self.list.iter().copied();
+        entries.find(|held| held.cookie.name() == name)
+    }
+
+    pub fn forget(&mut self, name: &str) {
+        self.list.retain(|held| held.cookie.name() != name);
+    }
+
+    /// Puts the cookie last, in the place of the one of its name.
+    pub fn put(&mut self, cookie: &'c Cookie<'static>, is_removal: bool) -> Result<(), AllocError> {
+        self.forget(cookie.name());
+        self.list.push(Entry { cookie, is_removal })?;
+        Ok(())
+    }
+
+    /// Takes the changes as a client does: it reads no cookie without a name.
+    pub fn follow(&mut self, changes: &Entries<'c>) -> Result<(), AllocError> {
+        for change in &changes.list {
+            self.forget(change.cookie.name());
+            if !change.is_removal && !change.cookie.name().is_empty() {
+                self.put(change.cookie, false)?;
+            }
+        }
+        Ok(())
+    }
+}
 
 /// Originals and changes.
 #[derive(Drop)]
@@ -67,15 +121,8 @@ impl<'c> FlatJar<'c> {
     /// Whether the jar has the same changes and shows the same, by its walks and by its look-ups. The names are all
     /// that there are, with bars between them.
     pub fn is_like(&self, jar: &CookieJar, names: &str) -> bool {
-        let mut shown = 0usize;
-        for name in names.split('|') {
-            if !self.is_like_at(jar, name) {
-                return false;
-            }
-            if self.get(name).is_some() {
-                shown = shown.saturating_add(1);
-            }
-        }
-        counts(jar) == (self.changes.list.len(), shown)
+        let shown = names.split('|').filter(|name| self.get(*name).is_some());
+        counts(jar) == (self.changes.list.len(), shown.count())
+            && names.split('|').all(|name| self.is_like_at(jar, name))
     }
 }

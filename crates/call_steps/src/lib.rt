@@ -4,10 +4,8 @@
 
 mod calls;
 mod draws;
-mod entries;
 mod flat_jar;
 
 pub use calls::{call_of, calls_of};
 pub use draws::{Draws, Tables};
-pub use entries::{Entries, Entry};
-pub use flat_jar::FlatJar;
+pub use flat_jar::{Entries, Entry, FlatJar};

@@ -4,7 +4,6 @@ mod plain_agent;
 mod requests;
 mod rows;
 mod sites;
-mod steps;
 mod stores;
 
 use jiff::civil::DateTime;

@@ -1,7 +1,6 @@
 //! Rows whose answers come from the rules of the program, from the standards, and from a second body of the jar.
 mod clients;
 mod comparison;
-mod devices;
 mod exchanges;
 mod faults;
 mod judged;

@@ -1,7 +1,7 @@
 //! Many requests of one user agent, and the trap of removals.
 use super::at;
 use super::sites::site_of;
-use super::steps::is_sent;
+use super::stores::is_sent;
 use call_steps::calls_of;
 use cookie_agent::{Agent, AgentRequest, Visited, visit};
 use jar_steps::{Look, test_key};
@@ -38,18 +38,13 @@ https://example.com/account/mail 0 [add \u{e9}=; Path=/ | remove a b; Path=/] ->
 https://example.com/login 0 [add n=1; Path=/ | add m=2; Path=/] -> [n=1; m=2]
 https://example.com/account/mail 0 [remove n | remove absent] -> [n=1; m=2] -> sent n=1; m=2 | lacks n | shows m=2";
 
-// Whether the request shows what the words say, such as ` -> sent n=1 | lacks m`.
-fn shows(alloc: Global, one: &Visited, looks: &'static str) -> Option<bool> {
-    for look in looks.strip_prefix(" -> ").unwrap_or("").split(" | ") {
-        let is_right = match look.strip_prefix("sent ") {
-            Some(header) => one.header.as_str() == header,
-            None => look.is_empty() || Look::parse(look)?.is_right(alloc, &one.jar),
-        };
-        if !is_right {
-            return Some(false);
-        }
+// Whether the request sent the header, or its jar shows what the words say.
+fn is_shown(alloc: Global, one: &Visited, words: &'static str) -> bool {
+    match (words.strip_prefix("sent "), Look::parse(words)) {
+        (Some(header), _) => one.header.as_str() == header,
+        (_, Some(look)) => look.is_right(alloc, &one.jar),
+        _ => words.is_empty(),
     }
-    Some(true)
 }
 
 // Makes the agent's request of a line such as `https://example.com/login 0 [add n=1 | remove m] -> [n=1] -> lacks m`:
@@ -72,8 +67,9 @@ fn is_right(alloc: Global, agent: &mut Agent, line: &'static str) -> Option<bool
     let one = visit(alloc, agent, &request, &[]).ok()?;
     *agent = one.agent.clone().ok()?;
     let is_accepted = one.outcomes.len() == calls.len() && !one.outcomes.contains(&false);
-    let is_shown = shows(alloc, &one, looks)?;
-    Some(is_accepted && is_shown && is_sent(agent, &site, second, header))
+    let mut looks = looks.strip_prefix(" -> ").unwrap_or("").split(" | ");
+    let are_shown = looks.all(|words| is_shown(alloc, &one, words));
+    Some(is_accepted && are_shown && is_sent(agent, &site, second, header))
 }
 
 /// Whether the lines' requests, which one agent makes one after the other, come out as they say.

@@ -1,5 +1,5 @@
 //! Rows, and rows that are wrong or say nothing.
-use super::{requests, sites, steps, stores};
+use super::{requests, sites, stores};
 use std::alloc::Global;
 
 // Whether the row is right, or `None` where it says nothing: a title and steps of a new agent, or requests, which have
@@ -10,7 +10,7 @@ fn is_right(alloc: Global, row: &'static str) -> Option<bool> {
         return requests::plays(alloc, lines);
     }
     let (_, steps) = row.split_once(": ").unwrap_or(("", row));
-    steps::plays(alloc, steps)
+    stores::plays(alloc, steps)
 }
 
 #[test]

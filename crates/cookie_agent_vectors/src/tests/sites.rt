@@ -11,70 +11,56 @@ use std::alloc::Global;
 // and an addition for the domain `Example.com` is in its scope there (`scoped`), as a call is in the whole host's
 // (`whole`).
 pub(super) const ROWS: &str = "\
-domains: \
-    on http://www.example.com/a/b | domain www.example.com -> true | domain example.com -> true | \
-    domain com -> true | domain ample.com -> false | domain .example.com -> false | domain example.com. -> false | \
+domains: on http://www.example.com/a/b | domain www.example.com -> true | domain example.com -> true | domain com -> \
+    true | domain ample.com -> false | domain .example.com -> false | domain example.com. -> false | \
     domain a.www.example.com -> false | domain Example.com -> false
 a host in upper case: on http://WWW.Example.COM/ | domain example.com -> true
 another host that ends so: on http://badexample.com/ | domain example.com -> false
 an address: on address://10.0.0.1/ | domain 10.0.0.1 -> true | domain 0.0.1 -> false
 a host that looks like one: on http://10.0.0.1/ | domain 0.0.1 -> true
-paths: \
-    path /a/b / -> true | path /a/b /a -> true | path /a/b /a/ -> true | path /a/b /a/b -> true | \
+paths: path /a/b / -> true | path /a/b /a -> true | path /a/b /a/ -> true | path /a/b /a/b -> true | \
     path /a/b /a/b/ -> false | path /a/b /a/b/c -> false | path /a /a/ -> false | path /ab /a -> false | \
     path / /a -> false | path  / -> true | path a/b /a -> true
-default paths: \
-    default  -> / | default / -> / | default /a -> / | default /a/ -> /a | default /a/b -> /a | \
+default paths: default  -> / | default / -> / | default /a -> / | default /a/ -> /a | default /a/b -> /a | \
     default /a/b/ -> /a/b | default a/b -> /a
 insecure connections: on http://www.example.com/a/b | secure -> false | on address://10.0.0.1/ | secure -> false
 secure connections: on https://example.com/ | secure -> true | on secure-address://10.0.0.1/ | secure -> true
-the scope of one host: \
-    on http://www.example.com/a/b | scope -> www.example.com true /a | scope Path=/ -> www.example.com true / | \
-    scope Path=/x; Domain= -> www.example.com true /x | host -> www.example.com true /
-the scope of a domain: \
-    on http://www.example.com/a/b | scope Path=x; Domain=example.com -> example.com false /a | \
-    scope Path=; Domain=EXAMPLE.com -> example.com false /a | \
-    scope Path=/b; Domain=www.example.com -> www.example.com false /b
-domains that may not be set: \
-    on http://www.example.com/a/b | scope Path=/; Domain=other.com -> none | \
+the scope of one host: on http://www.example.com/a/b | scope -> www.example.com true /a | scope Path=/ -> \
+    www.example.com true / | scope Path=/x; Domain= -> www.example.com true /x | host -> www.example.com true /
+the scope of a domain: on http://www.example.com/a/b | scope Path=x; Domain=example.com -> example.com false /a | \
+    scope Path=; Domain=EXAMPLE.com -> example.com false /a | scope Path=/b; Domain=www.example.com -> \
+    www.example.com false /b
+domains that may not be set: on http://www.example.com/a/b | scope Path=/; Domain=other.com -> none | \
     scope Path=/; Domain=a.www.example.com -> none | scope Path=/; Domain=.example.com -> none | \
     on address://10.0.0.1/ | scope Path=/; Domain=0.0.1 -> none
-sites that a cookie of one host is sent to: \
-    on https://www.example.com/a/c | reached -> true | on http://www.example.com/ | reached -> false | \
-    reached Path=/ -> true | on http://a.www.example.com/ | reached Path=/ -> false | on http://example.com/ | \
-    reached Path=/ -> false
-sites that a cookie of a domain is sent to: \
-    on http://example.com/ | reached Path=/; Domain=example.com -> true | \
-    on http://a.www.example.com/b | reached Path=/; Domain=example.com -> true | \
-    on http://badexample.com/ | reached Path=/; Domain=example.com -> false | \
-    on http://example.com/ab | reached Path=/a; Domain=example.com -> false
-sites from which an addition is in the scope: \
-    on https://www.example.com/a/b | scoped Domain=example.com -> true | \
-    on https://a.example.com/a/c | scoped Domain=example.com -> true | \
-    on https://example.com/a/c | scoped Domain=example.com -> true | \
-    on https://example.com/b/c | scoped Domain=example.com -> false | \
+sites that a cookie of one host is sent to: on https://www.example.com/a/c | reached -> true | \
+    on http://www.example.com/ | reached -> false | reached Path=/ -> true | on http://a.www.example.com/ | \
+    reached Path=/ -> false | on http://example.com/ | reached Path=/ -> false
+sites that a cookie of a domain is sent to: on http://example.com/ | reached Path=/; Domain=example.com -> true | \
+    on http://a.www.example.com/b | reached Path=/; Domain=example.com -> true | on http://badexample.com/ | \
+    reached Path=/; Domain=example.com -> false | on http://example.com/ab | reached Path=/a; Domain=example.com -> \
+    false
+sites from which an addition is in the scope: on https://www.example.com/a/b | scoped Domain=example.com -> true | \
+    on https://a.example.com/a/c | scoped Domain=example.com -> true | on https://example.com/a/c | \
+    scoped Domain=example.com -> true | on https://example.com/b/c | scoped Domain=example.com -> false | \
     on https://other.com/a/c | scoped Domain=example.com -> false
-scopes that it isn't in: \
-    on https://www.example.com/a/b | scoped -> false | scoped Path=/; Domain=example.com -> false | \
-    scoped Domain=www.example.com -> false
-calls in the scope of the whole host: \
-    on https://www.example.com/a/b | whole add n=1; Path=/ -> true | whole add n=1; Path=/; Secure=true -> true | \
-    whole add n=1; Path=/; Expires=2015-10-21T07:28:01 -> true | whole remove n=1; Path=/ -> true | \
-    whole reset -> true | on address://10.0.0.1/x/y | whole add n=1; Path=/ -> true
-calls that aren't, since the path or the domain is another: \
-    on https://www.example.com/a/b | whole add n=1 -> false | whole add n=1; Path=/a -> false | \
-    whole add n=1; Path=/; -> false | whole add n=1; Path=/  -> false | whole add n=1; Path=/\u{1} -> false | \
-    whole add n=1; Path=/; Domain=www.example.com -> false | whole remove n=1 -> false
-calls that aren't, since no agent keeps the cookie or is told of the call: \
-    on https://www.example.com/a/b | whole add n=1; Path=/; Expires=2015-10-21T07:28:00 -> false | \
-    whole add n=1; Path=/; Max-Age=0 -> false | whole add =1; Path=/ -> false | \
-    whole original n=1; Path=/ -> false | whole force -> false
-calls over an insecure connection: \
-    on http://www.example.com/a/b | whole add n=1; Path=/ -> true | whole add n=1; Path=/; Secure=true -> false | \
-    whole add n=1; Path=/; Secure=false -> true | whole add n=1; Path=/; SameSite=None -> false | \
-    whole add n=1; Path=/; Partitioned=true -> false
-calls on child jars: \
-    on https://www.example.com/a/b | whole host add n -> true | whole host remove n -> true | \
+scopes that it isn't in: on https://www.example.com/a/b | scoped -> false | scoped Path=/; Domain=example.com -> \
+    false | scoped Domain=www.example.com -> false
+calls in the scope of the whole host: on https://www.example.com/a/b | whole add n=1; Path=/ -> true | \
+    whole add n=1; Path=/; Secure=true -> true | whole add n=1; Path=/; Expires=2015-10-21T07:28:01 -> true | \
+    whole remove n=1; Path=/ -> true | whole reset -> true | on address://10.0.0.1/x/y | whole add n=1; Path=/ -> \
+    true
+calls that aren't, since the path or the domain is another: on https://www.example.com/a/b | whole add n=1 -> \
+    false | whole add n=1; Path=/a -> false | whole add n=1; Path=/; -> false | whole add n=1; Path=/  -> false | \
+    whole add n=1; Path=/\u{1} -> false | whole add n=1; Path=/; Domain=www.example.com -> false | \
+    whole remove n=1 -> false
+calls that aren't, since no agent keeps the cookie or is told of the call: on https://www.example.com/a/b | \
+    whole add n=1; Path=/; Expires=2015-10-21T07:28:00 -> false | whole add n=1; Path=/; Max-Age=0 -> false | \
+    whole add =1; Path=/ -> false | whole original n=1; Path=/ -> false | whole force -> false
+calls over an insecure connection: on http://www.example.com/a/b | whole add n=1; Path=/ -> true | \
+    whole add n=1; Path=/; Secure=true -> false | whole add n=1; Path=/; Secure=false -> true | \
+    whole add n=1; Path=/; SameSite=None -> false | whole add n=1; Path=/; Partitioned=true -> false
+calls on child jars: on https://www.example.com/a/b | whole host add n -> true | whole host remove n -> true | \
     whole secure add n -> false | whole secure add n=1; Path=/ -> true | whole signed add n=1; Path=/ -> true | \
     whole signed add n -> false | whole private0 remove n=1; Path=/ -> true";
 

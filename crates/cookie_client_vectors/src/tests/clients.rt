@@ -6,25 +6,20 @@ use std::alloc::{AllocError, Global};
 use std::mem::swap;
 
 // What a new client does, step by step. `cookie` and `none` say of a text that is read whether it is a cookie. Names
-// are listed in byte order: `B` is 66 and `a` 97; `ab` goes before `b`, and what begins another before that
-// one. What comes after `swapped` is done by the client's copy, or again by the client.
+// are listed in byte order: `B` is 66 and `a` 97; `ab` goes before `b`, and what begins another before that one. What
+// comes after `swapped` is done by the client's copy, or again by the client.
 pub(super) const ROWS: &str = "\
-client what is read is followed: header  | hold c:3 | \
-cookie b=2; Max-Age=1; Expires=Wed, 21 Oct 2015 07:28:00 GMT | header b=2; c=3 | \
-cookie a=1; Expires=Wed, 21 Oct 2015 07:28:01 GMT | header a=1; b=2; c=3 | \
-none bar | header a=1; b=2; c=3 | \
-none =bar | header a=1; b=2; c=3 | \
-none c=%FF | header a=1; b=2; c=3 | \
-cookie a=9; Expires=Wed, 21 Oct 2015 07:28:00 GMT | header b=2; c=3 | \
-cookie b=9; Max-Age=0 | header c=3 | \
-has c:3 | lacks a
-client escapes are undone and written: \
-cookie foo%20!%25%3F%3D=bar%3B%3B%2C%20a; Path=/ | has foo !%?=:bar;;, a | \
-header foo%20!%25%3F%3D=bar%3B%3B%2C%20a
+client what is read is followed: header  | hold c:3 | cookie b=2; Max-Age=1; Expires=Wed, 21 Oct 2015 07:28:00 GMT | \
+    header b=2; c=3 | cookie a=1; Expires=Wed, 21 Oct 2015 07:28:01 GMT | header a=1; b=2; c=3 | none bar | \
+    header a=1; b=2; c=3 | none =bar | header a=1; b=2; c=3 | none c=%FF | header a=1; b=2; c=3 | \
+    cookie a=9; Expires=Wed, 21 Oct 2015 07:28:00 GMT | header b=2; c=3 | cookie b=9; Max-Age=0 | header c=3 | \
+    has c:3 | lacks a
+client escapes are undone and written: cookie foo%20!%25%3F%3D=bar%3B%3B%2C%20a; Path=/ | has foo !%?=:bar;;, a | \
+    header foo%20!%25%3F%3D=bar%3B%3B%2C%20a
 client what is held is listed: counts 0 | hold b:1 | hold ab:; | hold B:3 | hold a: | hold b:4 | counts 4 | \
-lists B:3,a:,ab:;,b:4,
+    lists B:3,a:,ab:;,b:4,
 client a copy goes its own way: hold a:1 | hold b:2 | copied | hold a:3 | swapped | hold c:4 | \
-header a=1; b=2; c=4 | swapped | header a=3; b=2";
+    header a=1; b=2; c=4 | swapped | header a=3; b=2";
 
 // The client's names and values, in the order of its walk.
 fn listed(alloc: Global, client: &Client) -> Result<String, AllocError> {

@@ -20,13 +20,9 @@ fn jar_of(alloc: Global, count: usize) -> Option<CookieJar> {
 
 // Takes the texts out of the list one by one, and answers whether they are these, in this order.
 fn is_plain_order(left: &mut Vec<String>, pick: &[usize], wanted: &[String]) -> bool {
-    let mut numbers = pick.iter();
-    for text in wanted {
-        if left.is_empty() {
-            return false;
-        }
-        let number = numbers.next().copied().unwrap_or(0);
-        if left.remove(number % left.len()).as_str() != text.as_str() {
+    for (place, text) in wanted.iter().enumerate() {
+        let number = pick.get(place).copied().unwrap_or(0);
+        if left.is_empty() || left.remove(number % left.len()).as_str() != text.as_str() {
             return false;
         }
     }

@@ -1,9 +1,69 @@
 //! Sessions of the program over readers and writers that fail, and long ones over streams that take a little at a time.
 use super::MOMENT;
-use super::devices::{FailingReader, ShortWriter};
 use super::sessions::has_text;
 use cookie_client::run;
 use std::alloc::{AllocError, Global};
+use std::io;
+use std::io::{Read, Write};
+
+fn fault() -> io::Error {
+    io::Error::from(io::ErrorKind::BrokenPipe)
+}
+
+// A reader that gives its text by one byte a call, and fails after this many calls.
+#[derive(Drop)]
+struct FailingReader<'t> {
+    text: &'t [u8],
+    left: usize,
+}
+
+impl<'t> Read for FailingReader<'t> {
+    fn read(&mut self, buf: &mut [u8]) -> io::Result<usize> {
+        if self.left == 0 || buf.is_empty() {
+            return Err(fault());
+        }
+        self.left -= 1;
+        match self.text.split_first() {
+            Some((byte, rest)) => {
+                buf[0] = *byte;
+                self.text = rest;
+                Ok(1)
+            }
+            None => Ok(0),
+        }
+    }
+}
+
+// A writer that takes this many bytes a call at most, or none, and fails after this many calls.
+#[derive(Drop)]
+struct ShortWriter {
+    taken: Vec<u8>,
+    most: usize,
+    left: usize,
+}
+
+impl ShortWriter {
+    fn new(alloc: Global, most: usize, left: usize) -> ShortWriter {
+        let taken = Vec::new(alloc);
+        ShortWriter { taken, most, left }
+    }
+}
+
+impl Write for ShortWriter {
+    fn write(&mut self, buf: &[u8]) -> io::Result<usize> {
+        if self.left == 0 || buf.is_empty() {
+            return Err(fault());
+        }
+        let part = buf.get(..self.most).unwrap_or(buf);
+        self.taken.extend_from_slice(part)?;
+        self.left -= 1;
+        Ok(part.len())
+    }
+
+    fn flush(&mut self) -> io::Result<()> {
+        Ok(())
+    }
+}
 
 const INPUT: &[u8] = b"x=1\nadd a=1";
 
@@ -21,12 +81,8 @@ type Session<'t> = (&'t str, &'t [u8], usize);
 fn leaves(session: Session<'_>, mut writer: ShortWriter, bytes: &[u8], outcome: &str) -> bool {
     let alloc = *writer.taken.allocator();
     let (moment, text, left) = session;
-    let told = run(
-        alloc,
-        moment,
-        &mut FailingReader { text, left },
-        &mut writer,
-    );
+    let mut reader = FailingReader { text, left };
+    let told = run(alloc, moment, &mut reader, &mut writer);
     let is_told = matches!(format!(in alloc; "{told:?}"), Ok(text) if text.as_str() == outcome);
     is_told && writer.taken.as_slice() == bytes
 }
