@@ -14,6 +14,7 @@ pub mod ShownLemmas
 mod SigningFacts
 pub mod SigningLemmas
 pub mod TableCopyLemmas
+pub mod TextMapLemmas
 pub mod WalkLemmas
 pub use Rattle.cookie_core.proofs.AgeLemmas
 pub use Rattle.cookie_core.proofs.AgeTextLemmas

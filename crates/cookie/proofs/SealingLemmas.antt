@@ -51,7 +51,7 @@ bytes_encodes (c ∷ cs) are =
     bytes_joined (encode c) (encodes cs) (bytes_encoded c both.0) (bytes_encodes cs both.1)
 
 -- a text is bytes
-bytes_text : (text : List ℕ) → IsUtf8 text → IsBytes text
+pub bytes_text : (text : List ℕ) → IsUtf8 text → IsBytes text
 bytes_text text is = subst IsBytes is.1.1 (bytes_encodes is.0 is.1.0)
 
 -- ---- the bytes of a sealing

@@ -16,10 +16,12 @@ pub mod Opening
 pub mod Originals
 pub mod Prefixes
 pub mod SealedAdditions
+pub mod SealedCookies
 pub mod Sealing
 pub mod Shown
 pub mod Signing
 pub mod Table
+pub mod TextMap
 pub mod Types
 pub mod Walk
 pub use Rattle.cookie_core.specs.Attributes

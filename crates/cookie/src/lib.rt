@@ -14,6 +14,7 @@ mod name_hash;
 mod original;
 pub mod prefix;
 mod secure;
+mod text_map;
 
 pub use child::{ChildJar, Storing};
 pub use cookie_core::{
@@ -27,3 +28,4 @@ pub use jar_error::JarError;
 pub use secure::{
     Key, KeyError, PrivateJar, PrivateJarMut, Sealer, SignedJar, SignedJarMut, Signer,
 };
+pub use text_map::{Pairs, TextMap};

@@ -9,13 +9,13 @@ use Rattle.jiff.specs.Types.{DateTime}
 use Rattle.jiff.proofs.SpanFacts.{signed_arith}
 use Rattle.cookie.specs.Normal.{IsNamed, IsUncut}
 use Rattle.cookie.specs.Pieces.{Lacks}
-use Rattle.cookie.specs.Prefixes.{conforming_cookie, host_prefix, host_bound, secure_prefix, secure_cookie}
+use Rattle.cookie.specs.Prefixes.{begins, conforming_cookie, host_prefix, host_bound, secure_prefix, secure_cookie}
 use Rattle.cookie.specs.Record.{Record}
 use Rattle.cookie.specs.Removal.{removal}
 use Rattle.cookie.proofs.ByteLemmas.{Lacks-from_test}
 use Rattle.cookie.proofs.GraphicLemmas.{trim-tokens}
 use Rattle.cookie_agent.specs.Agreement.{IsScopedPath, IsScopedDomain}
-use Rattle.cookie_agent.specs.Prefixes.{IsHostBound, AreHostBound, IsSecured, AreSecured, IsScopedWhole, begins, host_scope}
+use Rattle.cookie_agent.specs.Prefixes.{IsHostBound, AreHostBound, IsSecured, AreSecured, IsScopedWhole, host_scope}
 use Rattle.cookie_agent.specs.Scopes.{scope_by, reaches}
 use Rattle.cookie_agent.specs.Site.{SiteView, path_matches}
 use Rattle.cookie_agent.proofs.PlainTextLemmas.{raw_record, plain_form}

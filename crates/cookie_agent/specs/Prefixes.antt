@@ -1,37 +1,15 @@
 -- Cookies whose names have a prefix, at a user agent (RFC 6265bis 4.1.3 and 5.7, steps 20 and 21).
-use Rattle.std.specs.Prelude.{◌≡◌, ℕ, ◌&&◌, ◌||◌, not, true, false, Bool, List, codes, eqb, Option, Some, None}
-use Rattle.std.specs.List.{starts_with}
-use Rattle.std.specs.Str.{bytes_eq, str_to_ascii_lowercase}
+use Rattle.std.specs.Prelude.{◌≡◌, ◌||◌, not, true, false, codes, Some, None}
 use Rattle.jiff.specs.Types.{DateTime}
 use Rattle.cookie.specs.CookieOf.{cookie_of}
-use Rattle.cookie.specs.Jar.{Name}
 use Rattle.cookie.specs.Normal.{IsNamed, IsUncut}
-use Rattle.cookie.specs.Prefixes.{conforming_cookie, host_prefix, host_bound, secure_prefix, secure_cookie}
+use Rattle.cookie.specs.Prefixes.{conforming_cookie, host_prefix, host_bound, meets_host, meets_secure, secure_prefix, secure_cookie}
 use Rattle.cookie.specs.Record.{Record}
 use Rattle.cookie.specs.Removal.{removal}
-use Rattle.cookie.specs.Text.{cookie_text, is_true, is_unset, prints_secure}
+use Rattle.cookie.specs.Text.{cookie_text, prints_secure}
 use Rattle.cookie_agent.specs.Agreement.{IsScoped}
 use Rattle.cookie_agent.specs.Scopes.{ScopeView, scope_of}
 use Rattle.cookie_agent.specs.Site.{SiteView}
-
--- the name begins with the prefix, in any ASCII case
-abbrev pub begins : Name → Name → Bool
-begins prefix name = starts_with eqb (str_to_ascii_lowercase name) (str_to_ascii_lowercase prefix)
-
--- the cookie's path is set, and is `/`
-abbrev pub is_root : Option (List ℕ) → Bool
-is_root None = false
-is_root (Some path) = bytes_eq path (codes "/")
-
--- what a browser asks of a name that begins with `__Secure-`
-abbrev pub meets_secure : Record → Bool
-meets_secure cookie = not (begins secure_prefix cookie.name) || is_true cookie.secure
-
--- what a browser asks of a name that begins with `__Host-`
-abbrev pub meets_host : Record → Bool
-meets_host cookie =
-    not (begins host_prefix cookie.name)
-    || (is_true cookie.secure && (is_unset cookie.domain && is_root cookie.path))
 
 -- the whole host of a site, and no other
 abbrev pub host_scope : SiteView → ScopeView

@@ -12,7 +12,6 @@ pub mod NameLemmas
 pub mod OriginalLemmas
 pub mod ReadTextLemmas
 pub mod StoredLemmas
-pub mod TextMapLemmas
 pub mod SessionLemmas
 pub mod RoundLemmas
 pub mod RunLemmas

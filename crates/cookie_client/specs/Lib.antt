@@ -10,4 +10,3 @@ pub mod Rounds
 pub mod Run
 pub mod RunError
 pub mod Session
-pub mod TextMap

@@ -11,8 +11,7 @@ ghost use Rattle.cookie_client.specs.declared.client_error.ClientError.TheVarian
 
 use crate::client_error::ClientError;
 use crate::live::is_live;
-use crate::text_map::{Pairs, TextMap};
-use cookie::{Cookie, ParseError};
+use cookie::{Cookie, Pairs, ParseError, TextMap};
 use jiff::civil::DateTime;
 use std::alloc::{AllocError, Global};
 use std::marker::Model;
@@ -29,7 +28,7 @@ impl Model for Client {
     ghost use Rattle.std.specs.Prelude.{List, ℕ};
     ghost use Rattle.std.specs.FinMap.{FinMap};
     ghost use Rattle.cookie.specs.Jar.{name_cmp};
-    ghost use Rattle.cookie_client.specs.TextMap.{texts_code};
+    ghost use Rattle.cookie.specs.TextMap.{texts_code};
 
     ghost Value = { FinMap name_cmp (List ℕ) };
 

@@ -17,7 +17,6 @@ mod requests;
 mod run_error;
 mod session;
 mod streams;
-mod text_map;
 mod texts;
 
 pub use call::JarCall;
@@ -33,5 +32,4 @@ pub use request::ClientRequest;
 pub use requests::rounds;
 pub use run_error::RunError;
 pub use session::{moment_of, run, run_with_hasher};
-pub use text_map::Pairs;
 pub use texts::delta_texts;

@@ -7,7 +7,8 @@ ghost use Rattle.cookie.specs.Jar.{Add, AddOriginal, Remove, after, view};
 ghost use Rattle.cookie.specs.Keys.{encryption_half};
 ghost use Rattle.cookie.specs.ChildJars.{Changes, ChangesSame, jar_of, key_of};
 ghost use Rattle.cookie.specs.SealedAdditions.{IsDrawnAddition, IsSealedAddition};
-ghost use Rattle.cookie.specs.Sealing.{CanSeal, IsSealingOf, sealed_cookie};
+ghost use Rattle.cookie.specs.SealedCookies.{IsDrawnSealing, IsNoncedSealing};
+ghost use Rattle.cookie.specs.Sealing.{CanSeal, IsSealingOf};
 ghost use Rattle.cookie.specs.declared.jar_error.JarError.TheVariants as refusal;
 
 use crate::child::ChildJar;
@@ -69,20 +70,33 @@ impl Sealer {
         }
     }
 
-    // The cookie with its value sealed under its name. It then stands for that value.
-    fn seal(
+    // The cookie with its value sealed under its name and a nonce that one draw gives.
+    fn encrypt<R: TryRng>(
         &self,
         alloc: Global,
-        nonce: [u8; 12],
         cookie: Cookie<'static>,
-    ) -> Result<Cookie<'static>, AllocError>
-        requires { CanSeal cookie.fields }
-        ensures gives { Gives alloc_error result (λ c.
-            c.fields ≡ sealed_cookie self.now nonce cookie.entry.fields) }
-        ensures stands { IfOk result (λ c.
-            IsSealingOf self.now c.fields cookie.entry.fields.value) }
+        rng: &mut R,
+    ) -> Result<Cookie<'static>, JarError>
+        ensures { IsDrawnSealing self.now (λ nonce. R.may_fill rng.old nonce rng.new)
+            (rng.new ≡ rng.old) R.Error cookie.entry result }
     {
-        seal(alloc, &self.cipher, nonce, cookie)
+        let nonce = nonce_for(&cookie, rng)?;
+        self.encrypt_with_nonce(alloc, cookie, nonce)
+    }
+
+    // The cookie with its value sealed under its name and the nonce.
+    fn encrypt_with_nonce(
+        &self,
+        alloc: Global,
+        cookie: Cookie<'static>,
+        nonce: [u8; 12],
+    ) -> Result<Cookie<'static>, JarError>
+        ensures { IsNoncedSealing self.now nonce cookie.entry result }
+    {
+        if !can_seal(&cookie) {
+            return Err(JarError::TooLong);
+        }
+        Ok(seal(alloc, &self.cipher, nonce, cookie)?)
     }
 
     // The cookie with the value that its own is a sealing of, if it is one.
@@ -177,6 +191,39 @@ impl<'a> PrivateJar<'a> {
     {
         Ok(self.sealer.decrypt(self.jar.allocator(), cookie)?)
     }
+    /// The cookie with its value encrypted under the key and its name, as `PrivateJarMut::add` stores it. The jar isn't
+    /// changed. One draw of twelve bytes from `rng` gives the nonce. `rng` must be a cryptographic generator, and under
+    /// one key at most 2^32 nonces may be drawn (SP 800-38D 8.3).
+    ///
+    /// Fails with `TooLong` if the name has more than 2^61 - 1 bytes or the value more than 2^36 - 32, and then draws
+    /// nothing. Else fails with `Generator` if the draw failed, and with `OutOfMemory`.
+    pub fn encrypt<R: TryRng>(
+        &self,
+        cookie: Cookie<'static>,
+        rng: &mut R,
+    ) -> Result<Cookie<'static>, JarError>
+        ensures { IsDrawnSealing self.now.key (λ nonce. R.may_fill rng.old nonce rng.new)
+            (rng.new ≡ rng.old) R.Error cookie.entry result }
+    {
+        self.sealer.encrypt(self.jar.allocator(), cookie, rng)
+    }
+
+    /// The cookie with its value encrypted under the key, its name and the nonce. The jar isn't changed. No two values
+    /// may be encrypted under one key and one nonce, and under one key at most 2^32 random nonces may be drawn
+    /// (SP 800-38D 8.3).
+    ///
+    /// Fails with `TooLong` if the name has more than 2^61 - 1 bytes or the value more than 2^36 - 32, else only with
+    /// `OutOfMemory`.
+    pub fn encrypt_with_nonce(
+        &self,
+        cookie: Cookie<'static>,
+        nonce: [u8; 12],
+    ) -> Result<Cookie<'static>, JarError>
+        ensures { IsNoncedSealing self.now.key nonce cookie.entry result }
+    {
+        self.sealer
+            .encrypt_with_nonce(self.jar.allocator(), cookie, nonce)
+    }
 }
 
 impl<'a> PrivateJarMut<'a> {
@@ -227,8 +274,8 @@ impl<'a> PrivateJarMut<'a> {
         ensures { IsDrawnAddition AddOriginal (λ nonce. R.may_fill rng.old nonce rng.new)
             (rng.new ≡ rng.old) R.Error cookie.entry.fields self.old self.new result }
     {
-        let nonce = nonce_for(&cookie, rng)?;
-        self.add_original_with_nonce(cookie, nonce)
+        let original = self.storing.encrypt(self.jar.allocator(), cookie, rng)?;
+        self.jar.add_original(original)
     }
 
     /// Adds a cookie, with its value sealed under its name and a nonce that one draw of twelve bytes from `rng`
@@ -247,8 +294,8 @@ impl<'a> PrivateJarMut<'a> {
             AnswersPair (IsSealingOf (key_of self.new))
             (view (jar_of self.new) cookie.entry.fields.name) cookie.entry.fields) }
     {
-        let nonce = nonce_for(&cookie, rng)?;
-        self.add_with_nonce(cookie, nonce)
+        let added = self.storing.encrypt(self.jar.allocator(), cookie, rng)?;
+        self.jar.add(added)
     }
 
     /// Adds an original cookie, with its value sealed under its name and the nonce. No two values may be sealed
@@ -263,10 +310,8 @@ impl<'a> PrivateJarMut<'a> {
     ) -> Result<(), JarError>
         ensures { IsSealedAddition AddOriginal nonce cookie.entry.fields self.old self.new result }
     {
-        if !can_seal(&cookie) {
-            return Err(JarError::TooLong);
-        }
-        let original = self.storing.seal(self.jar.allocator(), nonce, cookie)?;
+        let alloc = self.jar.allocator();
+        let original = self.storing.encrypt_with_nonce(alloc, cookie, nonce)?;
         self.jar.add_original(original)
     }
 
@@ -288,10 +333,8 @@ impl<'a> PrivateJarMut<'a> {
             AnswersPair (IsSealingOf (key_of self.new))
             (view (jar_of self.new) cookie.entry.fields.name) cookie.entry.fields) }
     {
-        if !can_seal(&cookie) {
-            return Err(JarError::TooLong);
-        }
-        let added = self.storing.seal(self.jar.allocator(), nonce, cookie)?;
+        let alloc = self.jar.allocator();
+        let added = self.storing.encrypt_with_nonce(alloc, cookie, nonce)?;
         self.jar.add(added)
     }
 

@@ -43,6 +43,7 @@ pub(crate) fn seal<'c>(
     ensures gives { Gives alloc_error result (λ c.
         c.fields ≡ sealed_cookie cipher.now nonce cookie.entry.fields) }
     ensures stands { IfOk result (λ c. IsSealingOf cipher.now c.fields cookie.entry.fields.value) }
+    ensures raw { IfOk result (λ c. c.raw ≡ record cookie.entry.raw { value = None }) }
 {
     let value = sealed_text(alloc, cipher, cookie.name(), &nonce, cookie.value())?;
     cookie.set_value_owned(value);

@@ -1,4 +1,4 @@
-use Rattle.std.proofs.Common.{ap, map, true, false, string_bytes, sym, subst, List, ℕ, ◌++◌, ◌∙◌}
+use Rattle.std.proofs.Common.{ap, map, true, false, string_bytes, sym, subst, ◌++◌, ◌∙◌}
 use Rattle.std.proofs.lemmas.List.Sorted.{IsPermutation-refl}
 use Rattle.std.specs.List.Sorted.{IsPermutation}
 use Rattle.cookie_core.specs.Text.{cookie_text}

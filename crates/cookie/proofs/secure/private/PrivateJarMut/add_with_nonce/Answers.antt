@@ -5,5 +5,6 @@ use Rattle.cookie.proofs.secure.private.PrivateJarMut.add_with_nonce.Goals as go
 
 pub returns-clause-shown : goal.returns-clause-shown
 returns-clause-shown c =
-    sealed_shown _ c.args.cookie.fields c.in_ok-added.added.fields _ c.add.new.self c.add.result c.in_ok-added.ensures.stands
-    (ap (λ (made : Record). made.name) c.in_ok-added.ensures.gives) c.add.ensures.gives
+    let sealed = c.in_ok-added.ensures.gives c.in_ok-added.ensures.within in
+    sealed_shown _ c.args.cookie.fields c.in_ok-added.added.fields _ c.add.new.self c.add.result sealed.stands
+    (ap (λ (made : Record). made.name) sealed.fields) c.add.ensures.gives

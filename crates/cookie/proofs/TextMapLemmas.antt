@@ -1,7 +1,9 @@
 -- The finite map that a `BTreeMap` of texts shows, through its calls.
-use Rattle.std.proofs.Common.{◌≡◌, ℕ, true, cond, T, List, [], ◌∷◌, Option, None, Some, String, refl, sym, ap, ◌∙◌, arith}
+use Rattle.std.proofs.Common.{◌≡◌, ℕ, true, cond, T, List, [], ◌∷◌, All, IsUtf8, Option, None, Some, String, refl, sym, ap, ◌∙◌, arith}
+use Rattle.std.proofs.lemmas.List.Elements.{All-nil, All-cons}
 use Rattle.std.proofs.lemmas.Map.Lookups.{exact_bytes}
 use Rattle.std.proofs.lemmas.Map.Text.{is_eq-slice_cmp, btree_map_updates_text}
+use Rattle.std.proofs.lemmas.Str.{IsUtf8-string_bytes}
 use Rattle.std.specs.BTreeMap.{BTreeMap, UpdatesBy, IsOrdered, is_at}
 use Rattle.std.specs.Cmp.{eq_by_cmp_equiv}
 use Rattle.std.specs.Cmp.Derive.{both_true}
@@ -18,7 +20,7 @@ use Rattle.std.specs.String.{string_bytes, string_cmp}
 use Rattle.std.specs.declared.cmp.Ordering.TheVariants.{Less}
 use Rattle.cookie.specs.Jar.{name_cmp}
 use Rattle.cookie.specs.Table.{by_name}
-use Rattle.cookie_client.specs.TextMap.{text_pairs}
+use Rattle.cookie.specs.TextMap.{AreTexts, text_pairs}
 
 -- entries in the order of their keys are those of their map
 entries-from_entries : (es : List (List ℕ × List ℕ)) → T (is_sorted name_cmp es) → entries (from_entries {R = name_cmp} es) ≡ es
@@ -77,6 +79,13 @@ module _ {Y : Type 0} where
   -- the entries of the finite map, in order
   pub entries-by_name : (m : BTreeMap (String Y) (String Y)) → IsOrdered string_cmp m → entries (by_name string_bytes m.entries) ≡ text_pairs m.entries
   entries-by_name m h = entries-from_entries (text_pairs m.entries) (rw (is_sorted-text_pairs m.entries h) tt)
+
+  -- each is UTF-8
+  pub AreTexts-text_pairs : (es : List (String Y × String Y)) → AreTexts (text_pairs es)
+  AreTexts-text_pairs [] = All-nil (λ pair. IsUtf8 pair.0 × IsUtf8 pair.1)
+  AreTexts-text_pairs (e ∷ es) =
+      All-cons (λ pair. IsUtf8 pair.0 × IsUtf8 pair.1) (string_bytes e.0, string_bytes e.1) (text_pairs es)
+      (IsUtf8-string_bytes e.0, IsUtf8-string_bytes e.1) (AreTexts-text_pairs es)
 
 -- what the finite map is after each call, for `grind`
 pub ruleset by_name_calls = (get-by_name, entries-by_name, by_name-insert, by_name-remove, by_name-clone)

@@ -2,15 +2,16 @@
 ghost use Rattle.std.specs.Prelude.{◌≡◌, ◌<◌, ◌^◌, IfOk, OnOk, OnErr, length, string_bytes};
 ghost use Rattle.std.specs.FinMap.{empty, entries, get, insert, remove};
 ghost use Rattle.std.specs.Option.{option_copied};
+ghost use Rattle.cookie.specs.TextMap.{AreTexts};
 
 use std::alloc::{AllocError, Global};
 use std::collections::{BTreeMap, btree_map};
 use std::marker::Model;
 
-/// Texts by name, in byte order of the names.
+/// Texts by name, in byte order of the names. Contracts see the finite map from names to texts.
 #[derive(Drop)]
-pub(crate) struct TextMap {
-    // `BTreeMap` doesn't hand out its own.
+pub struct TextMap {
+    // `BTreeMap` does not hand out its own.
     alloc: Global,
     texts: BTreeMap<String, String>,
 }
@@ -20,7 +21,7 @@ impl Model for TextMap {
     ghost use Rattle.std.specs.FinMap.{FinMap};
     ghost use Rattle.cookie.specs.Jar.{name_cmp};
     ghost use Rattle.cookie.specs.Table.{by_name};
-    ghost use Rattle.cookie_client.specs.TextMap.{texts_code};
+    ghost use Rattle.cookie.specs.TextMap.{texts_code};
 
     ghost Value = { FinMap name_cmp (List ℕ) };
 
@@ -31,8 +32,8 @@ impl Model for TextMap {
 
 #[tactic(auto, using(crate::proofs::TextMapLemmas::by_name_calls))]
 impl TextMap {
-    // An empty map.
-    pub(crate) fn new(alloc: Global) -> TextMap
+    /// An empty map. It doesn't allocate.
+    pub fn new(alloc: Global) -> TextMap
         ensures { result ≡ empty }
     {
         TextMap {
@@ -41,15 +42,15 @@ impl TextMap {
         }
     }
 
-    // The text at `name`.
-    pub(crate) fn get(&self, name: &str) -> Option<&str>
+    /// The text at `name`.
+    pub fn get(&self, name: &str) -> Option<&str>
         ensures { option_copied result ≡ get self.now name.now }
     {
         Some(self.texts.get(name)?.as_str())
     }
 
-    // Puts a copy of `text` at `name`. On an error the map stays as it was.
-    pub(crate) fn set(&mut self, name: &str, text: &str) -> Result<(), AllocError>
+    /// Puts a copy of `text` at `name`. Fails only if out of memory, and then leaves the map as it was.
+    pub fn set(&mut self, name: &str, text: &str) -> Result<(), AllocError>
         ensures ok { OnOk result (self.new ≡ insert self.old name.now text.now) }
         ensures err { OnErr result (self.new ≡ self.old) }
     {
@@ -57,8 +58,8 @@ impl TextMap {
         self.put(name, text)
     }
 
-    // Puts `text` at `name`. On an error the map stays as it was.
-    pub(crate) fn put(&mut self, name: &str, text: String) -> Result<(), AllocError>
+    /// Puts `text` at `name`. Fails only if out of memory, and then leaves the map as it was.
+    pub fn put(&mut self, name: &str, text: String) -> Result<(), AllocError>
         ensures ok { OnOk result (self.new ≡ insert self.old name.now (string_bytes text)) }
         ensures err { OnErr result (self.new ≡ self.old) }
     {
@@ -67,8 +68,8 @@ impl TextMap {
         Ok(())
     }
 
-    // A map of the same texts.
-    pub(crate) fn clone(&self) -> Result<TextMap, AllocError>
+    /// A map of the same texts. Fails only if out of memory.
+    pub fn clone(&self) -> Result<TextMap, AllocError>
         ensures { IfOk result (λ made. made ≡ self.now) }
     {
         Ok(TextMap {
@@ -77,16 +78,19 @@ impl TextMap {
         })
     }
 
-    // Drops the text at `name`.
-    pub(crate) fn remove(&mut self, name: &str)
+    /// Drops the text at `name`.
+    pub fn remove(&mut self, name: &str)
         ensures { self.new ≡ remove self.old name.now }
     {
         self.texts.remove(name);
     }
 
-    // The names with their texts, in byte order of the names.
-    pub(crate) fn pairs(&self) -> Pairs<'_>
+    /// The names with their texts, in byte order of the names. It doesn't allocate.
+    pub fn pairs(&self) -> Pairs<'_>
         ensures listed { result ≡ entries self.now }
+        ensures texts { AreTexts result }
+
+        // They can be counted.
         ensures fits { length result < 2 ^ 64 }
     {
         Pairs {
@@ -103,7 +107,7 @@ pub struct Pairs<'a> {
 
 impl<'a> Model for Pairs<'a> {
     ghost use Rattle.std.specs.Prelude.{List, ℕ};
-    ghost use Rattle.cookie_client.specs.TextMap.{text_pairs};
+    ghost use Rattle.cookie.specs.TextMap.{text_pairs};
 
     ghost Value = { List (List ℕ × List ℕ) };
 
