@@ -149,6 +149,12 @@ fresh header = same_delta (header_cookies true header) empty_jar
 shown_original : (jar : JarState) (name : Name) → jar.delta ≡ empty → view jar name ≡ get jar.originals name
 shown_original jar name none = ap (λ d. overlay (get d name) (get jar.originals name)) none ∙ ap (λ e. overlay e (get jar.originals name)) (get-empty name_cmp name)
 
+-- the jar for a client's header shows what the client holds
+pub shows_held : (client : Values) (header : List ℕ) → IsHeaderOf client header → (name : Name) → view (jar_for header) name ≡ option_map (plain name) (get client name)
+shows_held client header is name =
+    shown_original (jar_for header) name (fresh header) ∙ ap (λ cookies. get (with_originals cookies empty_jar).originals name) (header-pairs client header is)
+    ∙ original_of client name
+
 -- a client that holds the header's cookies holds its originals
 pub holds_header : (header : List ℕ) (name : Name) → HoldsOriginal (client_for header) (jar_for header) name
 holds_header header name = held_values (header_cookies true header) empty empty_jar name (get-empty name_cmp name ∙ sym (ap value_of (get-empty name_cmp name)))

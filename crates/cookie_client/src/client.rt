@@ -1,17 +1,19 @@
 //! A client that keeps cookies by name (RFC 6265 5.3, 5.4).
-ghost use Rattle.std.specs.Prelude.{◌≡◌, ◌<◌, ◌^◌, ◌++◌, true, [], length, map, None, Some, IfOk, OnOk, OnErr, is_some, string_bytes};
+ghost use Rattle.std.specs.Prelude.{◌≡◌, ◌<◌, ◌^◌, ◌++◌, true, [], length, map, None, Some, IfOk, OnOk, OnErr, is_some, option_map, string_bytes};
 ghost use Rattle.std.specs.FinMap.{empty, entries, get, insert};
 ghost use Rattle.std.specs.Option.{option_copied};
 ghost use Rattle.cookie.specs.CookieOf.{cookie_of};
 ghost use Rattle.cookie.specs.Header.{header_texts};
+ghost use Rattle.cookie.specs.Jar.{Name, view};
 ghost use Rattle.cookie.specs.Memory.{Gives};
+ghost use Rattle.cookie.specs.Originals.{jar_for};
 ghost use Rattle.cookie.specs.Record.{IsCookie, plain};
 ghost use Rattle.cookie_client.specs.Client.{after_cookie, after_text, header_text, pair_text};
 ghost use Rattle.cookie_client.specs.declared.client_error.ClientError.TheVariants as refusal;
 
 use crate::client_error::ClientError;
 use crate::live::is_live;
-use cookie::{Cookie, Pairs, ParseError, TextMap};
+use cookie::{Cookie, CookieJar, Pairs, ParseError, TextMap};
 use jiff::civil::DateTime;
 use std::alloc::{AllocError, Global};
 use std::marker::Model;
@@ -143,6 +145,21 @@ impl Client {
             push_pair(self.alloc, &mut header, name, value)?;
         }
         Ok(header)
+    }
+
+    /// The jar of its next request (RFC 6265 5.4): a new one, whose originals are the cookies of its header, decoded.
+    ///
+    /// Where it holds nothing under the empty name, the jar shows each name that it holds, with its value and nothing
+    /// else, and no other name. Fails only with `ClientError::OutOfMemory`.
+    pub fn next_jar(&self) -> Result<CookieJar, ClientError>
+        ensures made { Gives refusal.OutOfMemory result (λ jar.
+            jar ≡ jar_for (header_text self.now)) }
+        ensures shows { get self.now [] ≡ None → IfOk result (λ jar. (name : Name)
+            → view jar name ≡ option_map (plain name) (get self.now name)) }
+    {
+        let header = self.header()?;
+        let jar = CookieJar::new(self.alloc).with_originals(header.as_str())?;
+        Ok(jar)
     }
 }
 

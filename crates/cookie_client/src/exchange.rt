@@ -71,8 +71,11 @@ pub fn mirror(
     })
 }
 
-// Has a client read the delta's texts, in the order that `pick` asks for.
-pub(crate) fn read_delta(
+/// Has a client read the encoded text of each cookie of the jar's delta at the moment `now` in UTC (RFC 6265 5.3), in the
+/// order that `pick` asks for, as in [`mirror`].
+///
+/// Fails only with `ClientError::OutOfMemory`.
+pub fn read_delta(
     alloc: Global,
     client: &mut Client,
     jar: &CookieJar,

@@ -23,7 +23,7 @@ pub use call::JarCall;
 pub use child_call::ChildCall;
 pub use client::Client;
 pub use client_error::ClientError;
-pub use exchange::{Played, mirror};
+pub use exchange::{Played, mirror, read_delta};
 pub use history::replay;
 pub use live::is_live;
 pub use originals::replay_told;
