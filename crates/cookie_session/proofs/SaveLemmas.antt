@@ -1,0 +1,27 @@
+-- What a jar shows once a session was saved.
+use Rattle.std.proofs.Common.{◌≡◌, ℕ, ◌≤◌, ◌<◌, List, length, Some, IfSome, sym, ap, subst, ◌∙◌}
+use Rattle.cookie.specs.Jar.{Add, JarState, after, view}
+use Rattle.cookie.specs.Keys.{encryption_half}
+use Rattle.cookie.specs.Record.{Record}
+use Rattle.cookie.specs.Sealing.{IsSealingOf}
+use Rattle.cookie.proofs.AnswerLemmas.{view-stored}
+use Rattle.cookie_session.specs.KeyRing.{newest}
+use Rattle.cookie_session.specs.Session.{IsSession, SessionState, session_text}
+use Rattle.cookie_session.specs.Sessions.{IsStored}
+use Rattle.cookie_session.specs.declared.sessions.Sessions.{Sessions}
+use Rattle.cookie_session.proofs.KeyRingLemmas.{opened_newest}
+
+module _ (sealed : Record) (name : List ℕ) (named : sealed.name ≡ name) (old new : JarState) (added : new ≡ after (Add sealed) old) where
+  -- it shows what was added
+  shown : view new name ≡ Some sealed
+  shown = ap (λ (j : JarState). view j name) added ∙ ap (view (after (Add sealed) old)) (sym named) ∙ view-stored old sealed
+
+  pub shown_fits : (size : Record → ℕ) (most : ℕ) → size sealed ≤ most → IfSome (view new name) (λ cookie. size cookie ≤ most)
+  shown_fits size most fits = subst (λ o. IfSome o (λ cookie. size cookie ≤ most)) (sym shown) fits
+
+  -- and that holds the session
+  pub shown_stored : (site : Sessions) (s : SessionState) → IsSession s → 0 < length site.keys.now
+      → IsSealingOf (encryption_half (newest site.keys.now)) sealed (session_text s) → IsStored site (view new name) s
+  shown_stored site s is some stands =
+      subst (λ o. IsStored site o s) (sym shown) (λ cookie same later lives.
+      record { session = is; sealed = opened_newest site.keys.now some sealed cookie (session_text s) same stands; lives = lives })

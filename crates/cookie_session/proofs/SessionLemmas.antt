@@ -1,0 +1,73 @@
+-- When a session is open, and what a saved one is.
+use Rattle.std.proofs.Common.{◌≡◌, ◌↔◌, ℕ, Bool, true, false, List, Option, None, Some, refl, sym, ap, subst, ◌∙◌}
+use Rattle.std.proofs.lemmas.Option.{none-some, same_Some}
+use Rattle.std.specs.Prelude.{IsTrue}
+use Rattle.jiff.specs.Types.{DateTime}
+use Rattle.cookie.specs.AnswersExactly.{IsStoredFor}
+use Rattle.cookie.specs.Record.{Record}
+use Rattle.cookie_session.specs.KeyRing.{OpensAt, OpensExactly, opened_at}
+use Rattle.cookie_session.specs.Session.{IsSessionText, SessionState, session_text}
+use Rattle.cookie_session.specs.Sessions.{IsOpen, LivesAt}
+use Rattle.cookie_session.specs.declared.opening.Opening.{Opening}
+use Rattle.cookie_session.specs.declared.opened.Opened.{Opened}
+use Rattle.cookie_session.specs.declared.sessions.Sessions.{Sessions}
+
+-- a session that a key opened, as it is answered
+abbrev pub opened : SessionState → ℕ → Opened
+opened s place = record { session = s; place = place }
+
+module _ (site : Sessions) (stored : Option Record) (now : DateTime) where
+  -- the answer where no key opens
+  pub open_none : OpensExactly site.keys.now stored None → (place : ℕ) (s : SessionState)
+      → (◌≡◌ {A = Option Opened} None (Some (opened s place))) ↔ IsOpen site stored now place s
+  open_none answers place s = (
+    λ e. absurd (none-some (opened s place) e),
+    λ is. absurd (none-some (place, session_text s) ((answers.exact place (session_text s)).1 is.sealed)),
+  )
+
+  module _ (opening : Opening) (answers : OpensExactly site.keys.now stored (Some opening)) where
+    -- what was opened is the session's text
+    told : (place : ℕ) (s : SessionState) → IsOpen site stored now place s → (opening.place ≡ place) × IsSessionText opening.cookie.fields.value s
+    told place s is =
+        let given : opened_at opening ≡ (place, session_text s) = same_Some (opened_at opening) (place, session_text s) ((answers.exact place (session_text s)).1 is.sealed) in
+        (ap (λ (t : ℕ × List ℕ). t.0) given, record { session = is.session; written = ap (λ (t : ℕ × List ℕ). t.1) given })
+
+    -- the answer where that is no session's text
+    pub open_other : ((s : SessionState) → (◌≡◌ {A = Option SessionState} None (Some s)) ↔ IsSessionText opening.cookie.fields.value s) → (place : ℕ) (s : SessionState)
+        → (◌≡◌ {A = Option Opened} None (Some (opened s place))) ↔ IsOpen site stored now place s
+    open_other reads place s = (
+      λ e. absurd (none-some (opened s place) e),
+      λ is. absurd (none-some s ((reads s).1 (told place s is).1)),
+    )
+
+    module _ (session : SessionState) (reads : (s : SessionState) → (Some session ≡ Some s) ↔ IsSessionText opening.cookie.fields.value s)
+        (alive : Bool) (lives : IsTrue alive ↔ LivesAt site now session) where
+      -- the answer where the session doesn't live
+      pub open_dead : alive ≡ false → (place : ℕ) (s : SessionState) → (◌≡◌ {A = Option Opened} None (Some (opened s place))) ↔ IsOpen site stored now place s
+      open_dead dead place s = (
+        λ e. absurd (none-some (opened s place) e),
+        λ is.
+            let same : session ≡ s = same_Some session s ((reads s).1 (told place s is).1) in
+            let clash : true ≡ false = sym (lives.1 (subst (LivesAt site now) (sym same) is.lives)) ∙ dead in
+            cc,
+      )
+
+      -- and where it does
+      pub open_right : alive ≡ true → (place : ℕ) (s : SessionState) → (Some (opened session opening.place) ≡ Some (opened s place)) ↔ IsOpen site stored now place s
+      open_right living place s = (
+        λ e.
+            let given : opened session opening.place ≡ opened s place = same_Some (opened session opening.place) (opened s place) e in
+            let same : session ≡ s = ap (λ (o : Opened). o.session) given in
+            let there : opening.place ≡ place = ap (λ (o : Opened). o.place) given in
+            let text = (reads s).0 (ap Some same) in
+            record {
+              session = text.session;
+              sealed = subst (IsStoredFor (OpensAt site.keys.now place) stored) text.written
+                  (subst (λ n. IsStoredFor (OpensAt site.keys.now n) stored opening.cookie.fields.value) there ((answers.exact opening.place opening.cookie.fields.value).0 refl));
+              lives = subst (LivesAt site now) same (lives.0 living);
+            },
+        λ is.
+            let parts = told place s is in
+            let same : session ≡ s = same_Some session s ((reads s).1 parts.1) in
+            λ i. Some (opened (same i) (parts.0 i)),
+      )

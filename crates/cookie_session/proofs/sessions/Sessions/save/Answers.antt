@@ -1,0 +1,37 @@
+use Rattle.std.proofs.Common.{◌≡◌, ◌≤◌, string_bytes, ap, subst, ◌∙◌}
+use Rattle.cookie.specs.KeyedJars.{KeyedJar}
+use Rattle.cookie.specs.Keys.{encryption_half}
+use Rattle.cookie.specs.Record.{Record}
+use Rattle.cookie.specs.Sealing.{IsSealingOf}
+use Rattle.cookie_session.specs.KeyRing.{newest}
+use Rattle.cookie_session.specs.Seconds.{second_of}
+use Rattle.cookie_session.specs.Session.{IsSessionText, SessionState, seen_at, session_text}
+use Rattle.cookie_session.specs.Size.{browser_length, most_bytes}
+use Rattle.cookie_session.proofs.SaveLemmas.{shown_fits, shown_stored}
+use Rattle.cookie_session.proofs.sessions.Sessions.save.Goals as goal
+
+pub returns-clause-fits : goal.returns-clause-fits
+returns-clause-fits g c =
+    let (nonce, is_nonce, drawn, is) = c.in_ok-sealed.ensures.ok in
+    let sealed = c.in_ok-sealed.sealed.fields in
+    let name = c.args.self.now.cookie.now.fields.name in
+    let named : sealed.name ≡ name = ap (λ (r : Record). r.name) is.fields ∙ ap (λ (r : Record). r.name) c.in_ok-cookie.ensures in
+    shown_fits sealed name named c.args.jar.now c.add.new.self c.in_ok-add.ensures.gives browser_length most_bytes
+    (subst (λ n. n ≤ most_bytes) c.in_ok-size.ensures c.if-size-gt-MOST_BYTES.false)
+
+pub returns-clause-opens : goal.returns-clause-opens
+returns-clause-opens g c =
+    let (nonce, is_nonce, drawn, is) = c.in_ok-sealed.ensures.ok in
+    let site = c.args.self.now in
+    let saved : SessionState = seen_at (second_of c.args.now) c.args.session.now in
+    let sealed = c.in_ok-sealed.sealed.fields in
+    let cookie = c.in_ok-cookie.cookie.fields in
+    let name = site.cookie.now.fields.name in
+    let named : sealed.name ≡ name = ap (λ (r : Record). r.name) is.fields ∙ ap (λ (r : Record). r.name) c.in_ok-cookie.ensures in
+    let text : IsSessionText (string_bytes c.in_ok-text.text) saved =
+    subst (λ n. IsSessionText (string_bytes c.in_ok-text.text) (seen_at n c.args.session.now)) c.second_of-second.ensures.value c.in_ok-text.ensures in
+    let value : cookie.value ≡ session_text saved = ap (λ (r : Record). r.value) c.in_ok-cookie.ensures ∙ text.written in
+    let key : c.private.result.key ≡ encryption_half (newest site.keys.now) =
+    ap (λ (k : KeyedJar). k.key) c.private.ensures ∙ ap encryption_half c.newest.ensures.value in
+    shown_stored sealed name named c.args.jar.now c.add.new.self c.in_ok-add.ensures.gives site saved text.session c.newest.ensures.some
+    (subst (IsSealingOf (encryption_half (newest site.keys.now)) sealed) value (subst (λ k. IsSealingOf k sealed cookie.value) key is.stands))

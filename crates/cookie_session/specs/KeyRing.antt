@@ -1,0 +1,49 @@
+-- The keys of a site, the newest first. Each of them opens, and the newest one that does decides.
+use Rattle.std.specs.Prelude.{◌≡◌, ◌↔◌, ◌<◌, ◌+◌, ℕ, List, [], ◌∷◌, length, Option, Some, IfSome, MatchOption, option_map, slice_get}
+use Rattle.cookie.specs.AnswersExactly.{IsStoredFor, with_value}
+use Rattle.cookie.specs.Keys.{encryption_half}
+use Rattle.cookie.specs.Record.{Record}
+use Rattle.cookie.specs.Sealing.{IsSealingOf}
+use Rattle.cookie_session.specs.declared.opening.Opening.{Opening}
+
+-- the key that encrypts
+abbrev pub newest : List (List ℕ) → List ℕ
+newest [] = []
+newest (key ∷ older) = key
+
+-- the key at this place opens the cookie: its value is a sealing of v under that key and the cookie's name
+abbrev pub KeyOpens : List (List ℕ) → ℕ → Record → List ℕ → Type 0
+KeyOpens ring place cookie v =
+    MatchOption (slice_get ring place) ⊥ (λ key. IsSealingOf (encryption_half key) cookie v)
+
+-- and no newer key opens it
+pub record OpensAt (ring : List (List ℕ)) (place : ℕ) (cookie : Record) (v : List ℕ)
+    : Type 0 where
+  pub opens : KeyOpens ring place cookie v
+  pub first : (newer : ℕ) (w : List ℕ) → newer < place → ¬ (KeyOpens ring newer cookie w)
+
+-- the place of a key, and the value that it opened
+abbrev pub opened_at : Opening → ℕ × List ℕ
+opened_at opening = (opening.place, opening.cookie.fields.value)
+
+-- The answer to a cookie that is stored, if any.
+pub record OpensExactly (ring : List (List ℕ)) (stored : Option Record)
+    (answer : Option Opening) : Type 0 where
+  -- a place and a value are answered exactly if the key at that place opens the stored cookie as the newest that does
+  pub exact : (place : ℕ) (v : List ℕ)
+      → (option_map opened_at answer ≡ Some (place, v)) ↔ IsStoredFor (OpensAt ring place) stored v
+  -- nothing else of the cookie changes
+  pub kept : IfSome answer (λ opening.
+      option_map (with_value opening.cookie.fields.value) stored ≡ Some opening.cookie.fields)
+
+-- what a key of the old ring opens it opens in the new ring one place further back, if the newest key doesn't open it
+abbrev pub KeepsOpening : List (List ℕ) → List (List ℕ) → Type 0
+KeepsOpening old new =
+    (place : ℕ) (cookie : Record) (v : List ℕ) → OpensAt old place cookie v
+    → ((w : List ℕ) → ¬ (KeyOpens new 0 cookie w)) → OpensAt new (place + 1) cookie v
+
+-- the new ring opens exactly what a key of the old ring opened that it still has
+abbrev pub LeavesOpening : List (List ℕ) → List (List ℕ) → Type 0
+LeavesOpening old new =
+    (place : ℕ) (cookie : Record) (v : List ℕ)
+    → OpensAt new place cookie v ↔ (OpensAt old place cookie v × (place < length new))

@@ -1,0 +1,7 @@
+pub mod KeyRing
+pub mod Reading
+pub mod Seconds
+pub mod Session
+pub mod SessionError
+pub mod Sessions
+pub mod Size

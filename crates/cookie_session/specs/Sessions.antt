@@ -1,0 +1,63 @@
+-- When a session is open, and what is stored of it.
+use Rattle.std.specs.Prelude.{◌≡◌, ℕ, ◌+◌, ◌-◌, ◌*ℤ◌, ◌&&◌, Bool, min, pos, List, Option, Some, None, MatchOption}
+use Rattle.jiff.specs.Types.{DateTime}
+use Rattle.cookie.specs.AnswersExactly.{IsStoredFor}
+use Rattle.cookie.specs.Keys.{encryption_half}
+use Rattle.cookie.specs.Prefixes.{meets_host, meets_secure, pair_of}
+use Rattle.cookie.specs.Record.{Record}
+use Rattle.cookie.specs.Sealing.{sealed_cookie}
+use Rattle.cookie_session.specs.KeyRing.{OpensAt, newest}
+use Rattle.cookie_session.specs.Seconds.{second_of}
+use Rattle.cookie_session.specs.Session.{IsAlive, IsSession, SessionState, seen_at, session_text}
+use Rattle.cookie_session.specs.declared.sessions.Sessions.{Sessions}
+
+-- it lives at this time
+abbrev pub LivesAt : Sessions → DateTime → SessionState → Type 0
+LivesAt site now s = IsAlive site.lifetime site.idle (second_of now) s
+
+-- The stored cookie, if any, is a sealing of the session's text by the key at this place, the newest that opens it; and
+-- the session lives.
+pub record IsOpen (site : Sessions) (stored : Option Record) (now : DateTime) (place : ℕ)
+    (s : SessionState) : Type 0 where
+  pub session : IsSession s
+  pub sealed : IsStoredFor (OpensAt site.keys.now place) stored (session_text s)
+  pub lives : LivesAt site now s
+
+-- saved now, it lives
+abbrev pub CanSave : Sessions → DateTime → SessionState → Type 0
+CanSave site now s = LivesAt site now (seen_at (second_of now) s)
+
+-- The stored cookie holds the session: at every time at which the session lives, it is open by the newest key, in each
+-- cookie of this name and value.
+abbrev pub IsStored : Sessions → Option Record → SessionState → Type 0
+IsStored site stored s =
+    MatchOption stored ⊥ (λ saved. (cookie : Record) → pair_of cookie ≡ pair_of saved
+    → (later : DateTime) → LivesAt site later s → IsOpen site (Some cookie) later 0 s)
+
+-- the seconds that a session lives that was saved in this second
+abbrev pub time_left : Sessions → ℕ → SessionState → ℕ
+time_left site now s = min (s.started + site.lifetime - now) site.idle
+
+-- the site's cookie with this value, for this many seconds (RFC 6265 5.2.2)
+abbrev pub session_cookie : Record → ℕ → List ℕ → Record
+session_cookie set age text =
+    record set {
+      value = text;
+      max_age = Some (pos age *ℤ pos 1000000000);
+      expires = None;
+    }
+
+-- the cookie of a session that is saved now, before it is sealed
+abbrev pub bare_cookie : Sessions → DateTime → SessionState → Record
+bare_cookie site now s =
+    session_cookie site.cookie.now.fields (time_left site (second_of now) s)
+    (session_text (seen_at (second_of now) s))
+
+-- the same cookie, sealed under the newest key
+abbrev pub saved_cookie : Sessions → List ℕ → DateTime → SessionState → Record
+saved_cookie site nonce now s =
+    sealed_cookie (encryption_half (newest site.keys.now)) nonce (bare_cookie site now s)
+
+-- the cookie has what a browser asks of its name (RFC 6265bis 4.1.3 and 5.7)
+abbrev pub meets_prefix : Record → Bool
+meets_prefix cookie = meets_secure cookie && meets_host cookie

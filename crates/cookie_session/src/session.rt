@@ -1,0 +1,142 @@
+//! A session.
+ghost use Rattle.std.specs.Prelude.{◌≡◌, ◌↔◌, ◌<◌, ◌^◌, IfOk, IsTrue, OnErr, OnOk, length, string_bytes};
+ghost use Rattle.std.specs.FinMap.{empty, entries, get, insert, remove};
+ghost use Rattle.std.specs.Option.{option_copied};
+ghost use Rattle.cookie_session.specs.Seconds.{second_of};
+ghost use Rattle.cookie_session.specs.Session.{IsAlive, IsSessionText, seen_at};
+
+use crate::seconds::second_of;
+use cookie::{Pairs, TextMap};
+use form_urlencoded::Serializer;
+use jiff::civil::DateTime;
+use std::alloc::{AllocError, Global};
+use std::marker::Model;
+
+/// A session: when it started, when it was last saved, and texts by name. Contracts see these as a `SessionState`.
+///
+/// ```
+/// let mut session = Session::start(alloc, now);
+/// session.set("user", "ann")?;
+/// ```
+#[derive(Drop)]
+pub struct Session {
+    started: u64,
+    seen: u64,
+    texts: TextMap,
+}
+
+impl Model for Session {
+    ghost use Rattle.cookie_session.specs.Session.{SessionState, session_code};
+
+    ghost Value = { SessionState };
+
+    ghost coded = { session_code };
+
+    ghost view = { λ s. record { started = s.started; seen = s.seen; texts = s.texts } };
+}
+
+impl Session {
+    /// A session that starts at the time `now` in UTC, without texts. It doesn't allocate.
+    pub fn start(alloc: Global, now: DateTime) -> Session
+        ensures { result ≡ record {
+          started = second_of now;
+          seen = second_of now;
+          texts = empty;
+        } }
+    {
+        let second = second_of(now);
+        Session::of(second, second, TextMap::new(alloc))
+    }
+
+    // A session of these parts.
+    pub(crate) fn of(started: u64, seen: u64, texts: TextMap) -> Session
+        ensures { result ≡ record { started = started; seen = seen; texts = texts } }
+    {
+        Session {
+            started,
+            seen,
+            texts,
+        }
+    }
+
+    /// When it started, in seconds since 1970 in UTC.
+    pub fn started(&self) -> u64
+        ensures { result ≡ self.now.started }
+    {
+        self.started
+    }
+
+    /// When it was last saved, in seconds since 1970 in UTC.
+    pub fn seen(&self) -> u64
+        ensures { result ≡ self.now.seen }
+    {
+        self.seen
+    }
+
+    /// The text at `name`.
+    pub fn get(&self, name: &str) -> Option<&str>
+        ensures { option_copied result ≡ get self.now.texts name.now }
+    {
+        self.texts.get(name)
+    }
+
+    /// The names with their texts, in byte order of the names. It doesn't allocate.
+    pub fn iter(&self) -> Pairs<'_>
+        ensures listed { result ≡ entries self.now.texts }
+
+        // They can be counted.
+        ensures fits { length result < 2 ^ 64 }
+    {
+        self.texts.pairs()
+    }
+
+    /// Puts a copy of `text` at `name`. Fails only if out of memory, and then leaves the session as it was.
+    pub fn set(&mut self, name: &str, text: &str) -> Result<(), AllocError>
+        ensures ok { OnOk result (self.new
+            ≡ record self.old { texts = insert self.old.texts name.now text.now }) }
+        ensures err { OnErr result (self.new ≡ self.old) }
+    {
+        self.texts.set(name, text)
+    }
+
+    /// Drops the text at `name`.
+    pub fn remove(&mut self, name: &str)
+        ensures { self.new ≡ record self.old { texts = remove self.old.texts name.now } }
+    {
+        self.texts.remove(name);
+    }
+
+    /// Starts it anew at the time `now` in UTC, with the same texts, so that the lifetime counts from now. If no text
+    /// of before the login may survive, use `start`.
+    pub fn renew(&mut self, now: DateTime)
+        ensures { self.new ≡ record self.old { started = second_of now; seen = second_of now } }
+    {
+        let second = second_of(now);
+        self.started = second;
+        self.seen = second;
+    }
+
+    // Whether it lives in the second `now`, if it was last saved in the second `seen`.
+    pub(crate) fn is_alive(&self, lifetime: u32, idle: u32, seen: u64, now: u64) -> bool
+        ensures { IsTrue result ↔ IsAlive lifetime idle now (seen_at seen self.now) }
+    {
+        self.started <= now
+            && now - self.started < lifetime as u64
+            && (now < seen || now - seen < idle as u64)
+    }
+
+    // The text of the session, saved in the second `seen`.
+    pub(crate) fn text_at(&self, alloc: Global, seen: u64) -> Result<String, AllocError>
+        ensures { IfOk result (λ text. IsSessionText (string_bytes text) (seen_at seen self.now)) }
+    {
+        let mut form = Serializer::new(String::new(alloc));
+        form.append_pair("v", "1")?;
+        let started = self.started;
+        form.append_pair("started", started.to_string(alloc)?.as_str())?;
+        form.append_pair("seen", seen.to_string(alloc)?.as_str())?;
+        for (name, text) in self.texts.pairs() {
+            form.append_pair(name, text)?;
+        }
+        Ok(form.finish())
+    }
+}

@@ -1,0 +1,78 @@
+//! The text of a session, read back.
+ghost use Rattle.std.specs.Prelude.{◌≡◌, ◌↔◌, ◌<◌, ◌^◌, ℕ, Some, IfOk, string_bytes};
+ghost use Rattle.std.specs.FinMap.{empty};
+ghost use Rattle.std.specs.Fmt.{decimal};
+ghost use Rattle.form_urlencoded.specs.Parse.{raw_pairs_left};
+ghost use Rattle.cookie_session.specs.Reading.{ReadsNumber, decoded_pairs, filled, form_pairs, form_text};
+ghost use Rattle.cookie_session.specs.Session.{IsSession, IsSessionText, SessionState, session_pairs};
+
+use crate::session::Session;
+use cookie::TextMap;
+use form_urlencoded::{RawPairs, decode, raw_pairs};
+use std::alloc::{AllocError, Global};
+
+// The session that has this text, if there is one.
+pub(crate) fn read_session(alloc: Global, text: &str) -> Result<Option<Session>, AllocError>
+    ensures { IfOk result (λ answer. (s : SessionState)
+        → (answer ≡ Some s) ↔ IsSessionText text.now s) }
+{
+    let session = parse_session(alloc, text)?;
+    // Other texts are read alike, so the session is written again.
+    let again = session.text_at(alloc, session.seen())?;
+    if again.as_str() == text {
+        Ok(Some(session))
+    } else {
+        Ok(None)
+    }
+}
+
+// The session that has this text, if there is one, else any.
+fn parse_session(alloc: Global, text: &str) -> Result<Session, AllocError>
+    ensures { IfOk result (λ session. (s : SessionState) → IsSession s
+        → form_pairs text.now ≡ session_pairs s → session ≡ s) }
+{
+    let mut pairs = raw_pairs(text.as_bytes());
+    let _version = next_number(alloc, &mut pairs)?;
+    let started = next_number(alloc, &mut pairs)?;
+    let seen = next_number(alloc, &mut pairs)?;
+    let texts = texts_of(alloc, pairs)?;
+    Ok(Session::of(started, seen, texts))
+}
+
+// The number that is the value of the next pair, else 0.
+fn next_number(alloc: Global, pairs: &mut RawPairs<'_>) -> Result<u64, AllocError>
+    ensures { IfOk result (λ number. ReadsNumber pairs.old pairs.new number) }
+{
+    match pairs.next() {
+        Some((_, value)) => Ok(number_of(form_text(alloc, value)?.as_str())),
+        None => Ok(0),
+    }
+}
+
+// The number that has this text, else 0.
+fn number_of(text: &str) -> u64
+    ensures { (number : ℕ) → number < 2 ^ 64 → text.now ≡ decimal number → result ≡ number }
+{
+    text.parse().unwrap_or(0)
+}
+
+// The texts of the pairs. The last one of a name counts.
+fn texts_of(alloc: Global, pairs: RawPairs<'_>) -> Result<TextMap, AllocError>
+    ensures { IfOk result (λ texts.
+        texts ≡ filled (decoded_pairs (raw_pairs_left pairs.entry)) empty) }
+{
+    let mut texts = TextMap::new(alloc);
+    for (name, value) in pairs {
+        let name = form_text(alloc, name)?;
+        let value = form_text(alloc, value)?;
+        texts.put(name.as_str(), value)?;
+    }
+    Ok(texts)
+}
+
+// The text of a name or a value of a form.
+fn form_text(alloc: Global, bytes: &[u8]) -> Result<String, AllocError>
+    ensures { IfOk result (λ text. string_bytes text ≡ form_text bytes.now) }
+{
+    decode(alloc, bytes)?.into_owned(alloc)
+}

@@ -1,0 +1,182 @@
+//! The sessions of a site.
+ghost use Rattle.std.specs.Prelude.{◌≡◌, ◌↔◌, ◌<◌, ◌≤◌, ◌-◌, ◌+◌, min, true, ℕ, List, Some, Err, IfOk, IfSome, OnOk, OnErr, string_bytes};
+ghost use Rattle.cookie.specs.Jar.{Add, Remove, after, view};
+ghost use Rattle.cookie.specs.Memory.{Gives};
+ghost use Rattle.cookie.specs.Sealing.{CanSeal, IsNonce};
+ghost use Rattle.cookie.specs.declared.jar_error.JarError.TheVariants as jar_refusal;
+ghost use Rattle.cookie_session.specs.Seconds.{second_of};
+ghost use Rattle.cookie_session.specs.Session.{SessionState, seen_at};
+ghost use Rattle.cookie_session.specs.Sessions.{CanSave, IsOpen, IsStored, bare_cookie, meets_prefix, saved_cookie, session_cookie};
+ghost use Rattle.cookie_session.specs.Size.{browser_length, most_bytes};
+ghost use Rattle.cookie_session.specs.declared.session_error.SessionError.TheVariants as refusal;
+
+use crate::key_ring::KeyRing;
+use crate::opened::Opened;
+use crate::prefix::meets_prefix;
+use crate::seconds::second_of;
+use crate::session::Session;
+use crate::session_error::SessionError;
+use crate::session_text::read_session;
+use crate::size::browser_length;
+use cookie::{Cookie, CookieJar, JarError};
+use jiff::SignedDuration;
+use jiff::civil::DateTime;
+use rand_core::TryRng;
+use std::alloc::{AllocError, Global};
+
+const MOST_BYTES: usize = 4096;
+
+/// How a site keeps its sessions: one encrypted cookie holds a session.
+#[derive(Clone, Copy)]
+pub struct Sessions<'a> {
+    /// The keys. The newest encrypts, and each of them decrypts.
+    pub keys: &'a KeyRing,
+    /// The cookie with the name and the attributes that the site sets. Its value, `Max-Age` and `Expires` don't count.
+    pub cookie: &'a Cookie<'static>,
+    /// The seconds that a session lives after its start, however it is used.
+    pub lifetime: u32,
+    /// The seconds that a session lives after it was last saved.
+    pub idle: u32,
+}
+
+impl<'a> Sessions<'a> {
+    /// The session of a request, at the time `now` in UTC, with the place of the key that opened it. It is the session
+    /// whose text was encrypted in the cookie of the site's name, under a key of the ring, if the session lives.
+    ///
+    /// Fails only with `JarError::OutOfMemory`.
+    pub fn open(
+        &self,
+        alloc: Global,
+        jar: &CookieJar,
+        now: DateTime,
+    ) -> Result<Option<Opened>, JarError>
+        ensures { Gives jar_refusal.OutOfMemory result (λ answer. (place : ℕ) (s : SessionState)
+            → (answer ≡ Some (record { session = s; place = place }))
+            ↔ IsOpen self.now (view jar.now self.now.cookie.now.fields.name) now place s) }
+    {
+        let Some(opening) = self.keys.get(jar, self.cookie.name())? else {
+            return Ok(None);
+        };
+        let Some(session) = read_session(alloc, opening.cookie.value())? else {
+            return Ok(None);
+        };
+        if !session.is_alive(self.lifetime, self.idle, session.seen(), second_of(now)) {
+            return Ok(None);
+        }
+        Ok(Some(Opened {
+            session,
+            place: opening.place,
+        }))
+    }
+
+    /// Saves a session, at the time `now` in UTC: adds the site's cookie with the session's text to the jar, encrypted
+    /// under the newest key. Its `Max-Age` is the number of seconds that the session lives. One draw of twelve bytes
+    /// from `rng` gives the nonce. `rng` must be a cryptographic generator, and under one key at most 2^32 nonces may
+    /// be drawn (SP 800-38D 8.3).
+    ///
+    /// Fails with `Prefix` if the site's cookie lacks what a browser asks of its name. Else fails with `Over` if the
+    /// session doesn't live at that time. Else fails with `TooLong` if its text is past the cipher's limits. In these
+    /// cases nothing is drawn. Else fails with `Generator` if the draw failed, with `TooLarge` if a browser wouldn't
+    /// store the cookie, and with `OutOfMemory`. The jar is then as it was.
+    pub fn save<R: TryRng>(
+        &self,
+        alloc: Global,
+        jar: &mut CookieJar,
+        session: &Session,
+        now: DateTime,
+        rng: &mut R,
+    ) -> Result<(), SessionError>
+        ensures ok { OnOk result ((nonce : List ℕ) × IsNonce nonce
+            × R.may_fill rng.old nonce rng.new
+            × (jar.new ≡ after (Add (saved_cookie self.now nonce now session.now)) jar.old)) }
+
+        // A browser stores it.
+        ensures fits { OnOk result (IfSome (view jar.new self.now.cookie.now.fields.name)
+            (λ cookie. browser_length cookie ≤ most_bytes)) }
+        ensures meets { OnOk result (meets_prefix self.now.cookie.now.fields ≡ true) }
+
+        // As long as the session lives, each request with this name and value opens it by the newest key.
+        ensures opens { OnOk result (IsStored self.now
+            (view jar.new self.now.cookie.now.fields.name)
+            (seen_at (second_of now) session.now)) }
+
+        // What is refused, and why.
+        ensures prefix { (¬ (meets_prefix self.now.cookie.now.fields ≡ true))
+            ↔ (result ≡ Err refusal.Prefix) }
+        ensures over { meets_prefix self.now.cookie.now.fields ≡ true
+            → (¬ (CanSave self.now now session.now)) ↔ (result ≡ Err refusal.Over) }
+        ensures lives { OnOk result (CanSave self.now now session.now) }
+        ensures too_long { CanSave self.now now session.now
+            → ¬ (result ≡ Err refusal.Prefix) → ¬ (result ≡ Err refusal.OutOfMemory)
+            → (¬ (CanSeal (bare_cookie self.now now session.now)))
+            ↔ (result ≡ Err refusal.TooLong) }
+        ensures within { OnOk result (CanSeal (bare_cookie self.now now session.now)) }
+        ensures undrawn { ¬ (CanSave self.now now session.now
+            × CanSeal (bare_cookie self.now now session.now)) → rng.new ≡ rng.old }
+        ensures failed { result ≡ Err refusal.Generator → R.Error }
+        ensures too_large { (size : ℕ) → result ≡ Err (refusal.TooLarge size)
+            → (most_bytes < size) × (nonce : List ℕ) × IsNonce nonce
+            × R.may_fill rng.old nonce rng.new
+            × (size ≡ browser_length (saved_cookie self.now nonce now session.now)) }
+
+        // After any refusal the jar is as it was.
+        ensures err { OnErr result (jar.new ≡ jar.old) }
+    {
+        if !meets_prefix(self.cookie) {
+            return Err(SessionError::Prefix);
+        }
+        let second = second_of(now);
+        if !session.is_alive(self.lifetime, self.idle, second, second) {
+            return Err(SessionError::Over);
+        }
+        let text = session.text_at(alloc, second)?;
+        let cookie = self.cookie_with(alloc, text, self.time_left(session.started(), second))?;
+        let sealed = jar.private(self.keys.newest()).encrypt(cookie, rng)?;
+        let size = browser_length(alloc, &sealed)?;
+        if size > MOST_BYTES {
+            return Err(SessionError::TooLarge(size));
+        }
+        jar.add(sealed)?;
+        Ok(())
+    }
+
+    /// Ends the session, at the time `now` in UTC: removes the site's cookie from the jar, with the path and the domain
+    /// that the site sets. A client that has the cookie is told to drop it. A copy of it stays open until the session's
+    /// limits.
+    ///
+    /// Fails only with `JarError::OutOfMemory`, and then leaves the jar as it was.
+    pub fn end(&self, alloc: Global, jar: &mut CookieJar, now: DateTime) -> Result<(), JarError>
+        ensures gives { Gives jar_refusal.OutOfMemory result (λ _.
+            jar.new ≡ after (Remove self.now.cookie.now.fields now) jar.old) }
+        ensures err { OnErr result (jar.new ≡ jar.old) }
+    {
+        jar.remove(self.cookie.clone(alloc)?, now)
+    }
+
+    // The seconds that a session lives that was saved now.
+    fn time_left(&self, started: u64, now: u64) -> u32
+        requires begun { started ≤ now }
+        requires young { now < started + self.now.lifetime }
+        ensures { result ≡ min (started + self.now.lifetime - now) self.now.idle }
+    {
+        let left = self.lifetime as u64 - (now - started);
+        left.min(self.idle as u64) as u32
+    }
+
+    // The site's cookie with that value, for that many seconds.
+    fn cookie_with(
+        &self,
+        alloc: Global,
+        text: String,
+        age: u32,
+    ) -> Result<Cookie<'static>, AllocError>
+        ensures { IfOk result (λ cookie. cookie.fields
+            ≡ session_cookie self.now.cookie.now.fields age (string_bytes text)) }
+    {
+        let mut cookie = self.cookie.clone(alloc)?;
+        cookie.set_value_owned(text);
+        cookie.set_max_age(Some(SignedDuration::from_secs(age as i64)));
+        cookie.unset_expires();
+        Ok(cookie)
+    }
+}
