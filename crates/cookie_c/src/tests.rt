@@ -34,8 +34,7 @@ verify session| -> 7
 open session| -> 8
 print-date 32 -> 10
 run 21 Oct -5 00:00:00 GMT| -> 11
-run Wed, 21 Oct 2015 07:28:00 GMT|x=1\\x0aadd a=1\\x0aadd bar\\x0a -> 12 3
-";
+run Wed, 21 Oct 2015 07:28:00 GMT|x=1\\x0aadd a=1\\x0aadd bar\\x0a -> 12 3";
 
 // Makes the call with the buffer.
 fn play(alloc: Global, call: &str, words: &str, out: &mut [u8]) -> Option<Answer> {

@@ -1,6 +1,6 @@
 //! A second body of the user agent over plain values (RFC 6265 5.3, 5.4).
 use call_steps::{Entry, FlatJar};
-use cookie::Cookie;
+use cookie::{Cookie, CookieJar};
 use cookie_client::JarCall;
 use std::alloc::{AllocError, Global};
 
@@ -39,20 +39,15 @@ impl Spot {
 
     // Whether the domain takes in the host.
     fn is_in(self, domain: &str) -> bool {
-        match self.host.as_bytes().strip_suffix(domain.as_bytes()) {
-            Some([]) => true,
-            Some([.., before]) => *before == b'.' && !self.url.starts_with("address"),
-            None => false,
-        }
+        let is_name = !self.url.starts_with("address");
+        let before = self.host.strip_suffix(domain);
+        before.is_some_and(|before| before.is_empty() || is_name && before.ends_with('.'))
     }
 
     // Whether its path is at or below the one of a cookie.
     fn is_below(self, path: &str) -> bool {
-        match self.path.as_bytes().strip_prefix(path.as_bytes()) {
-            Some([]) => true,
-            Some([next, ..]) => *next == b'/' || path.ends_with('/'),
-            None => false,
-        }
+        let rest = self.path.strip_prefix(path);
+        rest.is_some_and(|rest| rest.is_empty() || rest.starts_with('/') || path.ends_with('/'))
     }
 
     // The domain of a cookie and whether it is one host's alone, if the site may set it.
@@ -122,17 +117,38 @@ impl<'c> Held<'c> {
     }
 }
 
-/// Stored cookies in the order of their creation.
+/// Stored cookies in the order of their creation, and the numbers that choose the order in which changes are read.
 #[derive(Drop)]
 pub(super) struct PlainAgent<'c> {
-    alloc: Global,
+    pub(super) alloc: Global,
+    pick: [usize; 2],
     cookies: Vec<Held<'c>>,
 }
 
 impl<'c> PlainAgent<'c> {
-    pub(super) fn new(alloc: Global) -> PlainAgent<'c> {
-        let cookies = Vec::new(alloc);
-        PlainAgent { alloc, cookies }
+    pub(super) fn new(alloc: Global, pick: [usize; 2]) -> PlainAgent<'c> {
+        PlainAgent {
+            alloc,
+            pick,
+            cookies: Vec::new(alloc),
+        }
+    }
+
+    /// The names of the jar's delta, in the order in which their texts are read: the name that each number chooses of
+    /// those from its place on comes in that place.
+    pub(super) fn names_in_order<'a>(&self, jar: &'a CookieJar) -> Option<Vec<&'a str>> {
+        let mut names = Vec::new(self.alloc);
+        for cookie in jar.delta() {
+            names.push(cookie.name()).ok()?;
+        }
+        for (place, number) in self.pick.iter().enumerate() {
+            if place < names.len() {
+                let left = &mut names[place..];
+                let chosen = *number % left.len();
+                left[..=chosen].rotate_right(1);
+            }
+        }
+        Some(names)
     }
 
     // Puts a cookie in the place of the same one, or last.

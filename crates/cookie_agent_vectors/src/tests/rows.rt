@@ -15,11 +15,10 @@ fn is_right(alloc: Global, row: &'static str) -> Option<bool> {
 
 #[test]
 fn what_the_rows_say_is_so(rt: HostRuntime) {
-    for row in sites::ROWS
-        .lines()
-        .chain(stores::ROWS.lines())
-        .chain(requests::ROWS.split("\n# "))
-    {
+    for row in sites::ROWS.lines().chain(stores::ROWS.lines()) {
+        assert!(rt; is_right(rt.alloc(), row) == Some(true), "{row}");
+    }
+    for row in requests::ROWS.split("\n# ") {
         assert!(rt; is_right(rt.alloc(), row) == Some(true), "{row}");
     }
 }

@@ -65,8 +65,7 @@ originals name=val -> 0
 remove-scoped Wed, 21 Oct 2015 07:28:00 GMT|name|| -> 0
 get name -> 18
 delta -> 0 Set-Cookie: name=; Max-Age=0; Expires=Tue, 21 Oct 2014 07:28:00 GMT\\x0a
-free -> 0
-";
+free -> 0";
 
 // What the call on the handle answers: a status only, if it changes the jar.
 fn play(alloc: Global, jar: &mut Jar, call: &str, words: &str, out: &mut [u8]) -> Option<Answer> {

@@ -1,31 +1,9 @@
 //! Cookies printed from their parts.
 use super::rows::{is_answered, parts, word};
 use crate::attributes::Attributes;
-use crate::date::Moment;
+use crate::date::cookie_read_date;
 use crate::print::cookie_print;
 use std::alloc::Global;
-
-// One of each kind.
-const SET: Attributes = Attributes {
-    http_only: 1,
-    secure: 0,
-    partitioned: 1,
-    same_site: 2,
-    has_path: 1,
-    has_domain: 1,
-    has_max_age: 1,
-    has_expires: 1,
-    max_age: 90,
-    expires: Moment {
-        status: 0,
-        year: 1994,
-        month: 11,
-        day: 6,
-        hour: 8,
-        minute: 49,
-        second: 37,
-    },
-};
 
 // The domain is `.a.example`. What is printed is by the crate cookie, and what is refused by the header's words.
 const ROWS: &str = "\
@@ -38,27 +16,37 @@ plain \\xff|x|/|bad site and date -> 19
 plain \\xff|x|/|bad date -> 10
 plain \\xff|x|/|set -> 3
 plain id|x|\\xff|set -> 3
-plain id|x|\\xff|unset -> 0 id=x
-";
+plain id|x|\\xff|unset -> 0 id=x";
+
+// One attribute of each kind.
+fn set() -> Attributes {
+    Attributes {
+        http_only: 1,
+        partitioned: 1,
+        same_site: 2,
+        has_path: 1,
+        has_domain: 1,
+        has_max_age: 1,
+        has_expires: 1,
+        max_age: 90,
+        expires: cookie_read_date(b"Sun, 06 Nov 1994 08:49:37 GMT"),
+        ..Attributes::none()
+    }
+}
 
 // The attributes of that name.
 fn attributes(words: &str) -> Option<Attributes> {
-    let mut numbers = SET;
+    let mut numbers = set();
     match words {
         "set" => (),
         "unset" => numbers = Attributes::none(),
         "falsely" => {
             numbers = Attributes::none();
-            numbers.http_only = 2;
-            numbers.secure = 2;
-            numbers.same_site = 3;
+            (numbers.http_only, numbers.secure, numbers.same_site) = (2, 2, 3);
         }
         "bad flag" => numbers.secure = 3,
         "bad date" => numbers.expires.month = 13,
-        "bad site and date" => {
-            numbers.same_site = 4;
-            numbers.expires.month = 13;
-        }
+        "bad site and date" => (numbers.same_site, numbers.expires.month) = (4, 13),
         _ => return None,
     }
     Some(numbers)

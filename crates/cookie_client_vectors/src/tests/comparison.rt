@@ -55,18 +55,14 @@ fn are_alike(alloc: Global, lists: &[Vec<JarCall<'_>>], pick: &[usize]) -> Optio
     Some(lists.len() == played.len())
 }
 
-// Up to four lists of up to 23 calls.
-fn lists(alloc: Global, draws: &mut Draws) -> Option<Vec<Vec<JarCall<'static>>>> {
+// The same of up to four lists of up to 23 calls, which are drawn.
+fn is_next_alike(alloc: Global, draws: &mut Draws) -> Option<bool> {
+    let pick = [draws.next() as usize, draws.next() as usize];
     let mut lists = Vec::new(alloc);
     for _ in 0..draws.below(5) {
         lists.push(draws.calls(alloc, TABLES, 24)?).ok()?;
     }
-    Some(lists)
-}
-
-fn is_next_alike(alloc: Global, draws: &mut Draws) -> Option<bool> {
-    let pick = [draws.next() as usize, draws.next() as usize];
-    are_alike(alloc, &lists(alloc, draws)?, &pick)
+    are_alike(alloc, &lists, &pick)
 }
 
 #[test]

@@ -36,18 +36,6 @@ pub(super) fn is_fault(alloc: Global, row: &str) -> Option<bool> {
     Some(is_named && status.parse() == Ok(fault.status()) && prints(alloc, &fault, text))
 }
 
-#[test]
-fn no_flag_changes_a_text_or_the_name_of_a_variant(rt: HostRuntime) {
-    let alloc = rt.alloc();
-    let refusal = ClientError::OutOfMemory;
-    assert!(rt; prints(alloc, &refusal, "out of memory"));
-    assert!(rt; debugs(alloc, &refusal, "OutOfMemory"));
-    assert!(rt; debugs(alloc, &PrefixKind::Host, "Host"));
-    assert!(rt; debugs(alloc, &PrefixKind::Secure, "Secure"));
-    let copy: Result<_, _> = refusal.clone();
-    assert!(rt; copy == Ok(refusal));
-}
-
 // The number of a bad line heeds the flags; a precision says nothing of a whole number.
 const BAD_LINE: &str = "\
 BadLine(7)|# BadLine(\n    7,\n)|+ BadLine(+7)|> BadLine(               7)|< BadLine(7               )|\
@@ -55,6 +43,14 @@ BadLine(7)|# BadLine(\n    7,\n)|+ BadLine(+7)|> BadLine(               7)|< Bad
 in BadLine(\n        7,\n    )";
 
 #[test]
-fn the_number_of_a_bad_line_heeds_the_flags(rt: HostRuntime) {
-    assert!(rt; debugs(rt.alloc(), &RunError::BadLine(7), BAD_LINE));
+fn no_flag_changes_a_text_or_a_name_but_the_number_of_a_bad_line(rt: HostRuntime) {
+    let alloc = rt.alloc();
+    let refusal = ClientError::OutOfMemory;
+    assert!(rt; prints(alloc, &refusal, "out of memory"));
+    assert!(rt; debugs(alloc, &refusal, "OutOfMemory"));
+    assert!(rt; debugs(alloc, &PrefixKind::Host, "Host"));
+    assert!(rt; debugs(alloc, &PrefixKind::Secure, "Secure"));
+    assert!(rt; debugs(alloc, &RunError::BadLine(7), BAD_LINE));
+    let copy: Result<_, _> = refusal.clone();
+    assert!(rt; copy == Ok(refusal));
 }

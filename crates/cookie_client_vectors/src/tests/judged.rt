@@ -1,10 +1,9 @@
-//! Which calls are fit, and which are changes.
+//! Which calls are fit, so that a client can follow them, and which are changes.
 use call_steps::call_of;
 use jar_steps::test_key;
 use jiff::civil::DateTime;
 use std::alloc::Global;
 
-// Which calls a client can follow, and which are changes.
 pub(super) const ROWS: &str = "\
 judge a session's cookie: [add a=1] -> fit change
 judge its expiry set: [add a=1; Expires=session] -> fit change

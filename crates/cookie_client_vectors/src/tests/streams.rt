@@ -3,12 +3,7 @@ use super::MOMENT;
 use super::sessions::has_text;
 use cookie_client::run;
 use std::alloc::{AllocError, Global};
-use std::io;
-use std::io::{Read, Write};
-
-fn fault() -> io::Error {
-    io::Error::from(io::ErrorKind::BrokenPipe)
-}
+use std::io::{self, Read, Write};
 
 // A reader that gives its text by one byte a call, and fails after this many calls.
 #[derive(Drop)]
@@ -20,7 +15,7 @@ struct FailingReader<'t> {
 impl<'t> Read for FailingReader<'t> {
     fn read(&mut self, buf: &mut [u8]) -> io::Result<usize> {
         if self.left == 0 || buf.is_empty() {
-            return Err(fault());
+            return Err(io::Error::from(io::ErrorKind::BrokenPipe));
         }
         self.left -= 1;
         match self.text.split_first() {
@@ -52,7 +47,7 @@ impl ShortWriter {
 impl Write for ShortWriter {
     fn write(&mut self, buf: &[u8]) -> io::Result<usize> {
         if self.left == 0 || buf.is_empty() {
-            return Err(fault());
+            return Err(io::Error::from(io::ErrorKind::BrokenPipe));
         }
         let part = buf.get(..self.most).unwrap_or(buf);
         self.taken.extend_from_slice(part)?;

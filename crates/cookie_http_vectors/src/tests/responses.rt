@@ -15,14 +15,13 @@ fn is_answer(alloc: Global, cookie: Cookie<'static>, wanted: &str) -> Option<boo
     let mut headers = fields_of(alloc, "Set-Cookie: z=0; Path=/")?;
     let mut jar = CookieJar::new(alloc);
     jar.add(cookie).ok()?;
-    match append_delta(alloc, &jar, &mut headers) {
-        Ok(()) if wanted == "taken" => Some(true),
-        Ok(()) => Some(has_values(&headers, "set-cookie", &["z=0; Path=/", wanted])),
-        Err(HttpError::InvalidValue) => {
-            Some(wanted == "refused" && has_values(&headers, "set-cookie", &["z=0; Path=/"]))
-        }
-        Err(_) => None,
-    }
+    let told = append_delta(alloc, &jar, &mut headers);
+    let is_refused = told == Err(HttpError::InvalidValue);
+    Some(match wanted {
+        "taken" => told.is_ok(),
+        "refused" => is_refused && has_values(&headers, "set-cookie", &["z=0; Path=/"]),
+        _ => told.is_ok() && has_values(&headers, "set-cookie", &["z=0; Path=/", wanted]),
+    })
 }
 
 // Whether a path and a domain with the row's text are taken or refused, as it says.
@@ -66,21 +65,18 @@ fn is_pair_printed(alloc: Global, row: &'static str) -> Option<bool> {
 }
 
 // A name and a value, and the field.
-const PAIRS: &str = "\
-SID=31d4d96e407aad42 | SID=31d4d96e407aad42; Secure; Path=/; Domain=example.com
-
-lang= | lang=; Secure; Path=/; Domain=example.com
-
-a=\r\nb=2 | a=%0D%0Ab%3D2; Secure; Path=/; Domain=example.com
-
-\0=\u{e9} | %00=%C3%A9; Secure; Path=/; Domain=example.com
-
-a b=1; 2 | a%20b=1%3B%202; Secure; Path=/; Domain=example.com";
+const PAIRS: [&str; 5] = [
+    "SID=31d4d96e407aad42 | SID=31d4d96e407aad42; Secure; Path=/; Domain=example.com",
+    "lang= | lang=; Secure; Path=/; Domain=example.com",
+    "a=\r\nb=2 | a=%0D%0Ab%3D2; Secure; Path=/; Domain=example.com",
+    "\0=\u{e9} | %00=%C3%A9; Secure; Path=/; Domain=example.com",
+    "a b=1; 2 | a%20b=1%3B%202; Secure; Path=/; Domain=example.com",
+];
 
 // RFC 6265 4.1.1, with the escapes of RFC 3986 2.1
 #[test]
 fn a_response_has_these_fields(rt: HostRuntime) {
-    for row in PAIRS.split("\n\n") {
+    for row in PAIRS {
         assert!(rt; is_pair_printed(rt.alloc(), row) == Some(true), "{row:?}");
     }
     let wrong = "a=1 | a=2; Secure; Path=/; Domain=example.com";
