@@ -107,15 +107,11 @@ impl<'c> FlatJar<'c> {
         self.changes.find(name).or(original)?.value()
     }
 
-    // Whether the jar has the same change of the name, if any, and shows the same under it. The value of a removal is
-    // empty.
+    // Whether the jar has the same change of the name, if any, and shows the same under it.
     fn is_like_at(&self, jar: &CookieJar, name: &str) -> bool {
-        let change = jar.delta().find(|cookie| cookie.name() == name);
-        let wanted = self.changes.find(name);
-        let shown = jar.iter().find(|cookie| cookie.name() == name);
-        shown_value(jar, name) == self.get(name)
-            && shown.map(|cookie| cookie.value()) == self.get(name)
-            && change.map(|cookie| cookie.value()) == wanted.map(|held| held.value().unwrap_or(""))
+        let change = self.changes.find(name);
+        let change = change.map(|held| held.value().unwrap_or(""));
+        walked(jar, name) == (change, self.get(name)) && shown_value(jar, name) == self.get(name)
     }
 
     /// Whether the jar has the same changes and shows the same, by its walks and by its look-ups. The names are all
@@ -125,4 +121,20 @@ impl<'c> FlatJar<'c> {
         counts(jar) == (self.changes.list.len(), shown.count())
             && names.split('|').all(|name| self.is_like_at(jar, name))
     }
+}
+
+// What walks over the jar's changes and over what it shows come to under the name. The value of a removal is empty.
+fn walked<'a>(jar: &'a CookieJar, name: &str) -> (Option<&'a str>, Option<&'a str>) {
+    let (mut change, mut shown) = (None, None);
+    for cookie in jar.delta() {
+        if cookie.name() == name {
+            change = Some(cookie.value());
+        }
+    }
+    for cookie in jar.iter() {
+        if cookie.name() == name {
+            shown = Some(cookie.value());
+        }
+    }
+    (change, shown)
 }
