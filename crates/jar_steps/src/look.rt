@@ -1,4 +1,4 @@
-use cookie::{Cookie, CookieJar};
+use cookie::CookieJar;
 use std::alloc::Global;
 
 /// The value that the jar shows under a name.
@@ -17,9 +17,14 @@ fn are_counts(jar: &CookieJar, words: &str) -> Option<bool> {
     Some(counts(jar) == (changes.parse().ok()?, shown.parse().ok()?))
 }
 
-// Whether the cookie is printed, with its escapes, as the text.
-fn is_told(alloc: Global, cookie: &Cookie<'_>, text: &str) -> bool {
-    matches!(cookie.encoded().to_string(alloc), Ok(told) if told.as_str() == text)
+// Whether a cookie of the delta is printed, with its escapes, as the text.
+fn is_told(alloc: Global, jar: &CookieJar, text: &str) -> bool {
+    for cookie in jar.delta() {
+        if matches!(cookie.encoded().to_string(alloc), Ok(told) if told.as_str() == text) {
+            return true;
+        }
+    }
+    false
 }
 
 /// What a jar has to show: a word such as `shows`, and what follows it.
@@ -41,7 +46,7 @@ impl Look {
         match (self.word, self.rest.split_once('=')) {
             ("counts", _) => are_counts(jar, self.rest) == Some(true),
             ("lacks", _) => shown_value(jar, self.rest).is_none(),
-            ("tells", _) => jar.delta().any(|cookie| is_told(alloc, cookie, self.rest)),
+            ("tells", _) => is_told(alloc, jar, self.rest),
             (_, Some((name, value))) => shown_value(jar, name) == Some(value),
             _ => false,
         }

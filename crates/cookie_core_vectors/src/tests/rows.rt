@@ -30,7 +30,7 @@ fn is_read(text: &str, look: Look<'_>) -> Option<bool> {
 
 // Whether each item is seen as wanted, as in `[a=1][no name]`, and no more are wanted.
 fn are_items(items: SplitCookies<'_>, is_own: bool, look: Look<'_>) -> bool {
-    let mut wanted = look.answer.split_terminator(']');
+    let mut wanted = look.seen.split_terminator(']');
     for item in items {
         let one = look.of(wanted.next().unwrap_or("").trim_start_matches('['));
         let one = if is_own { one.of_own() } else { one };
@@ -57,14 +57,14 @@ fn is_split_decoded(text: &str, look: Look<'_>) -> Option<bool> {
 
 // Whether the cookie compares so with that of `WAY [TEXT]`.
 fn is_compared(one: &Cookie<'_>, look: Look<'_>) -> Option<bool> {
-    let (way, text) = look.answer.strip_suffix("]")?.split_once(" [")?;
+    let (way, text) = look.seen.strip_suffix("]")?.split_once(" [")?;
     let other = made(look.alloc, way, text)?;
     Some((*one == other, *one != other) == (look.verb == "==", look.verb == "!="))
 }
 
 // Whether the builder is printed as its cookie.
 fn is_built(text: &str, look: Look<'_>) -> Option<bool> {
-    Some(prints(look.alloc, &builder(look.alloc, text)?, look.answer))
+    Some(prints(look.alloc, &builder(look.alloc, text)?, look.seen))
 }
 
 // Whether what the way makes of the text is seen so.

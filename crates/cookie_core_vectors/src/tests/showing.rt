@@ -10,13 +10,13 @@ fn is_text(shown: Result<String, AllocError>, text: &str) -> bool {
 
 // Whether the refusal is told so, or has this text.
 fn is_refused(refusal: ParseError, look: Look<'_>) -> bool {
-    let place = look.answer.strip_prefix("no UTF-8 from ");
+    let place = look.seen.strip_prefix("no UTF-8 from ");
     match (look.verb, refusal, place) {
         ("prints", _, _) => {
-            refusal.as_str() == look.answer && prints(look.alloc, &refusal, look.answer)
+            refusal.as_str() == look.seen && prints(look.alloc, &refusal, look.seen)
         }
-        (_, ParseError::MissingPair, _) => look.answer == "no pair",
-        (_, ParseError::EmptyName, _) => look.answer == "no name",
+        (_, ParseError::MissingPair, _) => look.seen == "no pair",
+        (_, ParseError::EmptyName, _) => look.seen == "no name",
         (_, ParseError::Utf8Error(fault), Some(place)) => {
             refusal == ParseError::from(fault) && place.parse() == Ok(fault.valid_up_to())
         }
@@ -53,46 +53,42 @@ fn is_trimmed(alloc: Global, cookie: &Cookie<'_>, texts: &str) -> bool {
 pub(super) struct Look<'a> {
     pub(super) alloc: Global,
     pub(super) verb: &'a str,
-    pub(super) answer: &'a str,
+    pub(super) seen: &'a str,
 }
 
 impl<'a> Look<'a> {
     /// The look that the words say, such as `has a=1`.
     pub(super) fn parse(alloc: Global, words: &'a str) -> Option<Look<'a>> {
-        let (verb, answer) = words.split_once(' ')?;
-        Some(Look {
-            alloc,
-            verb,
-            answer,
-        })
+        let (verb, seen) = words.split_once(' ')?;
+        Some(Look { alloc, verb, seen })
     }
 
     /// The same look at a cookie that keeps its texts, and so lends none.
     pub(super) fn of_own(self) -> Look<'a> {
-        if self.verb == "lends" && self.answer.contains('|') {
+        if self.verb == "lends" && self.seen.contains('|') {
             return self.of("-|-|-|-");
         }
         self
     }
 
     /// The same look, at which this is to be seen.
-    pub(super) fn of(self, answer: &'a str) -> Look<'a> {
-        Look { answer, ..self }
+    pub(super) fn of(self, seen: &'a str) -> Look<'a> {
+        Look { seen, ..self }
     }
 
     // Whether the cookie is seen so.
     fn shows(self, cookie: &Cookie<'_>) -> bool {
-        let (alloc, answer) = (self.alloc, self.answer);
+        let (alloc, seen) = (self.alloc, self.seen);
         match self.verb {
-            "has" => has(cookie, answer),
-            "lends" => lends(cookie, answer),
-            "trims" => is_trimmed(alloc, cookie, answer),
-            "debugs" => is_text(format!(in alloc; "{cookie:?}"), answer),
-            "prints" => prints(alloc, cookie, answer),
-            "prints-encoded" => prints(alloc, &cookie.encoded(), answer),
-            "prints-stripped" => prints(alloc, &cookie.stripped(), answer),
-            "prints-encoded-stripped" => prints(alloc, &cookie.encoded().stripped(), answer),
-            "prints-stripped-encoded" => prints(alloc, &cookie.stripped().encoded(), answer),
+            "has" => has(cookie, seen),
+            "lends" => lends(cookie, seen),
+            "trims" => is_trimmed(alloc, cookie, seen),
+            "debugs" => is_text(format!(in alloc; "{cookie:?}"), seen),
+            "prints" => prints(alloc, cookie, seen),
+            "prints-encoded" => prints(alloc, &cookie.encoded(), seen),
+            "prints-stripped" => prints(alloc, &cookie.stripped(), seen),
+            "prints-encoded-stripped" => prints(alloc, &cookie.encoded().stripped(), seen),
+            "prints-stripped-encoded" => prints(alloc, &cookie.stripped().encoded(), seen),
             _ => false,
         }
     }

@@ -82,11 +82,6 @@ fn opens(player: &mut Player, kind: &str, row: &'static str) -> Option<bool> {
     Some(are(&answers, &Some(wanted)))
 }
 
-fn refuses(player: &mut Player, kind: &str, words: &'static str) -> Option<bool> {
-    let answers = open(player, kind, cookie_words::cookie(words)?)?;
-    Some(are(&answers, &None))
-}
-
 // Whether what they answer under the name, and make of the stored cookie, lends these parts, as in `a a|-|/|-`.
 fn are_all_lent(player: &mut Player, kind: &str, row: &str) -> Option<bool> {
     let (name, parts) = row.split_once(' ')?;
@@ -121,7 +116,7 @@ pub(super) fn play(player: &mut Player, kind: &str, step: &'static str) -> Optio
         "shows" => shows(player, kind, rest),
         "lacks" => Some(are(&get(player, kind, rest), &None)),
         "opens" => opens(player, kind, rest),
-        "refuses" => refuses(player, kind, rest),
+        "refuses" => Some(are(&open(player, kind, cookie_words::cookie(rest)?)?, &None)),
         "parse" => add_text(player, kind, rest),
         "lends" => are_all_lent(player, kind, rest),
         "brittle" => secrets::is_brittle(player, kind, rest),

@@ -31,8 +31,13 @@ fn filled(alloc: Global, mut jar: CookieJar) -> Option<CookieJar> {
 
 // Whether each name is found among the changes and among the originals.
 fn are_found(jar: &CookieJar) -> bool {
-    let mut changes = jar.delta();
-    changes.all(|one| jar.get(one.name()).is_some() && jar.original(one.name()).is_some())
+    for cookie in jar.delta() {
+        let name = cookie.name();
+        if jar.get(name).is_none() || jar.original(name).is_none() {
+            return false;
+        }
+    }
+    true
 }
 
 // The least time of this many tries to find them all.

@@ -6,13 +6,28 @@ use jar_steps::counts;
 use std::alloc::Global;
 use std::mem;
 
-// Whether the delta, or else the walk over the jar, has a cookie with all fields of the words.
-fn has(jar: &CookieJar, is_in_delta: bool, words: &str) -> Option<bool> {
-    let wanted = cookie_words::cookie(words)?;
-    if is_in_delta {
-        return Some(jar.delta().any(|cookie| is(cookie, &wanted)));
+// Whether the delta, or else the walk over the jar, has a cookie with all fields of the wanted one.
+fn has(jar: &CookieJar, is_in_delta: bool, wanted: &Cookie<'_>) -> bool {
+    for cookie in jar.delta() {
+        if is_in_delta && is(cookie, wanted) {
+            return true;
+        }
     }
-    Some(jar.iter().any(|cookie| is(cookie, &wanted)))
+    for cookie in jar.iter() {
+        if !is_in_delta && is(cookie, wanted) {
+            return true;
+        }
+    }
+    false
+}
+
+// Adds a cookie that is read, as an original or as a change.
+fn is_added(jar: &mut CookieJar, is_original: bool, text: &'static str) -> bool {
+    match Cookie::parse(text) {
+        Ok(cookie) if is_original => jar.add_original(cookie).is_ok(),
+        Ok(cookie) => jar.add(cookie).is_ok(),
+        Err(_) => false,
+    }
 }
 
 // Puts a clone in the jar's place, once the jar has lost its changes and that original, and shows this many.
@@ -61,11 +76,11 @@ fn is_read(alloc: Global, jar: &mut CookieJar, verb: &str, text: &str) -> Option
 pub(super) fn play(player: &mut Player, verb: &str, rest: &'static str) -> Option<bool> {
     let (alloc, jar) = (player.alloc, &mut player.jar);
     match verb {
-        "changed" => has(jar, true, rest),
-        "meets" => has(jar, false, rest),
+        "changed" => Some(has(jar, true, &cookie_words::cookie(rest)?)),
+        "meets" => Some(has(jar, false, &cookie_words::cookie(rest)?)),
         "clone" => is_cloned(jar, rest),
-        "parse" => Some(jar.add(Cookie::parse(rest).ok()?).is_ok()),
-        "parse-original" => Some(jar.add_original(Cookie::parse(rest).ok()?).is_ok()),
+        "parse" => Some(is_added(jar, false, rest)),
+        "parse-original" => Some(is_added(jar, true, rest)),
         "lends" => is_lent(jar, rest),
         "debugs" => Some(format!(in alloc; "{jar:?}").ok()?.as_str() == rest),
         "texts" => Some(jar.set_cookie_texts().ok()?.len() == rest.parse().ok()?),

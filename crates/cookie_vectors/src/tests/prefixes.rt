@@ -65,25 +65,20 @@ fn made<P: Prefix>(alloc: Global, verb: &str, text: &'static str) -> Option<Cook
     }
 }
 
-// Whether it has all these fields and lends these parts of its text, as in `a=1 -> a=1; Path=/ lends a|1|-|-`.
-fn is_made<P: Prefix>(alloc: Global, verb: &str, row: &'static str) -> Option<bool> {
-    let (text, wanted) = row.split_once(" -> ")?;
+// Whether that has all these fields and lends these parts of its text, as in `a=1; Path=/ lends a|1|-|-`.
+fn is_made<P: Prefix>(alloc: Global, verb: &str, text: &'static str, wanted: &str) -> Option<bool> {
     let (words, parts) = wanted.split_once(" lends ")?;
     let cookie = made::<P>(alloc, verb, text)?;
     Some(is(&cookie, &cookie_words::cookie(words)?) && lends(&cookie, parts))
 }
 
-fn is_named<P: Prefix>(alloc: Global, row: &str) -> Option<bool> {
-    let (name, wanted) = row.split_once(" -> ")?;
-    Some(P::prefixed_name(alloc, name).ok()?.as_str() == wanted)
-}
-
 // Whether the prefix begins so, or makes of a name or of a text's cookie what it has to.
 fn makes<P: Prefix>(alloc: Global, verb: &str, rest: &'static str) -> Option<bool> {
+    let (text, wanted) = rest.split_once(" -> ").unwrap_or((rest, ""));
     match verb {
         "begins" => Some(P::PREFIX.as_str() == rest),
-        "names" => is_named::<P>(alloc, rest),
-        _ => is_made::<P>(alloc, verb, rest),
+        "names" => Some(P::prefixed_name(alloc, text).ok()?.as_str() == wanted),
+        _ => is_made::<P>(alloc, verb, text, wanted),
     }
 }
 
