@@ -90,21 +90,26 @@ fn is_alike<'c>(plain: &mut PlainAgent<'c>, request: &'c Drawn, one: &Visited) -
     Some(is_begun && is_like && !one.outcomes.contains(&false))
 }
 
-// Whether up to five requests that are drawn come to the same with both bodies.
+// Whether this many of five requests come to the same with both bodies.
+fn are_alike<'c>(alloc: Global, five: &'c [Drawn], count: usize, pick: [usize; 2]) -> Option<bool> {
+    let visited = visit(alloc, five, count, &pick)?;
+    let mut plain: PlainAgent<'c> = PlainAgent::new(alloc, pick);
+    for (request, one) in five.iter().zip(&visited) {
+        if !is_alike(&mut plain, request, one)? {
+            return Some(false);
+        }
+    }
+    Some(visited.len() == count)
+}
+
+// The same of requests that are drawn.
 fn is_list_alike(alloc: Global, draws: &mut Draws) -> Option<bool> {
     let (count, pick) = (draws.below(6), [draws.below(8), draws.below(8)]);
     let mut requests = Vec::new(alloc);
     for _ in 0..5 {
         requests.push(Drawn::draw(alloc, draws)?).ok()?;
     }
-    let visited = visit(alloc, &requests, count, &pick)?;
-    let mut plain = PlainAgent::new(alloc, pick);
-    for (request, one) in requests.iter().zip(&visited) {
-        if !is_alike(&mut plain, request, one)? {
-            return Some(false);
-        }
-    }
-    Some(visited.len() == count)
+    are_alike(alloc, &requests, count, pick)
 }
 
 #[test]

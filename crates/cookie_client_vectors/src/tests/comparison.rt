@@ -16,8 +16,8 @@ const TABLES: Tables = Tables {
 };
 
 // Whether the calls on a new jar leave it, and a clone of it, like the flat one.
-fn is_replayed_alike(alloc: Global, calls: &[JarCall<'_>]) -> Option<bool> {
-    let mut flat = FlatJar::new(alloc);
+fn is_replayed_alike<'c>(alloc: Global, calls: &'c [JarCall<'_>]) -> Option<bool> {
+    let mut flat: FlatJar<'c> = FlatJar::new(alloc);
     flat.replay(calls).ok()?;
     let mut jar = CookieJar::new(alloc);
     let outcomes = replay(alloc, &mut jar, calls).ok()?;

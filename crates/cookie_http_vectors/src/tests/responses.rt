@@ -49,19 +49,15 @@ fn no_field_is_split(rt: HostRuntime) {
     }
 }
 
-// The cookie of this name and value with a path, a domain and a flag.
-fn scoped(name: &'static str, value: &'static str) -> Cookie<'static> {
-    let cookie = CookieBuilder::new(name, value)
-        .path("/")
-        .domain("example.com");
-    cookie.secure(true).build()
-}
-
-// Whether such a cookie is printed as the row says.
+// Whether a cookie of the row's name and value with a path, a domain and a flag is printed as it says.
 fn is_pair_printed(alloc: Global, row: &'static str) -> Option<bool> {
     let (pair, text) = row.split_once(" | ")?;
     let (name, value) = pair.split_once('=')?;
-    is_answer(alloc, scoped(name, value), text)
+    let mut cookie = Cookie::new(name, value);
+    cookie.set_path("/");
+    cookie.set_domain("example.com");
+    cookie.set_secure(Some(true));
+    is_answer(alloc, cookie, text)
 }
 
 // A name and a value, and the field.
@@ -124,12 +120,11 @@ fn a_full_map_is_told(rt: HostRuntime) {
 
 // Whether the response of a jar whose original was removed as it was set has this field alone.
 fn is_removed(alloc: Global, field: &str) -> Option<bool> {
-    let set = CookieBuilder::new("a", "1")
-        .path("/shop")
-        .domain("example.com");
+    let set = CookieBuilder::new("a", "1").path("/shop");
+    let set = set.domain("example.com").build();
     let mut jar = CookieJar::new(alloc);
     jar.add_original(Cookie::new("a", "1")).ok()?;
-    remove_as_set(alloc, &mut jar, &set.build(), moment()).ok()?;
+    remove_as_set(alloc, &mut jar, &set, moment()).ok()?;
     let mut headers = HeaderMap::new(alloc);
     append_delta(alloc, &jar, &mut headers).ok()?;
     Some(has_values(&headers, "set-cookie", &[field]))
