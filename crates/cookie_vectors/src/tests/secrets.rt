@@ -2,24 +2,20 @@
 use super::children::open;
 use super::player::Player;
 use base64::engine::general_purpose::STANDARD;
-use cookie::Cookie;
 use std::alloc::Global;
 
-// Whether the cookie is opened with its own value, and isn't with a text in the place of this many characters.
-fn is_found(
-    player: &mut Player,
-    kind: &str,
-    mut cookie: Cookie<'static>,
-    place: usize,
-    length: usize,
-    other: &str,
-) -> Option<bool> {
-    let value = cookie.value();
+// The value with a text in the place of this many characters.
+fn damage(alloc: Global, value: &str, place: usize, length: usize, other: &str) -> Option<String> {
     let front = value.get(..place).unwrap_or("");
     let back = value.get(place.saturating_add(length)..).unwrap_or("");
-    let damaged = format!(in player.alloc; "{front}{other}{back}").ok()?;
-    let is_whole = damaged.as_str() == value;
-    cookie.set_value_owned(damaged);
+    format!(in alloc; "{front}{other}{back}").ok()
+}
+
+// Whether the cookie of the words is opened with the value where that is its own, and isn't where it is damaged.
+fn is_found(player: &mut Player, kind: &str, words: &'static str, value: String) -> Option<bool> {
+    let mut cookie = cookie_words::cookie(words)?;
+    let is_whole = value.as_str() == cookie.value();
+    cookie.set_value_owned(value);
     match open(player, kind, cookie)? {
         (Ok(one), Ok(two)) => Some((one.is_some(), two.is_some()) == (is_whole, is_whole)),
         _ => None,
@@ -32,11 +28,12 @@ const OTHERS: &str = "|A|!|_| |=|\n|\u{e9}";
 
 /// Whether the cookie is opened, and isn't with a text put in, in the place of one character, or in that of the rest.
 pub(super) fn is_brittle(player: &mut Player, kind: &str, words: &'static str) -> Option<bool> {
+    let (_, value) = words.split_once('=')?;
     for other in OTHERS.split('|') {
-        for place in 0..=words.len() {
+        for place in 0..=value.len() {
             for length in [0, 1, 100] {
-                let cookie = cookie_words::cookie(words)?;
-                if !is_found(player, kind, cookie, place, length, other)? {
+                let damaged = damage(player.alloc, value, place, length, other)?;
+                if !is_found(player, kind, words, damaged)? {
                     return Some(false);
                 }
             }
