@@ -92,9 +92,9 @@ fn is_answered(alloc: Global, response: &Response, steps: &str) -> Option<bool> 
 }
 
 // Whether the row's request is answered as it says: `plain GET / | cookies a=b | is 200 | has Hello`. It goes to a site
-// of the users `ann` and `<b>bo</b>`: a method and a path, after `plain` where the connection isn't secure, and `cookies`,
-// where each letter is one byte, and `form`. The answer has the status (`is`), the user who is greeted (`greets`), the
-// text of each `Set-Cookie` field (`sets`), and a part or a line of the response's text (`has`, `line`).
+// of the users `ann` and `<b>bo</b>`: a method and a path, after `plain` where the connection isn't secure, and
+// `cookies`, where each letter is one byte, and `form`. The answer has the status (`is`), the user who is greeted
+// (`greets`), the text of each `Set-Cookie` field (`sets`), and a part or a line of the response's text (`has`, `line`).
 fn is_right(alloc: Global, state: RandomState, row: &str) -> Option<bool> {
     let row = spelled(alloc, row).ok()?;
     let (head, steps) = row.as_str().split_once(" | ")?;

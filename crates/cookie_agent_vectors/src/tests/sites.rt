@@ -7,9 +7,9 @@ use std::alloc::Global;
 
 // Questions of a site, and its answers. `path` asks whether a cookie's path, the last, takes in the one of a request,
 // and `scope` and `host` what the site gives to a cookie with the attributes or to the whole host: a domain, whether it
-// is one host, and a path. A cookie of `http://www.example.com/a/b` with the attributes is sent to the site (`reached`),
-// and an addition for the domain `Example.com` is in its scope there (`scoped`), as a call is in the whole host's
-// (`whole`).
+// is one host, and a path. A cookie of `http://www.example.com/a/b` with the attributes is sent to the site
+// (`reached`), and an addition for the domain `Example.com` is in its scope there (`scoped`), as a call is in the whole
+// host's (`whole`).
 pub(super) const ROWS: &str = "\
 domains: on http://www.example.com/a/b | domain www.example.com -> true | domain example.com -> true | domain com -> \
     true | domain ample.com -> false | domain .example.com -> false | domain example.com. -> false | \

@@ -1,4 +1,4 @@
-//! Reading with and without decoding. The answers are from RFC 6265 4.2.1 and 5.2, RFC 3629 3 and RFC 3986 2.1, by hand.
+//! Reading, with decoding and without. The answers are by hand from RFC 6265 4.2.1 and 5.2, RFC 3629 and RFC 3986 2.1.
 use super::rows::holds;
 use crate::decoded::{cookie_next_pair_decoded, cookie_read_decoded};
 use crate::pair::cookie_next_pair;
