@@ -1,5 +1,5 @@
 -- What a jar shows once a session was saved.
-use Rattle.std.proofs.Common.{◌≡◌, ℕ, ◌≤◌, ◌<◌, List, length, Some, IfSome, sym, ap, subst, ◌∙◌}
+use Rattle.std.proofs.Common.{◌≡◌, ℕ, ◌<◌, List, length, Some, IfSome, sym, ap, subst, ◌∙◌}
 use Rattle.cookie.specs.Jar.{Add, JarState, after, view}
 use Rattle.cookie.specs.Keys.{encryption_half}
 use Rattle.cookie.specs.Record.{Record}
@@ -16,8 +16,8 @@ module _ (sealed : Record) (name : List ℕ) (named : sealed.name ≡ name) (old
   shown : view new name ≡ Some sealed
   shown = ap (λ (j : JarState). view j name) added ∙ ap (view (after (Add sealed) old)) (sym named) ∙ view-stored old sealed
 
-  pub shown_fits : (size : Record → ℕ) (most : ℕ) → size sealed ≤ most → IfSome (view new name) (λ cookie. size cookie ≤ most)
-  shown_fits size most fits = subst (λ o. IfSome o (λ cookie. size cookie ≤ most)) (sym shown) fits
+  pub shown_is : (Is : Record → Type 0) → Is sealed → IfSome (view new name) Is
+  shown_is Is is = subst (λ o. IfSome o Is) (sym shown) is
 
   -- and that holds the session
   pub shown_stored : (site : Sessions) (s : SessionState) → IsSession s → 0 < length site.keys.now

@@ -2,6 +2,7 @@
 ghost use Rattle.std.specs.Prelude.{◌≡◌, ◌↔◌, ◌<◌, ◌≤◌, ◌-◌, ◌+◌, min, true, ℕ, List, Some, Err, IfOk, IfSome, OnOk, OnErr, string_bytes};
 ghost use Rattle.cookie.specs.Jar.{Add, Remove, after, view};
 ghost use Rattle.cookie.specs.Memory.{Gives};
+ghost use Rattle.cookie.specs.Record.{IsCookie};
 ghost use Rattle.cookie.specs.Sealing.{CanSeal, IsNonce};
 ghost use Rattle.cookie.specs.declared.jar_error.JarError.TheVariants as jar_refusal;
 ghost use Rattle.cookie_session.specs.Seconds.{second_of};
@@ -94,6 +95,10 @@ impl<'a> Sessions<'a> {
         ensures fits { OnOk result (IfSome (view jar.new self.now.cookie.now.fields.name)
             (λ cookie. browser_length cookie ≤ most_bytes)) }
         ensures meets { OnOk result (meets_prefix self.now.cookie.now.fields ≡ true) }
+
+        // Its texts are UTF-8, and its age is one that a duration can have.
+        ensures cookie { OnOk result (IfSome (view jar.new self.now.cookie.now.fields.name)
+            IsCookie) }
 
         // As long as the session lives, each request with this name and value opens it by the newest key.
         ensures opens { OnOk result (IsStored self.now

@@ -1,5 +1,6 @@
 //! The size of a cookie as a browser counts it.
 ghost use Rattle.std.specs.Prelude.{◌≡◌, IfOk};
+ghost use Rattle.cookie.specs.Record.{IsCookie};
 ghost use Rattle.cookie_session.specs.Size.{browser_length};
 
 use cookie::{Cookie, encode};
@@ -7,9 +8,11 @@ use std::alloc::{AllocError, Global};
 
 // The bytes of the name and the value as they are printed, escaped (RFC 6265bis 5.7).
 pub(crate) fn browser_length(alloc: Global, cookie: &Cookie<'_>) -> Result<usize, AllocError>
-    ensures { IfOk result (λ length. length ≡ browser_length cookie.now.fields) }
+    ensures length { IfOk result (λ length. length ≡ browser_length cookie.now.fields) }
+    ensures cookie { IsCookie cookie.now.fields }
 {
-    let name = encode(cookie.name()).to_string(alloc)?;
-    let value = encode(cookie.value()).to_string(alloc)?;
+    let (name, value) = cookie.name_value();
+    let name = encode(name).to_string(alloc)?;
+    let value = encode(value).to_string(alloc)?;
     Ok(name.len() + value.len())
 }

@@ -1,13 +1,13 @@
 use Rattle.std.proofs.Common.{◌≡◌, ◌≤◌, string_bytes, ap, subst, ◌∙◌}
 use Rattle.cookie.specs.KeyedJars.{KeyedJar}
 use Rattle.cookie.specs.Keys.{encryption_half}
-use Rattle.cookie.specs.Record.{Record}
+use Rattle.cookie.specs.Record.{IsCookie, Record}
 use Rattle.cookie.specs.Sealing.{IsSealingOf}
 use Rattle.cookie_session.specs.KeyRing.{newest}
 use Rattle.cookie_session.specs.Seconds.{second_of}
 use Rattle.cookie_session.specs.Session.{IsSessionText, SessionState, seen_at, session_text}
 use Rattle.cookie_session.specs.Size.{browser_length, most_bytes}
-use Rattle.cookie_session.proofs.SaveLemmas.{shown_fits, shown_stored}
+use Rattle.cookie_session.proofs.SaveLemmas.{shown_is, shown_stored}
 use Rattle.cookie_session.proofs.sessions.Sessions.save.Goals as goal
 
 pub returns-clause-fits : goal.returns-clause-fits
@@ -16,8 +16,16 @@ returns-clause-fits g c =
     let sealed = c.in_ok-sealed.sealed.fields in
     let name = c.args.self.now.cookie.now.fields.name in
     let named : sealed.name ≡ name = ap (λ (r : Record). r.name) is.fields ∙ ap (λ (r : Record). r.name) c.in_ok-cookie.ensures in
-    shown_fits sealed name named c.args.jar.now c.add.new.self c.in_ok-add.ensures.gives browser_length most_bytes
-    (subst (λ n. n ≤ most_bytes) c.in_ok-size.ensures c.if-size-gt-MOST_BYTES.false)
+    shown_is sealed name named c.args.jar.now c.add.new.self c.in_ok-add.ensures.gives (λ cookie. browser_length cookie ≤ most_bytes)
+    (subst (λ n. n ≤ most_bytes) c.in_ok-size.ensures.length c.if-size-gt-MOST_BYTES.false)
+
+pub returns-clause-cookie : goal.returns-clause-cookie
+returns-clause-cookie g c =
+    let (nonce, is_nonce, drawn, is) = c.in_ok-sealed.ensures.ok in
+    let sealed = c.in_ok-sealed.sealed.fields in
+    let name = c.args.self.now.cookie.now.fields.name in
+    let named : sealed.name ≡ name = ap (λ (r : Record). r.name) is.fields ∙ ap (λ (r : Record). r.name) c.in_ok-cookie.ensures in
+    shown_is sealed name named c.args.jar.now c.add.new.self c.in_ok-add.ensures.gives IsCookie c.in_ok-size.ensures.cookie
 
 pub returns-clause-opens : goal.returns-clause-opens
 returns-clause-opens g c =

@@ -1,0 +1,80 @@
+//! A request that saves a session, and the client's next one.
+ghost use Rattle.std.specs.Prelude.{◌≡◌, Bool, List, [], ℕ, None, Some, IfOk, OnOk, option_map};
+ghost use Rattle.std.specs.FinMap.{get};
+ghost use Rattle.std.specs.List.{AllZip};
+ghost use Rattle.cookie.specs.DeltaTexts.{AreDeltaTexts};
+ghost use Rattle.cookie.specs.History.{after_all};
+ghost use Rattle.cookie.specs.Jar.{Name, view};
+ghost use Rattle.cookie.specs.Record.{plain};
+ghost use Rattle.cookie_client.specs.Calls.{IsOutcome, changes_of};
+ghost use Rattle.cookie_client.specs.Client.{after_texts};
+ghost use Rattle.cookie_session.specs.Seconds.{second_of};
+ghost use Rattle.cookie_session.specs.Session.{seen_at};
+ghost use Rattle.cookie_session_client.specs.Returning.{CanReturn};
+
+use cookie::CookieJar;
+use cookie_client::{Client, JarCall, read_delta, replay};
+use cookie_session::{Opened, Session, SessionError, Sessions};
+use jiff::civil::DateTime;
+use rand_core::TryRng;
+use std::alloc::{AllocError, Global};
+
+/// Makes a handler's calls on the jar of a request, and saves a session, at the time `now`. Then a client reads the
+/// response, in the order that `pick` asks for as in `mirror`, and the session of its next request is opened, at the
+/// time `later`. Both times are in UTC.
+///
+/// The next request opens the session that was saved, with the newest key, whatever the calls and the order, as long as
+/// it lives. This asks for `CanReturn`: the jar has no changes before, each call is fit (`JarCall::is_fit`), the site's
+/// cookie has a name and no `;` in its path and its domain, and the client holds nothing under the empty name.
+///
+/// Fails as [`Sessions::save`] does.
+pub fn save_and_return<R: TryRng>(
+    alloc: Global,
+    sessions: &Sessions<'_>,
+    jar: &mut CookieJar,
+    calls: &[JarCall<'_>],
+    session: &Session,
+    client: &mut Client,
+    pick: &[usize],
+    now: DateTime,
+    later: DateTime,
+    rng: &mut R,
+) -> Result<Option<Opened>, SessionError>
+    ensures { CanReturn sessions.now jar.old calls.now client.old now later
+        (seen_at (second_of now) session.now)
+        → IfOk result (λ answer. answer
+        ≡ Some (record { session = seen_at (second_of now) session.now; place = 0 })) }
+{
+    play(alloc, jar, calls)?;
+    sessions.save(alloc, jar, session, now, rng)?;
+    let next = next_jar(alloc, client, jar, pick, now)?;
+    let answer = sessions.open(alloc, &next, later)?;
+    Ok(answer)
+}
+
+// Makes the calls in order.
+fn play(alloc: Global, jar: &mut CookieJar, calls: &[JarCall<'_>]) -> Result<(), AllocError>
+    ensures { OnOk result ((outcomes : List Bool) × AllZip IsOutcome calls.now outcomes
+        × (jar.new ≡ after_all (changes_of outcomes calls.now) jar.old)) }
+{
+    replay(alloc, jar, calls)?;
+    Ok(())
+}
+
+// Has the client read the response, and gives the jar of its next request.
+fn next_jar(
+    alloc: Global,
+    client: &mut Client,
+    jar: &CookieJar,
+    pick: &[usize],
+    now: DateTime,
+) -> Result<CookieJar, AllocError>
+    ensures { IfOk result (λ next. (texts : List (List ℕ)) × AreDeltaTexts jar.now.delta texts
+        × (client.new ≡ after_texts now texts client.old)
+        × (get client.new [] ≡ None → (name : Name)
+        → view next name ≡ option_map (plain name) (get client.new name))) }
+{
+    read_delta(alloc, client, jar, pick, now)?;
+    let next = client.next_jar()?;
+    Ok(next)
+}
