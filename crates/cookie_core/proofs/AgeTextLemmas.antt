@@ -37,16 +37,16 @@ no_minus (d ∷ ds) h =
     grind (arith, nat_tests, k)
 
 -- a number of seconds below zero is read as zero
-abbrev natural : ℤ → ℕ
+abbrev pub natural : ℤ → ℕ
 natural (pos k) = k
 natural (negsuc k) = 0
 
 -- seconds that a duration can have
-abbrev CanBeSeconds : ℤ → Type 0
+abbrev pub CanBeSeconds : ℤ → Type 0
 CanBeSeconds (pos k) = k ≤ 9223372036854775807
 CanBeSeconds (negsuc k) = k ≤ 9223372036854775807
 
-read_seconds : (s : ℤ) → CanBeSeconds s → max_age_seconds (signed_decimal s) ≡ Some (natural s)
+pub read_seconds : (s : ℤ) → CanBeSeconds s → max_age_seconds (signed_decimal s) ≡ Some (natural s)
 read_seconds (pos k) h =
     let digits = decimal_is_digits k (omega arith) in
     let value : digits_value 10 (decimal k) ≡ k = digits_value-decimal ascii_digits k (omega arith) in
@@ -63,7 +63,7 @@ natural_neg : (q : ℕ) → natural (neg_ℤ (pos q)) ≡ 0
 natural_neg zero = refl
 natural_neg (suc q) = refl
 
-seconds_fit : (n : ℤ) → IsDurationNanos n → CanBeSeconds (int_div n (pos 1000000000))
+pub seconds_fit : (n : ℤ) → IsDurationNanos n → CanBeSeconds (int_div n (pos 1000000000))
 seconds_fit (pos k) h = omega (arith, signed_arith, h.1)
 seconds_fit (negsuc k) h = neg_fits (suc k / 1000000000) (omega (arith, signed_arith, h.0))
 

@@ -1,0 +1,10 @@
+pub mod Bytes
+pub mod Received
+pub mod Site
+pub mod Suffixes
+pub mod Store
+pub mod ReceivedCode
+pub mod SuffixCode
+pub mod VerdictCode
+pub mod Printed
+pub mod PrintedStored

@@ -1,0 +1,81 @@
+-- What a printed cookie is received as (RFC 6265bis 4.1.1, 5.6).
+use Rattle.std.specs.Prelude.{◌≡◌, ℕ, ◌+◌, ◌≤◌, ℤ, pos, int_div, min, not, true, false, Ok, Bool, List, length, Option, Some, None, option_map, unwrap_or, is_some, [], IfSome}
+use Rattle.std.specs.List.{list_all}
+use Rattle.jiff.specs.Types.{DateTime}
+use Rattle.cookie_core.specs.Escapes.{escape}
+use Rattle.cookie_core.specs.Normal.{IsNamed}
+use Rattle.cookie_core.specs.Pieces.{Lacks}
+use Rattle.cookie_core.specs.Record.{Record}
+use Rattle.cookie_core.specs.Text.{cookie_text, is_true, prints_secure}
+use Rattle.cookie_core.specs.declared.same_site.SameSite.{SameSite}
+use Rattle.cookie_core.specs.declared.same_site.SameSite.TheVariants as same_site
+use Rattle.cookie_core.specs.declared.expiration.Expiration.{Expiration}
+use Rattle.cookie_core.specs.declared.expiration.Expiration.TheVariants as expiration
+use Rattle.cookie_date.specs.CookieDate.{cookie_date_of}
+use Rattle.cookie_date.specs.Text.{moment_text}
+use Rattle.cookie_browser.specs.Bytes.{trim}
+use Rattle.cookie_browser.specs.Received.{Received, is_control, age_limit, received}
+use Rattle.cookie_browser.specs.declared.enforcement.Enforcement.{Enforcement}
+use Rattle.cookie_browser.specs.declared.enforcement.Enforcement.TheVariants as enforcement
+
+-- no byte is a control character other than a tab
+abbrev pub is_quiet : ℕ → Bool
+is_quiet b = not (is_control b)
+
+-- a text that is received as it is printed: no `;`, no control character, no blank at an end, at most 1024 bytes
+pub record IsPlainValue (t : List ℕ) : Type 0 where
+  pub whole : Lacks 59 t
+  pub quiet : list_all is_quiet t ≡ true
+  pub trimmed : trim t ≡ t
+  pub short : length t ≤ 1024
+
+-- a cookie with a name whose text a browser receives as it was meant
+pub record IsReceivable (r : Record) : Type 0 where
+  pub named : IsNamed r
+  pub size : length (escape r.name) + length (escape r.value) ≤ 4096
+  pub path : IfSome r.path IsPlainValue
+  pub domain : IfSome r.domain IsPlainValue
+
+-- the enforcement that is printed
+abbrev pub printed_enforcement : Option SameSite → Enforcement
+printed_enforcement None = enforcement.Default
+printed_enforcement (Some same_site.Strict) = enforcement.Strict
+printed_enforcement (Some same_site.Lax) = enforcement.Lax
+printed_enforcement (Some same_site.None) = enforcement.None
+
+-- a number of seconds, where one below zero is zero
+abbrev pub natural : ℤ → ℕ
+natural (pos k) = k
+natural _ = 0
+
+-- the whole seconds of an age, none below zero, cut to the limit
+abbrev pub printed_age : ℤ → ℕ
+printed_age n = min (natural (int_div n (pos 1000000000))) age_limit
+
+-- what the text of an expiry is read as
+abbrev pub printed_moment : Option Expiration → Option DateTime
+printed_moment (Some (expiration.DateTime m)) = cookie_date_of (moment_text m)
+printed_moment _ = None
+
+-- what its text is received as: the name and the value escaped, and the attributes as they were
+abbrev pub printed_as : Record → Received
+printed_as r =
+    record {
+      name = escape r.name;
+      value = escape r.value;
+      attributes = record {
+        max_age = option_map printed_age r.max_age;
+        expires = printed_moment r.expires;
+        domain = unwrap_or r.domain [];
+        path = unwrap_or r.path [];
+        has_path = is_some r.path;
+        secure = prints_secure r;
+        http_only = is_true r.http_only;
+        same_site = printed_enforcement r.same_site;
+      };
+    }
+
+-- A browser receives the text of such a cookie as that.
+abbrev pub IsPrintedReceived : Type 0
+IsPrintedReceived =
+    (r : Record) → IsReceivable r → received (cookie_text true false r) ≡ Ok (printed_as r)

@@ -1,0 +1,38 @@
+-- Public suffixes, by rules that are handed in (publicsuffix.org, "Algorithm").
+use Rattle.std.specs.Prelude.{ℕ, ◌&&◌, ◌||◌, not, Bool, false, List, Option, Some, None}
+use Rattle.std.specs.List.{list_any}
+use Rattle.std.specs.Str.{bytes_eq}
+use Rattle.cookie_browser.specs.Bytes.{cut}
+use Rattle.cookie_browser.specs.Site.{host_matches}
+
+-- a rule of some labels; one with `*` for one more label in front of them; and one with `!`
+pub data Rule : Type 0 where
+  Plain : List ℕ → Rule
+  Wild : List ℕ → Rule
+  Except : List ℕ → Rule
+
+-- the domain has one label
+abbrev pub is_label : List ℕ → Bool
+is_label domain = bytes_eq (cut 46 domain).0 domain
+
+-- what stands behind the first label is the text
+abbrev pub has_parent : List ℕ → Option (List ℕ) → Bool
+has_parent text None = false
+has_parent text (Some parent) = bytes_eq parent text
+
+-- an exception that the domain matches: it is the text, or ends in a dot and the text
+abbrev pub is_excepted : List ℕ → Rule → Bool
+is_excepted domain (Except text) = host_matches domain false text
+is_excepted domain _ = false
+
+-- a rule that the domain matches with all its labels
+abbrev pub is_covered : List ℕ → Rule → Bool
+is_covered domain (Plain text) = bytes_eq domain text
+is_covered domain (Wild text) = has_parent text (cut 46 domain).1
+is_covered domain (Except text) = false
+
+-- The domain is a public suffix: the prevailing rule has as many labels as it. An exception prevails over any other
+-- rule, and the suffix that it gives has a label less; where no rule matches, `*` prevails.
+unfoldable pub is_public : List Rule → List ℕ → Bool
+is_public rules domain =
+    not (list_any (is_excepted domain) rules) && (is_label domain || list_any (is_covered domain) rules)
