@@ -2,9 +2,9 @@
 use Rattle.std.proofs.Common.{◌≡◌, ◌≢◌, ℕ, suc, ◌+◌, ◌<◌, ◌≤◌, ◌==◌, Bool, true, false, cond, List, [], ◌∷◌, ◌++◌, length, get_or, take, drop, Option, Some, None, refl, sym, ap, ◌∙◌, arith, take-append-drop}
 use Rattle.std.proofs.lemmas.List.{drop_more, get_or-take, length-take-le}
 use Rattle.std.specs.List.{onto_first}
-use Rattle.cookie_core.specs.Pieces.{Lacks}
+use Rattle.cookie_core.specs.Pieces.{Lacks, pieces}
 use Rattle.cookie_browser.specs.Bytes.{cut}
-use Rattle.cookie_browser.specs.Received.{pieces, pieces_behind}
+use Rattle.cookie_browser.specs.Received.{pieces_after}
 use Rattle.cookie_browser.proofs.TrimLemmas.{cut-at, cut-none}
 
 lacks_below : (c : ℕ) (xs : List ℕ) (i : ℕ) → i ≤ length xs → ((k : ℕ) → k < i → get_or xs k 0 ≢ c) → Lacks c (take i xs)
@@ -20,14 +20,14 @@ cut-at_first c xs i inside here before =
 pub cut-nowhere : (c : ℕ) (xs : List ℕ) → ((k : ℕ) → k < length xs → get_or xs k 0 ≢ c) → cut c xs ≡ (xs, None)
 cut-nowhere c xs none = cut-none c xs none
 
--- the first piece, and those of what stands behind it
-pub pieces-first : (xs : List ℕ) → pieces xs ≡ (cut 59 xs).0 ∷ pieces_behind (cut 59 xs).1
+-- the first piece, and the pieces after it
+pub pieces-first : (xs : List ℕ) → pieces xs ≡ (cut 59 xs).0 ∷ pieces_after (cut 59 xs).1
 unfolding cut
 pieces-first [] = refl
 pieces-first (x ∷ xs) = by (x == 59) (pieces-first xs)
   where
-    by : (b : Bool) → pieces xs ≡ (cut 59 xs).0 ∷ pieces_behind (cut 59 xs).1
-        → cond b ([] ∷ pieces xs) (onto_first x (pieces xs)) ≡ (cond {A = List ℕ × Option (List ℕ)} b ([], Some xs) (x ∷ (cut 59 xs).0, (cut 59 xs).1)).0 ∷ pieces_behind (cond {A = List ℕ × Option (List ℕ)} b ([], Some xs) (x ∷ (cut 59 xs).0, (cut 59 xs).1)).1
+    by : (b : Bool) → pieces xs ≡ (cut 59 xs).0 ∷ pieces_after (cut 59 xs).1
+        → cond b ([] ∷ pieces xs) (onto_first x (pieces xs)) ≡ (cond {A = List ℕ × Option (List ℕ)} b ([], Some xs) (x ∷ (cut 59 xs).0, (cut 59 xs).1)).0 ∷ pieces_after (cond {A = List ℕ × Option (List ℕ)} b ([], Some xs) (x ∷ (cut 59 xs).0, (cut 59 xs).1)).1
     by true e = refl
     by false e = ap (onto_first x) e
 

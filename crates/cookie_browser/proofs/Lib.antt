@@ -1,8 +1,8 @@
-pub mod TrimLemmas
+pub mod AcceptLemmas
+pub mod AnyLemmas
+pub mod CutLemmas
 pub mod PartLemmas
 pub mod PrintedLemmas
 pub mod RowFacts
-pub mod CutLemmas
-pub mod AnyLemmas
-pub mod AcceptLemmas
-pub mod SeenLemmas
+pub mod SentLemmas
+pub mod TrimLemmas

@@ -25,18 +25,18 @@ use Rattle.cookie_core.proofs.DateTextLemmas.{is_date_byte, date_passes, date_la
 use Rattle.cookie_core.proofs.EscapeTextLemmas.{is_token, token_is_other_59}
 use Rattle.cookie_core.proofs.ByteLemmas.{is_other, all-append, all-weaker, Lacks-append, Lacks-from_test}
 use Rattle.cookie_core.proofs.PieceWalkLemmas.{HasPieces, HasPieces-nil, HasPieces-one, HasPieces-append}
-use Rattle.cookie_browser.specs.Bytes.{cut, is_blank, trim}
-use Rattle.cookie_browser.specs.Printed.{IsPlainValue, is_quiet, natural, printed_age, printed_enforcement, printed_moment}
-use Rattle.cookie_browser.specs.Received.{Attributes, age_limit, age_of, with_piece, with_attribute}
+use Rattle.cookie_browser.specs.Bytes.{cut, is_wsp, trim_wsp}
+use Rattle.cookie_browser.specs.Printed.{IsPlainValue, is_quiet, or_zero, printed_age, printed_enforcement, printed_moment}
+use Rattle.cookie_browser.specs.Received.{AttributesView, age_limit, age_of, with_piece, with_attribute}
 use Rattle.cookie_browser.specs.declared.enforcement.Enforcement.{Enforcement}
 use Rattle.cookie_browser.proofs.TrimLemmas.{trim-dark, trim-tokens}
 
 -- pieces without control characters that turn attributes into others
-pub record Does (f : Attributes → Attributes) (ps : List (List ℕ)) : Type 0 where
-  pub gives : (a : Attributes) → fold with_piece a ps ≡ f a
+pub record Does (f : AttributesView → AttributesView) (ps : List (List ℕ)) : Type 0 where
+  pub gives : (a : AttributesView) → fold with_piece a ps ≡ f a
   pub quiet : list_all (list_all is_quiet) ps ≡ true
 
-fold-append : (a : Attributes) (ps qs : List (List ℕ)) → fold with_piece a (ps ++ qs) ≡ fold with_piece (fold with_piece a ps) qs
+fold-append : (a : AttributesView) (ps qs : List (List ℕ)) → fold with_piece a (ps ++ qs) ≡ fold with_piece (fold with_piece a ps) qs
 fold-append a [] qs = refl
 fold-append a (p ∷ ps) qs = fold-append (with_piece a p) ps qs
 
@@ -46,41 +46,41 @@ all_quiet-append (p ∷ ps) qs h k =
     let b = and_parts (list_all is_quiet p) (list_all (list_all is_quiet) ps) h in
     rw (b.0, all_quiet-append ps qs b.1 k) refl
 
-Does-append : (f g : Attributes → Attributes) (ps qs : List (List ℕ)) → Does f ps → Does g qs → Does (λ a. g (f a)) (ps ++ qs)
+Does-append : (f g : AttributesView → AttributesView) (ps qs : List (List ℕ)) → Does f ps → Does g qs → Does (λ a. g (f a)) (ps ++ qs)
 Does-append f g ps qs p q =
     record {
       gives = λ a. fold-append a ps qs ∙ ap (λ s. fold with_piece s qs) (p.gives a) ∙ q.gives (f a);
       quiet = all_quiet-append ps qs p.quiet q.quiet;
     }
 
--- a text that is such pieces, each behind a `;`
-abbrev pub IsPart : (Attributes → Attributes) → List ℕ → Type 0
+-- a text that is such pieces, each after a `;`
+abbrev pub IsPart : (AttributesView → AttributesView) → List ℕ → Type 0
 IsPart f t = HasPieces (Does f) t
 
-pub IsPart-append : (f g : Attributes → Attributes) (s t : List ℕ) → IsPart f s → IsPart g t → IsPart (λ a. g (f a)) (s ++ t)
+pub IsPart-append : (f g : AttributesView → AttributesView) (s t : List ℕ) → IsPart f s → IsPart g t → IsPart (λ a. g (f a)) (s ++ t)
 IsPart-append f g s t p q = HasPieces-append (Does f) (Does g) (Does (λ a. g (f a))) (Does-append f g) s t p q
 
 no_part : IsPart (λ a. a) []
 no_part = HasPieces-nil (Does (λ a. a)) (record { gives = λ a. refl; quiet = refl })
 
-one_part : (f : Attributes → Attributes) (q : List ℕ) → list_all (is_other 59) q ≡ true → list_all is_quiet q ≡ true → ((a : Attributes) → with_piece a q ≡ f a) → IsPart f (59 ∷ q)
+one_part : (f : AttributesView → AttributesView) (q : List ℕ) → list_all (is_other 59) q ≡ true → list_all is_quiet q ≡ true → ((a : AttributesView) → with_piece a q ≡ f a) → IsPart f (59 ∷ q)
 one_part f q apart quiet gives =
     HasPieces-one (Does f) q (Lacks-from_test 59 q apart) (record { gives = gives; quiet = rw quiet refl })
 
 -- ---- flags
 
 pub http_only_part : (b : Bool) → IsPart (λ a. record a { http_only = b || a.http_only }) (flag_text (codes "; HttpOnly") b)
-unfolding with_piece with_attribute cut trim
+unfolding with_piece with_attribute cut trim_wsp
 http_only_part true = one_part _ (codes " HttpOnly") refl refl (λ a. refl)
 http_only_part false = no_part
 
 pub secure_part : (b : Bool) → IsPart (λ a. record a { secure = b || a.secure }) (flag_text (codes "; Secure") b)
-unfolding with_piece with_attribute cut trim
+unfolding with_piece with_attribute cut trim_wsp
 secure_part true = one_part _ (codes " Secure") refl refl (λ a. refl)
 secure_part false = no_part
 
 pub partitioned_part : (b : Bool) → IsPart (λ a. a) (flag_text (codes "; Partitioned") b)
-unfolding with_piece with_attribute cut trim
+unfolding with_piece with_attribute cut trim_wsp
 partitioned_part true = one_part _ (codes " Partitioned") refl refl (λ a. refl)
 partitioned_part false = no_part
 
@@ -90,7 +90,7 @@ or_printed None other = other
 or_printed (Some s) other = printed_enforcement (Some s)
 
 pub same_site_part : (o : Option SameSite) → IsPart (λ a. record a { same_site = or_printed o a.same_site }) (attribute_text (codes "; SameSite=") (option_map same_site_text o))
-unfolding with_piece with_attribute cut trim
+unfolding with_piece with_attribute cut trim_wsp
 same_site_part None = no_part
 same_site_part (Some same_site.Strict) = one_part _ (codes " SameSite=Strict") refl refl (λ a. refl)
 same_site_part (Some same_site.Lax) = one_part _ (codes " SameSite=Lax") refl refl (λ a. refl)
@@ -102,7 +102,7 @@ not_long : (v : List ℕ) → length v ≤ 1024 → nat_lt 1024 (length v) ≡ f
 not_long v h = grind (arith, nat_tests)
 
 -- a part with a plain value: `word` is the text in front of the value
-value_part : (f : Attributes → Attributes) (front v : List ℕ) → list_all (is_other 59) front ≡ true → list_all is_quiet front ≡ true → IsPlainValue v → ((a : Attributes) → with_piece a (front ++ v) ≡ f a) → IsPart f (59 ∷ (front ++ v))
+value_part : (f : AttributesView → AttributesView) (front v : List ℕ) → list_all (is_other 59) front ≡ true → list_all is_quiet front ≡ true → IsPlainValue v → ((a : AttributesView) → with_piece a (front ++ v) ≡ f a) → IsPart f (59 ∷ (front ++ v))
 value_part f front v apart quiet plain gives =
     HasPieces-one (Does f) (front ++ v) (Lacks-append 59 front v (Lacks-from_test 59 front apart) plain.whole)
     (record { gives = gives; quiet = rw (all-append is_quiet front v quiet plain.quiet) refl })
@@ -113,14 +113,14 @@ or_text None other = other
 or_text (Some t) other = t
 
 pub path_part : (o : Option (List ℕ)) → IfSome o IsPlainValue → IsPart (λ a. record a { path = or_text o a.path; has_path = is_some o || a.has_path }) (attribute_text (codes "; Path=") o)
-unfolding with_piece with_attribute cut trim
+unfolding with_piece with_attribute cut trim_wsp
 path_part None h = no_part
 path_part (Some p) h =
     value_part _ (codes " Path=") p refl refl h
     (λ a. (λ i. cond (nat_lt 1024 (length (h.trimmed i))) a (record a { path = h.trimmed i; has_path = true })) ∙ cond-false _ _ _ (not_long p h.short))
 
 pub domain_part : (o : Option (List ℕ)) → IfSome o IsPlainValue → IsPart (λ a. record a { domain = or_text o a.domain }) (attribute_text (codes "; Domain=") o)
-unfolding with_piece with_attribute cut trim
+unfolding with_piece with_attribute cut trim_wsp
 domain_part None h = no_part
 domain_part (Some d) h =
     value_part _ (codes " Domain=") d refl refl h
@@ -150,12 +150,12 @@ signed_short (negsuc k) h = omega (arith, length-decimal-le 20 (suc k) (omega ar
 age_is : (n : ℤ) → IsDurationNanos n → age_of (seconds_text n) ≡ Some (printed_age n)
 age_is n h = ap (option_map (λ s. min s age_limit)) (read_seconds (int_div n (pos 1000000000)) (seconds_fit n h)) ∙ ap (λ s. Some (min s age_limit)) (natural-is (int_div n (pos 1000000000)))
   where
-    natural-is : (s : ℤ) → core_natural s ≡ natural s
+    natural-is : (s : ℤ) → core_natural s ≡ or_zero s
     natural-is (pos k) = refl
     natural-is (negsuc k) = refl
 
 pub max_age_part : (o : Option ℤ) → IfSome o IsDurationNanos → IsPart (λ a. record a { max_age = option_or (option_map printed_age o) a.max_age }) (attribute_text (codes "; Max-Age=") (option_map seconds_text o))
-unfolding with_piece with_attribute cut trim
+unfolding with_piece with_attribute cut trim_wsp
 max_age_part None h = no_part
 max_age_part (Some n) h =
     let plain = plain_tokens (seconds_text n) (age_is_tokens n h) (signed_short (int_div n (pos 1000000000)) (seconds_fit n h)) in
@@ -170,13 +170,13 @@ date_byte_is_quiet b h = grind (arith, nat_tests)
 
 -- the text is not empty, and its last byte is no blank
 abbrev EndsDark : List ℕ → Type 0
-EndsDark t = (0 < length t) × (is_blank (get_or t (length t - 1) 0) ≡ false)
+EndsDark t = (0 < length t) × (is_wsp (get_or t (length t - 1) 0) ≡ false)
 
 ends-append : (a b : List ℕ) → EndsDark b → EndsDark (a ++ b)
 ends-append a b h =
     let l = length-append a b in
     let at : length (a ++ b) - 1 ≡ length a + (length b - 1) = omega arith in
-    (omega arith, ap (λ i. is_blank (get_or (a ++ b) i 0)) at ∙ ap is_blank (get_or-append-add a b (length b - 1) 0) ∙ h.1)
+    (omega arith, ap (λ i. is_wsp (get_or (a ++ b) i 0)) at ∙ ap is_wsp (get_or-append-add a b (length b - 1) 0) ∙ h.1)
 
 date_ends : (m : DateTime) → EndsDark (moment_text m)
 date_ends m =
@@ -191,8 +191,8 @@ date_ends m =
     let ed : EndsDark d = ends-append (two_digits m.date.day) (codes " " ++ o) (ends-append (codes " ") o eo) in
     ends-append (weekday_text (weekday_of m.date)) (codes ", " ++ d) (ends-append (codes ", ") d ed)
 
--- a weekday's text, and the `,` behind it, begin with no blank, and it has at most three letters
-weekday_begins : (n : ℕ) (t : List ℕ) → is_blank (get_or (weekday_text n ++ 44 ∷ t) 0 0) ≡ false
+-- a weekday's text, and the `,` after it, begin with no blank, and it has at most three letters
+weekday_begins : (n : ℕ) (t : List ℕ) → is_wsp (get_or (weekday_text n ++ 44 ∷ t) 0 0) ≡ false
 weekday_begins zero t = refl
 weekday_begins (suc zero) t = refl
 weekday_begins (suc (suc zero)) t = refl
@@ -241,7 +241,7 @@ plain_date m =
     }
 
 pub expires_part : (o : Option Expiration) → IsPart (λ a. record a { expires = option_or (printed_moment o) a.expires }) (attribute_text (codes "; Expires=") (expiry_text o))
-unfolding with_piece with_attribute cut trim
+unfolding with_piece with_attribute cut trim_wsp
 expires_part None = no_part
 expires_part (Some expiration.Session) = no_part
 expires_part (Some (expiration.DateTime m)) =

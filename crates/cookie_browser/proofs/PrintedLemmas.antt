@@ -19,10 +19,10 @@ use Rattle.cookie_core.proofs.PieceLemmas.{pieces-cut, pieces_left}
 use Rattle.cookie_core.proofs.PieceWalkLemmas.{tails}
 use Rattle.cookie_browser.specs.Bytes.{cut}
 use Rattle.cookie_browser.specs.Printed.{IsReceivable, is_quiet, printed_age, printed_as, printed_enforcement, printed_moment}
-use Rattle.cookie_browser.specs.Received.{Attributes, attributes_of, is_control, no_attributes, pair_of, pieces_behind, received, received_pair, with_piece}
+use Rattle.cookie_browser.specs.Received.{AttributesView, attributes_of, is_control, without_attributes, received_name_value, pieces_after, received, received_pair, with_piece}
 use Rattle.cookie_browser.specs.declared.enforcement.Enforcement.TheVariants as enforcement
 use Rattle.cookie_browser.proofs.PartLemmas.{IsPart, IsPart-append, domain_part, expires_part, http_only_part, max_age_part, or_printed, or_text, partitioned_part, path_part, same_site_part, secure_part, tokens_are_quiet}
-use Rattle.cookie_browser.proofs.TrimLemmas.{cut-at, cut-behind, trim-tokens}
+use Rattle.cookie_browser.proofs.TrimLemmas.{cut-at, cut-rest, trim-tokens}
 
 or_none : {X : Type 0} (o : Option X) → option_or o None ≡ o
 or_none None = refl
@@ -41,7 +41,7 @@ or_default None = refl
 or_default (Some s) = refl
 
 -- what all parts make of no attributes
-abbrev all_parts : Record → Attributes → Attributes
+abbrev all_parts : Record → AttributesView → AttributesView
 all_parts r a =
     record {
       max_age = option_or (option_map printed_age r.max_age) a.max_age;
@@ -62,7 +62,7 @@ attributes_part r h =
     let lifetime = IsPart-append _ _ _ _ (max_age_part r.max_age h.named.cookie.max_age) (expires_part r.expires) in
     IsPart-append _ _ _ _ scope (IsPart-append _ _ _ _ place lifetime)
 
-settled : (r : Record) → all_parts r no_attributes ≡ (printed_as r).attributes
+settled : (r : Record) → all_parts r without_attributes ≡ (printed_as r).attributes
 settled r = λ i. record {
   max_age = or_none (option_map printed_age r.max_age) i;
   expires = or_none (printed_moment r.expires) i;
@@ -88,13 +88,13 @@ tails_quiet (p ∷ ps) h =
     let k = and_parts (list_all is_quiet p) (list_all (list_all is_quiet) ps) h in
     all-append is_quiet p (tails ps) k.0 (tails_quiet ps k.1)
 
-pieces_behind-is : (ps : List (List ℕ)) → All (Lacks 59) ps → pieces_behind (before_rest ps None) ≡ ps
-pieces_behind-is [] h = refl
-pieces_behind-is (p ∷ ps) h =
+pieces_after-is : (ps : List (List ℕ)) → All (Lacks 59) ps → pieces_after (before_rest ps None) ≡ ps
+pieces_after-is [] h = refl
+pieces_after-is (p ∷ ps) h =
     pieces-cut (p ++ tails ps) p (before_rest ps None) refl (All-head (Lacks 59) p ps h)
-    ∙ ap (λ qs. p ∷ qs) (left ps ∙ pieces_behind-is ps (All-tail (Lacks 59) p ps h))
+    ∙ ap (λ qs. p ∷ qs) (left ps ∙ pieces_after-is ps (All-tail (Lacks 59) p ps h))
   where
-    left : (qs : List (List ℕ)) → pieces_left (before_rest qs None) ≡ pieces_behind (before_rest qs None)
+    left : (qs : List (List ℕ)) → pieces_left (before_rest qs None) ≡ pieces_after (before_rest qs None)
     left [] = refl
     left (q ∷ qs) = refl
 
@@ -112,15 +112,15 @@ received_printed r h =
     let rest : Option (List ℕ) = before_rest w.pieces None in
     let text : cookie_text true false r ≡ escaped_pair r ++ behind rest = sym (cookie_text-pair r) ∙ ap (λ t. escaped_pair r ++ t) w.text in
     let quiet : list_all is_quiet (cookie_text true false r) ≡ true = ap (list_all is_quiet) text ∙ all-append is_quiet (escaped_pair r) (tails w.pieces) (pair_quiet r) (tails_quiet w.pieces w.holds.quiet) in
-    let cuts : cut 59 (cookie_text true false r) ≡ (escaped_pair r, rest) = ap (cut 59) text ∙ cut-behind (escaped_pair r) rest (escaped_pair-apart r) in
-    let pair : pair_of (cut 61 (escaped_pair r)) ≡ (escape r.name, escape r.value) =
-    ap pair_of (cut-at 61 (escape r.name) (escape r.value) (escape_lacks_equals r.name))
+    let cuts : cut 59 (cookie_text true false r) ≡ (escaped_pair r, rest) = ap (cut 59) text ∙ cut-rest (escaped_pair r) rest (escaped_pair-apart r) in
+    let pair : received_name_value (cut 61 (escaped_pair r)) ≡ (escape r.name, escape r.value) =
+    ap received_name_value (cut-at 61 (escape r.name) (escape r.value) (escape_lacks_equals r.name))
     ∙ (λ i. (trim-tokens (escape r.name) (escape_is_tokens r.name) i, trim-tokens (escape r.value) (escape_is_tokens r.value) i)) in
-    let attributes : attributes_of rest ≡ (printed_as r).attributes = ap (fold with_piece no_attributes) (pieces_behind-is w.pieces w.apart) ∙ w.holds.gives no_attributes ∙ settled r in
+    let attributes : attributes_of rest ≡ (printed_as r).attributes = ap (fold with_piece without_attributes) (pieces_after-is w.pieces w.apart) ∙ w.holds.gives without_attributes ∙ settled r in
     let fits = h.size in
     let size : nat_lt 4096 (length (escape r.name) + length (escape r.value)) ≡ false = grind (arith, nat_tests) in
     cond-false _ _ _ (calm (cookie_text true false r) quiet)
-    ∙ ap (λ c. received_pair (pair_of (cut 61 c.0)) c.1) cuts
+    ∙ ap (λ c. received_pair (received_name_value (cut 61 c.0)) c.1) cuts
     ∙ ap (λ p. received_pair p rest) pair
     ∙ cond-false _ _ _ size
     ∙ ap (λ a. Ok (record { name = escape r.name; value = escape r.value; attributes = a })) attributes

@@ -1,10 +1,11 @@
 pub mod Bytes
 pub mod Received
-pub mod Site
+pub mod Request
 pub mod Suffixes
-pub mod Store
+pub mod Refusal
+pub mod Storage
 pub mod ReceivedCode
 pub mod SuffixCode
-pub mod VerdictCode
+pub mod RefusedCode
 pub mod Printed
 pub mod PrintedStored

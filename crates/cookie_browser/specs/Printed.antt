@@ -1,4 +1,4 @@
--- What a printed cookie is received as (RFC 6265bis 4.1.1, 5.6).
+-- What a browser receives of a printed cookie.
 use Rattle.std.specs.Prelude.{◌≡◌, ℕ, ◌+◌, ◌≤◌, ℤ, pos, int_div, min, not, true, false, Ok, Bool, List, length, Option, Some, None, option_map, unwrap_or, is_some, [], IfSome}
 use Rattle.std.specs.List.{list_all}
 use Rattle.jiff.specs.Types.{DateTime}
@@ -13,8 +13,8 @@ use Rattle.cookie_core.specs.declared.expiration.Expiration.{Expiration}
 use Rattle.cookie_core.specs.declared.expiration.Expiration.TheVariants as expiration
 use Rattle.cookie_date.specs.CookieDate.{cookie_date_of}
 use Rattle.cookie_date.specs.Text.{moment_text}
-use Rattle.cookie_browser.specs.Bytes.{trim}
-use Rattle.cookie_browser.specs.Received.{Received, is_control, age_limit, received}
+use Rattle.cookie_browser.specs.Bytes.{trim_wsp}
+use Rattle.cookie_browser.specs.Received.{ReceivedView, is_control, age_limit, received}
 use Rattle.cookie_browser.specs.declared.enforcement.Enforcement.{Enforcement}
 use Rattle.cookie_browser.specs.declared.enforcement.Enforcement.TheVariants as enforcement
 
@@ -26,39 +26,39 @@ is_quiet b = not (is_control b)
 pub record IsPlainValue (t : List ℕ) : Type 0 where
   pub whole : Lacks 59 t
   pub quiet : list_all is_quiet t ≡ true
-  pub trimmed : trim t ≡ t
+  pub trimmed : trim_wsp t ≡ t
   pub short : length t ≤ 1024
 
--- a cookie with a name whose text a browser receives as it was meant
+-- a cookie whose text a browser receives unchanged: it has a name, and each part is short enough and plain
 pub record IsReceivable (r : Record) : Type 0 where
   pub named : IsNamed r
   pub size : length (escape r.name) + length (escape r.value) ≤ 4096
   pub path : IfSome r.path IsPlainValue
   pub domain : IfSome r.domain IsPlainValue
 
--- the enforcement that is printed
+-- the enforcement of a printed `SameSite`
 abbrev pub printed_enforcement : Option SameSite → Enforcement
 printed_enforcement None = enforcement.Default
 printed_enforcement (Some same_site.Strict) = enforcement.Strict
 printed_enforcement (Some same_site.Lax) = enforcement.Lax
 printed_enforcement (Some same_site.None) = enforcement.None
 
--- a number of seconds, where one below zero is zero
-abbrev pub natural : ℤ → ℕ
-natural (pos k) = k
-natural _ = 0
+-- a number of seconds, zero if it is below zero
+abbrev pub or_zero : ℤ → ℕ
+or_zero (pos k) = k
+or_zero _ = 0
 
--- the whole seconds of an age, none below zero, cut to the limit
+-- the whole seconds of an age, from zero to the limit
 abbrev pub printed_age : ℤ → ℕ
-printed_age n = min (natural (int_div n (pos 1000000000))) age_limit
+printed_age n = min (or_zero (int_div n (pos 1000000000))) age_limit
 
--- what the text of an expiry is read as
+-- the date-time that the text of an expiry is read as
 abbrev pub printed_moment : Option Expiration → Option DateTime
 printed_moment (Some (expiration.DateTime m)) = cookie_date_of (moment_text m)
 printed_moment _ = None
 
--- what its text is received as: the name and the value escaped, and the attributes as they were
-abbrev pub printed_as : Record → Received
+-- what the text is received as: the name and the value escaped, and the attributes as they were
+abbrev pub printed_as : Record → ReceivedView
 printed_as r =
     record {
       name = escape r.name;

@@ -1,12 +1,12 @@
--- Mirrors private code: what the parts of a text that were received stand for.
+-- Mirrors private code: a received cookie with copies of its texts.
 use Rattle.std.specs.Prelude.{Result, Ok, Err}
-use Rattle.cookie_browser.specs.Received.{Attributes, Received}
-use Rattle.cookie_browser.specs.declared.attributes.Attributes.{Attributes as Parts}
+use Rattle.cookie_browser.specs.Received.{AttributesView, ReceivedView}
+use Rattle.cookie_browser.specs.declared.attributes.ReceivedAttributes.{ReceivedAttributes as Parts}
 use Rattle.cookie_browser.specs.declared.received.Received.{Received as Text}
 use Rattle.cookie_browser.specs.declared.refusal.Refusal.{Refusal}
 
--- the attributes, with copies of their texts
-abbrev pub attributes_view : Parts → Attributes
+-- the attributes
+abbrev pub attributes_view : Parts → AttributesView
 attributes_view a =
     record {
       max_age = a.max_age;
@@ -19,12 +19,12 @@ attributes_view a =
       same_site = a.same_site;
     }
 
--- what was received, with copies of its texts
-abbrev pub received_view : Text → Received
+-- the received cookie
+abbrev pub received_view : Text → ReceivedView
 received_view r =
     record { name = r.name.now; value = r.value.now; attributes = attributes_view r.attributes }
 
--- the same of a result
-abbrev pub received_result : Result Text Refusal → Result Received Refusal
+-- the received cookie, or the refusal
+abbrev pub received_result : Result Text Refusal → Result ReceivedView Refusal
 received_result (Ok r) = Ok (received_view r)
 received_result (Err refusal) = Err refusal

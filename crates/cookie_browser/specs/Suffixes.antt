@@ -1,28 +1,28 @@
--- Public suffixes, by rules that are handed in (publicsuffix.org, "Algorithm").
+-- Public suffixes, by rules that are passed in (publicsuffix.org, Algorithm).
 use Rattle.std.specs.Prelude.{ℕ, ◌&&◌, ◌||◌, not, Bool, false, List, Option, Some, None}
 use Rattle.std.specs.List.{list_any}
 use Rattle.std.specs.Str.{bytes_eq}
 use Rattle.cookie_browser.specs.Bytes.{cut}
-use Rattle.cookie_browser.specs.Site.{host_matches}
+use Rattle.cookie_browser.specs.Request.{is_in_domain}
 
--- a rule of some labels; one with `*` for one more label in front of them; and one with `!`
+-- a rule of some labels; one with `*.` before them, for one more label; and one with `!` before them, an exception
 pub data Rule : Type 0 where
   Plain : List ℕ → Rule
   Wild : List ℕ → Rule
   Except : List ℕ → Rule
 
 -- the domain has one label
-abbrev pub is_label : List ℕ → Bool
-is_label domain = bytes_eq (cut 46 domain).0 domain
+abbrev pub is_one_label : List ℕ → Bool
+is_one_label domain = bytes_eq (cut 46 domain).0 domain
 
--- what stands behind the first label is the text
+-- the domain without its first label is the text
 abbrev pub has_parent : List ℕ → Option (List ℕ) → Bool
 has_parent text None = false
 has_parent text (Some parent) = bytes_eq parent text
 
 -- an exception that the domain matches: it is the text, or ends in a dot and the text
 abbrev pub is_excepted : List ℕ → Rule → Bool
-is_excepted domain (Except text) = host_matches domain false text
+is_excepted domain (Except text) = is_in_domain domain false text
 is_excepted domain _ = false
 
 -- a rule that the domain matches with all its labels
@@ -33,6 +33,6 @@ is_covered domain (Except text) = false
 
 -- The domain is a public suffix: the prevailing rule has as many labels as it. An exception prevails over any other
 -- rule, and the suffix that it gives has a label less; where no rule matches, `*` prevails.
-unfoldable pub is_public : List Rule → List ℕ → Bool
-is_public rules domain =
-    not (list_any (is_excepted domain) rules) && (is_label domain || list_any (is_covered domain) rules)
+unfoldable pub is_public_suffix : List Rule → List ℕ → Bool
+is_public_suffix rules domain =
+    not (list_any (is_excepted domain) rules) && (is_one_label domain || list_any (is_covered domain) rules)

@@ -1,28 +1,30 @@
-//! The attributes of a `Set-Cookie` text, as a browser reads them (RFC 6265bis 5.6).
+//! The attributes of a `Set-Cookie` text, as a browser reads them.
 ghost use Rattle.std.specs.Prelude.{◌≡◌, min, true, option_copied, option_map};
 ghost use Rattle.std.specs.Char.{is_ascii_digit};
 ghost use Rattle.std.specs.List.{list_all};
 ghost use Rattle.std.specs.Str.{str_to_ascii_lowercase};
 ghost use Rattle.std.specs.Str.Parse.{digits_value};
 ghost use Rattle.cookie_core.specs.Attributes.{seconds_of_digits};
+ghost use Rattle.cookie_core.specs.Record.{without_leading_dot};
 ghost use Rattle.cookie_browser.specs.Received as spec;
 ghost use Rattle.cookie_browser.specs.ReceivedCode.{attributes_view};
 
-use crate::bytes::{cut, trim};
+use crate::bytes::{cut, trim_wsp};
 use crate::enforcement::Enforcement;
 use cookie_date::read_cookie_date;
 use jiff::civil::DateTime;
 
-/// The attributes that count, of each name the last (RFC 6265bis 5.6).
+/// The attributes of a received cookie (RFC 6265bis, The Set-Cookie Header Field). The last attribute of a name counts,
+/// but an `Expires` or a `Max-Age` that can't be read is passed over.
 #[derive(Clone, Copy)]
-pub struct Attributes<'t> {
-    /// The age in seconds, at most 400 days.
+pub struct ReceivedAttributes<'t> {
+    /// The age in seconds, from 0 to 400 days.
     pub max_age: Option<u32>,
-    /// The moment in UTC.
+    /// The date-time of `Expires`, in UTC.
     pub expires: Option<DateTime>,
-    /// The value of `Domain`, empty where there is none.
+    /// The value of `Domain`, empty if there is none.
     pub domain: &'t [u8],
-    /// The value of `Path`, empty where there is none.
+    /// The value of `Path`, empty if there is none.
     pub path: &'t [u8],
     /// Whether there is a `Path`.
     pub has_path: bool,
@@ -30,14 +32,14 @@ pub struct Attributes<'t> {
     pub secure: bool,
     /// Whether there is an `HttpOnly`.
     pub http_only: bool,
-    /// What `SameSite` asks for.
+    /// The enforcement that `SameSite` names.
     pub same_site: Enforcement,
 }
 
 // Whether the text is the word, in any ASCII case.
-fn is_word(text: &[u8], word: &[u8]) -> bool
+fn spells(text: &[u8], word: &[u8]) -> bool
     requires { str_to_ascii_lowercase word.now ≡ word.now }
-    ensures { result ≡ spec.is_word text.now word.now }
+    ensures { result ≡ spec.spells text.now word.now }
 {
     text.eq_ignore_ascii_case(word)
 }
@@ -45,13 +47,13 @@ fn is_word(text: &[u8], word: &[u8]) -> bool
 fn enforcement_of(value: &[u8]) -> Enforcement
     ensures { result ≡ spec.enforcement_of value.now }
 {
-    if is_word(value, b"none") {
+    if spells(value, b"none") {
         return Enforcement::None;
     }
-    if is_word(value, b"strict") {
+    if spells(value, b"strict") {
         return Enforcement::Strict;
     }
-    if is_word(value, b"lax") {
+    if spells(value, b"lax") {
         return Enforcement::Lax;
     }
     Enforcement::Default
@@ -63,7 +65,7 @@ fn are_digits(text: &[u8]) -> bool
     text.iter().all(|byte| byte.is_ascii_digit())
 }
 
-// The number that the digits write, at most 400 days in seconds; `None` where there is no digit, or anything else.
+// The number of the digits, at most 400 days in seconds. `None` if there is no digit, or another byte.
 fn seconds(digits: &[u8]) -> Option<u32>
     ensures { result ≡ option_map (λ n. min n spec.age_limit) (seconds_of_digits digits.now) }
 {
@@ -73,7 +75,7 @@ fn seconds(digits: &[u8]) -> Option<u32>
     Some(capped_value(digits))
 }
 
-// The number that the digits write, at most 400 days in seconds.
+// The number of the digits, at most 400 days in seconds.
 fn capped_value(digits: &[u8]) -> u32
     requires { list_all is_ascii_digit digits.now ≡ true }
     ensures { result ≡ min (digits_value 10 digits.now) spec.age_limit }
@@ -86,7 +88,7 @@ fn capped_value(digits: &[u8]) -> u32
     number
 }
 
-// The age that the value of `Max-Age` gives (5.6.2).
+// The age of a `Max-Age` value, if it is valid.
 fn age_of(value: &[u8]) -> Option<u32>
     ensures { result ≡ spec.age_of value.now }
 {
@@ -99,11 +101,21 @@ fn age_of(value: &[u8]) -> Option<u32>
     }
 }
 
-impl<'t> Attributes<'t> {
-    fn none() -> Attributes<'t>
-        ensures { attributes_view result ≡ spec.no_attributes }
+impl<'t> ReceivedAttributes<'t> {
+    /// The value of `Domain` without one leading dot (RFC 6265bis, The Domain Attribute).
+    pub fn bare_domain(&self) -> &'t [u8]
+        ensures { result.now ≡ without_leading_dot self.now.domain.now }
     {
-        Attributes {
+        match self.domain {
+            [b'.', rest @ ..] => rest,
+            _ => self.domain,
+        }
+    }
+
+    fn none() -> ReceivedAttributes<'t>
+        ensures { attributes_view result ≡ spec.without_attributes }
+    {
+        ReceivedAttributes {
             max_age: None,
             expires: None,
             domain: &[],
@@ -115,31 +127,31 @@ impl<'t> Attributes<'t> {
         }
     }
 
-    // Processes an attribute of this name and value (5.6.1 to 5.6.7).
+    // Takes in an attribute of this name and value.
     #[tactic(auto, unfolding(crate::specs::Received::with_attribute))]
     fn take(&mut self, name: &[u8], value: &'t [u8])
         ensures { attributes_view self.new
             ≡ spec.with_attribute (attributes_view self.old) name.now value.now }
     {
-        if is_word(name, b"expires") {
+        if spells(name, b"expires") {
             self.expires = read_cookie_date(value).or(self.expires);
-        } else if is_word(name, b"max-age") {
+        } else if spells(name, b"max-age") {
             self.max_age = age_of(value).or(self.max_age);
-        } else if is_word(name, b"domain") {
+        } else if spells(name, b"domain") {
             self.domain = value;
-        } else if is_word(name, b"path") {
+        } else if spells(name, b"path") {
             self.path = value;
             self.has_path = true;
-        } else if is_word(name, b"secure") {
+        } else if spells(name, b"secure") {
             self.secure = true;
-        } else if is_word(name, b"httponly") {
+        } else if spells(name, b"httponly") {
             self.http_only = true;
-        } else if is_word(name, b"samesite") {
+        } else if spells(name, b"samesite") {
             self.same_site = enforcement_of(value);
         }
     }
 
-    // Processes a piece (steps 4 to 7).
+    // Takes in a piece. One whose value has more than 1024 bytes is passed over.
     #[tactic(auto, unfolding(crate::specs::Received::with_piece))]
     fn take_piece(&mut self, piece: &'t [u8])
         ensures { attributes_view self.new
@@ -148,15 +160,15 @@ impl<'t> Attributes<'t> {
         let (name, value) = cut(piece, b'=');
         let value = value_of(value);
         if value.len() <= 1024 {
-            self.take(trim(name), value);
+            self.take(trim_wsp(name), value);
         }
     }
 
-    // The attributes of the text behind the first semicolon, if there is one.
-    pub(crate) fn read(rest: Option<&'t [u8]>) -> Attributes<'t>
+    // The attributes of the text after the first semicolon, if there is one.
+    pub(crate) fn read(rest: Option<&'t [u8]>) -> ReceivedAttributes<'t>
         ensures { attributes_view result ≡ spec.attributes_of (option_copied rest.entry) }
     {
-        let mut attributes = Attributes::none();
+        let mut attributes = ReceivedAttributes::none();
         let mut rest = rest;
         while let Some(text) = rest {
             let (piece, after) = cut(text, b';');
@@ -167,12 +179,12 @@ impl<'t> Attributes<'t> {
     }
 }
 
-// The value of an attribute, which is empty where there is no `=`.
+// The value of an attribute, empty if there is no `=`.
 fn value_of(value: Option<&[u8]>) -> &[u8]
-    ensures { result.now ≡ spec.value_behind (option_copied value.entry) }
+    ensures { result.now ≡ spec.value_after (option_copied value.entry) }
 {
     match value {
-        Some(value) => trim(value),
+        Some(value) => trim_wsp(value),
         None => &[],
     }
 }

@@ -2,7 +2,7 @@
 ghost use Rattle.std.specs.Prelude.{◌≡◌, option_copied};
 ghost use Rattle.cookie_browser.specs.Bytes as spec;
 
-// What stands before the first `mark`, or all; and what stands behind it, where there is one.
+// The text before the first `mark`, or all of it, and the text after that mark, if there is one.
 pub(crate) fn cut(text: &[u8], mark: u8) -> (&[u8], Option<&[u8]>)
     ensures before { result.0.now ≡ (spec.cut mark text.now).0 }
     ensures after { option_copied result.1 ≡ (spec.cut mark text.now).1 }
@@ -13,22 +13,18 @@ pub(crate) fn cut(text: &[u8], mark: u8) -> (&[u8], Option<&[u8]>)
     }
 }
 
-fn is_blank(byte: u8) -> bool
-    ensures { result ≡ spec.is_blank byte }
+fn is_wsp(byte: u8) -> bool
+    ensures { result ≡ spec.is_wsp byte }
 {
     byte == b' ' || byte == b'\t'
 }
 
-// Without blanks at either end.
-pub(crate) fn trim(text: &[u8]) -> &[u8]
-    ensures { result.now ≡ spec.trim text.now }
+// The text without spaces and tabs at its ends.
+pub(crate) fn trim_wsp(text: &[u8]) -> &[u8]
+    ensures { result.now ≡ spec.trim_wsp text.now }
 {
-    let start = text.iter().take_while(|&&byte| is_blank(byte)).count();
+    let start = text.iter().take_while(|&&byte| is_wsp(byte)).count();
     let rest = &text[start..];
-    let trailing = rest
-        .iter()
-        .rev()
-        .take_while(|&&byte| is_blank(byte))
-        .count();
+    let trailing = rest.iter().rev().take_while(|&&byte| is_wsp(byte)).count();
     &rest[..rest.len() - trailing]
 }

@@ -1,15 +1,14 @@
-//! To which requests of other sites a cookie is sent.
+//! The attribute `SameSite`, as a browser keeps it.
 
-/// To which requests of other sites a cookie is sent (RFC 6265bis 5.6.7): the `SameSite` attribute as a browser keeps
-/// it.
+/// To which requests of other sites a browser sends a cookie (RFC 6265bis, The SameSite Attribute).
 #[derive(Clone, Copy, Debug, PartialEq, Eq)]
 pub enum Enforcement {
-    /// No valid `SameSite` attribute: a browser does as for `Lax`.
+    /// No valid `SameSite` attribute. A browser does as for `Lax`.
     Default,
-    /// To none.
+    /// To no request of another site.
     Strict,
-    /// To those that navigate at the top level by a safe method.
+    /// To top-level navigations with a safe method only.
     Lax,
-    /// To all.
+    /// To every request.
     None,
 }

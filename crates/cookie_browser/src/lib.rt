@@ -1,19 +1,23 @@
-//! What a browser makes of a `Set-Cookie` text (RFC 6265bis 5.6, 5.7).
+//! What a browser makes of a `Set-Cookie` text: how it is read, and which step refuses it (RFC 6265bis).
 #![tactic(auto)]
 
 mod attributes;
 mod bytes;
 mod enforcement;
+mod kept_cookie;
 mod received;
 mod refusal;
-mod site;
+mod refused;
+mod request;
+mod suffix_rule;
 mod suffixes;
-mod verdict;
 
-pub use attributes::Attributes;
+pub use attributes::ReceivedAttributes;
 pub use enforcement::Enforcement;
+pub use kept_cookie::KeptCookie;
 pub use received::Received;
 pub use refusal::Refusal;
-pub use site::Site;
-pub use suffixes::{Rule, is_public};
-pub use verdict::{Kept, refused_by};
+pub use refused::refused_by;
+pub use request::BrowserRequest;
+pub use suffix_rule::SuffixRule;
+pub use suffixes::is_public_suffix;

@@ -1,33 +1,98 @@
 //! Why a browser refuses a cookie.
+ghost use Rattle.std.specs.Prelude.{◌≡◌};
+ghost use Rattle.cookie_browser.specs.Refusal.{refusal_section, refusal_text};
 
-/// Why a browser refuses a cookie: the first step of RFC 6265bis that does.
+use std::error::Error;
+use std::fmt;
+
+/// The first step of a browser that refuses a cookie (RFC 6265bis). `Display` says in one sentence which step refused,
+/// and what to do about it.
 #[derive(Clone, Copy, Debug, PartialEq, Eq)]
 pub enum Refusal {
-    /// The text holds a control character other than a tab (5.6, step 1).
+    /// The text holds a control character other than a tab (The Set-Cookie Header Field).
     ControlCharacter,
-    /// The name and the value have more than 4096 bytes in all (5.6, step 5).
+    /// The name and the value have more than 4096 bytes in all (The Set-Cookie Header Field).
     TooLong,
-    /// Neither a name nor a value (5.7, step 2).
+    /// The name and the value are both empty (Storage Model).
     Empty,
-    /// The domain isn't ASCII (5.7, step 8).
+    /// The domain isn't ASCII (Storage Model).
     NonAsciiDomain,
-    /// The domain is a public suffix, as `com` (5.7, step 9).
+    /// The domain is a public suffix, as `com`, and not the host itself (Storage Model).
     PublicSuffix,
-    /// The domain doesn't take in the host (5.7, step 10).
+    /// The host isn't in the domain (Storage Model).
     ForeignDomain,
-    /// `Secure`, over a connection that isn't (5.7, step 13).
+    /// `Secure` came over an insecure connection (Storage Model).
     InsecureConnection,
-    /// Without `Secure`, over a connection that isn't secure, in front of a secure cookie of the name (5.7, step 16).
+    /// The cookie came over an insecure connection, without `Secure`. A stored `Secure` cookie of the same name would
+    /// be sent along with it (Storage Model).
     OverlaysSecure,
-    /// Without `SameSite=None`, in the response to a request of another site that is no top-level navigation (5.7,
-    /// step 18).
+    /// The cookie came without `SameSite=None`, for a request of another site that is no top-level navigation
+    /// (Storage Model).
     CrossSite,
-    /// `SameSite=None` without `Secure` (5.7, step 19).
+    /// `SameSite=None` came without `Secure` (Storage Model).
     NoneWithoutSecure,
-    /// A name with `__Secure-`, without `Secure` (5.7, step 20).
+    /// The name begins with `__Secure-`, and `Secure` is missing (Storage Model).
     SecurePrefix,
-    /// A name with `__Host-`, without `Secure` and `Path=/`, or with a domain (5.7, step 21).
+    /// The name begins with `__Host-`, and the cookie has a domain, lacks `Secure`, or has a path other than `/`
+    /// (Storage Model).
     HostPrefix,
-    /// No name, and a value with `__Secure-` or `__Host-` (5.7, step 22).
+    /// There is no name, and the value begins with `__Secure-` or `__Host-` (Storage Model).
     NamelessPrefix,
 }
+
+impl Refusal {
+    /// One sentence: which step refused, and what to do about it.
+    pub fn as_str(&self) -> &'static str
+        ensures { result.now ≡ refusal_text self.now }
+    {
+        match self {
+            Refusal::ControlCharacter =>
+                "the text holds a control character: leave it out or escape it",
+            Refusal::TooLong =>
+                "the name and the value have more than 4096 bytes in all: shorten them",
+            Refusal::Empty => "the name and the value are both empty: set a name",
+            Refusal::NonAsciiDomain => "the domain isn't ASCII: write it in Punycode",
+            Refusal::PublicSuffix =>
+                "the domain is a public suffix: set a domain below it, or none",
+            Refusal::ForeignDomain =>
+                "the host isn't in the domain: set the host or a domain above it, or none",
+            Refusal::InsecureConnection =>
+                "Secure was set over an insecure connection: set the cookie over https",
+            Refusal::OverlaysSecure =>
+                "a Secure cookie of this name would be overlaid: set the cookie over https",
+            Refusal::CrossSite =>
+                "the request came from another site: set SameSite=None and Secure",
+            Refusal::NoneWithoutSecure => "SameSite=None needs Secure: set Secure over https",
+            Refusal::SecurePrefix => "the prefix __Secure- needs Secure: set Secure over https",
+            Refusal::HostPrefix =>
+                "the prefix __Host- needs Secure, Path=/ and no Domain: set them so",
+            Refusal::NamelessPrefix =>
+                "a value without a name begins with __Secure- or __Host-: set a name",
+        }
+    }
+
+    /// The title of the section of RFC 6265bis that has the step.
+    pub fn section(&self) -> &'static str
+        ensures { result.now ≡ refusal_section self.now }
+    {
+        match self {
+            Refusal::ControlCharacter | Refusal::TooLong => "The Set-Cookie Header Field",
+            _ => "Storage Model",
+        }
+    }
+}
+
+impl fmt::Display for Refusal {
+    ghost use Rattle.std.specs.Prelude.{Some};
+    ghost use Rattle.cookie_browser.specs.Refusal.{refusal_text};
+
+    ghost output = { λ r. Some (refusal_text r) };
+
+    ghost styled_output = { λ r _. Some (refusal_text r) };
+
+    fn fmt<W: fmt::Write>(&self, f: &mut fmt::Formatter<W>) -> fmt::Result {
+        f.write_str(self.as_str())
+    }
+}
+
+impl Error for Refusal {}

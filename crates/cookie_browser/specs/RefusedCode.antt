@@ -1,12 +1,12 @@
--- Mirrors private code: a site and a stored cookie with copies of their texts.
+-- Mirrors private code: a request and a kept cookie with copies of their texts.
 use Rattle.std.specs.Prelude.{None}
-use Rattle.cookie_browser.specs.Site.{SiteView}
-use Rattle.cookie_browser.specs.Store.{Stored}
-use Rattle.cookie_browser.specs.declared.site.Site.{Site}
-use Rattle.cookie_browser.specs.declared.verdict.Kept.{Kept}
+use Rattle.cookie_browser.specs.Request.{RequestView}
+use Rattle.cookie_browser.specs.Storage.{KeptView}
+use Rattle.cookie_browser.specs.declared.request.BrowserRequest.{BrowserRequest}
+use Rattle.cookie_browser.specs.declared.kept_cookie.KeptCookie.{KeptCookie}
 
-abbrev pub site_view : Site → SiteView
-site_view s =
+abbrev pub request_view : BrowserRequest → RequestView
+request_view s =
     record {
       host = s.host.now;
       is_address = s.is_address;
@@ -17,8 +17,8 @@ site_view s =
       is_safe = s.is_safe;
     }
 
--- no refusal looks at its expiry
-abbrev pub kept_view : Kept → Stored
+-- a refusal doesn't depend on the expiry
+abbrev pub kept_view : KeptCookie → KeptView
 kept_view k =
     record {
       name = k.name.now;

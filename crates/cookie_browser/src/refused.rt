@@ -1,0 +1,261 @@
+//! Which step of a browser refuses a cookie (RFC 6265bis, Storage Model).
+ghost use Rattle.std.specs.Prelude.{◌≡◌, ◌&&◌, ◌||◌, not, [], map};
+ghost use Rattle.std.specs.List.{list_any};
+ghost use Rattle.std.specs.Str.{bytes_eq, str_to_ascii_lowercase};
+ghost use Rattle.cookie_browser.specs.PrintedStored.{IsPrintedSent, IsPrintedStored};
+ghost use Rattle.cookie_browser.specs.Storage as spec;
+ghost use Rattle.cookie_browser.specs.ReceivedCode.{received_view};
+ghost use Rattle.cookie_browser.specs.SuffixCode.{rule_view};
+ghost use Rattle.cookie_browser.specs.RefusedCode.{kept_view, request_view};
+
+use crate::enforcement::Enforcement;
+use crate::kept_cookie::KeptCookie;
+use crate::received::Received;
+use crate::refusal::Refusal;
+use crate::request::{BrowserRequest, is_in_domain, is_under_path};
+use crate::suffix_rule::SuffixRule;
+use crate::suffixes::is_public_suffix;
+
+fn is_site_bound(enforcement: Enforcement) -> bool
+    ensures { result ≡ spec.is_site_bound enforcement }
+{
+    !matches!(enforcement, Enforcement::None)
+}
+
+fn is_ascii(text: &[u8]) -> bool
+    ensures { result ≡ spec.is_ascii text.now }
+{
+    text.iter().all(|&byte| byte < 128)
+}
+
+// Whether the text begins with the prefix, in any ASCII case.
+fn has_prefix(prefix: &[u8], text: &[u8]) -> bool
+    requires { str_to_ascii_lowercase prefix.now ≡ prefix.now }
+    ensures { result ≡ spec.has_prefix prefix.now text.now }
+{
+    match text.get(..prefix.len()) {
+        Some(front) => front.eq_ignore_ascii_case(prefix),
+        None => false,
+    }
+}
+
+fn has_secure_prefix(text: &[u8]) -> bool
+    ensures { result ≡ spec.has_secure_prefix text.now }
+{
+    has_prefix(b"__secure-", text)
+}
+
+fn has_host_prefix(text: &[u8]) -> bool
+    ensures { result ≡ spec.has_host_prefix text.now }
+{
+    has_prefix(b"__host-", text)
+}
+
+fn is_empty_pair(received: &Received<'_>) -> bool
+    ensures { result ≡ spec.is_empty_pair (received_view received.now) }
+{
+    received.name.is_empty() && received.value.is_empty()
+}
+
+fn is_suffix_of_others(
+    rules: &[SuffixRule<'_>],
+    request: &BrowserRequest<'_>,
+    domain: &[u8],
+) -> bool
+    ensures { result ≡ spec.is_suffix_of_others (map rule_view rules.now) (request_view request.now)
+        domain.now }
+{
+    !domain.is_empty() && domain != request.host && is_public_suffix(rules, domain)
+}
+
+fn is_foreign(request: &BrowserRequest<'_>, domain: &[u8]) -> bool
+    ensures { result ≡ spec.is_foreign (request_view request.now) domain.now }
+{
+    !domain.is_empty() && !is_in_domain(request.host, request.is_address, domain)
+}
+
+fn is_overlaid(request: &BrowserRequest<'_>, new: &KeptCookie<'_>, old: &KeptCookie<'_>) -> bool
+    ensures { result ≡ spec.is_overlaid (request_view request.now) (kept_view new.now)
+        (kept_view old.now) }
+{
+    old.name == new.name
+        && old.is_secure_only
+        && (is_in_domain(old.domain, request.is_address, new.domain)
+            || is_in_domain(new.domain, request.is_address, old.domain))
+        && is_under_path(new.path, old.path)
+}
+
+fn meets_host_prefix(received: &Received<'_>, new: &KeptCookie<'_>) -> bool
+    ensures { result ≡ spec.meets_host_prefix (received_view received.now) (kept_view new.now) }
+{
+    new.is_secure_only
+        && new.is_host_only
+        && received.attributes.has_path
+        && new.path == b"/".as_slice()
+}
+
+// The steps from an empty pair to a domain that the host isn't in.
+#[tactic(auto, unfolding(crate::specs::Storage::refusal_by_domain))]
+fn refused_by_domain(
+    rules: &[SuffixRule<'_>],
+    request: &BrowserRequest<'_>,
+    received: &Received<'_>,
+    domain: &[u8],
+) -> Option<Refusal>
+    requires { domain.now ≡ spec.asked_domain (received_view received.now).attributes }
+    ensures { result ≡ spec.refusal_by_domain (map rule_view rules.now) (request_view request.now)
+        (received_view received.now) }
+{
+    if is_empty_pair(received) {
+        return Some(Refusal::Empty);
+    }
+    if !is_ascii(domain) {
+        return Some(Refusal::NonAsciiDomain);
+    }
+    if is_suffix_of_others(rules, request, domain) {
+        return Some(Refusal::PublicSuffix);
+    }
+    if is_foreign(request, domain) {
+        return Some(Refusal::ForeignDomain);
+    }
+    None
+}
+
+fn any_overlaid(
+    request: &BrowserRequest<'_>,
+    store: &[KeptCookie<'_>],
+    new: &KeptCookie<'_>,
+) -> bool
+    ensures { result ≡ list_any (spec.is_overlaid (request_view request.now) (kept_view new.now))
+        (map kept_view store.now) }
+{
+    any_kept(request, store, new)
+}
+
+fn any_kept(request: &BrowserRequest<'_>, store: &[KeptCookie<'_>], new: &KeptCookie<'_>) -> bool
+    ensures { result ≡ list_any (λ k. spec.is_overlaid (request_view request.now)
+        (kept_view new.now) (kept_view k)) store.now }
+{
+    store.iter().any(|old| is_overlaid(request, new, old))
+}
+
+fn overlays(request: &BrowserRequest<'_>, store: &[KeptCookie<'_>], new: &KeptCookie<'_>) -> bool
+    ensures { result ≡ spec.overlays (request_view request.now) (map kept_view store.now)
+        (kept_view new.now) }
+{
+    !new.is_secure_only && !request.is_secure && any_overlaid(request, store, new)
+}
+
+fn crosses(request: &BrowserRequest<'_>, new: &KeptCookie<'_>) -> bool
+    ensures { result ≡ spec.crosses (request_view request.now) (kept_view new.now) }
+{
+    is_site_bound(new.same_site) && !request.is_same_site && !request.is_top_level
+}
+
+// The steps on `Secure` and `SameSite`.
+#[tactic(auto, unfolding(crate::specs::Storage::refusal_by_connection))]
+fn refused_by_connection(
+    request: &BrowserRequest<'_>,
+    store: &[KeptCookie<'_>],
+    new: &KeptCookie<'_>,
+) -> Option<Refusal>
+    ensures { result ≡ spec.refusal_by_connection (request_view request.now)
+        (map kept_view store.now) (kept_view new.now) }
+{
+    if is_insecure(request, new) {
+        return Some(Refusal::InsecureConnection);
+    }
+    if overlays(request, store, new) {
+        return Some(Refusal::OverlaysSecure);
+    }
+    if crosses(request, new) {
+        return Some(Refusal::CrossSite);
+    }
+    if is_bare_none(new) {
+        return Some(Refusal::NoneWithoutSecure);
+    }
+    None
+}
+
+fn is_insecure(request: &BrowserRequest<'_>, new: &KeptCookie<'_>) -> bool
+    ensures { result ≡ (new.now.is_secure_only && not request.now.is_secure) }
+{
+    new.is_secure_only && !request.is_secure
+}
+
+fn is_bare_none(new: &KeptCookie<'_>) -> bool
+    ensures { result ≡ (not (spec.is_site_bound new.now.same_site) && not new.now.is_secure_only) }
+{
+    !is_site_bound(new.same_site) && !new.is_secure_only
+}
+
+// The steps on prefixes.
+#[tactic(auto, unfolding(crate::specs::Storage::refusal_by_prefix))]
+fn refused_by_prefix(received: &Received<'_>, new: &KeptCookie<'_>) -> Option<Refusal>
+    ensures { result ≡ spec.refusal_by_prefix (received_view received.now) (kept_view new.now) }
+{
+    if lacks_secure(received, new) {
+        return Some(Refusal::SecurePrefix);
+    }
+    if lacks_host(received, new) {
+        return Some(Refusal::HostPrefix);
+    }
+    if is_nameless_prefix(received) {
+        return Some(Refusal::NamelessPrefix);
+    }
+    None
+}
+
+fn lacks_secure(received: &Received<'_>, new: &KeptCookie<'_>) -> bool
+    ensures { result ≡ (spec.has_secure_prefix received.now.name.now
+        && not new.now.is_secure_only) }
+{
+    has_secure_prefix(received.name) && !new.is_secure_only
+}
+
+fn lacks_host(received: &Received<'_>, new: &KeptCookie<'_>) -> bool
+    ensures { result ≡ (spec.has_host_prefix received.now.name.now
+        && not (spec.meets_host_prefix (received_view received.now) (kept_view new.now))) }
+{
+    has_host_prefix(received.name) && !meets_host_prefix(received, new)
+}
+
+fn is_nameless_prefix(received: &Received<'_>) -> bool
+    ensures { result ≡ (bytes_eq received.now.name.now []
+        && (spec.has_secure_prefix received.now.value.now
+        || spec.has_host_prefix received.now.value.now)) }
+{
+    received.name.is_empty()
+        && (has_secure_prefix(received.value) || has_host_prefix(received.value))
+}
+
+/// Returns the first step that refuses a received cookie, or `None` if the browser stores it (RFC 6265bis, Storage
+/// Model).
+///
+/// `store` has the cookies that the browser holds and that aren't expired. `domain` is the result of
+/// `received.attributes.bare_domain()` in lower case. `new` is the cookie as the browser would store it.
+pub fn refused_by(
+    rules: &[SuffixRule<'_>],
+    request: &BrowserRequest<'_>,
+    store: &[KeptCookie<'_>],
+    received: &Received<'_>,
+    domain: &[u8],
+    new: &KeptCookie<'_>,
+) -> Option<Refusal>
+    requires { domain.now ≡ spec.asked_domain (received_view received.now).attributes }
+    ensures value { result ≡ spec.first_refusal (map rule_view rules.now) (request_view request.now)
+        (map kept_view store.now) (received_view received.now) (kept_view new.now) }
+
+    // A text that `cookie_core` prints is stored, if an empty store doesn't refuse it and it overlays no secure cookie.
+    // A live one is then sent with the next request in its scope, and one of age zero is expired.
+    ensures printed { IsPrintedStored }
+    ensures sent { IsPrintedSent }
+{
+    if let Some(refusal) = refused_by_domain(rules, request, received, domain) {
+        return Some(refusal);
+    }
+    if let Some(refusal) = refused_by_connection(request, store, new) {
+        return Some(refusal);
+    }
+    refused_by_prefix(received, new)
+}

@@ -1,0 +1,48 @@
+//! A request, as a browser sees it, and the hosts and paths that a cookie is for.
+ghost use Rattle.std.specs.Prelude.{◌≡◌};
+ghost use Rattle.cookie_browser.specs.Request.{is_in_domain, is_under_path};
+
+/// A request: where it goes, and how it came about.
+#[derive(Clone, Copy)]
+pub struct BrowserRequest<'s> {
+    /// The host, in lower case and in ASCII (RFC 6265bis, Canonicalized Host Names).
+    pub host: &'s [u8],
+    /// Whether the host is an IP address.
+    pub is_address: bool,
+    /// The path, without a query.
+    pub path: &'s [u8],
+    /// Whether the connection is secure.
+    pub is_secure: bool,
+    /// Whether the request is same-site (RFC 6265bis, "Same-site" and "cross-site" Requests).
+    pub is_same_site: bool,
+    /// Whether the request is a top-level navigation.
+    pub is_top_level: bool,
+    /// Whether the method is safe, as `GET` is.
+    pub is_safe: bool,
+}
+
+// Whether the host is the domain, or is no address and ends in a dot and the domain.
+pub(crate) fn is_in_domain(host: &[u8], is_address: bool, domain: &[u8]) -> bool
+    ensures { result ≡ is_in_domain host.now is_address domain.now }
+{
+    if host == domain {
+        return true;
+    }
+    if is_address || !host.ends_with(domain) {
+        return false;
+    }
+    host[..host.len() - domain.len()].ends_with(b".")
+}
+
+// Whether a request's path is the cookie's path, or is below it.
+pub(crate) fn is_under_path(request: &[u8], cookie: &[u8]) -> bool
+    ensures { result ≡ is_under_path request.now cookie.now }
+{
+    if request == cookie {
+        return true;
+    }
+    if !request.starts_with(cookie) {
+        return false;
+    }
+    cookie.ends_with(b"/") || request[cookie.len()..].starts_with(b"/")
+}
