@@ -32,7 +32,7 @@ overlays_none request store new (inr all) =
     (λ c h. within (bytes_eq c.name new.name) c.is_secure_only ((is_in_domain c.domain request.is_address new.domain || is_in_domain new.domain request.is_address c.domain) && is_under_path new.path c.path) h) store all) in
     ap (λ b. not new.is_secure_only && (not request.is_secure && b)) none ∙ ap (λ b. not new.is_secure_only && b) (and_false (not request.is_secure)) ∙ and_false (not new.is_secure_only)
 
--- no refusal but the one by a stored cookie looks at the store
+-- only the step on overlaid cookies looks at the store
 refusal_anywhere : (rules : List Rule) (request : RequestView) (store : CookieStore) (r : ReceivedView) (new : KeptView) → IsUncovered request store new.name → first_refusal rules request store r new ≡ first_refusal rules request [] r new
 unfolding refusal_by_connection
 refusal_anywhere rules request store r new uncovered =

@@ -101,7 +101,7 @@ same_site_part (Some same_site.None) = one_part _ (codes " SameSite=None") refl 
 not_long : (v : List ℕ) → length v ≤ 1024 → nat_lt 1024 (length v) ≡ false
 not_long v h = grind (arith, nat_tests)
 
--- a part with a plain value: `word` is the text in front of the value
+-- a part with a plain value: `word` is the text before the value
 value_part : (f : AttributesView → AttributesView) (front v : List ℕ) → list_all (is_other 59) front ≡ true → list_all is_quiet front ≡ true → IsPlainValue v → ((a : AttributesView) → with_piece a (front ++ v) ≡ f a) → IsPart f (59 ∷ (front ++ v))
 value_part f front v apart quiet plain gives =
     HasPieces-one (Does f) (front ++ v) (Lacks-append 59 front v (Lacks-from_test 59 front apart) plain.whole)

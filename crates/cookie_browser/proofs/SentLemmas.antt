@@ -1,4 +1,4 @@
--- A printed cookie that is live is seen once it is stored; one whose age is zero is expired.
+-- A printed cookie that is live is sent once it is stored, and one of age zero is expired.
 use Rattle.std.proofs.Common.{◌≡◌, ◌&&◌, ◌<◌, min, true, false, true≢false, Bool, cond, ℕ, ℤ, pos, negsuc, ◌≤ℤ◌, ◌<ℤ◌, ◌⊎◌, inl, inr, Option, Some, None, option_map, refl, sym, ap, subst, ◌∙◌, arith}
 use Rattle.std.specs.Prelude.{int_lt, int_div, ◌+ℤ◌, ◌*ℤ◌}
 use Rattle.std.proofs.lemmas.Int.{by_lt_z}

@@ -35,7 +35,7 @@ trim-tokens (b ∷ t) h =
     trim-dark (b ∷ t) (omega arith) (token_is_dark b (and_parts (is_token b) (list_all is_token t) h).0)
     (token_is_dark (get_or (b ∷ t) (length (b ∷ t) - 1) 0) (all-at is_token (b ∷ t) (length (b ∷ t) - 1) h (omega arith)))
 
--- the first such byte
+-- a text that is cut at the first mark
 pub cut-at : (c : ℕ) (xs ys : List ℕ) → Lacks c xs → cut c (xs ++ c ∷ ys) ≡ (xs, Some ys)
 unfolding cut
 cut-at c [] ys lacks = let same : (c == c) ≡ true = grind (arith, nat_tests) in cond-true _ _ _ same
