@@ -16,7 +16,8 @@ fn is_found(player: &mut Player, kind: &str, words: &'static str, value: String)
     let mut cookie = cookie_words::cookie(words)?;
     let is_whole = value.as_str() == cookie.value();
     cookie.set_value_owned(value);
-    match open(player, kind, cookie)? {
+    let answers = open(player, kind, cookie)?;
+    match &answers {
         (Ok(one), Ok(two)) => Some((one.is_some(), two.is_some()) == (is_whole, is_whole)),
         _ => None,
     }
