@@ -195,8 +195,8 @@ pub(super) fn is_followed(alloc: Global, row: &'static str, order: usize) -> Opt
     Some(is_shown && have_headers(&played, &lists, headers))
 }
 
-// Nothing tells with which number of `pick` a request begins, so each `pick`, longer than the first delta or not, has to
-// give the same.
+// Nothing tells with which number of `pick` a request begins, so each `pick`, longer than the first delta or not, has
+// to give the same.
 #[test]
 fn no_order_makes_another_client(rt: HostRuntime) {
     for order in 0..79 {
