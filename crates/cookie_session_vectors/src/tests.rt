@@ -1,0 +1,5 @@
+//! Rows whose answers come from Python's `cryptography` and `urllib.parse`, and from the standards.
+mod handler;
+mod player;
+mod rows;
+mod site;
