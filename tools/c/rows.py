@@ -35,7 +35,7 @@ def numbers_of(reading):
 def attributes_in(text):
     """The attributes of a row that prints a cookie."""
     numbers = [int(number) for number in text.split()]
-    return library.Attributes(*numbers[:9], library.Moment(library.NO_DATE, *numbers[9:]))
+    return library.Attributes(*numbers[:9], library.Moment(errors.NoDate.status, *numbers[9:]))
 
 
 def numbers_of_pair(pair):
