@@ -78,7 +78,7 @@ def run(moment: str | datetime.datetime, text: str) -> str:
     """What the program `cookiejar` writes at the moment, for the input.
 
     >>> run("Wed, 21 Oct 2015 07:28:00 GMT", "name=value\\nadd a=1\\n")
-    'Set-Cookie: a=1\\nCookie: name=value; a=1\\n'
+    'Set-Cookie: a=1\\nCookie: a=1; name=value\\n'
     """
     if isinstance(moment, datetime.datetime):
         moment = print_date(moment)
