@@ -2,7 +2,7 @@
 use super::site::Site;
 use cookie::{Cookie, CookieJar};
 use cookie_session::{Session, SessionError};
-use jar_steps::{Sevens, Step, moment, test_key};
+use jar_steps::{Call, Look, Sevens, make, moment, test_key};
 use jiff::SignedDuration;
 use jiff::civil::DateTime;
 use std::alloc::Global;
@@ -171,12 +171,11 @@ impl Player {
         if let Some(is_right) = self.site.is_right(word, rest) {
             return is_right;
         }
-        match Step::parse(step) {
-            Some(step) => {
-                let mut rng = Sevens { left: AMPLE };
-                step.is_right(self.alloc, &mut self.jar, &test_key(), &mut rng)
-            }
-            None => self.is_own_right(word, rest),
+        let mut rng = Sevens { left: AMPLE };
+        match (Call::parse(step), Look::parse(step)) {
+            (Some(call), _) => make(call, &mut self.jar, &test_key(), &mut rng).is_ok(),
+            (None, Some(look)) => look.is_right(self.alloc, &self.jar),
+            (None, None) => self.is_own_right(word, rest),
         }
     }
 
