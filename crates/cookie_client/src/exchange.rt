@@ -74,7 +74,7 @@ pub fn mirror(
 /// Has a client read the encoded text of each cookie of the jar's delta at the moment `now` in UTC (RFC 6265 5.3), in the
 /// order that `pick` asks for, as in [`mirror`].
 ///
-/// Fails only with `ClientError::OutOfMemory`.
+/// Fails only with `ClientError::OutOfMemory`. The client may then have read some of the texts.
 pub fn read_delta(
     alloc: Global,
     client: &mut Client,
