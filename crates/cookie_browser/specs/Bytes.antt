@@ -5,12 +5,12 @@ use Rattle.std.specs.List.{prefix_len, suffix_len}
 -- the bytes before the first mark, or all, and the bytes after that mark, if there is one
 unfoldable pub cut : ℕ → List ℕ → List ℕ × Option (List ℕ)
 cut mark [] = ([], None)
-cut mark (b ∷ bytes) =
-    if b == mark then ([], Some bytes) else (b ∷ (cut mark bytes).0, (cut mark bytes).1)
+cut mark (byte ∷ bytes) =
+    if byte == mark then ([], Some bytes) else (byte ∷ (cut mark bytes).0, (cut mark bytes).1)
 
 -- a space or a tab (`WSP`)
 abbrev pub is_wsp : ℕ → Bool
-is_wsp b = b == 32 || b == 9
+is_wsp byte = byte == 32 || byte == 9
 
 -- the bytes without these at the front, or at the end
 abbrev pub trim_wsp_start : List ℕ → List ℕ

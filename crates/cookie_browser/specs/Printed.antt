@@ -20,21 +20,21 @@ use Rattle.cookie_browser.specs.declared.enforcement.Enforcement.TheVariants as 
 
 -- no byte is a control character other than a tab
 abbrev pub is_quiet : ℕ → Bool
-is_quiet b = not (is_control b)
+is_quiet byte = not (is_control byte)
 
 -- a text that is received as it is printed: no `;`, no control character, no blank at an end, at most 1024 bytes
-pub record IsPlainValue (t : List ℕ) : Type 0 where
-  pub whole : Lacks 59 t
-  pub quiet : list_all is_quiet t ≡ true
-  pub trimmed : trim_wsp t ≡ t
-  pub short : length t ≤ 1024
+pub record IsPlainValue (text : List ℕ) : Type 0 where
+  pub whole : Lacks 59 text
+  pub quiet : list_all is_quiet text ≡ true
+  pub trimmed : trim_wsp text ≡ text
+  pub short : length text ≤ 1024
 
 -- a cookie whose text a browser receives unchanged: it has a name, and each part is short enough and plain
-pub record IsReceivable (r : Record) : Type 0 where
-  pub named : IsNamed r
-  pub size : length (escape r.name) + length (escape r.value) ≤ 4096
-  pub path : IfSome r.path IsPlainValue
-  pub domain : IfSome r.domain IsPlainValue
+pub record IsReceivable (cookie : Record) : Type 0 where
+  pub named : IsNamed cookie
+  pub size : length (escape cookie.name) + length (escape cookie.value) ≤ 4096
+  pub path : IfSome cookie.path IsPlainValue
+  pub domain : IfSome cookie.domain IsPlainValue
 
 -- the enforcement of a printed `SameSite`
 abbrev pub printed_enforcement : Option SameSite → Enforcement
@@ -45,37 +45,38 @@ printed_enforcement (Some same_site.None) = enforcement.None
 
 -- a number of seconds, zero if it is below zero
 abbrev pub or_zero : ℤ → ℕ
-or_zero (pos k) = k
+or_zero (pos count) = count
 or_zero _ = 0
 
 -- the whole seconds of an age, from zero to the limit
 abbrev pub printed_age : ℤ → ℕ
-printed_age n = min (or_zero (int_div n (pos 1000000000))) age_limit
+printed_age nanos = min (or_zero (int_div nanos (pos 1000000000))) age_limit
 
 -- the date-time that the text of an expiry is read as
 abbrev pub printed_moment : Option Expiration → Option DateTime
-printed_moment (Some (expiration.DateTime m)) = cookie_date_of (moment_text m)
+printed_moment (Some (expiration.DateTime moment)) = cookie_date_of (moment_text moment)
 printed_moment _ = None
 
 -- what the text is received as: the name and the value escaped, and the attributes as they were
 abbrev pub printed_as : Record → ReceivedView
-printed_as r =
+printed_as cookie =
     record {
-      name = escape r.name;
-      value = escape r.value;
+      name = escape cookie.name;
+      value = escape cookie.value;
       attributes = record {
-        max_age = option_map printed_age r.max_age;
-        expires = printed_moment r.expires;
-        domain = unwrap_or r.domain [];
-        path = unwrap_or r.path [];
-        has_path = is_some r.path;
-        secure = prints_secure r;
-        http_only = is_true r.http_only;
-        same_site = printed_enforcement r.same_site;
+        max_age = option_map printed_age cookie.max_age;
+        expires = printed_moment cookie.expires;
+        domain = unwrap_or cookie.domain [];
+        path = unwrap_or cookie.path [];
+        has_path = is_some cookie.path;
+        secure = prints_secure cookie;
+        http_only = is_true cookie.http_only;
+        same_site = printed_enforcement cookie.same_site;
       };
     }
 
 -- A browser receives the text of such a cookie as that.
 abbrev pub IsPrintedReceived : Type 0
 IsPrintedReceived =
-    (r : Record) → IsReceivable r → received (cookie_text true false r) ≡ Ok (printed_as r)
+    (cookie : Record) → IsReceivable cookie
+    → received (cookie_text true false cookie) ≡ Ok (printed_as cookie)

@@ -18,30 +18,36 @@ use Rattle.cookie_browser.specs.Suffixes.{Rule}
 -- the connection is secure, or no stored cookie of the name is secure-only
 abbrev pub IsUncovered : RequestView → CookieStore → List ℕ → Type 0
 IsUncovered request store name =
-    (request.is_secure ≡ true) ⊎ All (λ c. bytes_eq c.name name && c.is_secure_only ≡ false) store
+    (request.is_secure ≡ true)
+    ⊎ All (λ stored. bytes_eq stored.name name && stored.is_secure_only ≡ false) store
 
 -- what the printed cookie is stored as
 abbrev pub printed_kept : List Rule → RequestView → DateTime → Record → KeptView
-printed_kept rules request now r = kept_as rules request now (printed_as r)
+printed_kept rules request now cookie = kept_as rules request now (printed_as cookie)
 
 -- a cookie that is received unchanged, and that a browser without cookies doesn't refuse
-pub record IsStorable (rules : List Rule) (request : RequestView) (now : DateTime) (r : Record) : Type 0 where
-  pub receivable : IsReceivable r
-  pub accepted : first_refusal rules request [] (printed_as r) (printed_kept rules request now r) ≡ None
+pub record IsStorable (rules : List Rule) (request : RequestView) (now : DateTime)
+    (cookie : Record)
+    : Type 0 where
+  pub receivable : IsReceivable cookie
+  pub accepted : first_refusal rules request [] (printed_as cookie)
+      (printed_kept rules request now cookie) ≡ None
 
 -- A browser stores the text of such a cookie, if it overlays no secure-only cookie.
 abbrev pub IsPrintedStored : Type 0
 IsPrintedStored =
-    (rules : List Rule) (request : RequestView) (now : DateTime) (store : CookieStore) (r : Record)
-    → IsStorable rules request now r → IsUncovered request (lasting now store) (escape r.name)
-    → kept_after_text rules request now (cookie_text true false r) store
-    ≡ lasting now (kept_with (printed_kept rules request now r) (lasting now store))
+    (rules : List Rule) (request : RequestView) (now : DateTime) (store : CookieStore)
+    (cookie : Record) → IsStorable rules request now cookie
+    → IsUncovered request (lasting now store) (escape cookie.name)
+    → kept_after_text rules request now (cookie_text true false cookie) store
+    ≡ lasting now (kept_with (printed_kept rules request now cookie) (lasting now store))
 
 -- ---- what is sent back
 
 -- the expiry is after now in whole seconds, or there is none
 abbrev pub is_after_now : Option Expiration → DateTime → Bool
-is_after_now (Some (expiration.DateTime m)) now = int_lt (civil_nanos now) (civil_nanos (whole_second m))
+is_after_now (Some (expiration.DateTime moment)) now =
+    int_lt (civil_nanos now) (civil_nanos (whole_second moment))
 is_after_now _ now = true
 
 -- the whole seconds of the age are above 0, or there is no age and the expiry is after now
@@ -50,16 +56,19 @@ is_to_last (Some age) expires now = int_lt (pos 0) (int_div age (pos 1000000000)
 is_to_last None expires now = is_after_now expires now
 
 -- a request in the cookie's scope, over a connection that it may be sent over
-pub record IsSendable (rules : List Rule) (request : RequestView) (now : DateTime) (r : Record) : Type 0 where
-  pub reached : is_meant_for request (printed_kept rules request now r) ≡ true
-  pub secure : request.is_secure || not (prints_secure r) ≡ true
-  pub permitted : allows request (printed_enforcement r.same_site) ≡ true
+pub record IsSendable (rules : List Rule) (request : RequestView) (now : DateTime)
+    (cookie : Record)
+    : Type 0 where
+  pub reached : is_meant_for request (printed_kept rules request now cookie) ≡ true
+  pub secure : request.is_secure || not (prints_secure cookie) ≡ true
+  pub permitted : allows request (printed_enforcement cookie.same_site) ≡ true
 
 -- From 1601 on a live cookie is sent with such a request, however far off its expiry is, and one of age zero is expired.
 abbrev pub IsPrintedSent : Type 0
 IsPrintedSent =
-    (rules : List Rule) (request : RequestView) (now : DateTime) (r : Record) → pos 1601 ≤ℤ now.date.year
-    → (IsSendable rules request now r → is_to_last r.max_age r.expires now ≡ true
-    → is_sent request now (printed_kept rules request now r) ≡ true)
-    × (r.max_age ≡ Some (pos 0)
-    → lasts (printed_kept rules request now r).expiry now ≡ false)
+    (rules : List Rule) (request : RequestView) (now : DateTime) (cookie : Record)
+    → pos 1601 ≤ℤ now.date.year
+    → (IsSendable rules request now cookie → is_to_last cookie.max_age cookie.expires now ≡ true
+    → is_sent request now (printed_kept rules request now cookie) ≡ true)
+    × (cookie.max_age ≡ Some (pos 0)
+    → lasts (printed_kept rules request now cookie).expiry now ≡ false)

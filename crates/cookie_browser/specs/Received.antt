@@ -64,15 +64,17 @@ enforcement_of value =
 -- the attributes after one of this name and value; an unknown name changes nothing, nor does a date or an age that can't
 -- be read
 unfoldable pub with_attribute : AttributesView → List ℕ → List ℕ → AttributesView
-with_attribute a name value =
+with_attribute attributes name value =
     if spells name (codes "expires")
-    then record a { expires = option_or (cookie_date_of value) a.expires }
-    else if spells name (codes "max-age") then record a { max_age = option_or (age_of value) a.max_age }
-    else if spells name (codes "domain") then record a { domain = value }
-    else if spells name (codes "path") then record a { path = value; has_path = true }
-    else if spells name (codes "secure") then record a { secure = true }
-    else if spells name (codes "httponly") then record a { http_only = true }
-    else if spells name (codes "samesite") then record a { same_site = enforcement_of value } else a
+    then record attributes { expires = option_or (cookie_date_of value) attributes.expires }
+    else if spells name (codes "max-age")
+    then record attributes { max_age = option_or (age_of value) attributes.max_age }
+    else if spells name (codes "domain") then record attributes { domain = value }
+    else if spells name (codes "path") then record attributes { path = value; has_path = true }
+    else if spells name (codes "secure") then record attributes { secure = true }
+    else if spells name (codes "httponly") then record attributes { http_only = true }
+    else if spells name (codes "samesite")
+    then record attributes { same_site = enforcement_of value } else attributes
 
 -- the name of an attribute, and its value, empty if there is no `=`
 abbrev pub attribute_name : List ℕ → List ℕ
@@ -87,9 +89,9 @@ attribute_value piece = value_after (cut 61 piece).1
 
 -- the attributes after a piece; one whose value has more than 1024 bytes is passed over
 unfoldable pub with_piece : AttributesView → List ℕ → AttributesView
-with_piece a piece =
-    if nat_lt 1024 (length (attribute_value piece)) then a
-    else with_attribute a (attribute_name piece) (attribute_value piece)
+with_piece attributes piece =
+    if nat_lt 1024 (length (attribute_value piece)) then attributes
+    else with_attribute attributes (attribute_name piece) (attribute_value piece)
 
 -- the pieces of the text after a semicolon, if there is one
 abbrev pub pieces_after : Option (List ℕ) → List (List ℕ)
@@ -110,7 +112,7 @@ pub record ReceivedView : Type 0 where
 
 -- a control character other than a tab
 abbrev pub is_control : ℕ → Bool
-is_control b = nat_lt b 9 || (nat_lt 9 b && nat_lt b 32 || b == 127)
+is_control byte = nat_lt byte 9 || (nat_lt 9 byte && nat_lt byte 32 || byte == 127)
 
 -- the name and the value on the two sides of the first `=`; without one there is no name
 abbrev pub received_name_value : List ℕ × Option (List ℕ) → List ℕ × List ℕ

@@ -7,24 +7,28 @@ use Rattle.cookie_browser.specs.declared.refusal.Refusal.{Refusal}
 
 -- the attributes
 abbrev pub attributes_view : Parts → AttributesView
-attributes_view a =
+attributes_view attributes =
     record {
-      max_age = a.max_age;
-      expires = a.expires;
-      domain = a.domain.now;
-      path = a.path.now;
-      has_path = a.has_path;
-      secure = a.secure;
-      http_only = a.http_only;
-      same_site = a.same_site;
+      max_age = attributes.max_age;
+      expires = attributes.expires;
+      domain = attributes.domain.now;
+      path = attributes.path.now;
+      has_path = attributes.has_path;
+      secure = attributes.secure;
+      http_only = attributes.http_only;
+      same_site = attributes.same_site;
     }
 
 -- the received cookie
 abbrev pub received_view : Text → ReceivedView
-received_view r =
-    record { name = r.name.now; value = r.value.now; attributes = attributes_view r.attributes }
+received_view received =
+    record {
+      name = received.name.now;
+      value = received.value.now;
+      attributes = attributes_view received.attributes;
+    }
 
 -- the received cookie, or the refusal
 abbrev pub received_result : Result Text Refusal → Result ReceivedView Refusal
-received_result (Ok r) = Ok (received_view r)
+received_result (Ok received) = Ok (received_view received)
 received_result (Err refusal) = Err refusal

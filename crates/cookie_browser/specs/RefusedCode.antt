@@ -6,28 +6,28 @@ use Rattle.cookie_browser.specs.declared.request.BrowserRequest.{BrowserRequest}
 use Rattle.cookie_browser.specs.declared.kept_cookie.KeptCookie.{KeptCookie}
 
 abbrev pub request_view : BrowserRequest → RequestView
-request_view s =
+request_view request =
     record {
-      host = s.host.now;
-      is_address = s.is_address;
-      path = s.path.now;
-      is_secure = s.is_secure;
-      is_same_site = s.is_same_site;
-      is_top_level = s.is_top_level;
-      is_safe = s.is_safe;
+      host = request.host.now;
+      is_address = request.is_address;
+      path = request.path.now;
+      is_secure = request.is_secure;
+      is_same_site = request.is_same_site;
+      is_top_level = request.is_top_level;
+      is_safe = request.is_safe;
     }
 
 -- a refusal doesn't depend on the expiry
 abbrev pub kept_view : KeptCookie → KeptView
-kept_view k =
+kept_view cookie =
     record {
-      name = k.name.now;
-      value = k.value.now;
-      domain = k.domain.now;
-      is_host_only = k.is_host_only;
-      path = k.path.now;
-      is_secure_only = k.is_secure_only;
-      is_http_only = k.is_http_only;
-      same_site = k.same_site;
+      name = cookie.name.now;
+      value = cookie.value.now;
+      domain = cookie.domain.now;
+      is_host_only = cookie.is_host_only;
+      path = cookie.path.now;
+      is_secure_only = cookie.is_secure_only;
+      is_http_only = cookie.is_http_only;
+      same_site = cookie.same_site;
       expiry = None;
     }

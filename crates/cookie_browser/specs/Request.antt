@@ -26,13 +26,13 @@ is_in_domain host is_address domain =
 -- the path, or `/` if it is empty
 abbrev pub or_root : List ℕ → List ℕ
 or_root [] = codes "/"
-or_root (c ∷ cs) = c ∷ cs
+or_root (byte ∷ bytes) = byte ∷ bytes
 
 -- the path up to its last `/`, without it, or `/` (Paths and Path-Match, default-path)
 abbrev pub folder_of : List ℕ → List ℕ
 folder_of path =
     if starts_with eqb path (codes "/")
-    then or_root (before_last (λ b. b == 47) path) else codes "/"
+    then or_root (before_last (λ byte. byte == 47) path) else codes "/"
 
 -- the request's path is the cookie's, or is below it (Paths and Path-Match)
 abbrev pub is_under_path : List ℕ → List ℕ → Bool

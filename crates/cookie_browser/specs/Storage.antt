@@ -32,33 +32,36 @@ CookieStore = List KeptView
 
 -- ---- fields
 
--- the time so many seconds after another, in nanoseconds
+-- the time that is this number of seconds after another, in nanoseconds
 abbrev pub seconds_after : DateTime → ℕ → ℤ
 seconds_after now seconds = civil_nanos now +ℤ pos seconds *ℤ pos 1000000000
 
 -- the earlier of two times
 abbrev pub earlier_of : ℤ → ℤ → ℤ
-earlier_of a b = if int_lt a b then a else b
+earlier_of left right = if int_lt left right then left else right
 
 -- `Max-Age` goes before `Expires`, and neither is more than 400 days off (Cookie Lifetime Limits)
 abbrev pub kept_until : DateTime → Option ℕ → Option DateTime → Option ℤ
 kept_until now (Some age) expires = Some (seconds_after now age)
-kept_until now None (Some moment) = Some (earlier_of (civil_nanos moment) (seconds_after now 34560000))
+kept_until now None (Some moment) =
+    Some (earlier_of (civil_nanos moment) (seconds_after now 34560000))
 kept_until now None None = None
 
 -- the value of the last `Domain`, without one leading dot, in lower case; empty if there is none (The Domain Attribute)
 abbrev pub asked_domain : AttributesView → List ℕ
-asked_domain a = str_to_ascii_lowercase (without_leading_dot a.domain)
+asked_domain attributes = str_to_ascii_lowercase (without_leading_dot attributes.domain)
 
 -- the domain is a public suffix, and not the host itself
 abbrev pub is_suffix_of_others : List Rule → RequestView → List ℕ → Bool
 is_suffix_of_others rules request [] = false
-is_suffix_of_others rules request (c ∷ cs) = not (bytes_eq (c ∷ cs) request.host) && is_public_suffix rules (c ∷ cs)
+is_suffix_of_others rules request (byte ∷ bytes) =
+    not (bytes_eq (byte ∷ bytes) request.host)
+    && is_public_suffix rules (byte ∷ bytes)
 
 -- host-only: no domain is asked for, or one that is a public suffix
 abbrev pub is_host_only : List Rule → List ℕ → Bool
 is_host_only rules [] = true
-is_host_only rules (c ∷ cs) = is_public_suffix rules (c ∷ cs)
+is_host_only rules (byte ∷ bytes) = is_public_suffix rules (byte ∷ bytes)
 
 -- the path that is asked for, if it begins with `/`, and else the default path (The Path Attribute)
 abbrev pub asked_path : RequestView → List ℕ → List ℕ
@@ -66,40 +69,43 @@ asked_path request path = if starts_with eqb path (codes "/") then path else fol
 
 -- what a received cookie is stored as
 abbrev pub kept_as : List Rule → RequestView → DateTime → ReceivedView → KeptView
-kept_as rules request now r =
+kept_as rules request now cookie =
     record {
-      name = r.name;
-      value = r.value;
-      domain = if is_host_only rules (asked_domain r.attributes) then request.host else asked_domain r.attributes;
-      is_host_only = is_host_only rules (asked_domain r.attributes);
-      path = asked_path request r.attributes.path;
-      is_secure_only = r.attributes.secure;
-      is_http_only = r.attributes.http_only;
-      same_site = r.attributes.same_site;
-      expiry = kept_until now r.attributes.max_age r.attributes.expires;
+      name = cookie.name;
+      value = cookie.value;
+      domain = if is_host_only rules (asked_domain cookie.attributes)
+          then request.host else asked_domain cookie.attributes;
+      is_host_only = is_host_only rules (asked_domain cookie.attributes);
+      path = asked_path request cookie.attributes.path;
+      is_secure_only = cookie.attributes.secure;
+      is_http_only = cookie.attributes.http_only;
+      same_site = cookie.attributes.same_site;
+      expiry = kept_until now cookie.attributes.max_age cookie.attributes.expires;
     }
 
 -- ---- refusals
 
 -- the name and the value are both empty
 abbrev pub is_empty_pair : ReceivedView → Bool
-is_empty_pair r = bytes_eq r.name [] && bytes_eq r.value []
+is_empty_pair cookie = bytes_eq cookie.name [] && bytes_eq cookie.value []
 
 -- every byte is ASCII
 abbrev pub is_ascii : List ℕ → Bool
-is_ascii text = list_all (λ b. nat_lt b 128) text
+is_ascii text = list_all (λ byte. nat_lt byte 128) text
 
 -- a domain is asked for that the host isn't in
 abbrev pub is_foreign : RequestView → List ℕ → Bool
 is_foreign request [] = false
-is_foreign request (c ∷ cs) = not (is_in_domain request.host request.is_address (c ∷ cs))
+is_foreign request (byte ∷ bytes) =
+    not (is_in_domain request.host request.is_address (byte ∷ bytes))
 
 -- the stored cookie is secure-only, has the new one's name, and is sent with it to some request
 abbrev pub is_overlaid : RequestView → KeptView → KeptView → Bool
 is_overlaid request new old =
     bytes_eq old.name new.name
     && (old.is_secure_only
-    && ((is_in_domain old.domain request.is_address new.domain || is_in_domain new.domain request.is_address old.domain)
+    && ((is_in_domain old.domain request.is_address new.domain
+    || is_in_domain new.domain request.is_address old.domain)
     && is_under_path new.path old.path))
 
 -- any enforcement but `None`
@@ -119,9 +125,9 @@ has_host_prefix text = has_prefix (codes "__host-") text
 
 -- what `__Host-` requires: secure-only, host-only, and a `Path` attribute that comes to `/` (Cookie Name Prefixes)
 abbrev pub meets_host_prefix : ReceivedView → KeptView → Bool
-meets_host_prefix r new =
+meets_host_prefix cookie new =
     new.is_secure_only
-    && (new.is_host_only && (r.attributes.has_path && bytes_eq new.path (codes "/")))
+    && (new.is_host_only && (cookie.attributes.has_path && bytes_eq new.path (codes "/")))
 
 -- the refusal if the test holds, and else the later one
 abbrev pub refused_if : Bool → Refusal → Option Refusal → Option Refusal
@@ -134,11 +140,12 @@ or_next_refusal None later = later
 
 -- the steps on an empty pair and on the domain
 unfoldable pub refusal_by_domain : List Rule → RequestView → ReceivedView → Option Refusal
-refusal_by_domain rules request r =
-    refused_if (is_empty_pair r) refusal.Empty
-    (refused_if (not (is_ascii (asked_domain r.attributes))) refusal.NonAsciiDomain
-    (refused_if (is_suffix_of_others rules request (asked_domain r.attributes)) refusal.PublicSuffix
-    (refused_if (is_foreign request (asked_domain r.attributes)) refusal.ForeignDomain
+refusal_by_domain rules request cookie =
+    refused_if (is_empty_pair cookie) refusal.Empty
+    (refused_if (not (is_ascii (asked_domain cookie.attributes))) refusal.NonAsciiDomain
+    (refused_if (is_suffix_of_others rules request (asked_domain cookie.attributes))
+    refusal.PublicSuffix
+    (refused_if (is_foreign request (asked_domain cookie.attributes)) refusal.ForeignDomain
     None)))
 
 -- it isn't secure-only, comes over an insecure connection, and would overlay a secure-only cookie
@@ -148,7 +155,8 @@ overlays request store new =
 
 -- it isn't `SameSite=None`, and the request came from another site and is no top-level navigation
 abbrev pub crosses : RequestView → KeptView → Bool
-crosses request new = is_site_bound new.same_site && (not request.is_same_site && not request.is_top_level)
+crosses request new =
+    is_site_bound new.same_site && (not request.is_same_site && not request.is_top_level)
 
 -- the steps on `Secure` and `SameSite`
 unfoldable pub refusal_by_connection : RequestView → CookieStore → KeptView → Option Refusal
@@ -156,22 +164,27 @@ refusal_by_connection request store new =
     refused_if (new.is_secure_only && not request.is_secure) refusal.InsecureConnection
     (refused_if (overlays request store new) refusal.OverlaysSecure
     (refused_if (crosses request new) refusal.CrossSite
-    (refused_if (not (is_site_bound new.same_site) && not new.is_secure_only) refusal.NoneWithoutSecure
+    (refused_if (not (is_site_bound new.same_site) && not new.is_secure_only)
+    refusal.NoneWithoutSecure
     None)))
 
 -- the steps on prefixes
 unfoldable pub refusal_by_prefix : ReceivedView → KeptView → Option Refusal
-refusal_by_prefix r new =
-    refused_if (has_secure_prefix r.name && not new.is_secure_only) refusal.SecurePrefix
-    (refused_if (has_host_prefix r.name && not (meets_host_prefix r new)) refusal.HostPrefix
-    (refused_if (bytes_eq r.name [] && (has_secure_prefix r.value || has_host_prefix r.value)) refusal.NamelessPrefix
+refusal_by_prefix cookie new =
+    refused_if (has_secure_prefix cookie.name && not new.is_secure_only) refusal.SecurePrefix
+    (refused_if (has_host_prefix cookie.name && not (meets_host_prefix cookie new))
+    refusal.HostPrefix
+    (refused_if (bytes_eq cookie.name []
+    && (has_secure_prefix cookie.value || has_host_prefix cookie.value))
+    refusal.NamelessPrefix
     None))
 
 -- the first step that refuses the cookie, if one does
-abbrev pub first_refusal : List Rule → RequestView → CookieStore → ReceivedView → KeptView → Option Refusal
-first_refusal rules request store r new =
-    or_next_refusal (refusal_by_domain rules request r)
-    (or_next_refusal (refusal_by_connection request store new) (refusal_by_prefix r new))
+abbrev pub first_refusal : List Rule → RequestView → CookieStore → ReceivedView → KeptView
+    → Option Refusal
+first_refusal rules request store cookie new =
+    or_next_refusal (refusal_by_domain rules request cookie)
+    (or_next_refusal (refusal_by_connection request store new) (refusal_by_prefix cookie new))
 
 -- ---- the verdict
 
@@ -181,26 +194,30 @@ unless_refused (Some refusal) new = Err refusal
 unless_refused None new = Ok new
 
 -- the refusal of the received cookie, or what it is stored as
-abbrev pub verdict_on : List Rule → RequestView → DateTime → CookieStore → Result ReceivedView Refusal → Result KeptView Refusal
+abbrev pub verdict_on : List Rule → RequestView → DateTime → CookieStore
+    → Result ReceivedView Refusal → Result KeptView Refusal
 verdict_on rules request now store (Err refusal) = Err refusal
-verdict_on rules request now store (Ok r) =
-    unless_refused (first_refusal rules request store r (kept_as rules request now r)) (kept_as rules request now r)
+verdict_on rules request now store (Ok cookie) =
+    unless_refused (first_refusal rules request store cookie (kept_as rules request now cookie))
+    (kept_as rules request now cookie)
 
 -- the first step that refuses a `Set-Cookie` text, or the cookie that it is stored as
-abbrev pub verdict : List Rule → RequestView → DateTime → CookieStore → List ℕ → Result KeptView Refusal
+abbrev pub verdict : List Rule → RequestView → DateTime → CookieStore → List ℕ
+    → Result KeptView Refusal
 verdict rules request now store text = verdict_on rules request now store (received text)
 
 -- ---- the store after a text
 
 -- both, or neither
 abbrev pub both_or_neither : Bool → Bool → Bool
-both_or_neither a b = if a then b else not b
+both_or_neither left right = if left then right else not right
 
 -- the same cookie: the same name, domain, host-only flag and path
 abbrev pub is_same_cookie : KeptView → KeptView → Bool
-is_same_cookie a b =
-    bytes_eq a.name b.name
-    && (bytes_eq a.domain b.domain && (both_or_neither a.is_host_only b.is_host_only && bytes_eq a.path b.path))
+is_same_cookie left right =
+    bytes_eq left.name right.name
+    && (bytes_eq left.domain right.domain
+    && (both_or_neither left.is_host_only right.is_host_only && bytes_eq left.path right.path))
 
 -- the expiry is after now, or there is none
 abbrev pub lasts : Option ℤ → DateTime → Bool
@@ -208,13 +225,15 @@ lasts None now = true
 lasts (Some expiry) now = int_lt (civil_nanos now) expiry
 
 abbrev pub lasting : DateTime → CookieStore → CookieStore
-lasting now store = filter (λ c. lasts c.expiry now) store
+lasting now store = filter (λ cookie. lasts cookie.expiry now) store
 
 -- the cookie takes the place, and so the creation time, of the same cookie; else it comes last
 abbrev pub kept_with : KeptView → CookieStore → CookieStore
 kept_with new [] = new ∷ []
 kept_with new (old ∷ store) =
-    if is_same_cookie old new then new ∷ filter (λ c. not (is_same_cookie c new)) store else old ∷ kept_with new store
+    if is_same_cookie old new
+    then new ∷ filter (λ cookie. not (is_same_cookie cookie new)) store
+    else old ∷ kept_with new store
 
 -- the store after the verdict on a text
 abbrev pub kept_after_verdict : DateTime → Result KeptView Refusal → CookieStore → CookieStore
@@ -237,16 +256,19 @@ is_lax _ = false
 -- the enforcement allows the cookie to be sent with the request
 abbrev pub allows : RequestView → Enforcement → Bool
 allows request enforce =
-    not (is_site_bound enforce) || (request.is_same_site || (is_lax enforce && (request.is_safe && request.is_top_level)))
+    not (is_site_bound enforce)
+    || (request.is_same_site || (is_lax enforce && (request.is_safe && request.is_top_level)))
 
 -- the cookie is for the request's host and path
 abbrev pub is_meant_for : RequestView → KeptView → Bool
-is_meant_for request c =
-    (if c.is_host_only then bytes_eq request.host c.domain else is_in_domain request.host request.is_address c.domain)
-    && is_under_path request.path c.path
+is_meant_for request cookie =
+    (if cookie.is_host_only then bytes_eq request.host cookie.domain
+    else is_in_domain request.host request.is_address cookie.domain)
+    && is_under_path request.path cookie.path
 
 -- the cookie is sent with the request
 abbrev pub is_sent : RequestView → DateTime → KeptView → Bool
-is_sent request now c =
-    lasts c.expiry now
-    && (is_meant_for request c && ((request.is_secure || not c.is_secure_only) && allows request c.same_site))
+is_sent request now cookie =
+    lasts cookie.expiry now
+    && (is_meant_for request cookie
+    && ((request.is_secure || not cookie.is_secure_only) && allows request cookie.same_site))

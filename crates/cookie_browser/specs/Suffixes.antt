@@ -35,4 +35,5 @@ is_covered domain (Except text) = false
 -- rule, and the suffix that it gives has a label less; where no rule matches, `*` prevails.
 unfoldable pub is_public_suffix : List Rule → List ℕ → Bool
 is_public_suffix rules domain =
-    not (list_any (is_excepted domain) rules) && (is_one_label domain || list_any (is_covered domain) rules)
+    not (list_any (is_excepted domain) rules)
+    && (is_one_label domain || list_any (is_covered domain) rules)

@@ -11,16 +11,17 @@ abbrev pub newest : List (List ℕ) → List ℕ
 newest [] = []
 newest (key ∷ older) = key
 
--- the key at this place opens the cookie: its value is a sealing of v under that key and the cookie's name
+-- the key at this place opens the cookie: the stored value is a sealing of this value under that key and the cookie's
+-- name (SP 800-38D 7.1)
 abbrev pub KeyOpens : List (List ℕ) → ℕ → Record → List ℕ → Type 0
-KeyOpens ring place cookie v =
-    MatchOption (slice_get ring place) ⊥ (λ key. IsSealingOf (encryption_half key) cookie v)
+KeyOpens ring place cookie value =
+    MatchOption (slice_get ring place) ⊥ (λ key. IsSealingOf (encryption_half key) cookie value)
 
 -- and no newer key opens it
-pub record OpensAt (ring : List (List ℕ)) (place : ℕ) (cookie : Record) (v : List ℕ)
+pub record OpensAt (ring : List (List ℕ)) (place : ℕ) (cookie : Record) (value : List ℕ)
     : Type 0 where
-  pub opens : KeyOpens ring place cookie v
-  pub first : (newer : ℕ) (w : List ℕ) → newer < place → ¬ (KeyOpens ring newer cookie w)
+  pub opens : KeyOpens ring place cookie value
+  pub first : (newer : ℕ) (other : List ℕ) → newer < place → ¬ (KeyOpens ring newer cookie other)
 
 -- the place of a key, and the value that it opened
 abbrev pub opened_at : Opening → ℕ × List ℕ
@@ -30,8 +31,9 @@ opened_at opening = (opening.place, opening.cookie.fields.value)
 pub record OpensExactly (ring : List (List ℕ)) (stored : Option Record)
     (answer : Option Opening) : Type 0 where
   -- a place and a value are answered exactly if the key at that place opens the stored cookie as the newest that does
-  pub exact : (place : ℕ) (v : List ℕ)
-      → (option_map opened_at answer ≡ Some (place, v)) ↔ IsStoredFor (OpensAt ring place) stored v
+  pub exact : (place : ℕ) (value : List ℕ)
+      → (option_map opened_at answer ≡ Some (place, value))
+      ↔ IsStoredFor (OpensAt ring place) stored value
   -- nothing else of the cookie changes
   pub kept : IfSome answer (λ opening.
       option_map (with_value opening.cookie.fields.value) stored ≡ Some opening.cookie.fields)
@@ -39,11 +41,11 @@ pub record OpensExactly (ring : List (List ℕ)) (stored : Option Record)
 -- what a key of the old ring opens it opens in the new ring one place further back, if the newest key doesn't open it
 abbrev pub KeepsOpening : List (List ℕ) → List (List ℕ) → Type 0
 KeepsOpening old new =
-    (place : ℕ) (cookie : Record) (v : List ℕ) → OpensAt old place cookie v
-    → ((w : List ℕ) → ¬ (KeyOpens new 0 cookie w)) → OpensAt new (place + 1) cookie v
+    (place : ℕ) (cookie : Record) (value : List ℕ) → OpensAt old place cookie value
+    → ((other : List ℕ) → ¬ (KeyOpens new 0 cookie other)) → OpensAt new (place + 1) cookie value
 
 -- the new ring opens exactly what a key of the old ring opened that it still has
 abbrev pub LeavesOpening : List (List ℕ) → List (List ℕ) → Type 0
 LeavesOpening old new =
-    (place : ℕ) (cookie : Record) (v : List ℕ)
-    → OpensAt new place cookie v ↔ (OpensAt old place cookie v × (place < length new))
+    (place : ℕ) (cookie : Record) (value : List ℕ)
+    → OpensAt new place cookie value ↔ (OpensAt old place cookie value × (place < length new))

@@ -28,6 +28,6 @@ filled (pair ∷ pairs) texts = filled pairs (insert texts pair.0 pair.1)
 -- The first of the pairs that are left was taken. If its value is the text of a number, it is this one.
 abbrev pub ReadsNumber : RawPairs → RawPairs → ℕ → Type 0
 ReadsNumber before after number =
-    (name value : List ℕ) (rest : List (List ℕ × List ℕ)) (n : ℕ) → n < 2 ^ 64
-    → decoded_pairs (raw_pairs_left before) ≡ (name, value) ∷ rest → value ≡ decimal n
-    → (number ≡ n) × (decoded_pairs (raw_pairs_left after) ≡ rest)
+    (name value : List ℕ) (rest : List (List ℕ × List ℕ)) (written : ℕ) → written < 2 ^ 64
+    → decoded_pairs (raw_pairs_left before) ≡ (name, value) ∷ rest → value ≡ decimal written
+    → (number ≡ written) × (decoded_pairs (raw_pairs_left after) ≡ rest)

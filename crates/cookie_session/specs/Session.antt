@@ -17,36 +17,37 @@ pub record SessionState : Type 0 where
 abbrev pub session_code : Coded SessionState
 session_code =
     code_by (ℕ × (ℕ × FinMap name_cmp (List ℕ))) (coded× coded_ℕ (coded× coded_ℕ texts_code))
-    (λ s. (s.started, (s.seen, s.texts)))
-    (λ p. record { started = p.0; seen = p.1.0; texts = p.1.1 }) (λ _. refl)
+    (λ state. (state.started, (state.seen, state.texts)))
+    (λ pair. record { started = pair.0; seen = pair.1.0; texts = pair.1.1 }) (λ _. refl)
 
 -- its seconds are numbers of 64 bits, and its names and texts are UTF-8
-pub record IsSession (s : SessionState) : Type 0 where
-  pub started : s.started < 2 ^ 64
-  pub seen : s.seen < 2 ^ 64
-  pub texts : AreTexts (entries s.texts)
+pub record IsSession (state : SessionState) : Type 0 where
+  pub started : state.started < 2 ^ 64
+  pub seen : state.seen < 2 ^ 64
+  pub texts : AreTexts (entries state.texts)
 
 -- the version, the two seconds, and then the texts in byte order of their names
 abbrev pub session_pairs : SessionState → List (List ℕ × List ℕ)
-session_pairs s =
-    (codes "v", codes "1") ∷ (codes "started", decimal s.started)
-    ∷ (codes "seen", decimal s.seen) ∷ entries s.texts
+session_pairs state =
+    (codes "v", codes "1") ∷ (codes "started", decimal state.started)
+    ∷ (codes "seen", decimal state.seen) ∷ entries state.texts
 
 -- these pairs as a form (URL Standard 5.2)
 abbrev pub session_text : SessionState → List ℕ
-session_text s = extend_pairs [] (session_pairs s)
+session_text state = extend_pairs [] (session_pairs state)
 
 -- the text is that of this session
-pub record IsSessionText (text : List ℕ) (s : SessionState) : Type 0 where
-  pub session : IsSession s
-  pub written : text ≡ session_text s
+pub record IsSessionText (text : List ℕ) (state : SessionState) : Type 0 where
+  pub session : IsSession state
+  pub written : text ≡ session_text state
 
 -- the session as it is saved in this second
 abbrev pub seen_at : ℕ → SessionState → SessionState
-seen_at second s = record s { seen = second }
+seen_at second state = record state { seen = second }
 
--- it lives in this second: it has started, its lifetime isn't over, and it was saved within the idle time
-pub record IsAlive (lifetime idle now : ℕ) (s : SessionState) : Type 0 where
-  pub begun : s.started ≤ now
-  pub young : now < s.started + lifetime
-  pub used : now < s.seen + idle
+-- it lives in this second: it has started, its lifetime isn't over, and it was saved within the idle time; at its end a
+-- limit is over (RFC 7519 4.1.4)
+pub record IsAlive (lifetime idle now : ℕ) (state : SessionState) : Type 0 where
+  pub begun : state.started ≤ now
+  pub young : now < state.started + lifetime
+  pub used : now < state.seen + idle

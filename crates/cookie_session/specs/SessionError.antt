@@ -13,7 +13,8 @@ session_refusal_text refusal.Prefix =
     codes "the cookie lacks what a browser asks of the prefix of its name"
 session_refusal_text refusal.Over = codes "the session is over"
 session_refusal_text (refusal.TooLarge count) =
-    codes "the cookie is too large: expected <= 4096 bytes, got " ++ (decimal count ++ codes " bytes")
+    codes "the cookie is too large: expected <= 4096 bytes, got "
+    ++ (decimal count ++ codes " bytes")
 session_refusal_text refusal.TooLong = codes "the value or name is too long to seal"
 session_refusal_text refusal.Generator = codes "the generator failed"
 

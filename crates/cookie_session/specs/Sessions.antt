@@ -13,30 +13,30 @@ use Rattle.cookie_session.specs.declared.sessions.Sessions.{Sessions}
 
 -- it lives at this time
 abbrev pub LivesAt : Sessions → DateTime → SessionState → Type 0
-LivesAt site now s = IsAlive site.lifetime site.idle (second_of now) s
+LivesAt site now state = IsAlive site.lifetime site.idle (second_of now) state
 
 -- The stored cookie, if any, is a sealing of the session's text by the key at this place, the newest that opens it; and
 -- the session lives.
 pub record IsOpen (site : Sessions) (stored : Option Record) (now : DateTime) (place : ℕ)
-    (s : SessionState) : Type 0 where
-  pub session : IsSession s
-  pub sealed : IsStoredFor (OpensAt site.keys.now place) stored (session_text s)
-  pub lives : LivesAt site now s
+    (state : SessionState) : Type 0 where
+  pub session : IsSession state
+  pub sealed : IsStoredFor (OpensAt site.keys.now place) stored (session_text state)
+  pub lives : LivesAt site now state
 
 -- saved now, it lives
 abbrev pub CanSave : Sessions → DateTime → SessionState → Type 0
-CanSave site now s = LivesAt site now (seen_at (second_of now) s)
+CanSave site now state = LivesAt site now (seen_at (second_of now) state)
 
 -- The stored cookie holds the session: at every time at which the session lives, it is open by the newest key, in each
 -- cookie of this name and value.
 abbrev pub IsStored : Sessions → Option Record → SessionState → Type 0
-IsStored site stored s =
+IsStored site stored state =
     MatchOption stored ⊥ (λ saved. (cookie : Record) → pair_of cookie ≡ pair_of saved
-    → (later : DateTime) → LivesAt site later s → IsOpen site (Some cookie) later 0 s)
+    → (later : DateTime) → LivesAt site later state → IsOpen site (Some cookie) later 0 state)
 
 -- the seconds that a session lives that was saved in this second
 abbrev pub time_left : Sessions → ℕ → SessionState → ℕ
-time_left site now s = min (s.started + site.lifetime - now) site.idle
+time_left site now state = min (state.started + site.lifetime - now) site.idle
 
 -- the site's cookie with this value, for this many seconds (RFC 6265 5.2.2)
 abbrev pub session_cookie : Record → ℕ → List ℕ → Record
@@ -49,14 +49,14 @@ session_cookie set age text =
 
 -- the cookie of a session that is saved now, before it is sealed
 abbrev pub bare_cookie : Sessions → DateTime → SessionState → Record
-bare_cookie site now s =
-    session_cookie site.cookie.now.fields (time_left site (second_of now) s)
-    (session_text (seen_at (second_of now) s))
+bare_cookie site now state =
+    session_cookie site.cookie.now.fields (time_left site (second_of now) state)
+    (session_text (seen_at (second_of now) state))
 
 -- the same cookie, sealed under the newest key
 abbrev pub saved_cookie : Sessions → List ℕ → DateTime → SessionState → Record
-saved_cookie site nonce now s =
-    sealed_cookie (encryption_half (newest site.keys.now)) nonce (bare_cookie site now s)
+saved_cookie site nonce now state =
+    sealed_cookie (encryption_half (newest site.keys.now)) nonce (bare_cookie site now state)
 
 -- the cookie has what a browser asks of its name (RFC 6265bis 4.1.3 and 5.7)
 abbrev pub meets_prefix : Record → Bool

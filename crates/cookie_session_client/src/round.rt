@@ -1,15 +1,19 @@
 //! A request that saves a session, and the client's next one.
-ghost use Rattle.std.specs.Prelude.{◌≡◌, Bool, List, [], ℕ, None, Some, IfOk, OnOk, option_map};
+ghost use Rattle.std.specs.Prelude.{◌≡◌, ◌<◌, true, Bool, List, [], ℕ, None, Some, Err, IfOk, OnOk, option_map};
 ghost use Rattle.std.specs.FinMap.{get};
 ghost use Rattle.std.specs.List.{AllZip};
 ghost use Rattle.cookie.specs.DeltaTexts.{AreDeltaTexts};
 ghost use Rattle.cookie.specs.History.{after_all};
 ghost use Rattle.cookie.specs.Jar.{Name, view};
 ghost use Rattle.cookie.specs.Record.{plain};
+ghost use Rattle.cookie.specs.Sealing.{CanSeal};
 ghost use Rattle.cookie_client.specs.Calls.{IsOutcome, changes_of};
 ghost use Rattle.cookie_client.specs.Client.{after_texts};
 ghost use Rattle.cookie_session.specs.Seconds.{second_of};
 ghost use Rattle.cookie_session.specs.Session.{seen_at};
+ghost use Rattle.cookie_session.specs.Sessions.{CanSave, bare_cookie, meets_prefix};
+ghost use Rattle.cookie_session.specs.Size.{most_bytes};
+ghost use Rattle.cookie_session.specs.declared.session_error.SessionError.TheVariants as refusal;
 ghost use Rattle.cookie_session_client.specs.Returning.{CanReturn};
 
 use cookie::CookieJar;
@@ -27,7 +31,7 @@ use std::alloc::{AllocError, Global};
 /// it lives. This asks for `CanReturn`: the jar has no changes before, each call is fit (`JarCall::is_fit`), the site's
 /// cookie has a name and no `;` in its path and its domain, and the client holds nothing under the empty name.
 ///
-/// Fails as [`Sessions::save`] does.
+/// Fails as [`Sessions::save`] does. The jar and the client may then have changed.
 pub fn save_and_return<R: TryRng>(
     alloc: Global,
     sessions: &Sessions<'_>,
@@ -40,10 +44,20 @@ pub fn save_and_return<R: TryRng>(
     later: DateTime,
     rng: &mut R,
 ) -> Result<Option<Opened>, SessionError>
-    ensures { CanReturn sessions.now jar.old calls.now client.old now later
+    ensures returns { CanReturn sessions.now jar.old calls.now client.old now later
         (seen_at (second_of now) session.now)
         → IfOk result (λ answer. answer
         ≡ Some (record { session = seen_at (second_of now) session.now; place = 0 })) }
+
+    // Out of memory aside, it fails only for the reasons for which `save` does.
+    ensures prefix { result ≡ Err refusal.Prefix
+        → ¬ (meets_prefix sessions.now.cookie.now.fields ≡ true) }
+    ensures over { meets_prefix sessions.now.cookie.now.fields ≡ true
+        → result ≡ Err refusal.Over → ¬ (CanSave sessions.now now session.now) }
+    ensures too_long { CanSave sessions.now now session.now → result ≡ Err refusal.TooLong
+        → ¬ (CanSeal (bare_cookie sessions.now now session.now)) }
+    ensures too_large { (size : ℕ) → result ≡ Err (refusal.TooLarge size) → most_bytes < size }
+    ensures failed { result ≡ Err refusal.Generator → R.Error }
 {
     play(alloc, jar, calls)?;
     sessions.save(alloc, jar, session, now, rng)?;

@@ -3,8 +3,8 @@ use Rattle.cookie_session.specs.Session.{seen_at}
 use Rattle.cookie_session_client.proofs.ReturnLemmas.{returned_open, still_unnamed}
 use Rattle.cookie_session_client.proofs.round.save_and_return.Goals as goal
 
-pub returns : goal.returns
-returns g c can =
+pub returns-clause-returns : goal.returns-clause-returns
+returns-clause-returns g c can =
     let site = c.args.sessions.now in
     let saved = c.in_ok-save.ensures in
     let (nonce, is_nonce, drawn, added) = saved.ok in
