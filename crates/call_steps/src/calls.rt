@@ -32,7 +32,7 @@ fn child_call(verb: Verb, cookie: Cookie<'static>) -> Option<ChildCall> {
     }
 }
 
-/// The call with the cookie on the jar itself. A forced removal has its name alone, and a reset nothing of it.
+/// The call with the cookie on the jar itself. A forced removal has only its name, and a reset nothing of it.
 pub fn own_call(alloc: Global, verb: Verb, cookie: Cookie<'static>) -> Option<JarCall<'static>> {
     Some(match verb {
         Verb::AddOriginal => JarCall::AddOriginal(cookie),

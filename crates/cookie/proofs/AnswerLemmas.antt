@@ -32,7 +32,7 @@ answered_added StandsFor stored cookie jar named stands =
     subst (λ o. AnswersPair StandsFor o cookie) (sym (ap (view (after (Add stored) jar)) (sym named) ∙ view-stored jar stored))
     (answered_pair StandsFor stored cookie named stands)
 
--- what holds of every jar that a cookie was added to holds behind a call that adds it, or is out of memory
+-- what holds of every jar that a cookie was added to holds after a call that adds it, or is out of memory
 pub if_added : (Shows : JarState → Type 0) (stored made : Record) (old new : JarState) (r : Result (Unit {0}) JarError) → made ≡ stored
     → ((jar : JarState) → Shows (after (Add stored) jar)) → Gives refusal.OutOfMemory r (λ _. new ≡ after (Add made) old) → IfOk r (λ _. Shows new)
 if_added Shows stored made old new (Err _) is shows refused = tt

@@ -13,7 +13,7 @@ module _ {S : Type 0} where
   abbrev pub storing_of : ChildJar S → S
   storing_of child = child.storing
 
-  -- the child jar changes the jar behind this reference
+  -- the child jar changes the jar of this reference
   abbrev pub Changes : ChildJar S → MutBor JarState → Type 0
   Changes child jar = child.jar.ghost_name ≡ jar.ghost_name
 

@@ -52,7 +52,7 @@ pub record LooksBack (history : List Change) (jar : JarState) : Type 0 where
   pub originals : (name : Name) → get jar.originals name ≡ original_by name history
   pub delta : (name : Name) → get jar.delta name ≡ entry_by name history
 
--- ---- originals alone
+-- ---- only originals
 
 -- the originals that calls add, in their order
 abbrev pub originals_of : List Change → List Record

@@ -48,7 +48,7 @@ pub data Change : Type 0 where
   ForceRemove : Name → Change
   ResetDelta : Change
 
--- The jar after a call. Of a name without an original, a removal drops the delta's entry alone; a forced one drops
+-- The jar after a call. Of a name without an original, a removal drops only the delta's entry; a forced one drops
 -- the name from both maps and leaves nothing to tell the client. A reset forgets all changes.
 abbrev pub after : Change → JarState → JarState
 after (AddOriginal cookie) jar = record jar { originals = insert jar.originals cookie.name cookie }

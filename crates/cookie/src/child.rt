@@ -58,7 +58,7 @@ pub struct ChildJar<'a, S> {
 impl<'a, S: Storing> ChildJar<'a, S> {
     /// Adds an original cookie, as the child jar stores it.
     ///
-    /// Fails with `JarError::OutOfMemory` alone, and then leaves the jar as it was.
+    /// Fails only with `JarError::OutOfMemory`, and then leaves the jar as it was.
     pub fn add_original(&mut self, cookie: Cookie<'static>) -> Result<(), JarError>
         ensures gives { Gives refusal.OutOfMemory result (λ _.
             jar_of self.new ≡ after
@@ -72,7 +72,7 @@ impl<'a, S: Storing> ChildJar<'a, S> {
 
     /// Adds a cookie, as the child jar stores it. A `get` of its name then gives its name and value.
     ///
-    /// Fails with `JarError::OutOfMemory` alone, and then leaves the jar as it was.
+    /// Fails only with `JarError::OutOfMemory`, and then leaves the jar as it was.
     pub fn add(&mut self, cookie: Cookie<'static>) -> Result<(), JarError>
         ensures gives { Gives refusal.OutOfMemory result (λ _.
             jar_of self.new ≡ after
@@ -87,10 +87,10 @@ impl<'a, S: Storing> ChildJar<'a, S> {
     }
 
     /// Removes the cookie of that name, at the date and time `now` in UTC; of a prefix's child jar, the one that has
-    /// this name behind the prefix. Where there is an original of that name, the delta gets a cookie that tells the
+    /// this name after the prefix. Where there is an original of that name, the delta gets a cookie that tells the
     /// client to drop it, with this cookie's path and domain.
     ///
-    /// Fails with `JarError::OutOfMemory` alone, and then leaves the jar as it was. A signed child jar's is never
+    /// Fails only with `JarError::OutOfMemory`, and then leaves the jar as it was. A signed child jar's is never
     /// refused where there is no such original.
     pub fn remove(&mut self, cookie: Cookie<'static>, now: DateTime) -> Result<(), JarError>
         ensures gives { Gives refusal.OutOfMemory result (λ _.

@@ -109,7 +109,7 @@ impl CookieJar {
 
     /// Adds an original cookie, in the place of the one of its name. It is no change: the delta stays.
     ///
-    /// Fails with `JarError::OutOfMemory` alone, and then leaves the jar as it was.
+    /// Fails only with `JarError::OutOfMemory`, and then leaves the jar as it was.
     pub fn add_original(&mut self, cookie: Cookie<'static>) -> Result<(), JarError>
         ensures gives { Gives refusal.OutOfMemory result (λ _.
             self.new ≡ after (AddOriginal cookie.entry.fields) self.old) }
@@ -129,7 +129,7 @@ impl CookieJar {
 
     /// Adds a cookie, in the place of the one that the jar shows under its name.
     ///
-    /// Fails with `JarError::OutOfMemory` alone, and then leaves the jar as it was.
+    /// Fails only with `JarError::OutOfMemory`, and then leaves the jar as it was.
     pub fn add(&mut self, cookie: Cookie<'static>) -> Result<(), JarError>
         ensures gives { Gives refusal.OutOfMemory result (λ _.
             self.new ≡ after (Add cookie.entry.fields) self.old) }
@@ -142,7 +142,7 @@ impl CookieJar {
     /// Removes the cookie of that name, at the date and time `now` in UTC. Where there is an original of that
     /// name, the delta gets a cookie that tells the client to drop it, with this cookie's path and domain.
     ///
-    /// Fails with `JarError::OutOfMemory` alone, where there is such an original, and then leaves the jar as it was.
+    /// Fails only with `JarError::OutOfMemory`, where there is such an original, and then leaves the jar as it was.
     pub fn remove(&mut self, cookie: Cookie<'static>, now: DateTime) -> Result<(), JarError>
         ensures gives { Gives refusal.OutOfMemory result (λ _.
             self.new ≡ after (Remove cookie.entry.fields now) self.old) }
@@ -181,7 +181,7 @@ impl CookieJar {
 
     /// A jar with copies of this one's originals and changes.
     ///
-    /// Fails with `JarError::OutOfMemory` alone.
+    /// Fails only with `JarError::OutOfMemory`.
     pub fn clone(&self) -> Result<CookieJar, JarError>
         ensures { Gives refusal.OutOfMemory result (λ made. made ≡ self.now) }
     {

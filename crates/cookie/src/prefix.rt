@@ -102,7 +102,7 @@ pub trait Prefixing: Prefix {
 
 impl<P: Prefix> Prefixing for P {}
 
-// What stands behind the prefix in a name, where that is another name.
+// What stands after the prefix in a name, where that is another name.
 fn without<'n>(prefix: &str, name: &'n str) -> Option<&'n str>
     ensures { LeavesName prefix.now name.now (option_map (λ n. n.now) result) }
 {

@@ -105,7 +105,7 @@ impl CookieJar {
 impl<'a, P: Prefix> PrefixedJar<'a, P> {
     /// A copy of the cookie that the jar shows under the name with the prefix, without the prefix.
     ///
-    /// Fails with `JarError::OutOfMemory` alone.
+    /// Fails only with `JarError::OutOfMemory`.
     pub fn get(&self, name: &str) -> Result<Option<Cookie<'static>>, JarError>
         ensures { Gives refusal.OutOfMemory result (λ o.
             option_map (λ c. c.fields) o ≡ prefixed_view P.PREFIX self.now name.now) }
@@ -117,7 +117,7 @@ impl<'a, P: Prefix> PrefixedJar<'a, P> {
 impl<'a, P: Prefix> PrefixedJarMut<'a, P> {
     /// A copy of the cookie that the jar shows under the name with the prefix, without the prefix.
     ///
-    /// Fails with `JarError::OutOfMemory` alone.
+    /// Fails only with `JarError::OutOfMemory`.
     pub fn get(&self, name: &str) -> Result<Option<Cookie<'static>>, JarError>
         ensures { Gives refusal.OutOfMemory result (λ o.
             option_map (λ c. c.fields) o ≡ prefixed_view P.PREFIX (jar_of self.now) name.now) }

@@ -58,7 +58,7 @@ impl Model for Key {
 }
 
 impl Key {
-    // The key of these bytes, with what each half alone gives.
+    // The key of these bytes, with what each half gives by itself.
     fn of(bytes: &[u8; KEY_LENGTH]) -> Key
         ensures { result ≡ bytes.now }
     {

@@ -163,7 +163,7 @@ impl<'a> PrivateJar<'a> {
     /// A copy of the cookie that the jar shows under `name`, with the value that was sealed. There is no answer
     /// where the jar's value isn't sealed under the key and the name.
     ///
-    /// Fails with `JarError::OutOfMemory` alone.
+    /// Fails only with `JarError::OutOfMemory`.
     pub fn get(&self, name: &str) -> Result<Option<Cookie<'static>>, JarError>
         ensures answers { Gives refusal.OutOfMemory result (λ answer.
             AnswersExactly (IsSealingOf self.now.key) (view self.now.jar name.now)
@@ -179,7 +179,7 @@ impl<'a> PrivateJar<'a> {
     /// The cookie with the value that was sealed. There is no answer where its value isn't sealed under the key and
     /// its name.
     ///
-    /// Fails with `JarError::OutOfMemory` alone.
+    /// Fails only with `JarError::OutOfMemory`.
     pub fn decrypt(&self, cookie: Cookie<'static>) -> Result<Option<Cookie<'static>>, JarError>
         ensures answers { Gives refusal.OutOfMemory result (λ answer.
             AnswersExactly (IsSealingOf self.now.key) (Some cookie.entry.fields)
@@ -230,7 +230,7 @@ impl<'a> PrivateJarMut<'a> {
     /// A copy of the cookie that the jar shows under `name`, with the value that was sealed. There is no answer
     /// where the jar's value isn't sealed under the key and the name.
     ///
-    /// Fails with `JarError::OutOfMemory` alone.
+    /// Fails only with `JarError::OutOfMemory`.
     pub fn get(&self, name: &str) -> Result<Option<Cookie<'static>>, JarError>
         ensures answers { Gives refusal.OutOfMemory result (λ answer.
             AnswersExactly (IsSealingOf (key_of self.now)) (view (jar_of self.now) name.now)
@@ -246,7 +246,7 @@ impl<'a> PrivateJarMut<'a> {
     /// The cookie with the value that was sealed. There is no answer where its value isn't sealed under the key and
     /// its name.
     ///
-    /// Fails with `JarError::OutOfMemory` alone.
+    /// Fails only with `JarError::OutOfMemory`.
     pub fn decrypt(&self, cookie: Cookie<'static>) -> Result<Option<Cookie<'static>>, JarError>
         ensures answers { Gives refusal.OutOfMemory result (λ answer.
             AnswersExactly (IsSealingOf (key_of self.now)) (Some cookie.entry.fields)
@@ -341,7 +341,7 @@ impl<'a> PrivateJarMut<'a> {
     /// Removes the cookie of that name, at the date and time `now` in UTC. Where there is an original of that
     /// name, the delta gets a cookie that tells the client to drop it, with this cookie's path and domain.
     ///
-    /// Fails with `JarError::OutOfMemory` alone, where there is such an original, and then leaves the jar as it was.
+    /// Fails only with `JarError::OutOfMemory`, where there is such an original, and then leaves the jar as it was.
     pub fn remove(&mut self, cookie: Cookie<'static>, now: DateTime) -> Result<(), JarError>
         ensures gives { Gives refusal.OutOfMemory result (λ _.
             jar_of self.new ≡ after (Remove cookie.entry.fields now) (jar_of self.old)) }

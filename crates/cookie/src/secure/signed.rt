@@ -126,7 +126,7 @@ impl<'a> SignedJar<'a> {
     /// A copy of the cookie that the jar shows under `name`, with the value that was signed. There is no answer
     /// where the jar's value isn't signed under the key and the name.
     ///
-    /// Fails with `JarError::OutOfMemory` alone.
+    /// Fails only with `JarError::OutOfMemory`.
     pub fn get(&self, name: &str) -> Result<Option<Cookie<'static>>, JarError>
         ensures answers { Gives refusal.OutOfMemory result (λ answer.
             AnswersExactly (IsSigningOf self.now.key) (view self.now.jar name.now)
@@ -142,7 +142,7 @@ impl<'a> SignedJar<'a> {
     /// The cookie with the value that was signed. There is no answer where its value isn't signed under the key
     /// and its name.
     ///
-    /// Fails with `JarError::OutOfMemory` alone.
+    /// Fails only with `JarError::OutOfMemory`.
     pub fn verify(&self, cookie: Cookie<'static>) -> Result<Option<Cookie<'static>>, JarError>
         ensures answers { Gives refusal.OutOfMemory result (λ answer.
             AnswersExactly (IsSigningOf self.now.key) (Some cookie.entry.fields)
@@ -163,7 +163,7 @@ impl<'a> SignedJarMut<'a> {
     /// A copy of the cookie that the jar shows under `name`, with the value that was signed. There is no answer
     /// where the jar's value isn't signed under the key and the name.
     ///
-    /// Fails with `JarError::OutOfMemory` alone.
+    /// Fails only with `JarError::OutOfMemory`.
     pub fn get(&self, name: &str) -> Result<Option<Cookie<'static>>, JarError>
         ensures answers { Gives refusal.OutOfMemory result (λ answer.
             AnswersExactly (IsSigningOf (key_of self.now)) (view (jar_of self.now) name.now)
@@ -179,7 +179,7 @@ impl<'a> SignedJarMut<'a> {
     /// The cookie with the value that was signed. There is no answer where its value isn't signed under the key
     /// and its name.
     ///
-    /// Fails with `JarError::OutOfMemory` alone.
+    /// Fails only with `JarError::OutOfMemory`.
     pub fn verify(&self, cookie: Cookie<'static>) -> Result<Option<Cookie<'static>>, JarError>
         ensures answers { Gives refusal.OutOfMemory result (λ answer.
             AnswersExactly (IsSigningOf (key_of self.now)) (Some cookie.entry.fields)

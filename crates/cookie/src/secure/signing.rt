@@ -41,7 +41,7 @@ pub(crate) fn sign<'c>(
     Ok(cookie)
 }
 
-// What stands behind the signature in a value, where it is signed.
+// What stands after the signature in a value, where it is signed.
 fn unsign<'v>(mac: &Mac, name: &str, value: &'v str) -> Option<&'v str>
     ensures { (v : List ℕ)
         → (option_copied result ≡ Some v) ↔ (value.now ≡ signing mac.now name.now v) }

@@ -81,7 +81,7 @@ fn texts_are_read(rt: HostRuntime) -> Result<(), Fail> {
     play(rt.alloc(), READ)
 }
 
-// Whether a `Path` with a value of so many bytes counts.
+// Whether a `Path` with a value of this number of bytes counts.
 fn is_kept(alloc: Global, length: usize) -> Option<bool> {
     let path = "x".repeat(alloc, length).ok()?;
     let text = format!(in alloc; "a=b; Path={path}").ok()?;

@@ -78,7 +78,7 @@ fn the_first_step_is_returned(rt: HostRuntime) -> Result<(), Fail> {
     play(rt.alloc(), WORKED)
 }
 
-// Whether a pair with a name of so many bytes and a value of one is too long. Chromium takes 4096 bytes in all.
+// Whether a pair with a name of this number of bytes and a value of one is too long. Chromium takes 4096 bytes in all.
 fn is_too_long(alloc: Global, length: usize) -> Option<bool> {
     let name = "n".repeat(alloc, length).ok()?;
     let text = format!(in alloc; "{name}=v; Path=/").ok()?;

@@ -40,7 +40,7 @@ impl Player {
         Some(())
     }
 
-    // Sets a text, as `user=ann`, or one of so many `y`, as `user*12`.
+    // Sets a text, as `user=ann`, or one of a number of `y`, as `user*12`.
     fn set(&mut self, words: &str) -> Option<()> {
         if let Some((name, count)) = words.split_once('*') {
             let text = "y".repeat(self.alloc, count.parse().ok()?).ok()?;
@@ -69,7 +69,7 @@ impl Player {
         wanted.next().is_none()
     }
 
-    // Whether it started and was saved so many seconds after the time of the rows, as `0 600`.
+    // Whether it started and was saved these numbers of seconds after the time of the rows, as `0 600`.
     fn is_timed(&self, words: &str) -> bool {
         let Some((started, seen)) = words.split_once(' ') else {
             return false;
@@ -90,7 +90,7 @@ impl Player {
         format!(in self.alloc; "{jar:?}").ok()
     }
 
-    // Whether the session isn't saved, for this reason, by a generator of so many bytes, as `12 the session is over`,
+    // Whether the session isn't saved, for this reason, by a generator of that many bytes, as `12 the session is over`,
     // and the jar is then as it was.
     fn is_refused(&mut self, words: &str) -> Option<bool> {
         let (left, wanted) = words.split_once(' ')?;
