@@ -1,7 +1,7 @@
 -- Where a text is cut, by the place of the first mark.
 use Rattle.std.proofs.Common.{◌≡◌, ◌≢◌, ℕ, suc, ◌+◌, ◌<◌, ◌≤◌, ◌==◌, Bool, true, false, cond, List, [], ◌∷◌, ◌++◌, length, get_or, take, drop, Option, Some, None, refl, sym, ap, ◌∙◌, arith, take-append-drop}
 use Rattle.std.proofs.lemmas.List.{drop_more, get_or-take, length-take-le}
-use Rattle.std.specs.List.{onto_first}
+use Rattle.std.specs.List.{onto_first, slice_split}
 use Rattle.cookie_core.specs.Pieces.{Lacks, pieces}
 use Rattle.cookie_browser.specs.Bytes.{cut}
 use Rattle.cookie_browser.specs.Received.{pieces_after}
@@ -20,16 +20,28 @@ cut-at_first c xs i inside here before =
 pub cut-nowhere : (c : ℕ) (xs : List ℕ) → ((k : ℕ) → k < length xs → get_or xs k 0 ≢ c) → cut c xs ≡ (xs, None)
 cut-nowhere c xs none = cut-none c xs none
 
--- the first piece, and the pieces after it
-pub pieces-first : (xs : List ℕ) → pieces xs ≡ (cut 59 xs).0 ∷ pieces_after (cut 59 xs).1
+-- the parts of the text between the marks, if there is a text
+abbrev pub pieces_at : ℕ → Option (List ℕ) → List (List ℕ)
+pieces_at mark None = []
+pieces_at mark (Some text) = slice_split (λ byte. byte == mark) text
+
+-- the first part, and the parts after it
+pub slice_split-cut : (mark : ℕ) (xs : List ℕ) → slice_split (λ byte. byte == mark) xs ≡ (cut mark xs).0 ∷ pieces_at mark (cut mark xs).1
 unfolding cut
-pieces-first [] = refl
-pieces-first (x ∷ xs) = by (x == 59) (pieces-first xs)
+slice_split-cut mark [] = refl
+slice_split-cut mark (x ∷ xs) = by (x == mark) (slice_split-cut mark xs)
   where
-    by : (b : Bool) → pieces xs ≡ (cut 59 xs).0 ∷ pieces_after (cut 59 xs).1
-        → cond b ([] ∷ pieces xs) (onto_first x (pieces xs)) ≡ (cond {A = List ℕ × Option (List ℕ)} b ([], Some xs) (x ∷ (cut 59 xs).0, (cut 59 xs).1)).0 ∷ pieces_after (cond {A = List ℕ × Option (List ℕ)} b ([], Some xs) (x ∷ (cut 59 xs).0, (cut 59 xs).1)).1
+    by : (b : Bool) → slice_split (λ byte. byte == mark) xs ≡ (cut mark xs).0 ∷ pieces_at mark (cut mark xs).1
+        → cond b ([] ∷ slice_split (λ byte. byte == mark) xs) (onto_first x (slice_split (λ byte. byte == mark) xs)) ≡ (cond {A = List ℕ × Option (List ℕ)} b ([], Some xs) (x ∷ (cut mark xs).0, (cut mark xs).1)).0 ∷ pieces_at mark (cond {A = List ℕ × Option (List ℕ)} b ([], Some xs) (x ∷ (cut mark xs).0, (cut mark xs).1)).1
     by true e = refl
     by false e = ap (onto_first x) e
+
+pub pieces-first : (xs : List ℕ) → pieces xs ≡ (cut 59 xs).0 ∷ pieces_after (cut 59 xs).1
+pieces-first xs = slice_split-cut 59 xs ∙ ap (λ ps. (cut 59 xs).0 ∷ ps) (after (cut 59 xs).1)
+  where
+    after : (o : Option (List ℕ)) → pieces_at 59 o ≡ pieces_after o
+    after None = refl
+    after (Some t) = refl
 
 -- what is left is shorter
 abbrev pub left_length : Option (List ℕ) → ℕ

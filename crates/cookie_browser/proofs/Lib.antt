@@ -1,8 +1,11 @@
 pub mod AcceptLemmas
 pub mod AnyLemmas
 pub mod CutLemmas
+pub mod DomainLemmas
 pub mod PartLemmas
 pub mod PrintedLemmas
 pub mod RowFacts
 pub mod SentLemmas
+pub mod SuffixFacts
+pub mod SuffixLemmas
 pub mod TrimLemmas

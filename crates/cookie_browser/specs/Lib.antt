@@ -5,6 +5,7 @@ pub mod Suffixes
 pub mod Refusal
 pub mod Storage
 pub mod ReceivedCode
+pub mod SuffixList
 pub mod SuffixCode
 pub mod RefusedCode
 pub mod Printed

@@ -1,9 +1,12 @@
--- Mirrors private code: a rule with a copy of its text.
-use Rattle.cookie_browser.specs.Suffixes as spec
-use Rattle.cookie_browser.specs.declared.suffix_rule.SuffixRule.{SuffixRule}
-use Rattle.cookie_browser.specs.declared.suffix_rule.SuffixRule.TheVariants as rule
+-- Mirrors private code: the rules of three sets of texts.
+use Rattle.std.specs.Prelude.{ℕ, List, ◌++◌, map}
+use Rattle.std.specs.Global.{Vec}
+use Rattle.cookie_browser.specs.Suffixes.{Rule, Plain, Wild, Except}
 
-abbrev pub rule_view : SuffixRule → spec.Rule
-rule_view (rule.Plain text) = spec.Plain text.now
-rule_view (rule.Wild text) = spec.Wild text.now
-rule_view (rule.Except text) = spec.Except text.now
+-- the texts
+abbrev pub texts_of : List (Vec ℕ) → List (List ℕ)
+texts_of keys = map (λ text. text.items) keys
+
+-- the rules with these texts
+abbrev pub rules_view : List (List ℕ) → List (List ℕ) → List (List ℕ) → List Rule
+rules_view plain wild except = map Plain plain ++ (map Wild wild ++ map Except except)

@@ -1,5 +1,5 @@
 -- Public suffixes, by rules that are passed in (publicsuffix.org, Algorithm).
-use Rattle.std.specs.Prelude.{ℕ, ◌&&◌, ◌||◌, not, Bool, false, List, Option, Some, None}
+use Rattle.std.specs.Prelude.{◌≡◌, ℕ, ◌&&◌, ◌||◌, not, Bool, false, List, Option, Some, None}
 use Rattle.std.specs.List.{list_any}
 use Rattle.std.specs.Str.{bytes_eq}
 use Rattle.cookie_browser.specs.Bytes.{cut}
@@ -37,3 +37,7 @@ unfoldable pub is_public_suffix : List Rule → List ℕ → Bool
 is_public_suffix rules domain =
     not (list_any (is_excepted domain) rules)
     && (is_one_label domain || list_any (is_covered domain) rules)
+
+-- the lists pass the same tests: each element of one is in the other
+abbrev pub HasSameElements : {X : Type 0} → List X → List X → Type 0
+HasSameElements {X} left right = (test : X → Bool) → list_any test left ≡ list_any test right

@@ -9,7 +9,6 @@ mod received;
 mod refusal;
 mod refused;
 mod request;
-mod suffix_rule;
 mod suffixes;
 
 pub use attributes::ReceivedAttributes;
@@ -19,5 +18,4 @@ pub use received::Received;
 pub use refusal::Refusal;
 pub use refused::refused_by;
 pub use request::BrowserRequest;
-pub use suffix_rule::SuffixRule;
-pub use suffixes::is_public_suffix;
+pub use suffixes::Suffixes;

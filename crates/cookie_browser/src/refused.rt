@@ -5,7 +5,6 @@ ghost use Rattle.std.specs.Str.{bytes_eq, str_to_ascii_lowercase};
 ghost use Rattle.cookie_browser.specs.PrintedStored.{IsPrintedSent, IsPrintedStored};
 ghost use Rattle.cookie_browser.specs.Storage as spec;
 ghost use Rattle.cookie_browser.specs.ReceivedCode.{received_view};
-ghost use Rattle.cookie_browser.specs.SuffixCode.{rule_view};
 ghost use Rattle.cookie_browser.specs.RefusedCode.{kept_view, request_view};
 
 use crate::enforcement::Enforcement;
@@ -13,8 +12,7 @@ use crate::kept_cookie::KeptCookie;
 use crate::received::Received;
 use crate::refusal::Refusal;
 use crate::request::{BrowserRequest, is_in_domain, is_under_path};
-use crate::suffix_rule::SuffixRule;
-use crate::suffixes::is_public_suffix;
+use crate::suffixes::Suffixes;
 
 fn is_site_bound(enforcement: Enforcement) -> bool
     ensures { result ≡ spec.is_site_bound enforcement }
@@ -57,15 +55,11 @@ fn is_empty_pair(received: &Received<'_>) -> bool
     received.name.is_empty() && received.value.is_empty()
 }
 
-fn is_suffix_of_others(
-    rules: &[SuffixRule<'_>],
-    request: &BrowserRequest<'_>,
-    domain: &[u8],
-) -> bool
-    ensures { result ≡ spec.is_suffix_of_others (map rule_view rules.now) (request_view request.now)
+fn is_suffix_of_others(suffixes: &Suffixes, request: &BrowserRequest<'_>, domain: &[u8]) -> bool
+    ensures { result ≡ spec.is_suffix_of_others suffixes.now (request_view request.now)
         domain.now }
 {
-    !domain.is_empty() && domain != request.host && is_public_suffix(rules, domain)
+    !domain.is_empty() && domain != request.host && suffixes.is_public(domain)
 }
 
 fn is_foreign(request: &BrowserRequest<'_>, domain: &[u8]) -> bool
@@ -97,13 +91,13 @@ fn meets_host_prefix(received: &Received<'_>, new: &KeptCookie<'_>) -> bool
 // The steps from an empty pair to a domain that the host isn't in.
 #[tactic(auto, unfolding(crate::specs::Storage::refusal_by_domain))]
 fn refused_by_domain(
-    rules: &[SuffixRule<'_>],
+    suffixes: &Suffixes,
     request: &BrowserRequest<'_>,
     received: &Received<'_>,
     domain: &[u8],
 ) -> Option<Refusal>
     requires { domain.now ≡ spec.asked_domain (received_view received.now).attributes }
-    ensures { result ≡ spec.refusal_by_domain (map rule_view rules.now) (request_view request.now)
+    ensures { result ≡ spec.refusal_by_domain suffixes.now (request_view request.now)
         (received_view received.now) }
 {
     if is_empty_pair(received) {
@@ -112,7 +106,7 @@ fn refused_by_domain(
     if !is_ascii(domain) {
         return Some(Refusal::NonAsciiDomain);
     }
-    if is_suffix_of_others(rules, request, domain) {
+    if is_suffix_of_others(suffixes, request, domain) {
         return Some(Refusal::PublicSuffix);
     }
     if is_foreign(request, domain) {
@@ -235,7 +229,7 @@ fn is_nameless_prefix(received: &Received<'_>) -> bool
 /// `store` has the cookies that the browser holds and that aren't expired. `domain` is the result of
 /// `received.attributes.bare_domain()` in lower case. `new` is the cookie as the browser would store it.
 pub fn refused_by(
-    rules: &[SuffixRule<'_>],
+    suffixes: &Suffixes,
     request: &BrowserRequest<'_>,
     store: &[KeptCookie<'_>],
     received: &Received<'_>,
@@ -243,7 +237,7 @@ pub fn refused_by(
     new: &KeptCookie<'_>,
 ) -> Option<Refusal>
     requires { domain.now ≡ spec.asked_domain (received_view received.now).attributes }
-    ensures value { result ≡ spec.first_refusal (map rule_view rules.now) (request_view request.now)
+    ensures value { result ≡ spec.first_refusal suffixes.now (request_view request.now)
         (map kept_view store.now) (received_view received.now) (kept_view new.now) }
 
     // A text that `cookie_core` prints is stored, if an empty store doesn't refuse it and it overlays no secure cookie.
@@ -251,7 +245,7 @@ pub fn refused_by(
     ensures printed { IsPrintedStored }
     ensures sent { IsPrintedSent }
 {
-    if let Some(refusal) = refused_by_domain(rules, request, received, domain) {
+    if let Some(refusal) = refused_by_domain(suffixes, request, received, domain) {
         return Some(refusal);
     }
     if let Some(refusal) = refused_by_connection(request, store, new) {

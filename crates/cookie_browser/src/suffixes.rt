@@ -1,50 +1,184 @@
-//! Public suffixes.
-ghost use Rattle.std.specs.Prelude.{◌≡◌, map};
-ghost use Rattle.std.specs.List.{list_any};
+//! The list of public suffixes.
+ghost use Rattle.std.specs.Prelude.{◌≡◌, ◌||◌, [], codes, eqb, false, option_map, IfOk, OnOk};
+ghost use Rattle.std.specs.Char.{is_ascii_whitespace};
+ghost use Rattle.std.specs.List.{before_first, cons_option, list_any, starts_with};
+ghost use Rattle.std.specs.Str.{bytes_eq};
+ghost use Rattle.cookie_browser.specs.Bytes.{cut};
+ghost use Rattle.cookie_browser.specs.Request.{is_in_domain};
 ghost use Rattle.cookie_browser.specs.Suffixes as spec;
-ghost use Rattle.cookie_browser.specs.SuffixCode.{rule_view};
+ghost use Rattle.cookie_browser.specs.Suffixes.{HasSameElements};
+ghost use Rattle.cookie_browser.specs.SuffixList.{canonical, rule_of, rules_of};
+ghost use Rattle.cookie_browser.specs.SuffixCode.{texts_of};
 
 use crate::bytes::cut;
-use crate::suffix_rule::SuffixRule;
+use idna::{AsciiDenyList, Errors, domain_to_ascii_cow};
+use std::alloc::{AllocError, Global};
+use std::collections::HashSet;
+use std::marker::Model;
 
-fn any_excepted(rules: &[SuffixRule<'_>], domain: &[u8]) -> bool
-    ensures { result ≡ list_any (spec.is_excepted domain.now) (map rule_view rules.now) }
-{
-    any_rule_excepted(rules, domain)
+type Texts = HashSet<Vec<u8>>;
+
+/// The rules of a list of public suffixes (publicsuffix.org). Contracts see the list of the rules.
+#[derive(Drop)]
+pub struct Suffixes {
+    // As `co.uk`.
+    plain: Texts,
+    // What follows `*.`, as `ck` of `*.ck`.
+    wild: Texts,
+    // What follows `!`, as `www.ck` of `!www.ck`.
+    except: Texts,
 }
 
-fn any_rule_excepted(rules: &[SuffixRule<'_>], domain: &[u8]) -> bool
-    ensures { result ≡ list_any (λ r. spec.is_excepted domain.now (rule_view r)) rules.now }
-{
-    rules.iter().any(|rule| rule.is_excepted(domain))
+impl Model for Suffixes {
+    ghost use Rattle.std.specs.Prelude.{List};
+    ghost use Rattle.cookie_browser.specs.Suffixes.{Rule};
+    ghost use Rattle.cookie_browser.specs.SuffixCode.{rules_view, texts_of};
+
+    ghost Value = { List Rule };
+
+    ghost view = { λ s. rules_view (texts_of s.plain.keys) (texts_of s.wild.keys) (texts_of s.except.keys) };
 }
 
-fn any_covered(rules: &[SuffixRule<'_>], domain: &[u8]) -> bool
-    ensures { result ≡ list_any (spec.is_covered domain.now) (map rule_view rules.now) }
-{
-    any_rule_covered(rules, domain)
+impl Suffixes {
+    /// No rules: each domain of one label is a public suffix, and no other. It doesn't allocate.
+    pub fn empty(alloc: Global) -> Suffixes
+        ensures { result ≡ [] }
+    {
+        Suffixes {
+            plain: HashSet::new(alloc),
+            wild: HashSet::new(alloc),
+            except: HashSet::new(alloc),
+        }
+    }
+
+    /// Reads the list of publicsuffix.org, in the form of its file (Format).
+    pub fn new(alloc: Global, list: &[u8]) -> Result<Suffixes, AllocError>
+        ensures { IfOk result (λ suffixes. HasSameElements suffixes (rules_of list.now)) }
+    {
+        let mut suffixes = Suffixes::empty(alloc);
+        let mut rest = Some(list);
+        while let Some(text) = rest {
+            let (line, after) = cut(text, b'\n');
+            suffixes.add_rule(alloc, first_word(line))?;
+            rest = after;
+        }
+        Ok(suffixes)
+    }
+
+    // Adds the rule that is written so, if it is one.
+    fn add_rule(&mut self, alloc: Global, rule: &[u8]) -> Result<(), AllocError>
+        ensures { OnOk result (HasSameElements self.new (cons_option (rule_of rule.now) self.old)) }
+    {
+        if is_no_rule(rule) {
+            return Ok(());
+        }
+        if rule.starts_with(b"*.") {
+            return add(alloc, &mut self.wild, &rule[2..]);
+        }
+        if rule.starts_with(b"!") {
+            return add(alloc, &mut self.except, &rule[1..]);
+        }
+        add(alloc, &mut self.plain, rule)
+    }
+
+    /// Whether the domain, in lower case and in ASCII, is a public suffix (publicsuffix.org, Algorithm). A domain of one
+    /// label is one, unless a rule excepts it. The time grows with the number of labels, and not with that of rules.
+    #[tactic(auto, unfolding(crate::specs::Suffixes::is_public_suffix))]
+    pub fn is_public(&self, domain: &[u8]) -> bool
+        ensures { result ≡ spec.is_public_suffix self.now domain.now }
+    {
+        if self.is_excepted(domain) {
+            return false;
+        }
+        is_one_label(domain) || self.is_covered(domain)
+    }
+
+    // Whether the domain matches an exception.
+    fn is_excepted(&self, domain: &[u8]) -> bool
+        ensures { result ≡ list_any (spec.is_excepted domain.now) self.now }
+    {
+        has_domain_of(&self.except, domain)
+    }
+
+    // Whether the domain matches a rule with all its labels.
+    fn is_covered(&self, domain: &[u8]) -> bool
+        ensures { result ≡ list_any (spec.is_covered domain.now) self.now }
+    {
+        has(&self.plain, domain) || has_parent(&self.wild, domain)
+    }
 }
 
-fn any_rule_covered(rules: &[SuffixRule<'_>], domain: &[u8]) -> bool
-    ensures { result ≡ list_any (λ r. spec.is_covered domain.now (rule_view r)) rules.now }
+// The text before the first white space, or all of it.
+fn first_word(line: &[u8]) -> &[u8]
+    ensures { result.now ≡ before_first is_ascii_whitespace line.now }
 {
-    rules.iter().any(|rule| rule.is_covered(domain))
+    match line.iter().position(|byte| byte.is_ascii_whitespace()) {
+        Some(end) => &line[..end],
+        None => line,
+    }
+}
+
+fn is_no_rule(text: &[u8]) -> bool
+    ensures { result ≡ (bytes_eq text.now [] || starts_with eqb text.now (codes "//")) }
+{
+    text.is_empty() || text.starts_with(b"//")
+}
+
+// The labels in lower case and in Punycode, if they are valid.
+fn canonical(alloc: Global, labels: &[u8]) -> Result<Option<Vec<u8>>, AllocError>
+    ensures { IfOk result (λ text. option_map (λ v. v.items) text ≡ canonical labels.now) }
+{
+    match domain_to_ascii_cow(alloc, labels, AsciiDenyList::EMPTY) {
+        Ok(text) => Ok(Some(text.into_owned(alloc)?.into_bytes())),
+        Err(Errors::Invalid) => Ok(None),
+        Err(Errors::OutOfMemory) => Err(AllocError),
+    }
+}
+
+// Adds the labels in their canonical form, if they have one.
+fn add(alloc: Global, texts: &mut Texts, labels: &[u8]) -> Result<(), AllocError>
+    ensures { OnOk result (HasSameElements (texts_of texts.new.keys)
+        (cons_option (canonical labels.now) (texts_of texts.old.keys))) }
+{
+    if let Some(text) = canonical(alloc, labels)? {
+        texts.insert(text)?;
+    }
+    Ok(())
+}
+
+fn has(texts: &Texts, text: &[u8]) -> bool
+    ensures { result ≡ list_any (bytes_eq text.now) (texts_of texts.now.keys) }
+{
+    texts.contains(text)
+}
+
+// Whether the domain without its first label is one of the texts.
+fn has_parent(texts: &Texts, domain: &[u8]) -> bool
+    ensures { result ≡ list_any (λ text. spec.has_parent text (cut 46 domain.now).1)
+        (texts_of texts.now.keys) }
+{
+    match cut(domain, b'.').1 {
+        Some(parent) => has(texts, parent),
+        None => false,
+    }
+}
+
+// Whether the domain is in one of the texts: it is one, or what follows one of its dots is.
+fn has_domain_of(texts: &Texts, domain: &[u8]) -> bool
+    ensures { result ≡ list_any (is_in_domain domain.now false) (texts_of texts.now.keys) }
+{
+    let mut rest = Some(domain);
+    while let Some(text) = rest {
+        if has(texts, text) {
+            return true;
+        }
+        rest = cut(text, b'.').1;
+    }
+    false
 }
 
 fn is_one_label(domain: &[u8]) -> bool
     ensures { result ≡ spec.is_one_label domain.now }
 {
     cut(domain, b'.').0 == domain
-}
-
-/// Whether the domain, in lower case and in ASCII, is a public suffix by these rules (publicsuffix.org, Algorithm). A
-/// domain of one label is one, unless a rule excepts it. The time grows with the number of rules.
-#[tactic(auto, unfolding(crate::specs::Suffixes::is_public_suffix))]
-pub fn is_public_suffix(rules: &[SuffixRule<'_>], domain: &[u8]) -> bool
-    ensures { result ≡ spec.is_public_suffix (map rule_view rules.now) domain.now }
-{
-    if any_excepted(rules, domain) {
-        return false;
-    }
-    is_one_label(domain) || any_covered(rules, domain)
 }

@@ -3,4 +3,5 @@ mod answers;
 mod reading;
 mod refusals;
 mod rows;
+mod suffixes;
 mod texts;

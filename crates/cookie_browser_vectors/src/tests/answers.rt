@@ -1,17 +1,6 @@
 //! What a row's request and its text come to.
-use cookie_browser::{
-    BrowserRequest, KeptCookie, Received, Refusal, SuffixRule, is_public_suffix, refused_by,
-};
+use cookie_browser::{BrowserRequest, KeptCookie, Received, Refusal, Suffixes, refused_by};
 use std::alloc::{AllocError, Global};
-
-/// The rules of every row.
-pub(super) const RULES: [SuffixRule<'static>; 5] = [
-    SuffixRule::Plain(b"com"),
-    SuffixRule::Plain(b"co.uk"),
-    SuffixRule::Plain(b"github.io"),
-    SuffixRule::Wild(b"ck"),
-    SuffixRule::Except(b"www.ck"),
-];
 
 /// The request of a URL such as `http://example.com/a/b`. `get` is same-site. `link` and `fetch` come from another site,
 /// and `link` is a top-level navigation. A host that begins with `1` is an IP address.
@@ -48,11 +37,12 @@ fn asked_path<'s>(request: &'s [u8], path: &'s [u8]) -> &'s [u8] {
 
 /// The cookie that a browser would store. `domain` is the one that the text asks for, in lower case.
 pub(super) fn kept<'s>(
+    suffixes: &Suffixes,
     request: &BrowserRequest<'s>,
     received: &Received<'s>,
     domain: &'s [u8],
 ) -> KeptCookie<'s> {
-    let is_host_only = domain.is_empty() || is_public_suffix(&RULES, domain);
+    let is_host_only = domain.is_empty() || suffixes.is_public(domain);
     KeptCookie {
         name: received.name,
         value: received.value,
@@ -76,6 +66,7 @@ pub(super) fn lower_domain(alloc: Global, text: &str) -> Result<Vec<u8>, AllocEr
 /// The refusal of the text, in a browser with these cookies. `domain` is the text's `lower_domain`.
 pub(super) fn refusal<'r>(
     alloc: Global,
+    suffixes: &Suffixes,
     request: &BrowserRequest<'r>,
     store: &[KeptCookie<'_>],
     text: &'r str,
@@ -85,7 +76,7 @@ pub(super) fn refusal<'r>(
         Ok(received) => received,
         Err(refusal) => return Ok(Some(refusal)),
     };
-    let new = kept(request, &received, domain);
+    let new = kept(suffixes, request, &received, domain);
     let domain = received.attributes.bare_domain().to_ascii_lowercase(alloc)?;
-    Ok(refused_by(&RULES, request, store, &received, domain.as_slice(), &new))
+    Ok(refused_by(suffixes, request, store, &received, domain.as_slice(), &new))
 }

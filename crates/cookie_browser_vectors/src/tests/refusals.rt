@@ -1,7 +1,6 @@
 //! Which step refuses a text.
-use super::answers::RULES;
 use super::rows::play;
-use cookie_browser::{Received, Refusal, is_public_suffix};
+use cookie_browser::{Received, Refusal};
 use std::alloc::Global;
 use std::test::Fail;
 
@@ -92,28 +91,4 @@ fn is_too_long(alloc: Global, length: usize) -> Option<bool> {
 fn a_long_pair_is_refused(rt: HostRuntime) {
     assert!(rt; is_too_long(rt.alloc(), 4095) == Some(false));
     assert!(rt; is_too_long(rt.alloc(), 4096) == Some(true));
-}
-
-// Public suffixes by publicsuffix.org's algorithm, worked out by hand.
-const SUFFIXES: [(&str, bool); 10] = [
-    ("com", true),
-    ("example.com", false),
-    ("co.uk", true),
-    ("a.co.uk", false),
-    ("uk", true),
-    ("github.io", true),
-    ("any.ck", true),
-    ("a.any.ck", false),
-    ("www.ck", false),
-    ("local", true),
-];
-
-#[test]
-fn suffixes_are_public(rt: HostRuntime) {
-    for (domain, is_public) in SUFFIXES {
-        assert!(rt;
-            is_public_suffix(&RULES, domain.as_bytes()) == is_public,
-            "{domain}"
-        );
-    }
 }

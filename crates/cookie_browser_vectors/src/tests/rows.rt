@@ -1,7 +1,8 @@
 //! Rows `HOW URL [TEXT] ANSWER`: a request, the text of its response, and the refusal, or `stored`.
 use super::answers::{kept, lower_domain, refusal, request};
 use super::reading::is_read;
-use cookie_browser::{Received, Refusal};
+use super::suffixes::LIST;
+use cookie_browser::{Received, Refusal, Suffixes};
 use std::alloc::Global;
 use std::test::Fail;
 
@@ -20,8 +21,9 @@ fn refusal_after<'r>(
     let Ok(received) = Received::of(first.as_bytes()) else {
         return None;
     };
-    let stored = [kept(&request, &received, first_domain)];
-    refusal(alloc, &request, &stored, text, domain).ok()
+    let suffixes = Suffixes::new(alloc, LIST.as_bytes()).ok()?;
+    let stored = [kept(&suffixes, &request, &received, first_domain)];
+    refusal(alloc, &suffixes, &request, &stored, text, domain).ok()
 }
 
 // An empty first text is an empty cookie, which no step looks at.

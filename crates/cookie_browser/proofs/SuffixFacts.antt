@@ -1,0 +1,19 @@
+-- What a list of public suffixes is read as, worked out by hand from publicsuffix.org. No call computes it.
+use Rattle.std.specs.Prelude.{◌≡◌, ℕ, true, false, List, [], ◌∷◌, ◌++◌, codes, refl}
+use Rattle.idna.proofs.Computing.{idna}
+use Rattle.cookie_browser.specs.Bytes.{cut}
+use Rattle.cookie_browser.specs.Suffixes.{Rule, Plain, Wild, Except, is_public_suffix}
+use Rattle.cookie_browser.specs.SuffixList.{rule_of, rules_of}
+
+comments : rules_of (codes "// a" ++ 10 ∷ 10 ∷ codes "com" ++ 13 ∷ 10 ∷ codes "*.ck x" ++ 10 ∷ 9 ∷ 10 ∷ codes "!www.ck") ≡ Plain (codes "com") ∷ Wild (codes "ck") ∷ Except (codes "www.ck") ∷ []
+unfolding rule_of idna
+comments = refl
+
+empty_list : rules_of [] ≡ []
+unfolding rule_of idna
+empty_list = refl
+
+-- `公司.cn`
+other_letters : rules_of (0xE5 ∷ 0x85 ∷ 0xAC ∷ 0xE5 ∷ 0x8F ∷ 0xB8 ∷ codes ".CN") ≡ Plain (codes "xn--55qx5d.cn") ∷ []
+unfolding rule_of idna
+other_letters = refl
