@@ -1,5 +1,5 @@
 -- What a list of public suffixes is read as, worked out by hand from publicsuffix.org. No call computes it.
-use Rattle.std.specs.Prelude.{◌≡◌, ℕ, true, false, List, [], ◌∷◌, ◌++◌, codes, refl}
+use Rattle.std.specs.Prelude.{◌≡◌, ℕ, Bool, true, false, List, [], ◌∷◌, ◌++◌, codes, map, refl}
 use Rattle.idna.proofs.Computing.{idna}
 use Rattle.cookie_browser.specs.Bytes.{cut}
 use Rattle.cookie_browser.specs.Suffixes.{Rule, Plain, Wild, Except, is_public_suffix}
@@ -17,3 +17,13 @@ empty_list = refl
 other_letters : rules_of (0xE5 ∷ 0x85 ∷ 0xAC ∷ 0xE5 ∷ 0x8F ∷ 0xB8 ∷ codes ".CN") ≡ Plain (codes "xn--55qx5d.cn") ∷ []
 unfolding rule_of idna
 other_letters = refl
+
+-- an exception and the domains below it, what a wildcard covers and what is below that, and a domain of one label
+abbrev answers : List Bool
+answers =
+    map (is_public_suffix (Wild (codes "ck") ∷ Except (codes "www.ck") ∷ []))
+    (codes "www.ck" ∷ codes "a.www.ck" ∷ codes "any.ck" ∷ codes "a.any.ck" ∷ codes "ck" ∷ codes "local" ∷ codes "local.host" ∷ [])
+
+are_public : answers ≡ false ∷ false ∷ true ∷ false ∷ true ∷ true ∷ false ∷ []
+unfolding is_public_suffix cut
+are_public = refl

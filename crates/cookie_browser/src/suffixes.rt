@@ -19,6 +19,12 @@ use std::marker::Model;
 type Texts = HashSet<Vec<u8>>;
 
 /// The rules of a list of public suffixes (publicsuffix.org). Contracts see the list of the rules.
+///
+/// ```
+/// let suffixes = Suffixes::new(alloc, b"com\n*.ck\n!www.ck\n")?;
+/// suffixes.is_public(b"any.ck");   // true
+/// suffixes.is_public(b"www.ck");   // false
+/// ```
 #[derive(Drop)]
 pub struct Suffixes {
     // As `co.uk`.
@@ -51,7 +57,9 @@ impl Suffixes {
         }
     }
 
-    /// Reads the list of publicsuffix.org, in the form of its file (Format).
+    /// Reads the list of publicsuffix.org (Format). Debian's package `publicsuffix` installs it as
+    /// `/usr/share/publicsuffix/public_suffix_list.dat`. Labels of other alphabets are kept in Punycode, and a rule with
+    /// invalid labels is passed over. Fails only if out of memory.
     pub fn new(alloc: Global, list: &[u8]) -> Result<Suffixes, AllocError>
         ensures { IfOk result (λ suffixes. HasSameElements suffixes (rules_of list.now)) }
     {

@@ -1,5 +1,6 @@
 //! What a row's request and its text come to.
-use cookie_browser::{BrowserRequest, KeptCookie, Received, Refusal, Suffixes, refused_by};
+use crate::refusal_of;
+use cookie_browser::{BrowserRequest, KeptCookie, Received, Refusal, Suffixes};
 use std::alloc::{AllocError, Global};
 
 /// The request of a URL such as `http://example.com/a/b`. `get` is same-site. `link` and `fetch` come from another site,
@@ -77,6 +78,5 @@ pub(super) fn refusal<'r>(
         Err(refusal) => return Ok(Some(refusal)),
     };
     let new = kept(suffixes, request, &received, domain);
-    let domain = received.attributes.bare_domain().to_ascii_lowercase(alloc)?;
-    Ok(refused_by(suffixes, request, store, &received, domain.as_slice(), &new))
+    refusal_of(alloc, suffixes, request, store, &received, &new)
 }

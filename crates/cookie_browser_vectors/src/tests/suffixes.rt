@@ -32,6 +32,8 @@ ide.kyoto.jp
   leading.example
 //tight.example
 MM.UPPER.example
+a.*.star.example
+xn--u-ccb.example
 *.mm
 cn
 com.cn
@@ -101,7 +103,7 @@ shishi.xn--fiqs8s no
 test.ac no
 ";
 
-// Worked out by hand from publicsuffix.org, Format.
+// Worked out by hand from publicsuffix.org, Format. `xn--u-ccb` is no valid Punycode label (UTS #46).
 const FORM: &str = "\
 co.uk yes
 a.co.uk no
@@ -110,6 +112,8 @@ uk.example no
 leading.example no
 tight.example no
 mm.upper.example yes
+a.b.star.example no
+xn--u-ccb.example no
 ";
 
 fn is_right(suffixes: &Suffixes, row: &str) -> bool {
