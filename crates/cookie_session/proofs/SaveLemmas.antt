@@ -1,11 +1,11 @@
--- What a jar shows once a session was saved.
+-- What a jar shows once a cookie was added under the newest key.
 use Rattle.std.proofs.Common.{◌≡◌, ℕ, ◌<◌, List, length, Some, IfSome, sym, ap, subst, ◌∙◌}
 use Rattle.cookie.specs.Jar.{Add, JarState, after, view}
 use Rattle.cookie.specs.Keys.{encryption_half}
 use Rattle.cookie.specs.Record.{Record}
 use Rattle.cookie.specs.Sealing.{IsSealingOf}
 use Rattle.cookie.proofs.AnswerLemmas.{view-stored}
-use Rattle.cookie_session.specs.KeyRing.{newest}
+use Rattle.cookie_session.specs.KeyRing.{OpensNewest, newest}
 use Rattle.cookie_session.specs.Session.{IsSession, SessionState, session_text}
 use Rattle.cookie_session.specs.Sessions.{IsStored}
 use Rattle.cookie_session.specs.declared.sessions.Sessions.{Sessions}
@@ -25,3 +25,9 @@ module _ (sealed : Record) (name : List ℕ) (named : sealed.name ≡ name) (old
   shown_stored site s is some stands =
       subst (λ o. IsStored site o s) (sym shown) (λ cookie same later lives.
       record { session = is; sealed = opened_newest site.keys.now some sealed cookie (session_text s) same stands; lives = lives })
+
+  -- and that the newest key opens
+  pub shown_opens : (ring : List (List ℕ)) (value : List ℕ) → 0 < length ring → IsSealingOf (encryption_half (newest ring)) sealed value
+      → OpensNewest ring (view new name) value
+  shown_opens ring value some stands =
+      subst (λ o. OpensNewest ring o value) (sym shown) (λ cookie same. opened_newest ring some sealed cookie value same stands)

@@ -2,6 +2,7 @@
 use Rattle.std.specs.Prelude.{◌≡◌, ◌↔◌, ◌<◌, ◌+◌, ℕ, List, [], ◌∷◌, length, Option, Some, IfSome, MatchOption, option_map, slice_get}
 use Rattle.cookie.specs.AnswersExactly.{IsStoredFor, with_value}
 use Rattle.cookie.specs.Keys.{encryption_half}
+use Rattle.cookie.specs.Prefixes.{pair_of}
 use Rattle.cookie.specs.Record.{Record}
 use Rattle.cookie.specs.Sealing.{IsSealingOf}
 use Rattle.cookie_session.specs.declared.opening.Opening.{Opening}
@@ -22,6 +23,12 @@ pub record OpensAt (ring : List (List ℕ)) (place : ℕ) (cookie : Record) (val
     : Type 0 where
   pub opens : KeyOpens ring place cookie value
   pub first : (newer : ℕ) (other : List ℕ) → newer < place → ¬ (KeyOpens ring newer cookie other)
+
+-- the newest key opens the stored cookie to this value, and each other cookie with its name and value
+abbrev pub OpensNewest : List (List ℕ) → Option Record → List ℕ → Type 0
+OpensNewest ring stored value =
+    MatchOption stored ⊥ (λ saved. (cookie : Record) → pair_of cookie ≡ pair_of saved
+    → OpensAt ring 0 cookie value)
 
 -- the place of a key, and the value that it opened
 abbrev pub opened_at : Opening → ℕ × List ℕ

@@ -1,12 +1,15 @@
 //! The keys of a site.
-ghost use Rattle.std.specs.Prelude.{◌≡◌, ◌<◌, ◌++◌, [], ◌∷◌, Some, IfNone, IfOk, IfSome, OnErr, OnOk, length, slice_get};
-ghost use Rattle.cookie.specs.Jar.{view};
+ghost use Rattle.std.specs.Prelude.{◌≡◌, ◌↔◌, ◌<◌, ◌++◌, [], ◌∷◌, ℕ, List, Some, Err, IfNone, IfOk, IfSome, OnErr, OnOk, length, slice_get};
+ghost use Rattle.cookie.specs.Jar.{Add, after, view};
+ghost use Rattle.cookie.specs.Keys.{encryption_half};
 ghost use Rattle.cookie.specs.Memory.{Gives};
+ghost use Rattle.cookie.specs.Sealing.{CanSeal, IsNonce, sealed_cookie};
 ghost use Rattle.cookie.specs.declared.jar_error.JarError.TheVariants as refusal;
-ghost use Rattle.cookie_session.specs.KeyRing.{KeepsOpening, LeavesOpening, OpensExactly, newest};
+ghost use Rattle.cookie_session.specs.KeyRing.{KeepsOpening, LeavesOpening, OpensExactly, OpensNewest, newest};
 
 use crate::opening::Opening;
-use cookie::{CookieJar, JarError, Key};
+use cookie::{Cookie, CookieJar, JarError, Key};
+use rand_core::TryRng;
 use std::alloc::{AllocError, Global};
 use std::marker::Model;
 
@@ -58,6 +61,21 @@ impl KeyRing {
         Ok(())
     }
 
+    /// Puts a key at the end. It decrypts, and the newest key still encrypts. So a list of keys is read in order, the
+    /// newest first: `new` takes the first, and `add_older` each of the others.
+    ///
+    /// Fails only if out of memory, and then leaves the ring as it was.
+    pub fn add_older(&mut self, key: Key) -> Result<(), AllocError>
+        ensures ok { OnOk result (self.new ≡ self.old ++ key ∷ []) }
+        ensures err { OnErr result (self.new ≡ self.old) }
+
+        // Each key of before opens exactly what it opened, at the same place.
+        ensures keeps { OnOk result (LeavesOpening self.new self.old) }
+    {
+        self.keys.push(key)?;
+        Ok(())
+    }
+
     /// Drops the oldest key and returns it, unless it is the only one. What only that key opened isn't opened any more.
     pub fn retire(&mut self) -> Option<Key>
         ensures some { IfSome result (λ key. self.old ≡ self.new ++ key ∷ []) }
@@ -104,6 +122,43 @@ impl KeyRing {
             }
         }
         Ok(None)
+    }
+
+    /// Adds a cookie to the jar, with its value encrypted under the newest key and its name. `get` finds it after the
+    /// keys rotated too. One draw of twelve bytes from `rng` gives the nonce. `rng` must be a cryptographic generator,
+    /// and under one key at most 2^32 nonces may be drawn (SP 800-38D 8.3).
+    ///
+    /// Fails with `TooLong` if the name has more than 2^61 - 1 bytes or the value more than 2^36 - 32, and then draws
+    /// nothing. Else fails with `Generator` if the draw failed, and with `OutOfMemory`. The jar is then as it was.
+    pub fn add<R: TryRng>(
+        &self,
+        jar: &mut CookieJar,
+        cookie: Cookie<'static>,
+        rng: &mut R,
+    ) -> Result<(), JarError>
+        ensures ok { OnOk result ((nonce : List ℕ) × IsNonce nonce
+            × R.may_fill rng.old nonce rng.new
+            × (jar.new ≡ after (Add (sealed_cookie (encryption_half (newest self.now)) nonce
+            cookie.entry.fields)) jar.old)) }
+
+        // The newest key opens it in each request with this name and value.
+        ensures opens { OnOk result (OpensNewest self.now (view jar.new cookie.entry.fields.name)
+            cookie.entry.fields.value) }
+
+        // What is refused, and why. Out of memory comes only after the draw.
+        ensures too_long { (¬ (CanSeal cookie.entry.fields)) ↔ (result ≡ Err refusal.TooLong) }
+        ensures within { OnOk result (CanSeal cookie.entry.fields) }
+        ensures undrawn { ¬ (CanSeal cookie.entry.fields) → rng.new ≡ rng.old }
+        ensures failed { result ≡ Err refusal.Generator → R.Error }
+        ensures drawn { result ≡ Err refusal.OutOfMemory
+            → (nonce : List ℕ) × IsNonce nonce × R.may_fill rng.old nonce rng.new }
+
+        // After any refusal the jar is as it was.
+        ensures err { OnErr result (jar.new ≡ jar.old) }
+    {
+        let sealed = jar.private(self.newest()).encrypt(cookie, rng)?;
+        jar.add(sealed)?;
+        Ok(())
     }
 
     // The key at a place.
