@@ -7,7 +7,7 @@ use Rattle.cookie.specs.AnswersExactly.{IsStoredFor}
 use Rattle.cookie.specs.Record.{Record}
 use Rattle.cookie_session.specs.KeyRing.{OpensAt, OpensExactly, opened_at}
 use Rattle.cookie_session.specs.Session.{IsSessionText, SessionState, session_text}
-use Rattle.cookie_session.specs.Sessions.{IsOpen, LivesAt}
+use Rattle.cookie_session.specs.Sessions.{HoldsOne, IsOpen, LivesAt}
 use Rattle.cookie_session.specs.declared.opening.Opening.{Opening}
 use Rattle.cookie_session.specs.declared.opened.Opened.{Opened}
 use Rattle.cookie_session.specs.declared.sessions.Sessions.{Sessions}
@@ -71,3 +71,22 @@ module _ (site : Sessions) (stored : Option Record) (now : DateTime) where
             let same : session ≡ s = same_Some session s ((reads s).1 parts.1) in
             λ i. Some (opened (same i) (parts.0 i)),
       )
+
+-- ---- a cookie holds one session at most
+
+module _ (site : Sessions) (stored : Option Record) where
+  -- where no key opens it
+  pub once_unopened : OpensExactly site.keys.now stored None → HoldsOne site stored
+  once_unopened answers now later place other_place session other is _ =
+      absurd (none-some (place, session_text session) ((answers.exact place (session_text session)).1 is.sealed))
+
+  module _ (opening : Opening) (answers : OpensExactly site.keys.now stored (Some opening)) (found : Option SessionState)
+      (reads : (s : SessionState) → (found ≡ Some s) ↔ IsSessionText opening.cookie.fields.value s) where
+    -- what is read of it is the session that it holds
+    read_is : (now : DateTime) (place : ℕ) (s : SessionState) → IsOpen site stored now place s → found ≡ Some s
+    read_is now place s is = (reads s).1 (told site stored now opening answers place s is).1
+
+    -- where one opens it
+    pub once_opened : HoldsOne site stored
+    once_opened now later place other_place session other is also =
+        same_Some session other (sym (read_is now place session is) ∙ read_is later other_place other also)

@@ -23,6 +23,13 @@ pub record IsOpen (site : Sessions) (stored : Option Record) (now : DateTime) (p
   pub sealed : IsStoredFor (OpensAt site.keys.now place) stored (session_text state)
   pub lives : LivesAt site now state
 
+-- the stored cookie holds no two sessions, whichever keys open them, and whenever they live
+abbrev pub HoldsOne : Sessions → Option Record → Type 0
+HoldsOne site stored =
+    (now later : DateTime) (place other_place : ℕ) (session other : SessionState)
+    → IsOpen site stored now place session → IsOpen site stored later other_place other
+    → session ≡ other
+
 -- saved now, it lives
 abbrev pub CanSave : Sessions → DateTime → SessionState → Type 0
 CanSave site now state = LivesAt site now (seen_at (second_of now) state)

@@ -7,7 +7,7 @@ ghost use Rattle.cookie.specs.Sealing.{CanSeal, IsNonce};
 ghost use Rattle.cookie.specs.declared.jar_error.JarError.TheVariants as jar_refusal;
 ghost use Rattle.cookie_session.specs.Seconds.{second_of};
 ghost use Rattle.cookie_session.specs.Session.{SessionState, seen_at};
-ghost use Rattle.cookie_session.specs.Sessions.{CanSave, IsOpen, IsStored, bare_cookie, meets_prefix, saved_cookie, session_cookie};
+ghost use Rattle.cookie_session.specs.Sessions.{CanSave, HoldsOne, IsOpen, IsStored, bare_cookie, meets_prefix, saved_cookie, session_cookie};
 ghost use Rattle.cookie_session.specs.Size.{browser_length, most_bytes};
 ghost use Rattle.cookie_session.specs.declared.session_error.SessionError.TheVariants as refusal;
 
@@ -51,9 +51,14 @@ impl<'a> Sessions<'a> {
         jar: &CookieJar,
         now: DateTime,
     ) -> Result<Option<Opened>, JarError>
-        ensures { Gives jar_refusal.OutOfMemory result (λ answer. (place : ℕ) (s : SessionState)
+        ensures answers { Gives jar_refusal.OutOfMemory result (λ answer.
+            (place : ℕ) (s : SessionState)
             → (answer ≡ Some (record { session = s; place = place }))
             ↔ IsOpen self.now (view jar.now self.now.cookie.now.fields.name) now place s) }
+
+        // A cookie holds one session at most, whatever the time.
+        ensures once { IfOk result (λ _.
+            HoldsOne self.now (view jar.now self.now.cookie.now.fields.name)) }
     {
         let Some(opening) = self.keys.get(jar, self.cookie.name())? else {
             return Ok(None);

@@ -65,7 +65,7 @@ module _ (site : Sessions) (nonce : List ℕ) (now later : DateTime) (session : 
       ap (λ (j : JarState). get j.delta at) added ∙ get_inserted old.delta at (added_mark saved) at
       ∙ ap (λ b. cond b (Some (added_mark saved)) (get old.delta at)) ((bytes_eq-Decides at at).1 refl)
 
-  shown : view new site.cookie.now.fields.name ≡ Some saved
+  pub shown : view new site.cookie.now.fields.name ≡ Some saved
   shown = ap (λ (j : JarState). view j site.cookie.now.fields.name) added ∙ view-stored old saved
 
   fit : IsFitAddition now saved
@@ -84,7 +84,7 @@ module _ (site : Sessions) (nonce : List ℕ) (now later : DateTime) (session : 
       start new can.fresh (added ∙ ap (after (Add saved)) played ∙ one_more (changes_of outcomes calls) (Add saved) start) before client texts are read
 
   -- the client holds the value of the saved cookie
-  held : get client site.cookie.now.fields.name ≡ Some saved.value
+  pub held : get client site.cookie.now.fields.name ≡ Some saved.value
   held =
       agreed.agrees
       (All-append (IsFit now) (changes_of outcomes calls) (Add saved ∷ [])

@@ -12,6 +12,6 @@ returns-clause-returns g c can =
     let (texts, are, read, shows) = c.in_ok-next.ensures in
     let unnamed = still_unnamed site nonce c.args.now c.args.later c.args.session.now c.args.jar.now c.play.new.jar c.save.new.jar c.args.calls.now outcomes c.args.client.now
     c.next_jar.new.client can saved.lives told played added saved.cookie texts are read in
-    (c.in_ok-answer.ensures 0 (seen_at (second_of c.args.now) c.args.session.now)).1
+    (c.in_ok-answer.ensures.answers 0 (seen_at (second_of c.args.now) c.args.session.now)).1
     (returned_open site nonce c.args.now c.args.later c.args.session.now c.args.jar.now c.play.new.jar c.save.new.jar c.args.calls.now outcomes c.args.client.now
     c.next_jar.new.client can saved.lives told played added saved.cookie texts are read c.in_ok-next.next (shows unnamed site.cookie.now.fields.name) saved.opens)

@@ -6,8 +6,8 @@ use Rattle.cookie_session.specs.Session.{IsAlive, IsSessionText, SessionState, s
 use Rattle.cookie_session.proofs.SessionLemmas.{open_right}
 use Rattle.cookie_session.proofs.sessions.Sessions.open.Goals as goal
 
-pub returns : goal.returns
-returns c =
+pub returns-clause-answers : goal.returns-clause-answers
+returns-clause-answers c =
     let site = c.args.self.now in
     let name = site.cookie.now.fields.name in
     let opening = c.in-Some.opening in
