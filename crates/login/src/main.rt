@@ -1,29 +1,39 @@
-//! `login`: a small web application as a CGI program (RFC 3875), which keeps all that it knows of a visitor in cookies.
+//! `login`: a small web application as a CGI program (RFC 3875), which keeps all that it knows of a visitor in one
+//! session cookie.
 #![tactic(auto)]
 
+mod clock;
 mod gateway;
 mod users;
 
 use anyhow::Result;
-use cookie::Key;
+use cookie_session::{KeyRing, Sessions};
 use gateway::Gateway;
-use jiff::Timestamp;
-use jiff::tz::Offset;
-use login_core::{LoginSite, Page, Refusal, Response, User, answer};
+use login_core::{
+    IDLE, LIFETIME, LoginSite, Page, Refusal, Response, User, answer, session_cookie,
+};
 use rand::rngs::SysRng;
 use std::hash::RandomState;
 use std::io::Write;
 use std::process::ExitCode;
 
 // The response to a request that could be read.
-fn respond(rt: &HostRuntime, key: &Key, users: &[User], gateway: &Gateway) -> Result<Response> {
-    let site = LoginSite {
-        key,
-        users,
-        is_secure: gateway.is_secure,
+fn respond(
+    rt: &HostRuntime,
+    keys: &KeyRing,
+    users: &[User],
+    gateway: &Gateway,
+) -> Result<Response> {
+    let cookie = session_cookie(gateway.is_secure);
+    let sessions = Sessions {
+        keys,
+        cookie: &cookie,
+        lifetime: LIFETIME,
+        idle: IDLE,
     };
+    let site = LoginSite { sessions, users };
     let state = RandomState::new(rt)?;
-    let now = Offset::UTC.to_datetime(Timestamp::now(rt)?);
+    let now = clock::now(rt)?;
     let request = gateway.request();
     let response = answer(
         rt.alloc(),
@@ -38,11 +48,11 @@ fn respond(rt: &HostRuntime, key: &Key, users: &[User], gateway: &Gateway) -> Re
 
 // The response, and the request's parts.
 fn serve(rt: &HostRuntime) -> Result<()> {
-    let key = users::key(rt)?;
+    let keys = users::keys(rt)?;
     let users = users::users(rt)?;
     match gateway::read(rt)? {
         Some(gateway) => {
-            let response = respond(rt, &key, &users, &gateway)?;
+            let response = respond(rt, &keys, &users, &gateway)?;
             write(rt, &response, gateway.base.as_str(), gateway.is_head)
         }
         None => {

@@ -1,13 +1,24 @@
-//! What the site knows beside the request: its key and its users.
+//! What the site knows beside the request: its keys and its users.
 use anyhow::{Context, Result};
 use cookie::Key;
+use cookie_session::KeyRing;
 use login_core::User;
 use std::{env, fs};
 
-/// The key: the first 64 bytes of the file that LOGIN_KEY names.
-pub fn key(rt: &HostRuntime) -> Result<Key> {
-    let path = env::var(rt, "LOGIN_KEY").context("LOGIN_KEY")?;
-    let bytes = fs::read(rt, path).context("the key's file")?;
+/// The keys: the first 64 bytes of each file that LOGIN_KEY names. The names stand between colons, the newest first.
+pub fn keys(rt: &HostRuntime) -> Result<KeyRing> {
+    let paths = env::var(rt, "LOGIN_KEY").context("LOGIN_KEY")?;
+    let mut oldest_first = paths.as_str().rsplit(':');
+    let oldest = oldest_first.next().context("LOGIN_KEY")?;
+    let mut keys = KeyRing::new(rt.alloc(), key(rt, oldest)?)?;
+    for path in oldest_first {
+        keys.rotate(key(rt, path)?)?;
+    }
+    Ok(keys)
+}
+
+fn key(rt: &HostRuntime, path: &str) -> Result<Key> {
+    let bytes = fs::read(rt, path).context("a key's file")?;
     Ok(Key::try_from(&bytes)?)
 }
 

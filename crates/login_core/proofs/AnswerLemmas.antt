@@ -1,21 +1,71 @@
--- Whom an answer greets.
-use Rattle.std.proofs.Common.{◌≡◌, ◌↔◌, ℕ, List, Bool, true, false, Option, Some, None, Result, Ok, Err, refl, sym, ap, ◌∙◌}
-use Rattle.std.proofs.lemmas.Option.{none-some}
+-- Whom an answer greets, and how a call fails that saves a session.
+use Rattle.std.proofs.Common.{◌≡◌, ◌↔◌, ℕ, List, Bool, true, false, Option, Some, None, Result, Ok, Err, IfOk, codes, refl, sym, ap, subst, ◌∙◌}
+use Rattle.std.proofs.lemmas.Option.{none-some, same_Some}
 use Rattle.std.specs.Bool.{MatchBool}
+use Rattle.std.specs.FinMap.{get}
+use Rattle.std.specs.Result.{IsErrAnd}
 use Rattle.jiff.specs.Types.{DateTime}
-use Rattle.cookie.specs.Jar.{JarState}
-use Rattle.login_core.specs.Answers.{Admits, Answers, LogsIn, ShowsRefusal}
+use Rattle.cookie.specs.Jar.{JarState, view}
+use Rattle.cookie.specs.Memory.{Gives}
+use Rattle.cookie.specs.Originals.{jar_for, readable}
+use Rattle.cookie.specs.Record.{Record}
+use Rattle.cookie_session.specs.Session.{SessionState}
+use Rattle.cookie_session.specs.Sessions.{HoldsOne, IsOpen}
+use Rattle.cookie_session.specs.declared.opened.Opened.{Opened}
+use Rattle.cookie_session.specs.declared.session_error.SessionError.{SessionError}
+use Rattle.cookie_session.specs.declared.session_error.SessionError.TheVariants as failure
+use Rattle.cookie_session.specs.declared.sessions.Sessions.{Sessions}
+use Rattle.login_core.specs.Answers.{FailsFor, HasSession, IsGreeted, IsPlan, stored_of}
 use Rattle.login_core.specs.Forms.{credentials_of}
 use Rattle.login_core.specs.Pages.{greeted}
+use Rattle.login_core.specs.Plans.{LogsIn, Moves, Plans, Refuses, logged_in}
+use Rattle.login_core.specs.Routes.{route_of}
 use Rattle.login_core.specs.Users.{is_known}
-use Rattle.login_core.specs.Visitors.{IsLoggedIn}
+use Rattle.login_core.specs.Visitors.{text_of}
+use Rattle.login_core.specs.declared.login_site.LoginSite.{LoginSite}
 use Rattle.login_core.specs.declared.page.Page.{Page}
 use Rattle.login_core.specs.declared.refusal.Refusal.{Refusal}
 use Rattle.login_core.specs.declared.refusal.Refusal.TheVariants.{Forbidden}
 use Rattle.login_core.specs.declared.request.Request.{Request}
 use Rattle.login_core.specs.declared.routes.Route.{Route}
 use Rattle.login_core.specs.declared.routes.Route.TheVariants.{Home, LogIn, LogOut}
-use Rattle.login_core.specs.declared.login_site.LoginSite.{LoginSite}
+use Rattle.login_core.specs.declared.user.User.{User}
+
+-- ---- which session is found
+
+-- a session that the key at this place opened
+abbrev opened : ℕ → SessionState → Opened
+opened place session = record { session = session; place = place }
+
+module _ (sessions : Sessions) (stored : Option Record) (now : DateTime) where
+  -- the answer of a call that opens a session
+  abbrev pub OpensAs : Option Opened → Type 0
+  OpensAs answer =
+      (place : ℕ) (session : SessionState) → (answer ≡ Some (opened place session)) ↔ IsOpen sessions stored now place session
+
+  pub has_none : OpensAs None → HoldsOne sessions stored → HasSession sessions stored now None
+  has_none opens once = record {
+    exact = λ session. (
+      λ is. absurd (none-some session is),
+      λ is. absurd (none-some (opened is.0 session) ((opens is.0 session).1 is.1)),
+    );
+    once = once;
+  }
+
+  pub has_some : (found : Opened) → OpensAs (Some found) → HoldsOne sessions stored → HasSession sessions stored now (Some found.session)
+  has_some found opens once = record {
+    exact = λ session. (
+      λ is.
+          let same : found.session ≡ session = same_Some found.session session is in
+          (found.place, (opens found.place session).0 (ap (λ (s : SessionState). Some (opened found.place s)) same)),
+      λ is.
+          let same : found ≡ opened is.0 session = same_Some found (opened is.0 session) ((opens is.0 session).1 is.1) in
+          ap (λ (o : Opened). Some o.session) same,
+    );
+    once = once;
+  }
+
+-- ---- whom an answer greets
 
 abbrev is_home : Result Route Refusal → Bool
 is_home (Ok Home) = true
@@ -23,34 +73,112 @@ is_home (Ok LogIn) = false
 is_home (Ok LogOut) = false
 is_home (Err refusal) = false
 
-module _ (IsDrawn : List ℕ → Type 0) (site : LoginSite) (before after : JarState) (page : Page) where
+module _ (users : List User) (now : DateTime) (page : Page) (saved : Option SessionState) where
   -- a form to log in greets nobody yet
-  entering : (found : Option (List ℕ × List ℕ)) → LogsIn IsDrawn site found before page after → greeted page ≡ None
+  entering : (credentials : Option (List ℕ × List ℕ)) → LogsIn users credentials now page saved → greeted page ≡ None
   entering None (refused, same) = ap greeted refused
-  entering (Some (user, password)) answered = by (is_known user password site.users.now) answered
+  entering (Some (user, password)) answered = by (is_known user password users) answered
     where
-      by : (known : Bool) → MatchBool known (Admits IsDrawn site user before page after) (ShowsRefusal Forbidden before page after)
-          → greeted page ≡ None
-      by true (nonce, is_nonce, drawn, moved, changed) = ap greeted moved
-      by false (refused, same) = ap greeted refused
+      by : (known : Bool) → MatchBool known (Moves (logged_in now user) page saved) (Refuses Forbidden page saved) → greeted page ≡ None
+      by true (moved, is) = ap greeted moved
+      by false (refused, is) = ap greeted refused
 
-  module _ (user : List ℕ) where
+  module _ (sessions : Sessions) (stored : Option Record) (user : List ℕ) where
+    -- a session that is open has the user
+    abbrev HasUser : Type 0
+    HasUser = (place : ℕ) × (session : SessionState) × IsOpen sessions stored now place session × (get session.texts (codes "user") ≡ Some user)
+
+    -- the user whom the session names that was found
+    named : (found : Option SessionState) → HasSession sessions stored now found → (text_of found (codes "user") ≡ Some user) ↔ HasUser
+    named None finds = (
+      λ is. absurd (none-some user is),
+      λ has. absurd (none-some has.1 ((finds.exact has.1).1 (has.0, has.2))),
+    )
+    named (Some session) finds = (
+      λ is. let there = (finds.exact session).0 refl in (there.0, session, there.1, is),
+      λ has.
+          let same : session ≡ has.1 = same_Some session has.1 ((finds.exact has.1).1 (has.0, has.2)) in
+          ap (λ (s : SessionState). get s.texts (codes "user")) same ∙ has.3,
+    )
+
     -- a page that greets nobody, of another route than the home page's
     nobody : (route : Result Route Refusal) → is_home route ≡ false → greeted page ≡ None
-        → (greeted page ≡ Some user) ↔ ((route ≡ Ok Home) × IsLoggedIn site before user)
+        → (greeted page ≡ Some user) ↔ ((route ≡ Ok Home) × HasUser)
     nobody route other none = (
       λ greets. absurd (none-some user (sym none ∙ greets)),
       λ both. let never : false ≡ true = sym other ∙ ap is_home both.0 in cc,
     )
 
-    -- a user is greeted exactly where the route is the home page, and the cookie is sealed for the user
-    pub greeted_exactly : (request : Request) (now : DateTime) (route : Result Route Refusal)
-        → Answers IsDrawn site request now before route page after
-        → (greeted page ≡ Some user) ↔ ((route ≡ Ok Home) × IsLoggedIn site before user)
-    greeted_exactly request now (Ok Home) (visitor, is, shows, changed) = (
-      λ greets. (refl, (is.user user).0 (sym (ap greeted shows) ∙ greets)),
-      λ both. ap greeted shows ∙ (is.user user).1 both.1,
-    )
-    greeted_exactly request now (Ok LogIn) answered = nobody (Ok LogIn) refl (entering (credentials_of request.form.now) answered)
-    greeted_exactly request now (Ok LogOut) (moved, changed) = nobody (Ok LogOut) refl (ap greeted moved)
-    greeted_exactly request now (Err refusal) (refused, same) = nobody (Err refusal) refl (ap greeted refused)
+    exactly : (route : Result Route Refusal) (credentials : Option (List ℕ × List ℕ)) (found : Option SessionState)
+        → HasSession sessions stored now found → Plans users route credentials now found page saved
+        → (greeted page ≡ Some user) ↔ ((route ≡ Ok Home) × HasUser)
+    exactly (Ok Home) credentials found finds (visitor, is, shows, saves) =
+        let same = named found finds in (
+          λ greets. (refl, same.0 (sym is.user ∙ (sym (ap greeted shows) ∙ greets))),
+          λ both. ap greeted shows ∙ (is.user ∙ same.1 both.1),
+        )
+    exactly (Ok LogIn) credentials found finds answered = nobody (Ok LogIn) refl (entering credentials answered)
+    exactly (Ok LogOut) credentials found finds (moved, is) = nobody (Ok LogOut) refl (ap greeted moved)
+    exactly (Err refusal) credentials found finds (refused, is) = nobody (Err refusal) refl (ap greeted refused)
+
+-- a user is greeted exactly where the route is the home page, and a session that is open has the user
+pub greeted_exactly : (site : LoginSite) (request : Request) (now : DateTime) (page : Page) (saved : Option SessionState)
+    → IsPlan site request now page saved → (user : List ℕ) → (greeted page ≡ Some user) ↔ IsGreeted site request now user
+greeted_exactly site request now page saved plan user =
+    exactly site.users.now now page saved site.sessions (stored_of site request) user (route_of request.method.now request.path.now)
+    (credentials_of request.form.now) plan.found plan.finds plan.plans
+
+-- what is planned by the session of the request's jar
+pub plan_is : (site : LoginSite) (request : Request) (now : DateTime) (jar : JarState) (page : Page) (saved : Option SessionState)
+    → jar ≡ jar_for (readable request.cookies.now)
+    → (found : Option SessionState) × HasSession site.sessions (view jar site.sessions.cookie.now.fields.name) now found
+    × Plans site.users.now (route_of request.method.now request.path.now) (credentials_of request.form.now) now found page saved
+    → IsPlan site request now page saved
+plan_is site request now jar page saved is (found, finds, plans) = record {
+  found = found;
+  finds = subst (λ j. HasSession site.sessions (view j site.sessions.cookie.now.fields.name) now found) is finds;
+  plans = plans;
+}
+
+-- ---- how a call fails
+
+-- an error that is passed on
+pub err_is : {T : Type 0} (r : Result T SessionError) (e : SessionError) → IsErrAnd r (λ x. x ≡ e) → r ≡ Err e
+err_is (Ok t) e h = absurd h
+err_is (Err x) e h = ap Err h
+
+-- what two facts give of an answer
+pub of_both : {T : Type 0} (r : Result T SessionError) (P Q R : T → Type 0) → ((t : T) → P t → Q t → R t) → IfOk r P → IfOk r Q → IfOk r R
+of_both (Ok t) P Q R k p q = k t p q
+of_both (Err e) P Q R k p q = tt
+
+-- two calls that end alike
+abbrev pub SameErrors : {T U : Type 0} → Result T SessionError → Result U SessionError → Type 0
+SameErrors r s = (e : SessionError) → (r ≡ Err e) ↔ (s ≡ Err e)
+
+pub both_ok : {T U : Type 0} (r : Result T SessionError) (s : Result U SessionError) (t : T) (u : U) → r ≡ Ok t → s ≡ Ok u → SameErrors r s
+both_ok r s t u r_is s_is e = (λ h. cc, λ h. cc)
+
+pub both_err : {T U : Type 0} (r : Result T SessionError) (s : Result U SessionError) (e : SessionError) → r ≡ Err e → s ≡ Err e → SameErrors r s
+both_err r s e r_is s_is other = (λ h. cc, λ h. cc)
+
+module _ (IsDrawn : List ℕ → Type 0) (CanFail : Type 0) (sessions : Sessions) (now : DateTime) where
+  -- the one fails as the other does
+  pub fails_same : {T U : Type 0} (saved : Option SessionState) (r : Result T SessionError) (s : Result U SessionError) → SameErrors r s
+      → FailsFor IsDrawn CanFail sessions now saved r → FailsFor IsDrawn CanFail sessions now saved s
+  fails_same None r (Ok u) same h = tt
+  fails_same None r (Err e) same h = subst (λ x. Gives failure.OutOfMemory x (λ _. Unit {0})) ((same e).1 refl) h
+  fails_same (Some session) r s same h = record {
+    prefix = (λ bad. (same failure.Prefix).0 (h.prefix.0 bad), λ is. h.prefix.1 ((same failure.Prefix).1 is));
+    over = λ meets. (
+      λ bad. (same failure.Over).0 ((h.over meets).0 bad),
+      λ is. (h.over meets).1 ((same failure.Over).1 is),
+    );
+    too_long = λ lives other.
+        let there = h.too_long lives (λ is. other ((same failure.Prefix).0 is)) in (
+          λ bad. (same failure.TooLong).0 (there.0 bad),
+          λ is. there.1 ((same failure.TooLong).1 is),
+        );
+    generator = λ is. h.generator ((same failure.Generator).1 is);
+    too_large = λ size is. h.too_large size ((same (failure.TooLarge size)).1 is);
+  }

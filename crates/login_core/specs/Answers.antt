@@ -1,100 +1,105 @@
 -- What the site answers a request.
-use Rattle.std.specs.Prelude.{◌≡◌, ◌↔◌, ℕ, true, List, Option, Some, None, Result, Ok, Err}
-use Rattle.std.specs.Bool.{MatchBool}
+use Rattle.std.specs.Prelude.{◌≡◌, ◌↔◌, ◌<◌, ◌≤◌, ℕ, true, List, Option, Some, None, Result, Ok, Err, IfSome, codes}
+use Rattle.std.specs.FinMap.{get}
 use Rattle.jiff.specs.Types.{DateTime}
-use Rattle.cookie.specs.Jar.{JarState}
+use Rattle.cookie.specs.Jar.{Add, JarState, after, view}
 use Rattle.cookie.specs.Memory.{Gives}
-use Rattle.cookie.specs.Sealing.{CanSeal, IsNonce}
-use Rattle.cookie.specs.declared.jar_error.JarError.{JarError}
-use Rattle.cookie.specs.declared.jar_error.JarError.TheVariants as failure
 use Rattle.cookie.specs.Originals.{jar_for, readable}
-use Rattle.login_core.specs.Changes.{logged_in, logged_out, shown}
+use Rattle.cookie.specs.Record.{IsCookie, Record}
+use Rattle.cookie.specs.Sealing.{CanSeal, IsNonce}
+use Rattle.cookie_session.specs.Seconds.{second_of}
+use Rattle.cookie_session.specs.Session.{SessionState, seen_at}
+use Rattle.cookie_session.specs.Sessions.{CanSave, HoldsOne, IsOpen, IsStored, bare_cookie, meets_prefix, saved_cookie}
+use Rattle.cookie_session.specs.Size.{browser_length, most_bytes}
+use Rattle.cookie_session.specs.declared.session_error.SessionError.{SessionError}
+use Rattle.cookie_session.specs.declared.session_error.SessionError.TheVariants as failure
+use Rattle.cookie_session.specs.declared.sessions.Sessions.{Sessions}
 use Rattle.login_core.specs.Forms.{credentials_of}
+use Rattle.login_core.specs.Plans.{Plans}
 use Rattle.login_core.specs.Routes.{route_of}
-use Rattle.login_core.specs.SiteCookies.{kept}
-use Rattle.login_core.specs.Users.{is_known}
-use Rattle.login_core.specs.Visitors.{IsLoggedIn, IsVisitor}
-use Rattle.login_core.specs.declared.page.Page.{Page}
-use Rattle.login_core.specs.declared.page.Page.TheVariants.{Home as ShowHome, Moved, Refused}
-use Rattle.login_core.specs.declared.refusal.Refusal.{Refusal}
-use Rattle.login_core.specs.declared.refusal.Refusal.TheVariants.{BadRequest, Forbidden}
-use Rattle.login_core.specs.declared.request.Request.{Request}
-use Rattle.login_core.specs.declared.routes.Route.{Route}
-use Rattle.login_core.specs.declared.routes.Route.TheVariants.{Home, LogIn, LogOut}
 use Rattle.login_core.specs.declared.login_site.LoginSite.{LoginSite}
-use Rattle.login_core.specs.declared.site_cookie.SiteCookie.TheVariants.{User}
-use Rattle.login_core.specs.declared.visitor.Visitor.{Visitor}
+use Rattle.login_core.specs.declared.page.Page.{Page}
+use Rattle.login_core.specs.declared.request.Request.{Request}
+use Rattle.login_core.specs.declared.routes.Route.TheVariants.{Home}
 
--- the request asks for the home page, and carries a cookie that is sealed for the user under the key
-abbrev pub IsGreeted : LoginSite → Request → List ℕ → Type 0
-IsGreeted site request user =
+-- What is found in the stored cookie, if there is one.
+pub record HasSession (sessions : Sessions) (stored : Option Record) (now : DateTime)
+    (found : Option SessionState) : Type 0 where
+  -- the session that is open there at this time
+  pub exact : (session : SessionState)
+      → (found ≡ Some session) ↔ ((place : ℕ) × IsOpen sessions stored now place session)
+  -- and the cookie holds no other, whatever the time
+  pub once : HoldsOne sessions stored
+
+-- the request's cookie of the site's name, if it has one: of several the last
+abbrev pub stored_of : LoginSite → Request → Option Record
+stored_of site request =
+    view (jar_for (readable request.cookies.now)) site.sessions.cookie.now.fields.name
+
+-- the request asks for the home page, and carries a session that is open and has the user
+abbrev pub IsGreeted : LoginSite → Request → DateTime → List ℕ → Type 0
+IsGreeted site request now user =
     (route_of request.method.now request.path.now ≡ Ok Home)
-    × IsLoggedIn site (jar_for (readable request.cookies.now)) user
+    × ((place : ℕ) × (session : SessionState)
+    × IsOpen site.sessions (stored_of site request) now place session
+    × (get session.texts (codes "user") ≡ Some user))
 
--- the home page shows what the cookies say, and the jar is changed by that
-abbrev pub Shows : LoginSite → DateTime → JarState → Page → JarState → Type 0
-Shows site now before page after =
-    (visitor : Visitor) × IsVisitor site before visitor × (page ≡ ShowHome visitor)
-    × (after ≡ shown site now visitor before)
+-- what is shown and saved is what the site makes of the request and of the session that it finds there
+pub record IsPlan (site : LoginSite) (request : Request) (now : DateTime) (page : Page)
+    (saved : Option SessionState) : Type 0 where
+  pub found : Option SessionState
+  pub finds : HasSession site.sessions (stored_of site request) now found
+  pub plans : Plans site.users.now (route_of request.method.now request.path.now)
+      (credentials_of request.form.now) now found page saved
 
--- the request is refused, and the jar stays
-abbrev pub ShowsRefusal : Refusal → JarState → Page → JarState → Type 0
-ShowsRefusal refusal before page after = (page ≡ Refused refusal) × (after ≡ before)
+-- The session is saved in the jar, under a nonce that was drawn.
+pub record IsSaved (IsDrawn : List ℕ → Type 0) (sessions : Sessions) (now : DateTime)
+    (session : SessionState) (old new : JarState) : Type 0 where
+  pub added : (nonce : List ℕ) × IsNonce nonce × IsDrawn nonce
+      × (new ≡ after (Add (saved_cookie sessions nonce now session)) old)
+  pub meets : meets_prefix sessions.cookie.now.fields ≡ true
+  pub lives : CanSave sessions now session
+  pub within : CanSeal (bare_cookie sessions now session)
+  -- a browser stores it
+  pub fits : IfSome (view new sessions.cookie.now.fields.name)
+      (λ cookie. browser_length cookie ≤ most_bytes)
+  pub cookie : IfSome (view new sessions.cookie.now.fields.name) IsCookie
+  -- as long as it lives, each request with this name and value opens it
+  pub stored : IsStored sessions (view new sessions.cookie.now.fields.name)
+      (seen_at (second_of now) session)
 
--- the user is logged in under a nonce that was drawn, and sent to the home page
-abbrev pub Admits : (List ℕ → Type 0) → LoginSite → List ℕ → JarState → Page → JarState → Type 0
-Admits IsDrawn site user before page after =
-    (nonce : List ℕ) × IsNonce nonce × IsDrawn nonce × (page ≡ Moved)
-    × (after ≡ logged_in site nonce user before)
+-- the jar after the session was saved, or as it was if there is none
+abbrev pub Saves : (List ℕ → Type 0) → Sessions → DateTime → Option SessionState
+    → JarState → JarState → Type 0
+Saves IsDrawn sessions now None old new = new ≡ old
+Saves IsDrawn sessions now (Some session) old new = IsSaved IsDrawn sessions now session old new
 
--- a form to log in is answered: a user whose password is right is logged in
-abbrev pub LogsIn : (List ℕ → Type 0) → LoginSite → Option (List ℕ × List ℕ)
-    → JarState → Page → JarState → Type 0
-LogsIn IsDrawn site None before page after = ShowsRefusal BadRequest before page after
-LogsIn IsDrawn site (Some (user, password)) before page after =
-    MatchBool (is_known user password site.users.now) (Admits IsDrawn site user before page after)
-    (ShowsRefusal Forbidden before page after)
-
--- the user is logged out, and sent to the home page
-abbrev pub LogsOut : LoginSite → DateTime → JarState → Page → JarState → Type 0
-LogsOut site now before page after = (page ≡ Moved) × (after ≡ logged_out site now before)
-
--- what the route of a request makes of the jar and shows
-abbrev pub Answers : (List ℕ → Type 0) → LoginSite → Request → DateTime
-    → JarState → Result Route Refusal → Page → JarState → Type 0
-Answers IsDrawn site request now before (Ok Home) page after = Shows site now before page after
-Answers IsDrawn site request now before (Ok LogIn) page after =
-    LogsIn IsDrawn site (credentials_of request.form.now) before page after
-Answers IsDrawn site request now before (Ok LogOut) page after = LogsOut site now before page after
-Answers IsDrawn site request now before (Err refusal) page after =
-    ShowsRefusal refusal before page after
-
--- the name and the password are those of a user of the site
-abbrev pub NamesUser : LoginSite → Option (List ℕ × List ℕ) → List ℕ → Type 0
-NamesUser site None user = ⊥
-NamesUser site (Some (name, password)) user =
-    (name ≡ user) × (is_known name password site.users.now ≡ true)
-
--- the request is one to log in, and its form names the user with the right password
-abbrev pub IsLetIn : LoginSite → Request → List ℕ → Type 0
-IsLetIn site request user =
-    (route_of request.method.now request.path.now ≡ Ok LogIn)
-    × NamesUser site (credentials_of request.form.now) user
-
--- a user is let in whose name is too long to be sealed
-abbrev pub IsTooLong : LoginSite → (List ℕ → Type 0) → Type 0
-IsTooLong site IsIn =
-    (user : List ℕ) × IsIn user × ¬ (CanSeal (kept site.is_secure User user))
-
--- How a call fails that logs a user in, if one is let in. `CanFail` says that the generator can fail.
-pub record FailsOnlyFor {T : Type 0} (site : LoginSite) (IsIn : List ℕ → Type 0) (CanFail : Type 0)
-    (result : Result T JarError)
+-- How a call fails that saves the session, if memory doesn't run out. `CanFail` says that the generator can fail.
+pub record FailsToSave {T : Type 0} (IsDrawn : List ℕ → Type 0) (CanFail : Type 0)
+    (sessions : Sessions) (now : DateTime) (session : SessionState)
+    (result : Result T SessionError)
     : Type 0 where
-  -- with nobody to let in, only out of memory
-  pub certain : ((user : List ℕ) → ¬ (IsIn user))
-      → Gives failure.OutOfMemory result (λ _. Unit {0})
-  -- the generator fails only for a user who is let in
-  pub generator : result ≡ Err failure.Generator → CanFail × ((user : List ℕ) × IsIn user)
-  -- unless memory runs out, the refusal is `TooLong` exactly where the name is too long
-  pub too_long : ¬ (result ≡ Err failure.OutOfMemory)
-      → (result ≡ Err failure.TooLong) ↔ IsTooLong site IsIn
+  pub prefix : (¬ (meets_prefix sessions.cookie.now.fields ≡ true))
+      ↔ (result ≡ Err failure.Prefix)
+  pub over : meets_prefix sessions.cookie.now.fields ≡ true
+      → (¬ (CanSave sessions now session)) ↔ (result ≡ Err failure.Over)
+  pub too_long : CanSave sessions now session → ¬ (result ≡ Err failure.Prefix)
+      → (¬ (CanSeal (bare_cookie sessions now session))) ↔ (result ≡ Err failure.TooLong)
+  pub generator : result ≡ Err failure.Generator → CanFail
+  pub too_large : (size : ℕ) → result ≡ Err (failure.TooLarge size)
+      → (most_bytes < size) × (nonce : List ℕ) × IsNonce nonce × IsDrawn nonce
+      × (size ≡ browser_length (saved_cookie sessions nonce now session))
+
+-- how a call fails that saves the session, if there is one: with none it doesn't
+abbrev pub FailsFor : {T : Type 0} → (List ℕ → Type 0) → Type 0 → Sessions → DateTime
+    → Option SessionState → Result T SessionError → Type 0
+FailsFor IsDrawn CanFail sessions now None result =
+    Gives failure.OutOfMemory result (λ _. Unit {0})
+FailsFor IsDrawn CanFail sessions now (Some session) result =
+    FailsToSave IsDrawn CanFail sessions now session result
+
+-- there is a session to save, and nothing but the generator, the cookie's size or memory keeps it from that
+abbrev pub Draws : Sessions → DateTime → Option SessionState → Type 0
+Draws sessions now None = ⊥
+Draws sessions now (Some session) =
+    CanSave sessions now session × CanSeal (bare_cookie sessions now session)

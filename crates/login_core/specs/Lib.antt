@@ -1,10 +1,10 @@
 pub mod Answers
-pub mod Changes
 pub mod Forms
 pub mod Html
 pub mod Pages
+pub mod Plans
 pub mod Responses
 pub mod Routes
-pub mod SiteCookies
+pub mod SessionCookies
 pub mod Users
 pub mod Visitors

@@ -1,37 +1,21 @@
--- What the cookies of a request say.
-use Rattle.std.specs.Prelude.{◌≡◌, ◌↔◌, ◌+◌, ◌<◌, ◌^◌, ℕ, List, Some, option_map, string_bytes}
+-- What a session says of its visitor.
+use Rattle.std.specs.Prelude.{◌≡◌, ◌+◌, ◌<◌, ◌^◌, ℕ, List, Option, Some, None, codes, option_map, string_bytes}
+use Rattle.std.specs.FinMap.{get}
 use Rattle.std.specs.Fmt.{decimal}
-use Rattle.cookie.specs.AnswersExactly.{IsStoredFor}
-use Rattle.cookie.specs.Jar.{JarState, view}
-use Rattle.cookie.specs.Keys.{encryption_half, signing_half}
-use Rattle.cookie.specs.Sealing.{IsSealingOf}
-use Rattle.cookie.specs.Signing.{IsSigningOf}
-use Rattle.login_core.specs.SiteCookies.{name_of}
-use Rattle.login_core.specs.declared.login_site.LoginSite.{LoginSite}
-use Rattle.login_core.specs.declared.site_cookie.SiteCookie.{SiteCookie}
-use Rattle.login_core.specs.declared.site_cookie.SiteCookie.TheVariants.{User, Visits, Notice}
+use Rattle.cookie_session.specs.Session.{SessionState}
 use Rattle.login_core.specs.declared.visitor.Visitor.{Visitor}
 
--- the jar shows a cookie of the site whose value is signed for this text under the key
-abbrev pub HasSigned : LoginSite → JarState → SiteCookie → List ℕ → Type 0
-HasSigned site jar which text =
-    IsStoredFor (IsSigningOf (signing_half site.key.now))
-    (view jar (name_of site.is_secure which)) text
+-- the text at this name of a session, if there is one
+abbrev pub text_of : Option SessionState → List ℕ → Option (List ℕ)
+text_of None name = None
+text_of (Some session) name = get session.texts name
 
--- the jar shows a cookie whose value is sealed for the user under the key
-abbrev pub IsLoggedIn : LoginSite → JarState → List ℕ → Type 0
-IsLoggedIn site jar user =
-    IsStoredFor (IsSealingOf (encryption_half site.key.now))
-    (view jar (name_of site.is_secure User)) user
-
--- the visitor is as the jar's cookies say
-pub record IsVisitor (site : LoginSite) (jar : JarState) (visitor : Visitor) : Type 0 where
-  pub user : (user : List ℕ)
-      → (option_map string_bytes visitor.user ≡ Some user) ↔ IsLoggedIn site jar user
-  -- one more greeting than the client was told of
+-- the visitor is as the session says, if there is one
+pub record IsVisitor (found : Option SessionState) (visitor : Visitor) : Type 0 where
+  pub user : option_map string_bytes visitor.user ≡ text_of found (codes "user")
+  -- one more greeting than the session counted
   pub visits : (before : ℕ) → before + 1 < 2 ^ 64
-      → HasSigned site jar Visits (decimal before) → visitor.visits ≡ before + 1
-  -- the first greeting, if the client has no signed number
-  pub first : ((text : List ℕ) → ¬ (HasSigned site jar Visits text)) → visitor.visits ≡ 1
-  pub notice : (text : List ℕ)
-      → (option_map string_bytes visitor.notice ≡ Some text) ↔ HasSigned site jar Notice text
+      → text_of found (codes "visits") ≡ Some (decimal before) → visitor.visits ≡ before + 1
+  -- the first greeting, if the session has no number
+  pub first : text_of found (codes "visits") ≡ None → visitor.visits ≡ 1
+  pub notice : option_map string_bytes visitor.notice ≡ text_of found (codes "notice")

@@ -1,36 +1,35 @@
 //! What the site answers a request.
-ghost use Rattle.std.specs.Prelude.{◌≡◌, ◌↔◌, ℕ, List, IfOk, Err, Some, map, string_bytes};
-ghost use Rattle.cookie.specs.Jar.{JarState};
-ghost use Rattle.cookie.specs.Memory.{Gives};
-ghost use Rattle.cookie.specs.declared.jar_error.JarError.TheVariants as refusal;
+ghost use Rattle.std.specs.Prelude.{◌≡◌, ◌↔◌, ℕ, List, Option, IfOk, OnOk, Err, Some, map, option_map, string_bytes};
 ghost use Rattle.cookie.specs.DeltaTexts.{AreDeltaTextsOnce};
+ghost use Rattle.cookie.specs.Jar.{JarState, view};
+ghost use Rattle.cookie.specs.Memory.{Gives};
 ghost use Rattle.cookie.specs.Originals.{jar_for, readable};
-ghost use Rattle.login_core.specs.Answers.{Answers, FailsOnlyFor, IsGreeted, IsLetIn, IsTooLong, LogsIn, LogsOut, NamesUser, Shows};
-ghost use Rattle.login_core.specs.Forms.{credentials_of, credential_texts};
+ghost use Rattle.cookie.specs.declared.jar_error.JarError.TheVariants as jar_refusal;
+ghost use Rattle.cookie_session.specs.Session.{SessionState};
+ghost use Rattle.cookie_session.specs.declared.session_error.SessionError.TheVariants as refusal;
+ghost use Rattle.login_core.specs.Answers.{Draws, FailsFor, HasSession, IsGreeted, IsPlan, Saves, stored_of};
+ghost use Rattle.login_core.specs.Forms.{credentials_of};
 ghost use Rattle.login_core.specs.Pages.{greeted};
+ghost use Rattle.login_core.specs.Plans.{Plans};
 ghost use Rattle.login_core.specs.Routes.{route_of};
+ghost use Rattle.login_core.specs.declared.page.Page.{Page};
 
-use crate::changes::{log_in, log_out, show};
-use crate::form::{Credentials, read_credentials};
 use crate::login_site::LoginSite;
-use crate::page::Page;
-use crate::refusal::Refusal;
+use crate::plan::{Plan, make_plan};
 use crate::request::Request;
 use crate::response::Response;
-use crate::routes::{Route, find_route};
-use crate::user::is_known;
-use crate::visitor::read_visitor;
 use cookie::{CookieJar, JarError};
+use cookie_session::{Session, SessionError, Sessions};
 use jiff::civil::DateTime;
 use rand_core::TryRng;
-use std::alloc::Global;
+use std::alloc::{AllocError, Global};
 use std::hash::RandomState;
 
-/// Answers a request at the moment `now` in UTC. The keys of `state` were drawn, so that nobody can choose names that
+/// Answers a request at the time `now` in UTC. The keys of `state` were drawn, so that nobody can choose names that
 /// make the jar slow. `rng` must be a cryptographic generator.
 ///
-/// Only a request that lets a user in can fail for more than memory: with `TooLong` if the user's name is too long to
-/// be sealed, before anything is drawn, and with `Generator` if the generator fails.
+/// Memory aside, it fails only where `Sessions::save` fails for the session that the request saves. A request that
+/// saves none draws nothing from the generator.
 pub fn answer<R: TryRng>(
     alloc: Global,
     state: RandomState,
@@ -38,156 +37,122 @@ pub fn answer<R: TryRng>(
     request: &Request<'_>,
     now: DateTime,
     rng: &mut R,
-) -> Result<Response, JarError>
-    // A user is greeted exactly where the request carries a cookie that is sealed for that user under the key.
+) -> Result<Response, SessionError>
+    // A user is greeted exactly where the request carries a session that is open and has that user.
     ensures greeted { IfOk result (λ response. (user : List ℕ)
-        → (greeted response.page ≡ Some user) ↔ IsGreeted site.now request.now user) }
+        → (greeted response.page ≡ Some user) ↔ IsGreeted site.now request.now now user) }
 
-    // The page is the route's, and its `Set-Cookie` fields are the changes that the page makes, each once.
-    ensures answers { IfOk result (λ response. (jar : JarState)
-        × Answers (λ nonce. R.may_fill rng.old nonce rng.new)
-        site.now request.now now (jar_for (readable request.now.cookies.now))
-        (route_of request.now.method.now request.now.path.now) response.page jar
+    // The page and the session that is saved are those of the request, and the `Set-Cookie` fields tell of that session.
+    ensures answers { IfOk result (λ response. (saved : Option SessionState) × (jar : JarState)
+        × IsPlan site.now request.now now response.page saved
+        × Saves (λ nonce. R.may_fill rng.old nonce rng.new) site.now.sessions now saved
+        (jar_for (readable request.now.cookies.now)) jar
         × AreDeltaTextsOnce jar.delta (map string_bytes response.cookies.items)) }
 
-    // Only a request that lets a user in draws from the generator, or fails for more than memory.
-    ensures undrawn { ((user : List ℕ) → ¬ (IsLetIn site.now request.now user))
-        → rng.new ≡ rng.old }
-    ensures certain { ((user : List ℕ) → ¬ (IsLetIn site.now request.now user))
-        → Gives refusal.OutOfMemory result (λ _. Unit {0}) }
-    ensures generator { result ≡ Err refusal.Generator
-        → R.Error × ((user : List ℕ) × IsLetIn site.now request.now user) }
+    // Unless memory runs out, it fails as the session that the request saves is refused.
+    ensures fails { ¬ (result ≡ Err refusal.OutOfMemory)
+        → (page : Page) × (saved : Option SessionState)
+        × IsPlan site.now request.now now page saved
+        × FailsFor (λ nonce. R.may_fill rng.old nonce rng.new) R.Error
+        site.now.sessions now saved result }
 
-    // A name that is too long to be sealed is refused as such, unless memory runs out.
-    ensures too_long { ¬ (result ≡ Err refusal.OutOfMemory)
-        → (result ≡ Err refusal.TooLong) ↔ IsTooLong site.now (IsLetIn site.now request.now) }
+    // Only a request that saves a session draws from the generator.
+    ensures undrawn { ((page : Page) (saved : Option SessionState)
+        → IsPlan site.now request.now now page saved → ¬ (Draws site.now.sessions now saved))
+        → rng.new ≡ rng.old }
 {
     let mut jar = request_jar(alloc, state, request.cookies)?;
-    respond(alloc, site, request, &mut jar, now, rng)
+    let plan = plan_of(alloc, site, request, &jar, now)?;
+    respond(alloc, &site.sessions, &mut jar, plan, now, rng)
 }
 
 // The jar of the request's cookies.
-fn request_jar(alloc: Global, state: RandomState, field: &[u8]) -> Result<CookieJar, JarError>
-    ensures { Gives refusal.OutOfMemory result (λ jar. jar ≡ jar_for (readable field.now)) }
+fn request_jar(alloc: Global, state: RandomState, field: &[u8]) -> Result<CookieJar, AllocError>
+    ensures { IfOk result (λ jar. jar ≡ jar_for (readable field.now)) }
 {
-    Ok(CookieJar::with_hasher(alloc, state).with_field(field)?)
+    CookieJar::with_hasher(alloc, state).with_field(field)
 }
 
-// The page, and the texts of what it changes.
+// What is shown and saved, by the session that the jar's cookie opens.
+fn plan_of(
+    alloc: Global,
+    site: &LoginSite<'_>,
+    request: &Request<'_>,
+    jar: &CookieJar,
+    now: DateTime,
+) -> Result<Plan, JarError>
+    ensures { Gives jar_refusal.OutOfMemory result (λ plan. (found : Option SessionState)
+        × HasSession site.now.sessions
+        (view jar.now site.now.sessions.cookie.now.fields.name) now found
+        × Plans site.now.users.now (route_of request.now.method.now request.now.path.now)
+        (credentials_of request.now.form.now) now found plan.page plan.session) }
+{
+    let found = open_session(alloc, &site.sessions, jar, now)?;
+    Ok(make_plan(alloc, site.users, request, found, now)?)
+}
+
+// The session that the jar's cookie opens, if it opens one.
+fn open_session(
+    alloc: Global,
+    sessions: &Sessions<'_>,
+    jar: &CookieJar,
+    now: DateTime,
+) -> Result<Option<Session>, JarError>
+    ensures { Gives jar_refusal.OutOfMemory result (HasSession sessions.now
+        (view jar.now sessions.now.cookie.now.fields.name) now) }
+{
+    match sessions.open(alloc, jar, now)? {
+        Some(opened) => Ok(Some(opened.session)),
+        None => Ok(None),
+    }
+}
+
+// The page, and the texts of what was saved.
 fn respond<R: TryRng>(
     alloc: Global,
-    site: &LoginSite<'_>,
-    request: &Request<'_>,
+    sessions: &Sessions<'_>,
     jar: &mut CookieJar,
+    plan: Plan,
     now: DateTime,
     rng: &mut R,
-) -> Result<Response, JarError>
-    ensures answers { IfOk result (λ response.
-        Answers (λ nonce. R.may_fill rng.old nonce rng.new)
-        site.now request.now now jar.old
-        (route_of request.now.method.now request.now.path.now) response.page jar.new
+) -> Result<Response, SessionError>
+    ensures page { IfOk result (λ response. response.page ≡ plan.page) }
+    ensures saves { IfOk result (λ response.
+        Saves (λ nonce. R.may_fill rng.old nonce rng.new) sessions.now now plan.session
+        jar.old jar.new
         × AreDeltaTextsOnce jar.new.delta (map string_bytes response.cookies.items)) }
-    ensures undrawn { ((user : List ℕ) → ¬ (IsLetIn site.now request.now user))
-        → rng.new ≡ rng.old }
-    ensures fails { FailsOnlyFor site.now (IsLetIn site.now request.now) R.Error result }
+    ensures fails { ¬ (result ≡ Err refusal.OutOfMemory)
+        → FailsFor (λ nonce. R.may_fill rng.old nonce rng.new) R.Error
+        sessions.now now plan.session result }
+    ensures undrawn { ¬ (Draws sessions.now now plan.session) → rng.new ≡ rng.old }
 {
-    let page = decide(alloc, site, request, jar, now, rng)?;
+    save(alloc, sessions, jar, plan.session.as_ref(), now, rng)?;
     let cookies = jar.set_cookie_texts()?;
-    Ok(Response { page, cookies })
+    Ok(Response {
+        page: plan.page,
+        cookies,
+    })
 }
 
-// The page, and what it changes.
-fn decide<R: TryRng>(
+// Saves the session, if there is one.
+fn save<R: TryRng>(
     alloc: Global,
-    site: &LoginSite<'_>,
-    request: &Request<'_>,
+    sessions: &Sessions<'_>,
     jar: &mut CookieJar,
+    session: Option<&Session>,
     now: DateTime,
     rng: &mut R,
-) -> Result<Page, JarError>
-    ensures answers { IfOk result (λ page. Answers (λ nonce. R.may_fill rng.old nonce rng.new)
-        site.now request.now now jar.old
-        (route_of request.now.method.now request.now.path.now) page jar.new) }
-    ensures undrawn { ((user : List ℕ) → ¬ (IsLetIn site.now request.now user))
+) -> Result<(), SessionError>
+    ensures saves { OnOk result (Saves (λ nonce. R.may_fill rng.old nonce rng.new)
+        sessions.now now (option_map (λ s. s.now) session.entry) jar.old jar.new) }
+    ensures fails { ¬ (result ≡ Err refusal.OutOfMemory)
+        → FailsFor (λ nonce. R.may_fill rng.old nonce rng.new) R.Error
+        sessions.now now (option_map (λ s. s.now) session.entry) result }
+    ensures undrawn { ¬ (Draws sessions.now now (option_map (λ s. s.now) session.entry))
         → rng.new ≡ rng.old }
-    ensures fails { FailsOnlyFor site.now (IsLetIn site.now request.now) R.Error result }
 {
-    match find_route(request.method, request.path) {
-        Ok(Route::Home) => home(alloc, site, jar, now),
-        Ok(Route::LogIn) => enter(alloc, site, request.form, jar, rng),
-        Ok(Route::LogOut) => leave(alloc, site, jar, now),
-        Err(refusal) => Ok(Page::Refused(refusal)),
+    match session {
+        Some(session) => sessions.save(alloc, jar, session, now, rng),
+        None => Ok(()),
     }
-}
-
-// The home page.
-fn home(
-    alloc: Global,
-    site: &LoginSite<'_>,
-    jar: &mut CookieJar,
-    now: DateTime,
-) -> Result<Page, JarError>
-    ensures { Gives refusal.OutOfMemory result (λ page. Shows site.now now jar.old page jar.new) }
-{
-    let visitor = read_visitor(alloc, site, jar)?;
-    show(alloc, site, jar, &visitor, now)?;
-    Ok(Page::Home(visitor))
-}
-
-// What follows the form to log in.
-fn enter<R: TryRng>(
-    alloc: Global,
-    site: &LoginSite<'_>,
-    form: &[u8],
-    jar: &mut CookieJar,
-    rng: &mut R,
-) -> Result<Page, JarError>
-    ensures answers { IfOk result (λ page. LogsIn (λ nonce. R.may_fill rng.old nonce rng.new)
-        site.now (credentials_of form.now) jar.old page jar.new) }
-    ensures undrawn { ((user : List ℕ) → ¬ (NamesUser site.now (credentials_of form.now) user))
-        → rng.new ≡ rng.old }
-    ensures fails { FailsOnlyFor site.now (NamesUser site.now (credentials_of form.now))
-        R.Error result }
-{
-    match read_credentials(alloc, form)? {
-        Some(found) => admit(alloc, site, &found, jar, rng),
-        None => Ok(Page::Refused(Refusal::BadRequest)),
-    }
-}
-
-// Logs a user in whose password is right.
-fn admit<R: TryRng>(
-    alloc: Global,
-    site: &LoginSite<'_>,
-    found: &Credentials,
-    jar: &mut CookieJar,
-    rng: &mut R,
-) -> Result<Page, JarError>
-    ensures answers { IfOk result (λ page. LogsIn (λ nonce. R.may_fill rng.old nonce rng.new)
-        site.now (Some (credential_texts found.now)) jar.old page jar.new) }
-    ensures undrawn { ((user : List ℕ)
-        → ¬ (NamesUser site.now (Some (credential_texts found.now)) user))
-        → rng.new ≡ rng.old }
-    ensures fails { FailsOnlyFor site.now (NamesUser site.now (Some (credential_texts found.now)))
-        R.Error result }
-{
-    let user = found.user.as_str();
-    if !is_known(site.users, user, found.password.as_str()) {
-        return Ok(Page::Refused(Refusal::Forbidden));
-    }
-    log_in(alloc, site, jar, user, rng)?;
-    Ok(Page::Moved)
-}
-
-// Logs the user out, if there is one.
-fn leave(
-    alloc: Global,
-    site: &LoginSite<'_>,
-    jar: &mut CookieJar,
-    now: DateTime,
-) -> Result<Page, JarError>
-    ensures { Gives refusal.OutOfMemory result (λ page. LogsOut site.now now jar.old page jar.new) }
-{
-    log_out(alloc, site, jar, now)?;
-    Ok(Page::Moved)
 }

@@ -1,40 +1,15 @@
 //! Requests as rows, and what the site has to answer.
+mod pages;
+mod refusals;
 mod rows;
+mod site;
 mod texts;
+mod words;
 
-use cookie::JarError;
-use jar_steps::{Sevens, moment, test_key};
-use login_core::{LoginSite, Page, Request, Response, User, answer};
+use login_core::{Page, Request, Response};
+use site::Site;
 use std::alloc::{AllocError, Global};
 use std::hash::RandomState;
-
-fn users(alloc: Global) -> Result<Vec<User>, AllocError> {
-    let mut users = Vec::new(alloc);
-    for (name, password) in [("ann", "open sesame"), ("<b>bo</b>", "x&y=z")] {
-        let name = String::from_str(alloc, name)?;
-        let password = String::from_str(alloc, password)?;
-        users.push(User { name, password })?;
-    }
-    Ok(users)
-}
-
-// The response of a site whose nonces are sevens.
-fn play(
-    alloc: Global,
-    state: RandomState,
-    is_secure: bool,
-    request: &Request<'_>,
-    left: usize,
-) -> Result<Response, JarError> {
-    let key = test_key();
-    let users = users(alloc)?;
-    let site = LoginSite {
-        key: &key,
-        users: &users,
-        is_secure,
-    };
-    answer(alloc, state, &site, request, moment(), &mut Sevens { left })
-}
 
 // The user whom the page greets.
 fn greeted(page: &Page) -> Option<&str> {
@@ -47,7 +22,7 @@ fn greeted(page: &Page) -> Option<&str> {
 // The row with each word in braces replaced by what it stands for.
 fn spelled(alloc: Global, row: &str) -> Result<String, AllocError> {
     let mut text = String::from_str(alloc, row)?;
-    for line in rows::WORDS.lines() {
+    for line in words::WORDS.lines() {
         let (word, meaning) = line.split_once(": ").unwrap_or((line, ""));
         text = text.as_str().replace(alloc, word, meaning)?;
     }
@@ -71,6 +46,7 @@ fn is_step_right(response: &Response, text: &str, step: &str) -> bool {
             .iter()
             .any(|cookie| cookie.as_str() == wanted),
         "has" => text.find(wanted).is_some(),
+        "lacks" => text.find(wanted).is_none(),
         "line" => text.split("\r\n").any(|line| line == wanted),
         _ => false,
     }
@@ -94,7 +70,8 @@ fn is_answered(alloc: Global, response: &Response, steps: &str) -> Option<bool> 
 // Whether the row's request is answered as it says: `plain GET / | cookies a=b | is 200 | has Hello`. It goes to a site
 // of the users `ann` and `<b>bo</b>`: a method and a path, after `plain` where the connection isn't secure, and
 // `cookies`, where each letter is one byte, and `form`. The answer has the status (`is`), the user who is greeted
-// (`greets`), the text of each `Set-Cookie` field (`sets`), and a part or a line of the response's text (`has`, `line`).
+// (`greets`), the text of each `Set-Cookie` field (`sets`), and a part or a line of the response's text (`has`, `line`),
+// but not another part (`lacks`).
 fn is_right(alloc: Global, state: RandomState, row: &str) -> Option<bool> {
     let row = spelled(alloc, row).ok()?;
     let (head, steps) = row.as_str().split_once(" | ")?;
@@ -110,6 +87,7 @@ fn is_right(alloc: Global, state: RandomState, row: &str) -> Option<bool> {
         cookies: &cookies,
         form: part(steps, "form ").unwrap_or("").as_bytes(),
     };
-    let response = play(alloc, state, plain.is_none(), &request, 12).ok()?;
+    let site = Site::new(alloc, plain.is_none()).ok()?;
+    let response = site.answers(alloc, state, &request, 12).ok()?;
     is_answered(alloc, &response, steps)
 }

@@ -1,8 +1,8 @@
 //! The texts of responses, and the names of values that have a `Debug`. No value that holds a key, a password or a
 //! visitor has one.
-use super::play;
+use super::site::Site;
 use cookie_words::debugs;
-use login_core::{Page, Refusal, Request, Route, SiteCookie, Visitor, html};
+use login_core::{Page, Refusal, Request, Route, Visitor, html};
 use std::alloc::Global;
 use std::hash::RandomState;
 use std::test::Fail;
@@ -49,7 +49,8 @@ fn are_fields_first(alloc: Global, state: RandomState) -> Option<bool> {
         cookies: b"",
         form: b"",
     };
-    let response = play(alloc, state, true, &request, 0).ok()?;
+    let site = Site::new(alloc, true).ok()?;
+    let response = site.answers(alloc, state, &request, 12).ok()?;
     let head = response.head(alloc, "/a.cgi").ok()?;
     let text = response.text(alloc, "/a.cgi").ok()?;
     let front =
@@ -57,7 +58,7 @@ fn are_fields_first(alloc: Global, state: RandomState) -> Option<bool> {
     Some(
         text.starts_with(&head)
             && head.starts_with(front)
-            && head.ends_with(b"Secure; Path=/\r\n\r\n")
+            && head.ends_with(b"Secure; Path=/; Max-Age=1800\r\n\r\n")
             && has_part(&text, "\r\n\r\n<!DOCTYPE html>\n"),
     )
 }
@@ -81,8 +82,5 @@ fn no_flag_changes_a_name(rt: HostRuntime) {
     assert!(rt; debugs(alloc, &Route::Home, "Home"));
     assert!(rt; debugs(alloc, &Route::LogIn, "LogIn"));
     assert!(rt; debugs(alloc, &Route::LogOut, "LogOut"));
-    assert!(rt; debugs(alloc, &SiteCookie::User, "User"));
-    assert!(rt; debugs(alloc, &SiteCookie::Visits, "Visits"));
-    assert!(rt; debugs(alloc, &SiteCookie::Notice, "Notice"));
     assert!(rt; !debugs(alloc, &Route::Home, "LogIn"));
 }

@@ -1,23 +1,48 @@
-use Rattle.std.proofs.Common.{subst}
+use Rattle.std.proofs.Common.{sym, subst}
 use Rattle.std.proofs.lemmas.Result.{IfOk-weaker}
-use Rattle.login_core.proofs.AnswerLemmas.{greeted_exactly}
-use Rattle.login_core.specs.Answers.{Answers}
-use Rattle.login_core.specs.Routes.{route_of}
+use Rattle.login_core.specs.Answers.{IsPlan, Saves}
+use Rattle.login_core.proofs.AnswerLemmas.{greeted_exactly, of_both, plan_is}
 use Rattle.login_core.proofs.decision.answer.Goals as goal
-
-pub returns-clause-answers : goal.returns-clause-answers
-returns-clause-answers g c =
-    let request = c.args.request.now in
-    let route = route_of request.method.now request.path.now in
-    IfOk-weaker c.respond.result _ _ (λ response is. (
-      c.respond.new.jar,
-      subst (λ before. Answers (λ nonce. g.R.TryRng.may_fill c.args.rng.now nonce c.respond.new.rng) c.args.site.now request c.args.now before route response.page c.respond.new.jar) c.in_ok-jar.ensures is.0,
-      is.1,
-    )) c.respond.ensures.answers
 
 pub returns-clause-greeted : goal.returns-clause-greeted
 returns-clause-greeted g c =
+    let site = c.args.site.now in
     let request = c.args.request.now in
-    IfOk-weaker c.respond.result _ _ (λ response answered user.
-    greeted_exactly _ c.args.site.now _ answered.0 response.page user request c.args.now (route_of request.method.now request.path.now) answered.1)
-    (returns-clause-answers g c)
+    let now = c.args.now in
+    let page = c.in_ok-plan.plan.page in
+    let saved = c.in_ok-plan.plan.session in
+    let plan : IsPlan site request now page saved = plan_is site request now c.in_ok-jar.jar page saved c.in_ok-jar.ensures c.in_ok-plan.ensures in
+    IfOk-weaker c.respond.result _ _ (λ response is. greeted_exactly site request now response.page saved (subst (λ p. IsPlan site request now p saved) (sym is) plan))
+    c.respond.ensures.page
+
+pub returns-clause-answers : goal.returns-clause-answers
+returns-clause-answers g c =
+    let site = c.args.site.now in
+    let request = c.args.request.now in
+    let now = c.args.now in
+    let page = c.in_ok-plan.plan.page in
+    let saved = c.in_ok-plan.plan.session in
+    let plan : IsPlan site request now page saved = plan_is site request now c.in_ok-jar.jar page saved c.in_ok-jar.ensures c.in_ok-plan.ensures in
+    of_both c.respond.result _ _ _ (λ response is saves. (
+      saved,
+      c.respond.new.jar,
+      subst (λ p. IsPlan site request now p saved) (sym is) plan,
+      subst (λ old. Saves (λ nonce. g.R.TryRng.may_fill c.args.rng.now nonce c.respond.new.rng) site.sessions now saved old c.respond.new.jar) c.in_ok-jar.ensures saves.0,
+      saves.1,
+    )) c.respond.ensures.page c.respond.ensures.saves
+
+pub returns-clause-fails : goal.returns-clause-fails
+returns-clause-fails g c known =
+    let page = c.in_ok-plan.plan.page in
+    let saved = c.in_ok-plan.plan.session in (
+      page,
+      saved,
+      plan_is c.args.site.now c.args.request.now c.args.now c.in_ok-jar.jar page saved c.in_ok-jar.ensures c.in_ok-plan.ensures,
+      c.respond.ensures.fails known,
+    )
+
+pub returns-clause-undrawn : goal.returns-clause-undrawn
+returns-clause-undrawn g c none =
+    let page = c.in_ok-plan.plan.page in
+    let saved = c.in_ok-plan.plan.session in
+    c.respond.ensures.undrawn (none page saved (plan_is c.args.site.now c.args.request.now c.args.now c.in_ok-jar.jar page saved c.in_ok-jar.ensures c.in_ok-plan.ensures))

@@ -1,0 +1,52 @@
+use Rattle.std.proofs.Common.{◌≡◌, List, ℕ, Some, option_map, map, sym, ap, subst, ◌∙◌, string_bytes}
+use Rattle.std.proofs.lemmas.Str.{IsUtf8-string_bytes}
+use Rattle.std.specs.FinMap.{empty, get}
+use Rattle.cookie.specs.Jar.{JarState, view}
+use Rattle.cookie.specs.Originals.{jar_for, readable}
+use Rattle.cookie.specs.Record.{plain}
+use Rattle.cookie.proofs.DeltaTextLemmas.{AreDeltaTexts-once}
+use Rattle.cookie.proofs.FieldLemmas.{readable-utf8}
+use Rattle.cookie_client.specs.Client.{after_texts}
+use Rattle.cookie_client.proofs.RoundLemmas.{fresh, shows_held}
+use Rattle.login_core.specs.Answers.{stored_of}
+use Rattle.login_core.specs.Forms.{credentials_of}
+use Rattle.login_core.specs.Plans.{Plans}
+use Rattle.login_core.specs.Routes.{route_of}
+use Rattle.login_core.specs.declared.request.Request.{Request}
+use Rattle.login_client.specs.Browsing.{Shows}
+use Rattle.login_client.specs.Standing.{route_asked}
+use Rattle.login_client.proofs.HeldLemmas.{finds, holds_after}
+use Rattle.login_client.proofs.PageLemmas.{held_after, page_shows, saved_stands}
+use Rattle.login_client.proofs.StandingLemmas.{found_stands}
+use Rattle.login_client.proofs.browsing.send.Goals as goal
+
+pub returns : goal.returns
+returns g c can held holds =
+    let site = c.args.site.now in
+    let sessions = site.sessions in
+    let name = sessions.cookie.now.fields.name in
+    let request = c.args.request.now in
+    let now = request.time in
+    let client = c.args.client.now in
+    let page = c.in_ok-response.response.page in
+    let header : List ℕ = string_bytes c.in_ok-header.header in
+    let is = c.in_ok-header.ensures holds.unnamed in
+    let (saved, jar, plan, saves, once) = c.in_ok-response.ensures.answers in
+    let asked : Request = record { method = request.method; path = request.path; cookies = c.as_bytes.result; form = request.form } in
+    let field : List ℕ = readable asked.cookies.now in
+    let field_is : field ≡ header = ap readable c.as_bytes.ensures.value ∙ readable-utf8 header (IsUtf8-string_bytes c.in_ok-header.header) in
+    let start : JarState = jar_for field in
+    let shown : stored_of site asked ≡ option_map (plain name) (get client name) =
+    ap (λ h. view (jar_for h) name) field_is ∙ shows_held client header is name in
+    let found = plan.found in
+    let counts = found_stands sessions now held found
+    (finds sessions (get client name) held holds.value (stored_of site asked) shown now found plan.finds) in
+    let texts : List (List ℕ) = map string_bytes c.in_ok-response.response.cookies.items in
+    record {
+      later = held_after now saved held;
+      holds = holds_after sessions can now client c.read_texts.new.client start jar (fresh field) texts (AreDeltaTexts-once jar.delta texts once)
+          (c.in_ok-read_texts.ensures ∙ ap (λ ts. after_texts now (map string_bytes ts) client) c.deref.ensures.value) _ saved held saves holds;
+      shows = subst (λ standing. Shows (route_asked request) standing page) (sym counts)
+          (page_shows site.users.now (route_asked request) (credentials_of request.form.now) now found page saved plan.plans);
+      stands = saved_stands site (route_asked request) request.form.now now held found page saved counts plan.plans;
+    }

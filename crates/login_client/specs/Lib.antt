@@ -1,0 +1,3 @@
+pub mod Browsing
+pub mod Holding
+pub mod Standing
