@@ -18,10 +18,10 @@ use std::io::Write;
 use std::process::ExitCode;
 
 // The response to a request that could be read.
-fn respond(
+fn respond<'s>(
     rt: &HostRuntime,
-    keys: &KeyRing,
-    users: &[User],
+    keys: &'s KeyRing,
+    users: &'s [User],
     gateway: &Gateway,
 ) -> Result<Response> {
     let cookie = session_cookie(gateway.is_secure);
