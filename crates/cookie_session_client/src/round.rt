@@ -67,7 +67,11 @@ pub fn save_and_return<R: TryRng>(
 }
 
 // Makes the calls in order.
-fn play(alloc: Global, jar: &mut CookieJar, calls: &[JarCall<'_>]) -> Result<(), AllocError>
+pub(crate) fn play(
+    alloc: Global,
+    jar: &mut CookieJar,
+    calls: &[JarCall<'_>],
+) -> Result<(), AllocError>
     ensures { OnOk result ((outcomes : List Bool) × AllZip IsOutcome calls.now outcomes
         × (jar.new ≡ after_all (changes_of outcomes calls.now) jar.old)) }
 {

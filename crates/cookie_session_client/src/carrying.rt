@@ -1,0 +1,79 @@
+//! A jar's response over header maps, and the request of the client that read it.
+ghost use Rattle.std.specs.Prelude.{◌≡◌, [], ◌∷◌, None, IfOk, IsErrOf, codes, option_map};
+ghost use Rattle.std.specs.FinMap.{get};
+ghost use Rattle.http_header.specs.FieldValue.{plain_value};
+ghost use Rattle.cookie.specs.Jar.{Name, view};
+ghost use Rattle.cookie.specs.Memory.{Gives};
+ghost use Rattle.cookie.specs.Originals.{jar_for};
+ghost use Rattle.cookie.specs.Record.{plain};
+ghost use Rattle.cookie_client.specs.Client.{header_text};
+ghost use Rattle.cookie_http.specs.Fields.{cookie_header};
+ghost use Rattle.cookie_http.specs.Response.{AddsDelta, AllFitFields};
+ghost use Rattle.cookie_http.specs.declared.http_error.HttpError.TheVariants as http_refusal;
+ghost use Rattle.cookie_session_client.specs.Carrying.{CarriesDelta};
+
+use cookie::CookieJar;
+use cookie_client::Client;
+use cookie_http::{HttpError, append_delta, cookie_of_client, jar_from_headers, read_response};
+use http_header::HeaderMap;
+use jiff::civil::DateTime;
+use std::alloc::Global;
+
+/// A response and the client's next request, as header maps.
+#[derive(Drop)]
+pub struct Carried {
+    /// The response: a `Set-Cookie` field for each cookie of the jar's delta.
+    pub response: HeaderMap,
+    /// The client's next request: one `Cookie` field.
+    pub request: HeaderMap,
+    /// The jar of that request.
+    pub next: CookieJar,
+}
+
+// Carries the jar's delta to the client, and what the client then sends to the jar of its next request.
+pub(crate) fn carry(
+    alloc: Global,
+    jar: &CookieJar,
+    client: &mut Client,
+    now: DateTime,
+) -> Result<Carried, HttpError>
+    ensures carried { IfOk result (CarriesDelta now jar.now.delta client.old client.new) }
+    ensures shows { IfOk result (λ carried. get client.new [] ≡ None → (name : Name)
+        → view carried.next name ≡ option_map (plain name) (get client.new name)) }
+    ensures invalid { IsErrOf result http_refusal.InvalidValue → ¬ (AllFitFields jar.now.delta) }
+    ensures room { ¬ (IsErrOf result http_refusal.TooManyFields) }
+{
+    let response = response_of(alloc, jar)?;
+    read_response(client, &response, now)?;
+    let request = request_of(alloc, client)?;
+    let next = jar_from_headers(alloc, &request)?;
+    Ok(Carried {
+        response,
+        request,
+        next,
+    })
+}
+
+// A response with the `Set-Cookie` fields of the jar's delta.
+fn response_of(alloc: Global, jar: &CookieJar) -> Result<HeaderMap, HttpError>
+    ensures ok { IfOk result (AddsDelta jar.now.delta []) }
+    ensures invalid { IsErrOf result http_refusal.InvalidValue → ¬ (AllFitFields jar.now.delta) }
+    ensures room { ¬ (IsErrOf result http_refusal.TooManyFields) }
+{
+    let mut response = HeaderMap::new(alloc);
+    append_delta(alloc, jar, &mut response)?;
+    Ok(response)
+}
+
+// The client's next request.
+fn request_of(alloc: Global, client: &Client) -> Result<HeaderMap, HttpError>
+    ensures request { Gives http_refusal.OutOfMemory result (λ request. request
+        ≡ (codes "cookie", plain_value (header_text client.now) ∷ []) ∷ []) }
+    ensures shows { IfOk result (λ request. get client.now [] ≡ None → (name : Name)
+        → view (jar_for (cookie_header request)) name
+        ≡ option_map (plain name) (get client.now name)) }
+{
+    let mut request = HeaderMap::new(alloc);
+    request.append("cookie", cookie_of_client(client)?)?;
+    Ok(request)
+}

@@ -1,0 +1,89 @@
+//! A request that saves a session, and the client's next one, over header maps.
+ghost use Rattle.std.specs.Prelude.{◌≡◌, ◌↔◌, ◌<◌, true, ℕ, Some, Err, IfOk};
+ghost use Rattle.cookie.specs.Jar.{view};
+ghost use Rattle.cookie.specs.Sealing.{CanSeal};
+ghost use Rattle.cookie_http.specs.Response.{AllFitFields};
+ghost use Rattle.cookie_http.specs.declared.http_error.HttpError.TheVariants as http_refusal;
+ghost use Rattle.cookie_session.specs.Seconds.{second_of};
+ghost use Rattle.cookie_session.specs.Session.{SessionState, seen_at};
+ghost use Rattle.cookie_session.specs.Sessions.{CanSave, IsOpen, bare_cookie, meets_prefix};
+ghost use Rattle.cookie_session.specs.Size.{most_bytes};
+ghost use Rattle.cookie_session.specs.declared.session_error.SessionError.TheVariants as refusal;
+ghost use Rattle.cookie_session_client.specs.Carrying.{CarriesDelta};
+ghost use Rattle.cookie_session_client.specs.Returning.{CanReturn};
+ghost use Rattle.cookie_session_client.specs.declared.return_error.ReturnError.TheVariants as failure;
+
+use crate::carrying::{Carried, carry};
+use crate::return_error::ReturnError;
+use crate::round::play;
+use cookie::CookieJar;
+use cookie_client::{Client, JarCall};
+use cookie_session::{Opened, Session, Sessions};
+use jiff::civil::DateTime;
+use rand_core::TryRng;
+use std::alloc::Global;
+
+/// What came of a session over header maps.
+#[derive(Drop)]
+pub struct Returned {
+    /// The response and the client's next request.
+    pub carried: Carried,
+    /// The session that this request opens, if it opens one.
+    pub opened: Option<Opened>,
+}
+
+/// Makes a handler's calls on the jar of a request, and saves a session, at the time `now`. The response goes out as a
+/// header map, which a client reads (`append_delta` and `read_response` of `cookie_http`). The client's next request
+/// comes in as a header map, whose session is opened at the time `later`. Both times are in UTC.
+///
+/// The next request opens the session that was saved, with the newest key, whatever the calls, as long as it lives.
+/// This asks for `CanReturn`, as `save_and_return` does.
+///
+/// Fails as [`Sessions::save`] does, and with `Http(InvalidValue)` if a cookie of the response doesn't fit a field. The
+/// jar and the client may then have changed.
+pub fn save_over_headers<R: TryRng>(
+    alloc: Global,
+    sessions: &Sessions<'_>,
+    jar: &mut CookieJar,
+    calls: &[JarCall<'_>],
+    session: &Session,
+    client: &mut Client,
+    now: DateTime,
+    later: DateTime,
+    rng: &mut R,
+) -> Result<Returned, ReturnError>
+    ensures returns { CanReturn sessions.now jar.old calls.now client.old now later
+        (seen_at (second_of now) session.now)
+        → IfOk result (λ answer. answer.opened
+        ≡ Some (record { session = seen_at (second_of now) session.now; place = 0 })) }
+
+    // All of it goes by the header maps.
+    ensures carried { IfOk result (λ answer.
+        CarriesDelta now jar.new.delta client.old client.new answer.carried) }
+    ensures opens { IfOk result (λ answer. (place : ℕ) (s : SessionState)
+        → (answer.opened ≡ Some (record { session = s; place = place }))
+        ↔ IsOpen sessions.now (view answer.carried.next sessions.now.cookie.now.fields.name) later
+        place s) }
+
+    // Out of memory aside, it fails only for the reasons for which `save` does, or if a cookie doesn't fit a field.
+    ensures prefix { result ≡ Err (failure.Session refusal.Prefix)
+        → ¬ (meets_prefix sessions.now.cookie.now.fields ≡ true) }
+    ensures over { meets_prefix sessions.now.cookie.now.fields ≡ true
+        → result ≡ Err (failure.Session refusal.Over)
+        → ¬ (CanSave sessions.now now session.now) }
+    ensures too_long { CanSave sessions.now now session.now
+        → result ≡ Err (failure.Session refusal.TooLong)
+        → ¬ (CanSeal (bare_cookie sessions.now now session.now)) }
+    ensures too_large { (size : ℕ) → result ≡ Err (failure.Session (refusal.TooLarge size))
+        → most_bytes < size }
+    ensures failed { result ≡ Err (failure.Session refusal.Generator) → R.Error }
+    ensures invalid { result ≡ Err (failure.Http http_refusal.InvalidValue)
+        → ¬ (AllFitFields jar.new.delta) }
+    ensures room { ¬ (result ≡ Err (failure.Http http_refusal.TooManyFields)) }
+{
+    play(alloc, jar, calls)?;
+    sessions.save(alloc, jar, session, now, rng)?;
+    let carried = carry(alloc, jar, client, now)?;
+    let opened = sessions.open(alloc, &carried.next, later)?;
+    Ok(Returned { carried, opened })
+}
