@@ -1,5 +1,6 @@
 -- What a list of public suffixes is read as, worked out by hand from publicsuffix.org. No call computes it.
-use Rattle.std.specs.Prelude.{◌≡◌, ℕ, Bool, true, false, List, [], ◌∷◌, ◌++◌, codes, map, refl}
+use Rattle.std.specs.Prelude.{◌≡◌, Bool, true, false, List, [], ◌∷◌, ◌++◌, codes, map, refl}
+use Rattle.std.specs.List.{list_all, list_any}
 use Rattle.idna.proofs.Computing.{idna}
 use Rattle.cookie_browser.specs.Bytes.{cut}
 use Rattle.cookie_browser.specs.Suffixes.{Rule, Plain, Wild, Except, is_public_suffix}
@@ -27,3 +28,16 @@ answers =
 are_public : answers ≡ false ∷ false ∷ true ∷ false ∷ true ∷ true ∷ false ∷ []
 unfolding is_public_suffix cut
 are_public = refl
+
+-- publicsuffix.org's test data (test_psl.txt), over the rules that it needs: a domain without a registrable domain is a
+-- public suffix
+abbrev kept : List Rule
+kept = rules_of (codes "// a" ++ 10 ∷ codes "com" ++ 10 ∷ codes "uk.com" ++ 13 ∷ 10 ∷ codes "*.mm" ++ 10 ∷ codes "jp " ++ 10 ∷ codes "kyoto.jp" ++ 10 ∷ codes "*.kobe.jp" ++ 10 ∷ codes "!city.kobe.jp" ++ 10 ∷ 10 ∷ codes "us" ++ 10 ∷ codes "ak.us" ++ 10 ∷ codes "k12.ak.us")
+
+suffixes : list_all (is_public_suffix kept) (codes "com" ∷ codes "uk.com" ∷ codes "mm" ∷ codes "c.mm" ∷ codes "jp" ∷ codes "kyoto.jp" ∷ codes "c.kobe.jp" ∷ codes "us" ∷ codes "ak.us" ∷ codes "k12.ak.us" ∷ codes "example" ∷ []) ≡ true
+unfolding rule_of idna is_public_suffix cut
+suffixes = refl
+
+others : list_any (is_public_suffix kept) (codes "example.com" ∷ codes "b.example.com" ∷ codes "example.uk.com" ∷ codes "b.c.mm" ∷ codes "a.b.c.mm" ∷ codes "test.jp" ∷ codes "test.kyoto.jp" ∷ codes "b.c.kobe.jp" ∷ codes "city.kobe.jp" ∷ codes "www.city.kobe.jp" ∷ codes "test.us" ∷ codes "test.ak.us" ∷ codes "test.k12.ak.us" ∷ codes "example.example" ∷ []) ≡ false
+unfolding rule_of idna is_public_suffix cut
+others = refl
