@@ -7,7 +7,7 @@ ghost use Rattle.cookie.specs.Originals.{jar_for, readable};
 ghost use Rattle.cookie.specs.declared.jar_error.JarError.TheVariants as jar_refusal;
 ghost use Rattle.cookie_session.specs.Session.{SessionState};
 ghost use Rattle.cookie_session.specs.declared.session_error.SessionError.TheVariants as refusal;
-ghost use Rattle.login_core.specs.Answers.{Draws, FailsFor, HasSession, IsGreeted, IsPlan, Saves, stored_of};
+ghost use Rattle.login_core.specs.Answers.{Draws, FailsFor, HasSession, IsGreeted, IsPlan, Saves};
 ghost use Rattle.login_core.specs.Forms.{credentials_of};
 ghost use Rattle.login_core.specs.Pages.{greeted};
 ghost use Rattle.login_core.specs.Plans.{Plans};

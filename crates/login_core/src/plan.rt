@@ -1,5 +1,5 @@
 //! What the site makes of a request and of the session that it has: what is shown, and what is saved.
-ghost use Rattle.std.specs.Prelude.{◌≡◌, IfOk, OnOk, Some, None};
+ghost use Rattle.std.specs.Prelude.{◌≡◌, IfOk, Some, None};
 ghost use Rattle.login_core.specs.Forms.{credentials_of, credential_texts};
 ghost use Rattle.login_core.specs.Plans.{LogsIn, Plans, Shows, logged_in, logged_out, shown};
 ghost use Rattle.login_core.specs.Routes.{route_of};
