@@ -8,42 +8,42 @@ use Rattle.cookie.specs.History.{after_all}
 use Rattle.cookie.specs.Jar.{Name, JarState, Change, AddOriginal, Add, Remove, ForceRemove, ResetDelta, after}
 use Rattle.cookie_client.specs.Calls.{IsKnownChange}
 use Rattle.cookie_client.proofs.EntryLemmas.{AreEntries-after_all, Puts}
-use Rattle.cookie_agent.specs.Agreement.{IsScopedEntry, IsScopedDelta}
-use Rattle.cookie_agent.specs.Calls.{IsScopedChange}
-use Rattle.cookie_agent.specs.Site.{SiteView}
-use Rattle.cookie_agent.specs.Scopes.{ScopeView}
+use Rattle.cookie_agent.specs.Agreement.{IsPlannedEntry, IsPlannedDelta, PlanView}
+use Rattle.cookie_agent.specs.Calls.{IsPlannedChange}
+use Rattle.cookie_browser.specs.Request.{RequestView}
+use Rattle.cookie_browser.specs.Suffixes.{Rule}
 
-module _ (site : SiteView) (now : DateTime) (scopes : Name → ScopeView) where
-  puts_scoped : (change : Change) → IsKnownChange change → IsScopedChange site now scopes change → Puts (IsScopedEntry site now scopes) change
-  puts_scoped (AddOriginal cookie) known h = tt
-  puts_scoped (Add cookie) known h =
-      record { cookie = record { cookie = known; name = h.removal.name }; key = refl; scoped = h.removal.scoped; fate = inr (refl, h.live) }
-  puts_scoped (Remove cookie moment) known h =
+module _ (rules : List Rule) (site : RequestView) (now : DateTime) (plans : Name → PlanView) where
+  puts_planned : (change : Change) → IsKnownChange change → IsPlannedChange rules site now plans change → Puts (IsPlannedEntry rules site now plans) change
+  puts_planned (AddOriginal cookie) known h = tt
+  puts_planned (Add cookie) known h =
+      record { cookie = record { cookie = known; name = h.name }; key = refl; planned = h.planned; fate = inr (refl, h.sent) }
+  puts_planned (Remove cookie moment) known h =
       record {
         cookie = record {
           cookie = record { name = known.name; value = IsUtf8-nil; path = known.path; domain = known.domain; max_age = (omega (arith, signed_arith), omega (arith, signed_arith)) };
           name = h.name;
         };
         key = refl;
-        scoped = record { path = h.scoped.path; domain = h.scoped.domain; scope = h.scoped.scope; reaches = h.scoped.reaches; secure = h.scoped.secure };
-        fate = inl (refl, refl);
+        planned = h.planned;
+        fate = inl (refl, h.expired);
       }
-  puts_scoped (ForceRemove name) known h = tt
-  puts_scoped ResetDelta known h = tt
+  puts_planned (ForceRemove name) known h = tt
+  puts_planned ResetDelta known h = tt
 
-  all_put : (changes : List Change) → All IsKnownChange changes → All (IsScopedChange site now scopes) changes → All (Puts (IsScopedEntry site now scopes)) changes
-  all_put [] ks hs = All-nil (Puts (IsScopedEntry site now scopes))
+  all_put : (changes : List Change) → All IsKnownChange changes → All (IsPlannedChange rules site now plans) changes → All (Puts (IsPlannedEntry rules site now plans)) changes
+  all_put [] ks hs = All-nil (Puts (IsPlannedEntry rules site now plans))
   all_put (change ∷ changes) ks hs =
-      All-cons (Puts (IsScopedEntry site now scopes)) change changes
-      (puts_scoped change (All-head IsKnownChange change changes ks) (All-head (IsScopedChange site now scopes) change changes hs))
-      (all_put changes (All-tail IsKnownChange change changes ks) (All-tail (IsScopedChange site now scopes) change changes hs))
+      All-cons (Puts (IsPlannedEntry rules site now plans)) change changes
+      (puts_planned change (All-head IsKnownChange change changes ks) (All-head (IsPlannedChange rules site now plans) change changes hs))
+      (all_put changes (All-tail IsKnownChange change changes ks) (All-tail (IsPlannedChange rules site now plans) change changes hs))
 
   -- each entry of the delta is scoped
-  pub scoped_delta : (changes : List Change) (jar : JarState) → All IsKnownChange changes → All (IsScopedChange site now scopes) changes
-      → IsScopedDelta site now scopes jar.delta → IsScopedDelta site now scopes (after_all changes jar).delta
-  scoped_delta changes jar ks hs before = AreEntries-after_all (IsScopedEntry site now scopes) changes jar (all_put changes ks hs) before
+  pub planned_delta : (changes : List Change) (jar : JarState) → All IsKnownChange changes → All (IsPlannedChange rules site now plans) changes
+      → IsPlannedDelta rules site now plans jar.delta → IsPlannedDelta rules site now plans (after_all changes jar).delta
+  planned_delta changes jar ks hs before = AreEntries-after_all (IsPlannedEntry rules site now plans) changes jar (all_put changes ks hs) before
 
-  original_stays : (change : Change) (jar : JarState) → IsScopedChange site now scopes change → (after change jar).originals ≡ jar.originals
+  original_stays : (change : Change) (jar : JarState) → IsPlannedChange rules site now plans change → (after change jar).originals ≡ jar.originals
   original_stays (AddOriginal cookie) jar h = absurd h
   original_stays (Add cookie) jar h = refl
   original_stays (Remove cookie moment) jar h = refl
@@ -51,8 +51,8 @@ module _ (site : SiteView) (now : DateTime) (scopes : Name → ScopeView) where
   original_stays ResetDelta jar h = refl
 
   -- and the originals stay
-  pub originals_stay : (changes : List Change) (jar : JarState) → All (IsScopedChange site now scopes) changes → (after_all changes jar).originals ≡ jar.originals
+  pub originals_stay : (changes : List Change) (jar : JarState) → All (IsPlannedChange rules site now plans) changes → (after_all changes jar).originals ≡ jar.originals
   originals_stay [] jar hs = refl
   originals_stay (change ∷ changes) jar hs =
-      originals_stay changes (after change jar) (All-tail (IsScopedChange site now scopes) change changes hs)
-      ∙ original_stays change jar (All-head (IsScopedChange site now scopes) change changes hs)
+      originals_stay changes (after change jar) (All-tail (IsPlannedChange rules site now plans) change changes hs)
+      ∙ original_stays change jar (All-head (IsPlannedChange rules site now plans) change changes hs)

@@ -1,18 +1,20 @@
-mod AlikeLemmas
-pub mod AgeLemmas
+pub mod AlikeLemmas
 pub mod CallLemmas
 pub mod FollowLemmas
 pub mod HeaderLemmas
+pub mod HostLemmas
 pub mod KeyLemmas
 pub mod MissLemmas
 pub mod OrderLemmas
-pub mod PlainTextLemmas
+pub mod PairLemmas
 pub mod PrefixLemmas
 pub mod PutLemmas
+pub mod RefusalLemmas
 pub mod RowFacts
-pub mod ScopedLemmas
 pub mod SiteLemmas
 pub mod StoreLemmas
+pub mod Utf8Lemmas
+pub mod VerdictLemmas
 pub mod VisitCallLemmas
 pub mod VisitLemmas
 pub mod VisitedLemmas

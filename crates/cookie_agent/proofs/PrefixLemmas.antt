@@ -1,96 +1,98 @@
--- What the jars with the prefixes `__Host-` and `__Secure-` store and remove, at a user agent.
-use Rattle.std.proofs.Common.{◌≡◌, ℕ, ◌&&◌, ◌||◌, not, Bool, true, false, List, Some, None, IfSome, codes, refl, sym, ap, subst, ◌∙◌, arith}
+-- What the jars of prefixes store, and what removes it, is stored as its name asks for.
+use Rattle.std.proofs.Common.{◌≡◌, ℕ, ◌+◌, ◌≤◌, ◌&&◌, ◌||◌, not, Bool, true, false, List, [], codes, length, None, refl, ap, ◌∙◌, arith}
+use Rattle.std.proofs.lemmas.Bool.{false≢true}
 use Rattle.std.proofs.lemmas.Slice.Eq.{bytes_eq-Decides}
 use Rattle.std.proofs.lemmas.Str.{IsUtf8-nil}
-use Rattle.std.specs.List.{starts_with}
-use Rattle.std.specs.Prelude.{eqb}
-use Rattle.std.specs.Str.{trim, bytes_eq}
+use Rattle.std.specs.Str.{bytes_eq}
+use mathlib.Core.Logic.{◌≢◌}
 use Rattle.jiff.specs.Types.{DateTime}
 use Rattle.jiff.proofs.SpanFacts.{signed_arith}
-use Rattle.cookie.specs.Normal.{IsNamed, IsUncut}
-use Rattle.cookie.specs.Pieces.{Lacks}
-use Rattle.cookie.specs.Prefixes.{begins, conforming_cookie, host_prefix, host_bound, secure_prefix, secure_cookie}
+use Rattle.cookie.specs.Escapes.{escape}
+use Rattle.cookie.specs.Normal.{IsNamed}
+use Rattle.cookie.specs.Prefixes.{conforming_cookie, host_prefix, host_bound, secure_prefix, secure_cookie}
 use Rattle.cookie.specs.Record.{Record}
 use Rattle.cookie.specs.Removal.{removal}
-use Rattle.cookie.proofs.ByteLemmas.{Lacks-from_test}
-use Rattle.cookie.proofs.GraphicLemmas.{trim-tokens}
-use Rattle.cookie_agent.specs.Agreement.{IsScopedPath, IsScopedDomain}
-use Rattle.cookie_agent.specs.Prefixes.{IsHostBound, AreHostBound, IsSecured, AreSecured, IsScopedWhole, host_scope}
-use Rattle.cookie_agent.specs.Scopes.{scope_by, reaches}
-use Rattle.cookie_agent.specs.Site.{SiteView, path_matches}
-use Rattle.cookie_agent.proofs.PlainTextLemmas.{raw_record, plain_form}
-
-or_true : (b : Bool) → b || true ≡ true
-or_true true = refl
-or_true false = refl
-
-slash_lacks : Lacks 59 (codes "/")
-slash_lacks = Lacks-from_test 59 (codes "/") refl
-
-slash_trimmed : trim (codes "/") ≡ codes "/"
-slash_trimmed = trim-tokens (codes "/") refl
+use Rattle.cookie.proofs.EscapeTextLemmas.{escape_some, escape-nil}
+use Rattle.cookie_core.proofs.ByteLemmas.{Lacks-from_test}
+use Rattle.cookie_browser.specs.Bytes.{trim_wsp}
+use Rattle.cookie_browser.specs.Printed.{IsPlainValue, IsReceivable, printed_as}
+use Rattle.cookie_browser.specs.Request.{RequestView}
+use Rattle.cookie_browser.specs.Storage.{KeptView, crosses, first_refusal, has_host_prefix, has_secure_prefix, is_site_bound, kept_as, refusal_by_connection, refusal_by_domain, refusal_by_prefix, unless_refused, verdict_on}
+use Rattle.cookie_browser.specs.Suffixes.{Rule}
+use Rattle.cookie_browser.proofs.PrintedLemmas.{received_printed}
+use Rattle.cookie_agent.specs.Prefixes.{AreHostBound, AreSecured, IsAtHome, IsHostBound, IsSecured}
 
 -- a cookie that tells the agent to drop another has its name
-named_removal : (now : DateTime) (cookie : Record) → IsNamed cookie → IsNamed (removal now cookie)
-named_removal now cookie h =
+named_removal : (moment : DateTime) (cookie : Record) → IsNamed cookie → IsNamed (removal moment cookie)
+named_removal moment cookie h =
     record {
       cookie = record { name = h.cookie.name; value = IsUtf8-nil; path = h.cookie.path; domain = h.cookie.domain; max_age = (omega (arith, signed_arith), omega (arith, signed_arith)) };
       name = h.name;
     }
 
+-- and its text isn't longer
+short_removal : (name value : List ℕ) → length (escape name) + length (escape value) ≤ 4096 → length (escape name) + length (escape []) ≤ 4096
+short_removal name value h = let e : length (escape []) ≡ 0 = ap length escape-nil in omega arith
+
+slash_plain : IsPlainValue (codes "/")
+unfolding trim_wsp
+slash_plain = record { whole = Lacks-from_test 59 (codes "/") refl; quiet = refl; trimmed = refl; short = omega arith }
+
 -- ---- `__Host-`
 
-bound_read : (site : SiteView) (cookie : Record) → IsNamed (host_bound cookie) → IsHostBound site (host_bound cookie)
-bound_read site cookie h =
-    let read : Record = raw_record (host_bound cookie) in
-    record {
-      read = read;
-      is = plain_form (host_bound cookie) h (record { path = slash_lacks; domain = tt });
-      host = ap (λ p. not (begins host_prefix read.name) || bytes_eq p (codes "/")) slash_trimmed ∙ or_true (not (begins host_prefix read.name));
-      secure = or_true (not (begins secure_prefix read.name));
-      scope = ap (λ p. scope_by site None (Some p)) slash_trimmed;
-    }
+not_empty : (t : List ℕ) → t ≢ [] → bytes_eq t [] ≡ false
+not_empty t some = by (bytes_eq t []) refl
+  where
+    by : (b : Bool) → bytes_eq t [] ≡ b → b ≡ false
+    by true e = absurd (some ((bytes_eq-Decides t []).0 e))
+    by false e = refl
 
-pub all_host_bound : (site : SiteView) → AreHostBound site
-all_host_bound site cookie h =
-    (bound_read site (conforming_cookie host_prefix host_bound cookie) h, λ now. bound_read site (removal now (conforming_cookie host_prefix host_bound cookie)) (named_removal now (conforming_cookie host_prefix host_bound cookie) h))
+and_false : (a : Bool) → a && false ≡ false
+and_false true = refl
+and_false false = refl
+
+near_enough : (a b : Bool) → a || b ≡ true → not a && not b ≡ false
+near_enough true b e = refl
+near_enough false true e = refl
+near_enough false false e = absurd (false≢true e)
+
+module _ (rules : List Rule) (site : RequestView) (home : IsAtHome site) (now : DateTime) (cookie : Record) (h : IsNamed (host_bound cookie))
+    (size : length (escape cookie.name) + length (escape cookie.value) ≤ 4096) where
+  abbrev new : KeptView
+  new = kept_as rules site now (printed_as (host_bound cookie))
+
+  accepted : first_refusal rules site [] (printed_as (host_bound cookie)) new ≡ None
+  unfolding refusal_by_domain refusal_by_connection refusal_by_prefix
+  accepted =
+      let named : bytes_eq (escape cookie.name) [] ≡ false = not_empty (escape cookie.name) (escape_some cookie.name h.name) in
+      let near : crosses site new ≡ false = ap (λ b. is_site_bound new.same_site && b) (near_enough site.is_same_site site.is_top_level home.near) ∙ and_false (is_site_bound new.same_site) in
+      rw (named, home.secure, near, and_false (not (is_site_bound new.same_site)), and_false (has_secure_prefix (escape cookie.name)), and_false (has_host_prefix (escape cookie.name))) refl
+
+  pub bound_stored : IsHostBound rules site now (host_bound cookie)
+  bound_stored =
+      record {
+        kept = new;
+        stored = ap (verdict_on rules site now []) (received_printed (host_bound cookie) (record { named = h; size = size; path = slash_plain; domain = tt }))
+            ∙ ap (λ o. unless_refused o new) accepted;
+        scope = refl;
+        secure = refl;
+      }
+
+pub all_host_bound : (rules : List Rule) (site : RequestView) → AreHostBound rules site
+all_host_bound rules site home now cookie h size =
+    let stored : Record = conforming_cookie host_prefix host_bound cookie in (
+      bound_stored rules site home now stored h size,
+      λ moment. bound_stored rules site home now (removal moment stored) (named_removal moment stored h) (short_removal stored.name stored.value size),
+    )
 
 -- ---- `__Secure-`
 
-secured_read : (cookie : Record) → IsNamed (secure_cookie cookie) → IsUncut cookie → IsSecured (secure_cookie cookie)
-secured_read cookie h uncut =
-    let read : Record = raw_record (secure_cookie cookie) in
-    record {
-      read = read;
-      is = plain_form (secure_cookie cookie) h (record { path = uncut.path; domain = uncut.domain });
-      secure = or_true (not (begins secure_prefix read.name));
-    }
+secured : (cookie : Record) → IsReceivable (secure_cookie cookie) → IsSecured (secure_cookie cookie)
+secured cookie h = record { read = printed_as (secure_cookie cookie); is = received_printed (secure_cookie cookie) h; secure = refl }
 
 pub all_secured : AreSecured
-all_secured cookie h uncut =
-    let stored : Record = conforming_cookie secure_prefix secure_cookie cookie in
-    let same : IsUncut stored = record { path = uncut.path; domain = uncut.domain } in (
-      secured_read stored h same,
-      λ now. secured_read (removal now stored) (named_removal now stored h) (record { path = uncut.path; domain = uncut.domain }),
+all_secured cookie h =
+    let stored : Record = conforming_cookie secure_prefix secure_cookie cookie in (
+      secured stored h,
+      λ moment. secured (removal moment stored) (record { named = named_removal moment stored h.named; size = short_removal stored.name stored.value h.size; path = h.path; domain = h.domain }),
     )
-
--- ---- the whole host
-
-root_reaches : (path : List ℕ) → starts_with eqb path (codes "/") ≡ true → path_matches path (codes "/") ≡ true
-root_reaches path e = ap (λ b. bytes_eq path (codes "/") || (b && true)) e ∙ or_true (bytes_eq path (codes "/"))
-
-pub host_reaches : (site : SiteView) → starts_with eqb site.path (codes "/") ≡ true → reaches site (host_scope site) ≡ true
-host_reaches site begins = ap (λ b. b && path_matches site.path (codes "/")) ((bytes_eq-Decides site.host site.host).1 refl) ∙ root_reaches site.path begins
-
-slash_scoped : IsScopedPath (codes "/")
-slash_scoped = record { plain = record { whole = slash_lacks; trimmed = slash_trimmed }; graphic = refl }
-
-pub scoped_whole : (site : SiteView) → starts_with eqb site.path (codes "/") ≡ true → IsScopedWhole site
-scoped_whole site begins cookie path domain secure =
-    record {
-      path = subst (λ o. IfSome o IsScopedPath) (sym path) slash_scoped;
-      domain = subst (λ o. IfSome o IsScopedDomain) (sym domain) tt;
-      scope = ap (λ d. scope_by site d cookie.path) domain ∙ ap (λ p. scope_by site None p) path;
-      reaches = host_reaches site begins;
-      secure = secure;
-    }

@@ -6,95 +6,95 @@ use Rattle.std.proofs.lemmas.List.Elements.{All-nil, All-cons, All-head, All-tai
 use Rattle.std.specs.List.{filter}
 use Rattle.jiff.specs.Types.{DateTime}
 use Rattle.cookie_agent.specs.Apart.{IsApart, gives_place}
-use Rattle.cookie_agent.specs.Store.{SameKey, Stored, Store, is_unexpired, unexpired, standard_key, put}
+use Rattle.cookie_browser.specs.Storage.{KeptView, CookieStore, is_same_cookie, kept_with, lasts, lasting}
 use Rattle.cookie_agent.proofs.KeyLemmas.{turned_key, same_key}
 
 -- the others
-abbrev without : Stored → Store → Store
-without x xs = filter (λ d. not (standard_key d x)) xs
+abbrev without : KeptView → CookieStore → CookieStore
+without x xs = filter (λ d. not (is_same_cookie d x)) xs
 
-kept_all : (c x : Stored) → standard_key c x ≡ true → (xs : Store) → All (λ d. standard_key d c ≡ false) xs → without x xs ≡ xs
+kept_all : (c x : KeptView) → is_same_cookie c x ≡ true → (xs : CookieStore) → All (λ d. is_same_cookie d c ≡ false) xs → without x xs ≡ xs
 kept_all c x e [] all = refl
 kept_all c x e (d ∷ xs) all =
-    ap (λ b. cond (not b) (d ∷ without x xs) (without x xs)) (sym (same_key c x d e) ∙ All-head (λ y. standard_key y c ≡ false) d xs all)
-    ∙ ap (λ l. d ∷ l) (kept_all c x e xs (All-tail (λ y. standard_key y c ≡ false) d xs all))
+    ap (λ b. cond (not b) (d ∷ without x xs) (without x xs)) (sym (same_key c x d e) ∙ All-head (λ y. is_same_cookie y c ≡ false) d xs all)
+    ∙ ap (λ l. d ∷ l) (kept_all c x e xs (All-tail (λ y. is_same_cookie y c ≡ false) d xs all))
 
-pub unexpired-twice : (now : DateTime) (xs : Store) → unexpired now (unexpired now xs) ≡ unexpired now xs
-unexpired-twice now [] = refl
-unexpired-twice now (c ∷ xs) = by (unexpired-twice now xs) (is_unexpired c.expiry now) refl
+pub lasting-twice : (now : DateTime) (xs : CookieStore) → lasting now (lasting now xs) ≡ lasting now xs
+lasting-twice now [] = refl
+lasting-twice now (c ∷ xs) = by (lasting-twice now xs) (lasts c.expiry now) refl
   where
-    by : unexpired now (unexpired now xs) ≡ unexpired now xs → (b : Bool) → is_unexpired c.expiry now ≡ b
-        → unexpired now (cond b (c ∷ unexpired now xs) (unexpired now xs)) ≡ cond b (c ∷ unexpired now xs) (unexpired now xs)
-    by rest true e = ap (λ b. cond b (c ∷ unexpired now (unexpired now xs)) (unexpired now (unexpired now xs))) e ∙ ap (λ l. c ∷ l) rest
+    by : lasting now (lasting now xs) ≡ lasting now xs → (b : Bool) → lasts c.expiry now ≡ b
+        → lasting now (cond b (c ∷ lasting now xs) (lasting now xs)) ≡ cond b (c ∷ lasting now xs) (lasting now xs)
+    by rest true e = ap (λ b. cond b (c ∷ lasting now (lasting now xs)) (lasting now (lasting now xs))) e ∙ ap (λ l. c ∷ l) rest
     by rest false e = rest
 
-module _ (now : DateTime) (x : Stored) where
+module _ (now : DateTime) (x : KeptView) where
   -- an expired one is skipped
-  past : (c : Stored) (xs ys : Store) → unexpired now (put standard_key x (unexpired now xs)) ≡ unexpired now ys → gives_place x now c ≡ false
-      → unexpired now (put standard_key x (unexpired now (c ∷ xs))) ≡ unexpired now (c ∷ ys)
-  past c xs ys rest none = by (is_unexpired c.expiry now) refl none
+  past : (c : KeptView) (xs ys : CookieStore) → lasting now (kept_with x (lasting now xs)) ≡ lasting now ys → gives_place x now c ≡ false
+      → lasting now (kept_with x (lasting now (c ∷ xs))) ≡ lasting now (c ∷ ys)
+  past c xs ys rest none = by (lasts c.expiry now) refl none
     where
-      by : (b : Bool) → is_unexpired c.expiry now ≡ b → b && standard_key c x ≡ false
-          → unexpired now (put standard_key x (cond b (c ∷ unexpired now xs) (unexpired now xs))) ≡ cond b (c ∷ unexpired now ys) (unexpired now ys)
+      by : (b : Bool) → lasts c.expiry now ≡ b → b && is_same_cookie c x ≡ false
+          → lasting now (kept_with x (cond b (c ∷ lasting now xs) (lasting now xs))) ≡ cond b (c ∷ lasting now ys) (lasting now ys)
       by true fresh other =
-          ap (λ b. unexpired now (cond b (x ∷ without x (unexpired now xs)) (c ∷ put standard_key x (unexpired now xs)))) other
-          ∙ ap (λ b. cond b (c ∷ unexpired now (put standard_key x (unexpired now xs))) (unexpired now (put standard_key x (unexpired now xs)))) fresh
+          ap (λ b. lasting now (cond b (x ∷ without x (lasting now xs)) (c ∷ kept_with x (lasting now xs)))) other
+          ∙ ap (λ b. cond b (c ∷ lasting now (kept_with x (lasting now xs))) (lasting now (kept_with x (lasting now xs)))) fresh
           ∙ ap (λ l. c ∷ l) rest
       by false fresh other = rest
 
-  pub put_at : (d : Stored) (xs : Store) (i : ℕ) → IsApart xs → i < length xs → ((k : ℕ) → k < i → gives_place x now (get_or xs k d) ≡ false) → gives_place x now (get_or xs i d) ≡ true
-      → unexpired now (put standard_key x (unexpired now xs)) ≡ unexpired now (set xs i x)
+  pub put_at : (d : KeptView) (xs : CookieStore) (i : ℕ) → IsApart xs → i < length xs → ((k : ℕ) → k < i → gives_place x now (get_or xs k d) ≡ false) → gives_place x now (get_or xs i d) ≡ true
+      → lasting now (kept_with x (lasting now xs)) ≡ lasting now (set xs i x)
   put_at d [] i apart below before here = absurd (omega arith)
   put_at d (c ∷ xs) zero apart below before here =
-      let both = and_parts (is_unexpired c.expiry now) (standard_key c x) here in
-      let others : All (λ y. standard_key y c ≡ false) (unexpired now xs) = All-filter (λ y. is_unexpired y.expiry now) (λ y. standard_key y c ≡ false) xs apart.0 in
-      ap (λ b. unexpired now (put standard_key x (cond b (c ∷ unexpired now xs) (unexpired now xs)))) both.0
-      ∙ ap (λ b. unexpired now (cond b (x ∷ without x (unexpired now xs)) (c ∷ put standard_key x (unexpired now xs)))) both.1
-      ∙ ap (λ l. unexpired now (x ∷ l)) (kept_all c x both.1 (unexpired now xs) others)
-      ∙ ap (λ l. cond (is_unexpired x.expiry now) (x ∷ l) l) (unexpired-twice now xs)
+      let both = and_parts (lasts c.expiry now) (is_same_cookie c x) here in
+      let others : All (λ y. is_same_cookie y c ≡ false) (lasting now xs) = All-filter (λ y. lasts y.expiry now) (λ y. is_same_cookie y c ≡ false) xs apart.0 in
+      ap (λ b. lasting now (kept_with x (cond b (c ∷ lasting now xs) (lasting now xs)))) both.0
+      ∙ ap (λ b. lasting now (cond b (x ∷ without x (lasting now xs)) (c ∷ kept_with x (lasting now xs)))) both.1
+      ∙ ap (λ l. lasting now (x ∷ l)) (kept_all c x both.1 (lasting now xs) others)
+      ∙ ap (λ l. cond (lasts x.expiry now) (x ∷ l) l) (lasting-twice now xs)
   put_at d (c ∷ xs) (suc i) apart below before here =
       past c xs (set xs i x) (put_at d xs i apart.1 (omega arith) (λ k lt. before (suc k) (omega arith)) here) (before 0 (omega arith))
 
-  pub put_last : (d : Stored) (xs : Store) → ((k : ℕ) → k < length xs → gives_place x now (get_or xs k d) ≡ false)
-      → unexpired now (put standard_key x (unexpired now xs)) ≡ unexpired now (xs ++ x ∷ [])
+  pub put_last : (d : KeptView) (xs : CookieStore) → ((k : ℕ) → k < length xs → gives_place x now (get_or xs k d) ≡ false)
+      → lasting now (kept_with x (lasting now xs)) ≡ lasting now (xs ++ x ∷ [])
   put_last d [] none = refl
   put_last d (c ∷ xs) none = past c xs (xs ++ x ∷ []) (put_last d xs (λ k lt. none (suc k) (omega arith))) (none 0 (omega arith))
 
 -- ---- the keys stay apart
 
-pub apart-filter : (p : Stored → Bool) (xs : Store) → IsApart xs → IsApart (filter p xs)
+pub apart-filter : (p : KeptView → Bool) (xs : CookieStore) → IsApart xs → IsApart (filter p xs)
 apart-filter p [] apart = tt
 apart-filter p (c ∷ xs) apart = by (apart-filter p xs apart.1) (p c)
   where
     by : IsApart (filter p xs) → (b : Bool) → IsApart (cond b (c ∷ filter p xs) (filter p xs))
-    by rest true = (All-filter p (λ d. standard_key d c ≡ false) xs apart.0, rest)
+    by rest true = (All-filter p (λ d. is_same_cookie d c ≡ false) xs apart.0, rest)
     by rest false = rest
 
-pub All-put : (same : SameKey) (P : Stored → Type 0) (x : Stored) → P x → (store : Store) → All P store → All P (put same x store)
-All-put same P x p [] all = All-cons P x [] p (All-nil P)
-All-put same P x p (c ∷ store) all = by (All-put same P x p store (All-tail P c store all)) (same c x)
+pub All-put : (P : KeptView → Type 0) (x : KeptView) → P x → (store : CookieStore) → All P store → All P (kept_with x store)
+All-put P x p [] all = All-cons P x [] p (All-nil P)
+All-put P x p (c ∷ store) all = by (All-put P x p store (All-tail P c store all)) (is_same_cookie c x)
   where
-    by : All P (put same x store) → (b : Bool) → All P (cond b (x ∷ filter (λ d. not (same d x)) store) (c ∷ put same x store))
-    by rest true = All-cons P x (filter (λ d. not (same d x)) store) p (All-filter (λ d. not (same d x)) P store (All-tail P c store all))
-    by rest false = All-cons P c (put same x store) (All-head P c store all) rest
+    by : All P (kept_with x store) → (b : Bool) → All P (cond b (x ∷ filter (λ d. not (is_same_cookie d x)) store) (c ∷ kept_with x store))
+    by rest true = All-cons P x (filter (λ d. not (is_same_cookie d x)) store) p (All-filter (λ d. not (is_same_cookie d x)) P store (All-tail P c store all))
+    by rest false = All-cons P c (kept_with x store) (All-head P c store all) rest
 
-apart-put : (x : Stored) (xs : Store) → IsApart xs → IsApart (put standard_key x xs)
-apart-put x [] apart = (All-nil (λ d. standard_key d x ≡ false), tt)
-apart-put x (c ∷ xs) apart = by (apart-put x xs apart.1) (standard_key c x) refl
+apart-put : (x : KeptView) (xs : CookieStore) → IsApart xs → IsApart (kept_with x xs)
+apart-put x [] apart = (All-nil (λ d. is_same_cookie d x ≡ false), tt)
+apart-put x (c ∷ xs) apart = by (apart-put x xs apart.1) (is_same_cookie c x) refl
   where
-    by : IsApart (put standard_key x xs) → (b : Bool) → standard_key c x ≡ b → IsApart (cond b (x ∷ without x xs) (c ∷ put standard_key x xs))
+    by : IsApart (kept_with x xs) → (b : Bool) → is_same_cookie c x ≡ b → IsApart (cond b (x ∷ without x xs) (c ∷ kept_with x xs))
     by rest true e =
-        let others : All (λ d. standard_key d x ≡ false) xs
-        = All-weaker (λ d. standard_key d c ≡ false) (λ d. standard_key d x ≡ false) (λ d h. sym (same_key c x d e) ∙ h) xs apart.0 in
-        (All-filter (λ d. not (standard_key d x)) (λ d. standard_key d x ≡ false) xs others, apart-filter (λ d. not (standard_key d x)) xs apart.1)
-    by rest false e = (All-put standard_key (λ d. standard_key d c ≡ false) x (turned_key x c ∙ e) xs apart.0, rest)
+        let others : All (λ d. is_same_cookie d x ≡ false) xs
+        = All-weaker (λ d. is_same_cookie d c ≡ false) (λ d. is_same_cookie d x ≡ false) (λ d h. sym (same_key c x d e) ∙ h) xs apart.0 in
+        (All-filter (λ d. not (is_same_cookie d x)) (λ d. is_same_cookie d x ≡ false) xs others, apart-filter (λ d. not (is_same_cookie d x)) xs apart.1)
+    by rest false e = (All-put (λ d. is_same_cookie d c ≡ false) x (turned_key x c ∙ e) xs apart.0, rest)
 
-pub apart-stored : (now : DateTime) (x : Stored) (xs : Store) → IsApart xs → IsApart (unexpired now (put standard_key x (unexpired now xs)))
+pub apart-stored : (now : DateTime) (x : KeptView) (xs : CookieStore) → IsApart xs → IsApart (lasting now (kept_with x (lasting now xs)))
 apart-stored now x xs apart =
-    apart-filter (λ c. is_unexpired c.expiry now) (put standard_key x (unexpired now xs)) (apart-put x (unexpired now xs) (apart-filter (λ c. is_unexpired c.expiry now) xs apart))
+    apart-filter (λ c. lasts c.expiry now) (kept_with x (lasting now xs)) (apart-put x (lasting now xs) (apart-filter (λ c. lasts c.expiry now) xs apart))
 
 -- what was told of the element at a place
-pub told_at : (x : Stored) (now : DateTime) (xs : Store) (i : ℕ) (old : Stored) (b : Bool) → old ≡ get_or xs i old → i < length xs → b ≡ gives_place x now old → (d : Stored)
+pub told_at : (x : KeptView) (now : DateTime) (xs : CookieStore) (i : ℕ) (old : KeptView) (b : Bool) → old ≡ get_or xs i old → i < length xs → b ≡ gives_place x now old → (d : KeptView)
     → gives_place x now (get_or xs i d) ≡ b
 told_at x now [] i old b e below h d = absurd (omega arith)
 told_at x now (y ∷ xs) zero old b e below h d = ap (gives_place x now) (sym e) ∙ sym h

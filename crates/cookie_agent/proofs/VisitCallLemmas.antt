@@ -12,20 +12,19 @@ use Rattle.cookie.specs.Normal.{IsNamed}
 use Rattle.cookie.specs.Record.{Record}
 use Rattle.cookie.proofs.HeaderLemmas.{header_form}
 use Rattle.cookie.proofs.NameLemmas.{get_inserted}
-use Rattle.cookie_agent.specs.Agreement.{IsOurs, IsOurStore, IsScopedEntry, IsScopedDelta}
-use Rattle.cookie_agent.specs.Calls.{IsScopedChange}
+use Rattle.cookie_agent.specs.Agreement.{IsOurs, IsOurStore, IsPlannedEntry, IsPlannedDelta, PlanView}
+use Rattle.cookie_agent.specs.Calls.{IsPlannedChange}
 use Rattle.cookie_client.specs.Calls.{IsKnownChange}
-use Rattle.cookie_agent.specs.Keys.{Visit, visit_jar, AreVisits, after_visit, AllFollow, IsFollowedByAnyKey}
-use Rattle.cookie_agent.specs.Scopes.{ScopeView}
-use Rattle.cookie_agent.specs.Site.{SiteView}
-use Rattle.cookie_agent.specs.Store.{SameKey, IsKey, Store}
+use Rattle.cookie_browser.specs.Storage.{CookieStore, is_sent}
+use Rattle.cookie_browser.specs.Suffixes.{Rule}
+use Rattle.cookie_browser.specs.Request.{RequestView}
 use Rattle.jiff.specs.Types.{DateTime}
 use Rattle.cookie.specs.History.{after_all}
 use Rattle.cookie_client.proofs.EntryLemmas.{chosen, AreEntries-empty}
-use Rattle.cookie_agent.proofs.VisitLemmas.{IsFollowable, agreed, stays, none_stored}
-use Rattle.cookie_agent.specs.Sent.{is_visible, visible, IsHeader}
+use Rattle.cookie_agent.proofs.VisitLemmas.{IsFollowable}
+use Rattle.cookie_agent.specs.Sent.{visible, IsHeader}
 use Rattle.cookie.specs.Originals.{with_originals}
-use Rattle.cookie_agent.proofs.CallLemmas.{scoped_delta, originals_stay}
+use Rattle.cookie_agent.proofs.CallLemmas.{planned_delta, originals_stay}
 use Rattle.cookie_agent.proofs.HeaderLemmas.{plain_of, named_of, texts_same, plain_same}
 
 same_delta : (cs : List Record) (jar : JarState) → (with_originals cs jar).delta ≡ jar.delta
@@ -50,33 +49,33 @@ all_named (c ∷ cs) hs jar all = all_named cs (All-tail IsNamed c cs hs) (after
 none_named : AreNamed empty_jar
 none_named name c e = absurd (none-some c (sym (get-empty name_cmp name) ∙ e))
 
--- the delta that scoped changes leave, on a jar with a header's cookies as its originals
-pub scoped_delta_of : (scopes : Name → ScopeView) (site : SiteView) (now : DateTime) (header : List ℕ) (changes : List Change)
-    → All IsKnownChange changes → All (IsScopedChange site now scopes) changes
-    → IsScopedDelta site now scopes (after_all changes (with_originals (header_cookies true header) empty_jar)).delta
-scoped_delta_of scopes site now header changes known scoped =
-    scoped_delta site now scopes changes (with_originals (header_cookies true header) empty_jar) known scoped
-    (subst (IsScopedDelta site now scopes) (sym (same_delta (header_cookies true header) empty_jar)) (AreEntries-empty (IsScopedEntry site now scopes)))
+-- the delta that planned changes leave, on a jar with a header's cookies as its originals
+pub planned_delta_of : (rules : List Rule) (plans : Name → PlanView) (site : RequestView) (now : DateTime) (header : List ℕ) (changes : List Change)
+    → All IsKnownChange changes → All (IsPlannedChange rules site now plans) changes
+    → IsPlannedDelta rules site now plans (after_all changes (with_originals (header_cookies true header) empty_jar)).delta
+planned_delta_of rules plans site now header changes known planned =
+    planned_delta rules site now plans changes (with_originals (header_cookies true header) empty_jar) known planned
+    (subst (IsPlannedDelta rules site now plans) (sym (same_delta (header_cookies true header) empty_jar)) (AreEntries-empty (IsPlannedEntry rules site now plans)))
 
-module _ (scopes : Name → ScopeView) (before : Store) (ours : IsOurStore scopes before) (site : SiteView) (now : DateTime)
-    (header : List ℕ) (sent : IsHeader site now before header) (changes : List Change) (known : All IsKnownChange changes) (scoped : All (IsScopedChange site now scopes) changes) where
+module _ (rules : List Rule) (plans : Name → PlanView) (before : CookieStore) (ours : IsOurStore plans before) (site : RequestView) (now : DateTime)
+    (header : List ℕ) (sent : IsHeader site now before header) (changes : List Change) (known : All IsKnownChange changes) (planned : All (IsPlannedChange rules site now plans) changes) where
   abbrev start : JarState
   start = with_originals (header_cookies true header) empty_jar
 
   abbrev jar : JarState
   jar = after_all changes start
 
-  delta : IsScopedDelta site now scopes jar.delta
-  delta = scoped_delta_of scopes site now header changes known scoped
+  delta : IsPlannedDelta rules site now plans jar.delta
+  delta = planned_delta_of rules plans site now header changes known planned
 
   start_named : AreNamed start
   start_named =
-      let every : All (IsOurs scopes) sent.cookies
-      = All-permutation (IsOurs scopes) (visible site now before) sent.cookies sent.sent (All-filter (is_visible site now) (IsOurs scopes) before ours.each) in
+      let every : All (IsOurs plans) sent.cookies
+      = All-permutation (IsOurs plans) (visible site now before) sent.cookies sent.sent (All-filter (is_sent site now) (IsOurs plans) before ours.each) in
       let read : header_cookies true header ≡ map plain_of sent.cookies
-      = ap (header_cookies true) (sent.text ∙ ap joined_texts (texts_same scopes sent.cookies every))
-      ∙ header_form (map plain_of sent.cookies) (named_of scopes sent.cookies every) ∙ plain_same scopes sent.cookies in
-      all_named (header_cookies true header) (subst (All IsNamed) (sym read) (named_of scopes sent.cookies every)) empty_jar none_named
+      = ap (header_cookies true) (sent.text ∙ ap joined_texts (texts_same plans sent.cookies every))
+      ∙ header_form (map plain_of sent.cookies) (named_of plans sent.cookies every) ∙ plain_same plans sent.cookies in
+      all_named (header_cookies true header) (subst (All IsNamed) (sym read) (named_of plans sent.cookies every)) empty_jar none_named
 
   of_entry : (entry : Marked) (original : Option Record) (c : Record) (b : Bool) → IsNamed entry.cookie → cond b None (Some entry.cookie) ≡ Some c → IsUtf8 c.value
   of_entry entry original c true h e = absurd (none-some c e)
@@ -84,33 +83,16 @@ module _ (scopes : Name → ScopeView) (before : Store) (ours : IsOurStore scope
 
   shown : (name : Name) (c : Record) (o : Option Marked) → get jar.delta name ≡ o → view jar name ≡ Some c → IsUtf8 c.value
   shown name c None stands e =
-      (start_named name c (sym (ap (λ (m : FinMap name_cmp Record). get m name) (originals_stay site now scopes changes start scoped)) ∙ sym (ap (λ p. overlay p (get jar.originals name)) stands) ∙ e)).cookie.value
+      (start_named name c (sym (ap (λ (m : FinMap name_cmp Record). get m name) (originals_stay rules site now plans changes start planned)) ∙ sym (ap (λ p. overlay p (get jar.originals name)) stands) ∙ e)).cookie.value
   shown name c (Some entry) stands e =
       of_entry entry (get jar.originals name) c entry.removed ((delta name entry stands).cookie) (sym (ap (λ p. overlay p (get jar.originals name)) stands) ∙ e)
 
   -- such a request is one that the agent follows
-  pub followable : IsFollowable scopes before site now header jar
+  pub followable : IsFollowable rules plans before site now header jar
   followable =
       record {
         sent = sent;
-        originals = originals_stay site now scopes changes start scoped;
-        scoped = delta;
+        originals = originals_stay rules site now plans changes start planned;
+        planned = delta;
         known = λ name c e. shown name c (get jar.delta name) refl e;
       }
-
--- ---- many requests, whichever the key
-
-all_follow : (same : SameKey) → IsKey same → (scopes : Name → ScopeView) (before : Store) → IsOurStore scopes before → (visits : List Visit)
-    → AreVisits same scopes before visits → AllFollow same before visits
-all_follow same key scopes before ours [] are = tt
-all_follow same key scopes before ours (visit ∷ visits) are =
-    let is = are.0 in
-    let can : IsFollowable scopes before visit.site visit.now visit.header (visit_jar visit)
-    = followable scopes before ours visit.site visit.now visit.header is.sent visit.changes is.known is.scoped in (
-      agreed same key scopes before ours visit.site visit.now visit.header (visit_jar visit) can visit.texts is.texts,
-      all_follow same key scopes (after_visit same visit before)
-          (stays same key scopes before ours visit.site visit.now visit.header (visit_jar visit) can visit.texts is.texts) visits are.1,
-    )
-
-pub by_any_key : IsFollowedByAnyKey
-by_any_key same key scopes visits are = all_follow same key scopes [] (none_stored scopes) visits are

@@ -20,12 +20,13 @@ use Rattle.cookie.proofs.NameLemmas.{get_inserted}
 use Rattle.cookie.specs.Originals.{with_originals}
 use Rattle.cookie.specs.DeltaTexts.{IsDeltaText, AreDeltaTexts}
 use Rattle.cookie_client.specs.Agreement.{value_of}
-use Rattle.cookie_agent.specs.Agreement.{IsOurs, IsOurStore, IsKnownView, IsScopedStore, seen, Mirrors, values_of, IsScopedEntry, IsScopedDelta, SiteAgrees}
-use Rattle.cookie_agent.specs.Site.{SiteView}
-use Rattle.cookie_agent.specs.Scopes.{ScopeView}
-use Rattle.cookie_agent.specs.Sent.{is_visible, visible, IsHeader}
-use Rattle.cookie_agent.specs.Store.{SameKey, IsKey, Stored, Store, is_unexpired, unexpired, put, store_after_text, store_after_texts}
-use Rattle.cookie_agent.proofs.FollowLemmas.{escape_injective, is_ours, text_stored, x, followed}
+use Rattle.cookie_agent.specs.Agreement.{IsOurs, IsOurStore, IsKnownView, seen, Mirrors, values_of, IsPlannedEntry, IsPlannedDelta, SiteAgrees, PlanView}
+use Rattle.cookie_browser.specs.Request.{RequestView}
+use Rattle.cookie_agent.specs.Sent.{visible, IsHeader}
+use Rattle.cookie_browser.specs.Storage.{KeptView, CookieStore, is_same_cookie, kept_after_text, kept_with, lasts, lasting, is_sent}
+use Rattle.cookie_browser.specs.Suffixes.{Rule}
+use Rattle.cookie_agent.specs.Store.{kept_after_texts}
+use Rattle.cookie_agent.proofs.FollowLemmas.{alone_one, is_ours, text_stored, x, followed}
 use Rattle.cookie_agent.proofs.KeyLemmas.{turned_test}
 use Rattle.cookie_agent.proofs.PutLemmas.{All-put}
 use Rattle.cookie_agent.proofs.StoreLemmas.{put_own, put_other}
@@ -33,21 +34,21 @@ use Rattle.cookie_agent.proofs.HeaderLemmas.{plain_of, back, named_of, texts_sam
 
 -- ---- no two cookies of one name
 
-abbrev under : List ℕ → Store → Store
+abbrev under : List ℕ → CookieStore → CookieStore
 under name store = filter (λ c. bytes_eq c.name name) store
 
-abbrev Once : Store → Type 0
+abbrev Once : CookieStore → Type 0
 Once store = (name : List ℕ) → length (under name store) ≤ 1
 
-grown : (b : Bool) (c : Stored) (s t : Store) → length s ≤ length t → length (cond b (c ∷ s) s) ≤ length (cond b (c ∷ t) t)
+grown : (b : Bool) (c : KeptView) (s t : CookieStore) → length s ≤ length t → length (cond b (c ∷ s) s) ≤ length (cond b (c ∷ t) t)
 grown true c s t h = omega arith
 grown false c s t h = h
 
-kept_below : (b : Bool) (c : Stored) (s t : Store) → length s ≤ length t → length s ≤ length (cond b (c ∷ t) t)
+kept_below : (b : Bool) (c : KeptView) (s t : CookieStore) → length s ≤ length t → length s ≤ length (cond b (c ∷ t) t)
 kept_below true c s t h = omega arith
 kept_below false c s t h = h
 
-fewer : (p q : Stored → Bool) (xs : Store) → length (filter q (filter p xs)) ≤ length (filter q xs)
+fewer : (p q : KeptView → Bool) (xs : CookieStore) → length (filter q (filter p xs)) ≤ length (filter q xs)
 fewer p q [] = omega arith
 fewer p q (c ∷ xs) = by (fewer p q xs) (p c)
   where
@@ -56,64 +57,62 @@ fewer p q (c ∷ xs) = by (fewer p q xs) (p c)
     by h true = grown (q c) c (filter q (filter p xs)) (filter q xs) h
     by h false = kept_below (q c) c (filter q (filter p xs)) (filter q xs) h
 
-Once-unexpired : (now : DateTime) (store : Store) → Once store → Once (unexpired now store)
-Once-unexpired now store once name =
-    let h = fewer (λ c. is_unexpired c.expiry now) (λ c. bytes_eq c.name name) store in
+Once-lasting : (now : DateTime) (store : CookieStore) → Once store → Once (lasting now store)
+Once-lasting now store once name =
+    let h = fewer (λ c. lasts c.expiry now) (λ c. bytes_eq c.name name) store in
     let k = once name in
     omega arith
 
-length-values : (zs : Store) → length (map (λ (c : Stored). c.value) zs) ≡ length zs
+length-values : (zs : CookieStore) → length (map (λ (c : KeptView). c.value) zs) ≡ length zs
 length-values [] = refl
 length-values (c ∷ zs) = let h = length-values zs in omega arith
 
 -- every cookie, as if all were visible
-abbrev all : Stored → Bool
+abbrev all : KeptView → Bool
 all c = true
 
-Once-put : (same : SameKey) → IsKey same → (scopes : Name → ScopeView) (y : Stored) → ((d : Stored) → IsOurs scopes d → d.name ≡ y.name → same d y ≡ true)
-    → (store : Store) → All (IsOurs scopes) store → Once store → Once (put same y store)
-Once-put same key scopes y alone store ours once name = by (bytes_eq y.name name) refl
+Once-put : (plans : Name → PlanView) (y : KeptView) → ((d : KeptView) → IsOurs plans d → d.name ≡ y.name → is_same_cookie d y ≡ true)
+    → (store : CookieStore) → All (IsOurs plans) store → Once store → Once (kept_with y store)
+Once-put plans y alone store ours once name = by (bytes_eq y.name name) refl
   where
-    own : map (λ (c : Stored). c.value) (under y.name (put same y store)) ≡ map (λ (c : Stored). c.value) (under y.name (y ∷ []))
-    own = put_own all same key y store (All-weaker (IsOurs scopes) (λ d. all d ≡ true → d.name ≡ y.name → same d y ≡ true) (λ d o _ e. alone d o e) store ours)
+    own : map (λ (c : KeptView). c.value) (under y.name (kept_with y store)) ≡ map (λ (c : KeptView). c.value) (under y.name (y ∷ []))
+    own = put_own all y store (All-weaker (IsOurs plans) (λ d. all d ≡ true → d.name ≡ y.name → is_same_cookie d y ≡ true) (λ d o _ e. alone d o e) store ours)
 
-    by : (b : Bool) → bytes_eq y.name name ≡ b → length (under name (put same y store)) ≤ 1
+    by : (b : Bool) → bytes_eq y.name name ≡ b → length (under name (kept_with y store)) ≤ 1
     by true e =
         let at : y.name ≡ name = (bytes_eq-Decides y.name name).0 e in
         let one : length (under y.name (y ∷ [])) ≡ 1 = ap (λ b. length (cond b (y ∷ []) [])) ((bytes_eq-Decides y.name y.name).1 refl) in
-        let level : length (under y.name (put same y store)) ≡ length (under y.name (y ∷ []))
-        = sym (length-values (under y.name (put same y store))) ∙ ap length own ∙ length-values (under y.name (y ∷ [])) in
-        subst (λ n. length (under n (put same y store)) ≤ 1) at (omega arith)
+        let level : length (under y.name (kept_with y store)) ≡ length (under y.name (y ∷ []))
+        = sym (length-values (under y.name (kept_with y store))) ∙ ap length own ∙ length-values (under y.name (y ∷ [])) in
+        subst (λ n. length (under n (kept_with y store)) ≤ 1) at (omega arith)
     by false e =
-        let level : length (under name (put same y store)) ≡ length (under name store)
-        = sym (length-values (under name (put same y store))) ∙ ap length (put_other all same key y name (λ f. false≢true (sym e ∙ (bytes_eq-Decides y.name name).1 f)) store) ∙ length-values (under name store) in
+        let level : length (under name (kept_with y store)) ≡ length (under name store)
+        = sym (length-values (under name (kept_with y store))) ∙ ap length (put_other all y name (λ f. false≢true (sym e ∙ (bytes_eq-Decides y.name name).1 f)) store) ∙ length-values (under name store) in
         let k = once name in
         omega arith
 
 -- ---- a text of the delta keeps the store ours
 
-module _ (same : SameKey) (key : IsKey same) (site : SiteView) (now : DateTime) (scopes : Name → ScopeView) where
-  ours_after : (name : Name) (entry : Marked) (is : IsScopedEntry site now scopes name entry) (store : Store) → IsOurStore scopes store
-      → IsOurStore scopes (store_after_text same site now (cookie_text true false entry.cookie) store)
+module _ (rules : List Rule) (site : RequestView) (now : DateTime) (plans : Name → PlanView) where
+  ours_after : (name : Name) (entry : Marked) (is : IsPlannedEntry rules site now plans name entry) (store : CookieStore) → IsOurStore plans store
+      → IsOurStore plans (kept_after_text rules site now (cookie_text true false entry.cookie) store)
   ours_after name entry is store ours =
-      let y : Stored = x same key site now scopes name entry is in
-      let alone = λ (d : Stored) (o : IsOurs scopes d) (e : d.name ≡ escape entry.cookie.name).
-      key.settled d y e (o.scope ∙ ap scopes (escape_injective o.name entry.cookie.name o.named.cookie.name is.cookie.cookie.name (sym o.names ∙ e))) in
-      let fresh : All (IsOurs scopes) (unexpired now store) = All-filter (λ d. is_unexpired d.expiry now) (IsOurs scopes) store ours.each in
-      let put_in : All (IsOurs scopes) (put same y (unexpired now store)) = All-put same (IsOurs scopes) y (is_ours same key site now scopes name entry is) (unexpired now store) fresh in
-      subst (IsOurStore scopes) (sym (text_stored same key site now scopes name entry is store))
+      let y : KeptView = x rules site now plans name entry is in
+      let fresh : All (IsOurs plans) (lasting now store) = All-filter (λ d. lasts d.expiry now) (IsOurs plans) store ours.each in
+      let put_in : All (IsOurs plans) (kept_with y (lasting now store)) = All-put (IsOurs plans) y (is_ours rules site now plans name entry is) (lasting now store) fresh in
+      subst (IsOurStore plans) (sym (text_stored rules site now plans name entry is store ours.each))
       (record {
-        each = All-filter (λ d. is_unexpired d.expiry now) (IsOurs scopes) (put same y (unexpired now store)) put_in;
-        once = Once-unexpired now (put same y (unexpired now store)) (Once-put same key scopes y alone (unexpired now store) fresh (Once-unexpired now store ours.once));
+        each = All-filter (λ d. lasts d.expiry now) (IsOurs plans) (kept_with y (lasting now store)) put_in;
+        once = Once-lasting now (kept_with y (lasting now store)) (Once-put plans y (alone_one rules site now plans name entry is) (lasting now store) fresh (Once-lasting now store ours.once));
       })
 
-  all_after : (jar : JarState) → IsScopedDelta site now scopes jar.delta → (texts : List (List ℕ)) → All (IsDeltaText jar.delta) texts → (store : Store) → IsOurStore scopes store
-      → IsOurStore scopes (store_after_texts same site now texts store)
-  all_after jar scoped [] are store ours = ours
-  all_after jar scoped (text ∷ texts) are store ours =
+  all_after : (jar : JarState) → IsPlannedDelta rules site now plans jar.delta → (texts : List (List ℕ)) → All (IsDeltaText jar.delta) texts → (store : CookieStore) → IsOurStore plans store
+      → IsOurStore plans (kept_after_texts rules site now texts store)
+  all_after jar planned [] are store ours = ours
+  all_after jar planned (text ∷ texts) are store ours =
       let is = All-head (IsDeltaText jar.delta) text texts are in
-      all_after jar scoped texts (All-tail (IsDeltaText jar.delta) text texts are) (store_after_text same site now text store)
-      (subst (λ t. IsOurStore scopes (store_after_text same site now t store)) (sym is.is) (ours_after is.name is.entry (scoped is.name is.entry is.stands) store ours))
+      all_after jar planned texts (All-tail (IsDeltaText jar.delta) text texts are) (kept_after_text rules site now text store)
+      (subst (λ t. IsOurStore plans (kept_after_text rules site now t store)) (sym is.is) (ours_after is.name is.entry (planned is.name is.entry is.stands) store ours))
 
 -- ---- the jar's originals are what the site sees
 
@@ -155,38 +154,38 @@ escaped_again : (o : Option (List ℕ)) → All (λ v. escape (unescape v) ≡ v
 escaped_again None all = refl
 escaped_again (Some v) all = ap (λ w. w ∷ []) (sym (All-head (λ w. escape (unescape w) ≡ w) v [] all))
 
-values_all : (P : List ℕ → Type 0) (cs : Store) → All (λ c. P c.value) cs → All P (map (λ c. c.value) cs)
-values_all P cs h = All-map P (λ (c : Stored). c.value) cs h
+values_all : (P : List ℕ → Type 0) (cs : CookieStore) → All (λ c. P c.value) cs → All P (map (λ c. c.value) cs)
+values_all P cs h = All-map P (λ (c : KeptView). c.value) cs h
 
--- a request: its header, and its jar, whose originals are the header's cookies and whose delta is scoped
-pub record IsFollowable (scopes : Name → ScopeView) (before : Store) (site : SiteView) (now : DateTime) (header : List ℕ) (jar : JarState) : Type 0 where
+-- a request: its header, and its jar, whose originals are the header's cookies and whose delta is planned
+pub record IsFollowable (rules : List Rule) (plans : Name → PlanView) (before : CookieStore) (site : RequestView) (now : DateTime) (header : List ℕ) (jar : JarState) : Type 0 where
   pub sent : IsHeader site now before header
   pub originals : jar.originals ≡ (with_originals (header_cookies true header) empty_jar).originals
-  pub scoped : IsScopedDelta site now scopes jar.delta
+  pub planned : IsPlannedDelta rules site now plans jar.delta
   pub known : IsKnownView jar
 
-module _ (same : SameKey) (key : IsKey same) (scopes : Name → ScopeView) (before : Store) (ours : IsOurStore scopes before) (site : SiteView) (now : DateTime)
-    (header : List ℕ) (jar : JarState) (is : IsFollowable scopes before site now header jar) where
+module _ (rules : List Rule) (plans : Name → PlanView) (before : CookieStore) (ours : IsOurStore plans before) (site : RequestView) (now : DateTime)
+    (header : List ℕ) (jar : JarState) (is : IsFollowable rules plans before site now header jar) where
   cookies_read : header_cookies true header ≡ map plain_of is.sent.cookies
   cookies_read =
-      let every : All (IsOurs scopes) is.sent.cookies
-      = All-permutation (IsOurs scopes) (visible site now before) is.sent.cookies is.sent.sent (All-filter (is_visible site now) (IsOurs scopes) before ours.each) in
-      ap (header_cookies true) (is.sent.text ∙ ap joined_texts (texts_same scopes is.sent.cookies every))
-      ∙ header_form (map plain_of is.sent.cookies) (named_of scopes is.sent.cookies every) ∙ plain_same scopes is.sent.cookies
+      let every : All (IsOurs plans) is.sent.cookies
+      = All-permutation (IsOurs plans) (visible site now before) is.sent.cookies is.sent.sent (All-filter (is_sent site now) (IsOurs plans) before ours.each) in
+      ap (header_cookies true) (is.sent.text ∙ ap joined_texts (texts_same plans is.sent.cookies every))
+      ∙ header_form (map plain_of is.sent.cookies) (named_of plans is.sent.cookies every) ∙ plain_same plans is.sent.cookies
 
   originals_known : Mirrors site now before (λ name. value_of (get jar.originals name))
   originals_known name u =
-      let every : All (IsOurs scopes) (visible site now before) = All-filter (is_visible site now) (IsOurs scopes) before ours.each in
-      let sent_all : All (IsOurs scopes) is.sent.cookies
-      = All-permutation (IsOurs scopes) (visible site now before) is.sent.cookies is.sent.sent every in
-      let few = fewer (is_visible site now) (λ c. bytes_eq c.name (escape name)) before in
+      let every : All (IsOurs plans) (visible site now before) = All-filter (is_sent site now) (IsOurs plans) before ours.each in
+      let sent_all : All (IsOurs plans) is.sent.cookies
+      = All-permutation (IsOurs plans) (visible site now before) is.sent.cookies is.sent.sent every in
+      let few = fewer (is_sent site now) (λ c. bytes_eq c.name (escape name)) before in
       let once = ours.once (escape name) in
       let size = length-values (under (escape name) (visible site now before)) in
       let small : length (seen site now before (escape name)) ≤ 1 = omega arith in
       let (o, e) = at_most_one (seen site now before (escape name)) small in
       let moved = any_order (λ c. bytes_eq c.name (escape name)) (visible site now before) is.sent.cookies is.sent.sent o e in
       let read : values_of name (header_cookies true header) ≡ option_to_list (option_map unescape o)
-      = ap (values_of name) cookies_read ∙ values_read scopes name u is.sent.cookies sent_all ∙ ap (map unescape) moved ∙ unescape_list o in
+      = ap (values_of name) cookies_read ∙ values_read plans name u is.sent.cookies sent_all ∙ ap (map unescape) moved ∙ unescape_list o in
       let got : value_of (get jar.originals name) ≡ first_some (option_map unescape o) (value_of (get empty_jar.originals name))
       = ap (λ m. value_of (get m name)) is.originals ∙ original_at name (header_cookies true header) empty_jar (option_map unescape o) read in
       let none : value_of (get empty_jar.originals name) ≡ None = ap value_of (get-empty name_cmp name) in
@@ -194,25 +193,24 @@ module _ (same : SameKey) (key : IsKey same) (scopes : Name → ScopeView) (befo
       let escapes : All (λ v. escape (unescape v) ≡ v) (option_to_list o)
       = subst (All (λ v. escape (unescape v) ≡ v)) e
       (values_all (λ v. escape (unescape v) ≡ v) (under (escape name) (visible site now before))
-      (All-weaker (IsOurs scopes) (λ c. escape (unescape c.value) ≡ c.value) escaped_value (under (escape name) (visible site now before))
-      (All-filter (λ c. bytes_eq c.name (escape name)) (IsOurs scopes) (visible site now before) every))) in
+      (All-weaker (IsOurs plans) (λ c. escape (unescape c.value) ≡ c.value) escaped_value (under (escape name) (visible site now before))
+      (All-filter (λ c. bytes_eq c.name (escape name)) (IsOurs plans) (visible site now before) every))) in
       e ∙ escaped_again o escapes ∙ ap (λ w. option_to_list (option_map escape w)) (sym value)
     where
       first_none : (w : Option (List ℕ)) → first_some w None ≡ w
       first_none None = refl
       first_none (Some v) = refl
 
-      escaped_value : (c : Stored) → IsOurs scopes c → escape (unescape c.value) ≡ c.value
+      escaped_value : (c : KeptView) → IsOurs plans c → escape (unescape c.value) ≡ c.value
       escaped_value c o = ap escape (back o.value c.value o.named.cookie.value o.values) ∙ sym o.values
 
-  pub agreed : (texts : List (List ℕ)) → AreDeltaTexts jar.delta texts → (next : List ℕ) → IsHeader site now (store_after_texts same site now texts before) next → SiteAgrees jar next
+  pub agreed : (texts : List (List ℕ)) → AreDeltaTexts jar.delta texts → (next : List ℕ) → IsHeader site now (kept_after_texts rules site now texts before) next → SiteAgrees jar next
   agreed texts are next h =
-      let scoped : IsScopedStore site now scopes before = All-weaker (IsOurs scopes) (λ c. is_visible site now c ≡ true → IsOurs scopes c) (λ c o _. o) before ours.each in
-      let (kept, mirrors) = followed same key site now scopes before jar texts scoped is.scoped (record { known = originals_known }) are in
-      sent site now scopes (store_after_texts same site now texts before) jar next is.known kept mirrors h
+      let (kept, mirrors) = followed rules site now plans before jar texts ours.each is.planned originals_known are in
+      sent site now plans (kept_after_texts rules site now texts before) jar next is.known kept mirrors h
 
-  pub stays : (texts : List (List ℕ)) → AreDeltaTexts jar.delta texts → IsOurStore scopes (store_after_texts same site now texts before)
-  stays texts are = all_after same key site now scopes jar is.scoped texts are.only before ours
+  pub stays : (texts : List (List ℕ)) → AreDeltaTexts jar.delta texts → IsOurStore plans (kept_after_texts rules site now texts before)
+  stays texts are = all_after rules site now plans jar is.planned texts are.only before ours
 
-pub none_stored : (scopes : Name → ScopeView) → IsOurStore scopes []
-none_stored scopes = record { each = All-nil (IsOurs scopes); once = λ name. omega arith }
+pub none_stored : (plans : Name → PlanView) → IsOurStore plans []
+none_stored plans = record { each = All-nil (IsOurs plans); once = λ name. omega arith }

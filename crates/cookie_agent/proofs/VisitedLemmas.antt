@@ -1,5 +1,5 @@
 -- What a request came to is what its definition says, and so is what many came to.
-use Rattle.std.proofs.Common.{◌≡◌, ℕ, List, [], ◌∷◌, length, refl, sym, subst, All, string_bytes, arith}
+use Rattle.std.proofs.Common.{◌≡◌, ℕ, List, [], ◌∷◌, length, refl, sym, subst, ◌∙◌, ap, arith}
 use Rattle.std.proofs.lemmas.List.Elements.{All-map}
 use Rattle.std.specs.List.{AllZip}
 use Rattle.cookie.specs.History.{accepted_items, after_all}
@@ -8,39 +8,41 @@ use Rattle.cookie.specs.DeltaTexts.{AreDeltaTexts}
 use Rattle.cookie_client.specs.Calls.{IsOutcome, change_of, changes_of}
 use Rattle.cookie.specs.Originals.{jar_for}
 use Rattle.cookie_client.proofs.ChangeLemmas.{known_changes}
-use Rattle.cookie_agent.specs.Agreement.{IsOurStore}
-use Rattle.cookie_agent.specs.Calls.{IsScopedChange}
-use Rattle.cookie_agent.specs.Scopes.{ScopeView}
+use Rattle.cookie_browser.specs.Suffixes.{Rule}
+use Rattle.std.specs.Str.{IsUtf8}
+use Rattle.cookie_agent.proofs.Utf8Lemmas.{header_utf8}
+use Rattle.cookie_agent.specs.Agreement.{IsOurStore, PlanView}
+use Rattle.cookie_agent.specs.Calls.{IsPlannedChange}
 use Rattle.cookie_agent.specs.Sent.{IsHeader, IsOrderedHeader}
-use Rattle.cookie_agent.specs.Store.{Store, standard_key, store_after_texts}
-use Rattle.cookie_agent.specs.Visits.{IsVisited, AreScoped, AreVisited, AreAllScoped, AllAgree, AgreesOn, AllAgreeOn}
+use Rattle.cookie_agent.specs.Store.{AgentView, agent_after_texts}
+use Rattle.cookie_agent.specs.Visits.{IsVisited, ArePlanned, AreVisited, AreAllPlanned, AllAgree, AgreesOn, AllAgreeOn}
 use Rattle.cookie_agent.specs.declared.request.AgentRequest.{AgentRequest}
 use Rattle.cookie_agent.specs.declared.visited.Visited.{Visited}
 use Rattle.cookie_agent.proofs.AlikeLemmas.{header_alike}
-use Rattle.cookie_agent.proofs.KeyLemmas.{IsKey-standard}
 use Rattle.cookie_agent.proofs.VisitCallLemmas.{followable}
 use Rattle.cookie_agent.proofs.VisitLemmas.{IsFollowable, agreed, stays, none_stored}
 
 -- what the code knows of a request
-pub record IsPlayed (before : Store) (request : AgentRequest) (visited : Visited) : Type 0 where
+pub record IsPlayed (before : AgentView) (request : AgentRequest) (visited : Visited) : Type 0 where
   pub count : length visited.outcomes.items ≡ length request.calls.now
   pub outcomes : AllZip IsOutcome request.calls.now visited.outcomes.items
-  pub sent : IsOrderedHeader request.site.now request.moment before (string_bytes visited.header)
-  pub jar : visited.jar ≡ after_all (changes_of visited.outcomes.items request.calls.now) (jar_for (string_bytes visited.header))
+  pub sent : IsOrderedHeader request.site.now request.moment before.cookies visited.header.items
+  pub jar : IsUtf8 visited.header.items → visited.jar ≡ after_all (changes_of visited.outcomes.items request.calls.now) (jar_for visited.header.items)
   pub texts : List (List ℕ)
   pub are : AreDeltaTexts visited.jar.delta texts
-  pub read : visited.agent ≡ store_after_texts standard_key request.site.now request.moment texts before
+  pub read : visited.agent ≡ agent_after_texts request.site.now request.moment texts before
 
-module _ (before : Store) (request : AgentRequest) (visited : Visited) (is : IsPlayed before request visited) where
+module _ (before : AgentView) (request : AgentRequest) (visited : Visited) (is : IsPlayed before request visited) where
   abbrev header : List ℕ
-  header = string_bytes visited.header
+  header = visited.header.items
 
-  can_follow : (scopes : Name → ScopeView) → IsOurStore scopes before → AreScoped scopes request visited → IsFollowable scopes before request.site.now request.moment header visited.jar
-  can_follow scopes ours scoped =
-      subst (IsFollowable scopes before request.site.now request.moment header) (sym is.jar)
-      (followable scopes before ours request.site.now request.moment header is.sent.is (changes_of visited.outcomes.items request.calls.now)
+  can_follow : (plans : Name → PlanView) → IsOurStore plans before.cookies → ArePlanned before.rules plans request visited
+      → IsFollowable before.rules plans before.cookies request.site.now request.moment header visited.jar
+  can_follow plans ours planned =
+      subst (IsFollowable before.rules plans before.cookies request.site.now request.moment header) (sym (is.jar (header_utf8 plans before.cookies ours request.site.now request.moment header is.sent.is)))
+      (followable before.rules plans before.cookies ours request.site.now request.moment header is.sent.is (changes_of visited.outcomes.items request.calls.now)
       (known_changes visited.outcomes.items request.calls.now is.outcomes)
-      (All-map (IsScopedChange request.site.now request.moment scopes) change_of (accepted_items visited.outcomes.items request.calls.now) scoped))
+      (All-map (IsPlannedChange before.rules request.site.now request.moment plans) change_of (accepted_items visited.outcomes.items request.calls.now) planned))
 
   pub is_visited : IsVisited before request visited
   is_visited =
@@ -50,16 +52,16 @@ module _ (before : Store) (request : AgentRequest) (visited : Visited) (is : IsP
         sent = is.sent;
         jar = is.jar;
         read = (is.texts, is.are, is.read);
-        agrees = λ scopes ours scoped.
-            agreed standard_key IsKey-standard scopes before ours request.site.now request.moment header visited.jar (can_follow scopes ours scoped);
-        ours = λ scopes ours scoped.
-            subst (IsOurStore scopes) (sym is.read)
-            (stays standard_key IsKey-standard scopes before ours request.site.now request.moment header visited.jar (can_follow scopes ours scoped) is.texts is.are);
+        agrees = λ plans ours planned.
+            agreed before.rules plans before.cookies ours request.site.now request.moment header visited.jar (can_follow plans ours planned);
+        ours = λ plans ours planned.
+            subst (λ (a : AgentView). IsOurStore plans a.cookies) (sym is.read)
+            (stays before.rules plans before.cookies ours request.site.now request.moment header visited.jar (can_follow plans ours planned) is.texts is.are);
       }
 
 -- ---- many requests
 
-pub visited-length : (before : Store) (requests : List AgentRequest) (visits : List Visited) → AreVisited before requests visits → length visits ≡ length requests
+pub visited-length : (before : AgentView) (requests : List AgentRequest) (visits : List Visited) → AreVisited before requests visits → length visits ≡ length requests
 visited-length before [] [] are = refl
 visited-length before [] (visited ∷ visits) are = absurd are
 visited-length before (request ∷ requests) [] are = absurd are
@@ -67,39 +69,47 @@ visited-length before (request ∷ requests) (visited ∷ visits) are =
     let h = visited-length visited.agent requests visits are.1 in
     omega arith
 
-agree_from : (scopes : Name → ScopeView) (before : Store) → IsOurStore scopes before → (requests : List AgentRequest) (visits : List Visited)
-    → AreVisited before requests visits → AreAllScoped scopes requests visits → AllAgree requests visits
-agree_from scopes before ours [] visits are scoped = tt
-agree_from scopes before ours (request ∷ requests) [] are scoped = tt
-agree_from scopes before ours (request ∷ requests) (visited ∷ visits) are scoped =
+-- the rules stay
+rules_stay : (rules : List Rule) (before : AgentView) (request : AgentRequest) (visited : Visited) → before.rules ≡ rules → IsVisited before request visited → visited.agent.rules ≡ rules
+rules_stay rules before request visited same is =
+    let (texts, deltas, read) = is.read in
+    ap (λ (a : AgentView). a.rules) read ∙ same
+
+agree_from : (rules : List Rule) (plans : Name → PlanView) (before : AgentView) → before.rules ≡ rules → IsOurStore plans before.cookies → (requests : List AgentRequest) (visits : List Visited)
+    → AreVisited before requests visits → AreAllPlanned rules plans requests visits → AllAgree requests visits
+agree_from rules plans before same ours [] visits are planned = tt
+agree_from rules plans before same ours (request ∷ requests) [] are planned = tt
+agree_from rules plans before same ours (request ∷ requests) (visited ∷ visits) are planned =
     let is = are.0 in
-    let (texts, deltas, read) = is.read in (
-      λ header h. is.agrees scopes ours scoped.0 texts deltas header (subst (λ store. IsHeader request.site.now request.moment store header) read h),
-      agree_from scopes visited.agent (is.ours scopes ours scoped.0) requests visits are.1 scoped.1,
+    let (texts, deltas, read) = is.read in
+    let here : ArePlanned before.rules plans request visited = subst (λ r. ArePlanned r plans request visited) (sym same) planned.0 in (
+      λ header h. is.agrees plans ours here texts deltas header (subst (λ (a : AgentView). IsHeader request.site.now request.moment a.cookies header) read h),
+      agree_from rules plans visited.agent (rules_stay rules before request visited same is) (is.ours plans ours here) requests visits are.1 planned.1,
     )
 
-pub all_agree : (requests : List AgentRequest) (visits : List Visited) → AreVisited [] requests visits
-    → (scopes : Name → ScopeView) → AreAllScoped scopes requests visits → AllAgree requests visits
-all_agree requests visits are scopes scoped = agree_from scopes [] (none_stored scopes) requests visits are scoped
+pub all_agree : (rules : List Rule) (requests : List AgentRequest) (visits : List Visited) → AreVisited (record { rules = rules; cookies = [] }) requests visits
+    → (plans : Name → PlanView) → AreAllPlanned rules plans requests visits → AllAgree requests visits
+all_agree rules requests visits are plans planned = agree_from rules plans (record { rules = rules; cookies = [] }) refl (none_stored plans) requests visits are planned
 
 -- what a request comes to agrees on
-pub agrees_on : (scopes : Name → ScopeView) (before : Store) → IsOurStore scopes before → (request : AgentRequest) (visited : Visited)
-    → IsVisited before request visited → AreScoped scopes request visited → AgreesOn scopes request visited
-agrees_on scopes before ours request visited is scoped other later alike header h =
+pub agrees_on : (plans : Name → PlanView) (before : AgentView) → IsOurStore plans before.cookies → (request : AgentRequest) (visited : Visited)
+    → IsVisited before request visited → ArePlanned before.rules plans request visited → AgreesOn plans request visited
+agrees_on plans before ours request visited is planned other later alike header h =
     let (texts, deltas, read) = is.read in
-    is.agrees scopes ours scoped texts deltas header
-    (subst (λ store. IsHeader request.site.now request.moment store header) read
-    (header_alike scopes visited.agent request.site.now other request.moment later (is.ours scopes ours scoped).each alike header h))
+    is.agrees plans ours planned texts deltas header
+    (subst (λ (a : AgentView). IsHeader request.site.now request.moment a.cookies header) read
+    (header_alike plans visited.agent.cookies request.site.now other request.moment later (is.ours plans ours planned).each alike header h))
 
-agree_on : (scopes : Name → ScopeView) (before : Store) → IsOurStore scopes before → (requests : List AgentRequest) (visits : List Visited)
-    → AreVisited before requests visits → AreAllScoped scopes requests visits → AllAgreeOn scopes requests visits
-agree_on scopes before ours [] visits are scoped = tt
-agree_on scopes before ours (request ∷ requests) [] are scoped = tt
-agree_on scopes before ours (request ∷ requests) (visited ∷ visits) are scoped = (
-  agrees_on scopes before ours request visited are.0 scoped.0,
-  agree_on scopes visited.agent (are.0.ours scopes ours scoped.0) requests visits are.1 scoped.1,
-)
+agree_on : (rules : List Rule) (plans : Name → PlanView) (before : AgentView) → before.rules ≡ rules → IsOurStore plans before.cookies → (requests : List AgentRequest) (visits : List Visited)
+    → AreVisited before requests visits → AreAllPlanned rules plans requests visits → AllAgreeOn plans requests visits
+agree_on rules plans before same ours [] visits are planned = tt
+agree_on rules plans before same ours (request ∷ requests) [] are planned = tt
+agree_on rules plans before same ours (request ∷ requests) (visited ∷ visits) are planned =
+    let here : ArePlanned before.rules plans request visited = subst (λ r. ArePlanned r plans request visited) (sym same) planned.0 in (
+      agrees_on plans before ours request visited are.0 here,
+      agree_on rules plans visited.agent (rules_stay rules before request visited same are.0) (are.0.ours plans ours here) requests visits are.1 planned.1,
+    )
 
-pub all_agree_on : (requests : List AgentRequest) (visits : List Visited) → AreVisited [] requests visits
-    → (scopes : Name → ScopeView) → AreAllScoped scopes requests visits → AllAgreeOn scopes requests visits
-all_agree_on requests visits are scopes scoped = agree_on scopes [] (none_stored scopes) requests visits are scoped
+pub all_agree_on : (rules : List Rule) (requests : List AgentRequest) (visits : List Visited) → AreVisited (record { rules = rules; cookies = [] }) requests visits
+    → (plans : Name → PlanView) → AreAllPlanned rules plans requests visits → AllAgreeOn plans requests visits
+all_agree_on rules requests visits are plans planned = agree_on rules plans (record { rules = rules; cookies = [] }) refl (none_stored plans) requests visits are planned

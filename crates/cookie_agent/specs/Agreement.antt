@@ -1,77 +1,67 @@
 -- A site sees of a store what a jar shows, once the agent has read the jar's delta; and when it does.
-use Rattle.std.specs.Prelude.{◌≡◌, ◌==◌, ◌≤◌, ℕ, nat_lt, length, IsUtf8, Bool, ◌&&◌, ◌||◌, ◌⊎◌, not, true, false, List, map, filter, All, Option, Some, IfSome, option_map, pos}
+use Rattle.std.specs.Prelude.{◌≡◌, ◌≤◌, ℕ, length, IsUtf8, Bool, ◌⊎◌, true, false, List, [], map, filter, All, Option, Some, option_map, Ok}
 use Rattle.std.specs.FinMap.{FinMap, get}
-use Rattle.std.specs.List.{list_all}
 use Rattle.std.specs.Option.{option_to_list}
 use Rattle.std.specs.Str.{bytes_eq}
 use Rattle.jiff.specs.Types.{DateTime}
 use Rattle.cookie.specs.CookieOf.{cookie_of, header_cookies}
+use Rattle.cookie.specs.DeltaTexts.{AreDeltaTexts}
 use Rattle.cookie.specs.Escapes.{escape}
 use Rattle.cookie.specs.Header.{header_texts}
 use Rattle.cookie.specs.Jar.{Name, name_cmp, Marked, JarState, view}
-use Rattle.cookie.specs.Normal.{IsPlainText, IsPlainDomain, IsNamed}
+use Rattle.cookie.specs.Normal.{IsNamed}
 use Rattle.cookie.specs.Record.{Record, plain}
-use Rattle.cookie.specs.Text.{prints_secure}
-use Rattle.cookie.specs.DeltaTexts.{AreDeltaTexts}
+use Rattle.cookie.specs.Text.{cookie_text}
 use Rattle.cookie_client.specs.Agreement.{value_of}
-use Rattle.cookie_client.specs.Live.{is_live}
+use Rattle.cookie_browser.specs.Request.{RequestView}
+use Rattle.cookie_browser.specs.Storage.{CookieStore, KeptView, is_sent, lasts, verdict}
+use Rattle.cookie_browser.specs.Suffixes.{Rule}
 use Rattle.cookie_agent.specs.Scopes.{ScopeView, scope_of, reaches}
-use Rattle.cookie_agent.specs.Sent.{is_visible, IsHeader}
-use Rattle.cookie_agent.specs.Site.{SiteView}
-use Rattle.cookie_agent.specs.Store.{SameKey, Stored, Store, is_unexpired, store_after_texts}
+use Rattle.cookie_agent.specs.Sent.{IsHeader}
+use Rattle.cookie_agent.specs.Store.{kept_after_texts}
 
 -- ---- the premise
 
--- no byte is a control character, which a browser refuses in a `Set-Cookie` header (RFC 6265bis 5.6)
-abbrev pub lacks_controls : List ℕ → Bool
-lacks_controls text = list_all (λ b. nat_lt 31 b && not (b == 127)) text
+-- where the cookies of a name are sent, and whether they may be secure-only
+pub record PlanView : Type 0 where
+  pub scope : ScopeView
+  pub is_secure : Bool
 
--- a path that is read as it was printed, and that holds no control character
-pub record IsScopedPath (path : List ℕ) : Type 0 where
-  pub plain : IsPlainText path
-  pub graphic : lacks_controls path ≡ true
+-- A browser without cookies stores the cookie's text in the scope of its name. The cookie is secure-only only if its
+-- name may be, and such a name is set over secure connections only.
+pub record IsPlanned (rules : List Rule) (site : RequestView) (now : DateTime)
+    (plans : Name → PlanView) (cookie : Record)
+    : Type 0 where
+  pub kept : KeptView
+  pub stored : verdict rules site now [] (cookie_text true false cookie) ≡ Ok kept
+  pub scope : scope_of kept ≡ (plans cookie.name).scope
+  pub secure : kept.is_secure_only ≡ true → (plans cookie.name).is_secure ≡ true
+  pub covered : (plans cookie.name).is_secure ≡ true → site.is_secure ≡ true
 
--- such a domain
-pub record IsScopedDomain (domain : List ℕ) : Type 0 where
-  pub plain : IsPlainDomain domain
-  pub graphic : lacks_controls domain ≡ true
-
--- a cookie that is set or removed at the site has its name's scope, and the site sees it
-pub record IsScoped (site : SiteView) (scopes : Name → ScopeView) (cookie : Record) : Type 0 where
-  pub path : IfSome cookie.path IsScopedPath
-  pub domain : IfSome cookie.domain IsScopedDomain
-  pub scope : scope_of site cookie ≡ Some (scopes cookie.name)
-  pub reaches : reaches site (scopes cookie.name) ≡ true
-  pub secure : site.is_secure || not (prints_secure cookie) ≡ true
-
--- a stored cookie that is the escaped name and value of some cookie, in its name's scope
-pub record IsOurs (scopes : Name → ScopeView) (cookie : Stored) : Type 0 where
+-- a stored cookie that is the escaped name and value of some cookie, as its name's plan has it
+pub record IsOurs (plans : Name → PlanView) (cookie : KeptView) : Type 0 where
   pub name : Name
   pub value : List ℕ
   pub named : IsNamed (plain name value)
   pub names : cookie.name ≡ escape name
   pub values : cookie.value ≡ escape value
-  pub scope : cookie.scope ≡ scopes name
+  pub scope : scope_of cookie ≡ (plans name).scope
+  pub secure : cookie.is_secure_only ≡ true → (plans name).is_secure ≡ true
 
 -- each stored cookie is of that kind, and no two have one name
-pub record IsOurStore (scopes : Name → ScopeView) (store : Store) : Type 0 where
-  pub each : All (IsOurs scopes) store
+pub record IsOurStore (plans : Name → PlanView) (store : CookieStore) : Type 0 where
+  pub each : All (IsOurs plans) store
   pub once : (name : List ℕ) → length (filter (λ c. bytes_eq c.name name) store) ≤ 1
-
--- what the site sees of the store is of that kind
-abbrev pub IsScopedStore : SiteView → DateTime → (Name → ScopeView) → Store → Type 0
-IsScopedStore site now scopes store =
-    All (λ c. is_visible site now c ≡ true → IsOurs scopes c) store
 
 -- ---- what is seen
 
 -- the values, as they are stored, of the cookies of a stored name that the site sees
-abbrev pub seen : SiteView → DateTime → Store → List ℕ → List (List ℕ)
+abbrev pub seen : RequestView → DateTime → CookieStore → List ℕ → List (List ℕ)
 seen site now store name =
-    map (λ c. c.value) (filter (λ c. bytes_eq c.name name) (filter (is_visible site now) store))
+    map (λ c. c.value) (filter (λ c. bytes_eq c.name name) (filter (is_sent site now) store))
 
 -- the site sees these values, each under its name, once
-abbrev pub Mirrors : SiteView → DateTime → Store → (Name → Option (List ℕ)) → Type 0
+abbrev pub Mirrors : RequestView → DateTime → CookieStore → (Name → Option (List ℕ)) → Type 0
 Mirrors site now store values =
     (name : Name) → IsUtf8 name
     → seen site now store (escape name) ≡ option_to_list (option_map escape (values name))
@@ -90,37 +80,35 @@ pub record SiteAgrees (jar : JarState) (header : List ℕ) : Type 0 where
 
 -- ---- the delta
 
--- an entry of the delta: a cookie with a name, in its name's scope, that is live, or whose age is zero where it tells
--- the agent to drop it
-pub record IsScopedEntry (site : SiteView) (now : DateTime) (scopes : Name → ScopeView)
-    (name : Name) (entry : Marked) : Type 0 where
+-- an entry of the delta: a cookie with a name, as its name's plan has it, that is sent at once, or is expired if the
+-- entry is a removal
+pub record IsPlannedEntry (rules : List Rule) (site : RequestView) (now : DateTime)
+    (plans : Name → PlanView) (name : Name) (entry : Marked)
+    : Type 0 where
   pub cookie : IsNamed entry.cookie
   pub key : entry.cookie.name ≡ name
-  pub scoped : IsScoped site scopes entry.cookie
-  pub fate : ((entry.removed ≡ true) × (entry.cookie.max_age ≡ Some (pos 0)))
-      ⊎ ((entry.removed ≡ false) × (is_live entry.cookie now ≡ true))
+  pub planned : IsPlanned rules site now plans entry.cookie
+  pub fate : ((entry.removed ≡ true) × (lasts planned.kept.expiry now ≡ false))
+      ⊎ ((entry.removed ≡ false) × (is_sent site now planned.kept ≡ true))
 
 -- each entry of the delta is of that kind
-abbrev pub IsScopedDelta : SiteView → DateTime → (Name → ScopeView) → FinMap name_cmp Marked
-    → Type 0
-IsScopedDelta site now scopes delta =
+abbrev pub IsPlannedDelta : List Rule → RequestView → DateTime → (Name → PlanView)
+    → FinMap name_cmp Marked → Type 0
+IsPlannedDelta rules site now plans delta =
     (name : Name) (entry : Marked) → get delta name ≡ Some entry
-    → IsScopedEntry site now scopes name entry
+    → IsPlannedEntry rules site now plans name entry
 
--- the original cookies, where the delta says nothing, are what the site saw before
-pub record IsKnown (site : SiteView) (now : DateTime) (store : Store)
-    (jar : JarState) : Type 0 where
-  pub known : Mirrors site now store (λ name. value_of (get jar.originals name))
-
--- However the delta's texts are ordered and repeated, the site then sees what the jar shows.
-abbrev pub IsFollowed : SameKey → Type 0
-IsFollowed same =
-    (site : SiteView) (now : DateTime) (scopes : Name → ScopeView) (store : Store) (jar : JarState)
-    (texts : List (List ℕ))
-    → IsScopedStore site now scopes store → IsScopedDelta site now scopes jar.delta
-    → IsKnown site now store jar → AreDeltaTexts jar.delta texts
-    → IsScopedStore site now scopes (store_after_texts same site now texts store)
-    × Mirrors site now (store_after_texts same site now texts store)
+-- However the delta's texts are ordered and repeated, the site then sees what the jar shows, if it saw the jar's
+-- originals before.
+abbrev pub IsFollowed : Type 0
+IsFollowed =
+    (rules : List Rule) (site : RequestView) (now : DateTime) (plans : Name → PlanView)
+    (store : CookieStore) (jar : JarState) (texts : List (List ℕ))
+    → All (IsOurs plans) store → IsPlannedDelta rules site now plans jar.delta
+    → Mirrors site now store (λ name. value_of (get jar.originals name))
+    → AreDeltaTexts jar.delta texts
+    → All (IsOurs plans) (kept_after_texts rules site now texts store)
+    × Mirrors site now (kept_after_texts rules site now texts store)
     (λ name. value_of (view jar name))
 
 -- the values that a jar shows are texts
@@ -131,18 +119,22 @@ IsKnownView jar =
 -- And its header, in whatever order, is read as that.
 abbrev pub IsSent : Type 0
 IsSent =
-    (site : SiteView) (now : DateTime) (scopes : Name → ScopeView) (store : Store) (jar : JarState)
-    (header : List ℕ)
-    → IsKnownView jar → IsScopedStore site now scopes store
+    (site : RequestView) (now : DateTime) (plans : Name → PlanView) (store : CookieStore)
+    (jar : JarState) (header : List ℕ)
+    → IsKnownView jar → All (IsOurs plans) store
     → Mirrors site now store (λ name. value_of (view jar name)) → IsHeader site now store header
     → SiteAgrees jar header
 
 -- ---- two sites
 
--- Two sites at two moments are alike for a store: each name's scope takes in both or neither, their connections are
--- alike, and what is unexpired at the one moment is so at the other.
-pub record AreAlike (scopes : Name → ScopeView) (store : Store) (site other : SiteView)
-    (now later : DateTime) : Type 0 where
-  pub reach : (name : Name) → reaches site (scopes name) ≡ reaches other (scopes name)
+-- Two sites at two times are alike for a store: each name's scope has both or neither, their connections and their
+-- requests' contexts are alike, and what isn't expired at the one time isn't at the other.
+pub record AreAlike (plans : Name → PlanView) (store : CookieStore) (site other : RequestView)
+    (now later : DateTime)
+    : Type 0 where
+  pub reach : (name : Name) → reaches site (plans name).scope ≡ reaches other (plans name).scope
   pub secure : site.is_secure ≡ other.is_secure
-  pub ages : All (λ c. is_unexpired c.expiry now ≡ is_unexpired c.expiry later) store
+  pub same_site : site.is_same_site ≡ other.is_same_site
+  pub top_level : site.is_top_level ≡ other.is_top_level
+  pub safe : site.is_safe ≡ other.is_safe
+  pub ages : All (λ c. lasts c.expiry now ≡ lasts c.expiry later) store

@@ -1,14 +1,13 @@
 pub mod Agreement
 pub mod Apart
 pub mod Calls
-pub mod ExpiryCode
-pub mod Keys
+pub mod Hosts
 pub mod Prefixes
 pub mod Removals
-pub mod ScopedCode
 pub mod Scopes
 pub mod Sent
 pub mod SentCode
 pub mod Site
 pub mod Store
+pub mod VerdictCode
 pub mod Visits

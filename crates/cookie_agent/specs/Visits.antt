@@ -1,57 +1,59 @@
--- Many requests of one user agent, to any sites, at any moments.
-use Rattle.std.specs.Prelude.{◌≡◌, ℕ, List, [], ◌∷◌, length, All, string_bytes}
+-- Many requests of one user agent, to any sites, at any times.
+use Rattle.std.specs.Prelude.{◌≡◌, ℕ, IsUtf8, List, [], ◌∷◌, length, All}
 use Rattle.std.specs.List.{AllZip}
 use Rattle.jiff.specs.Types.{DateTime}
 use Rattle.cookie.specs.History.{accepted_items, after_all}
 use Rattle.cookie.specs.Jar.{Name}
 use Rattle.cookie.specs.DeltaTexts.{AreDeltaTexts}
+use Rattle.cookie_browser.specs.Request.{RequestView}
+use Rattle.cookie_browser.specs.Suffixes.{Rule}
 use Rattle.cookie_client.specs.Calls.{IsOutcome, changes_of}
 use Rattle.cookie.specs.Originals.{jar_for}
-use Rattle.cookie_agent.specs.Agreement.{IsOurStore, SiteAgrees, AreAlike}
-use Rattle.cookie_agent.specs.Calls.{IsScopedCall}
-use Rattle.cookie_agent.specs.Scopes.{ScopeView}
-use Rattle.cookie_agent.specs.Site.{SiteView}
+use Rattle.cookie_agent.specs.Agreement.{IsOurStore, PlanView, SiteAgrees, AreAlike}
+use Rattle.cookie_agent.specs.Calls.{IsPlannedCall}
 use Rattle.cookie_agent.specs.Sent.{IsHeader, IsOrderedHeader}
-use Rattle.cookie_agent.specs.Store.{Store, standard_key, store_after_texts}
+use Rattle.cookie_agent.specs.Store.{AgentView, agent_after_texts}
 use Rattle.cookie_agent.specs.declared.request.AgentRequest.{AgentRequest}
 use Rattle.cookie_agent.specs.declared.visited.Visited.{Visited}
 
--- each call of the request that its jar accepted is in its name's scope, which takes in the site
-abbrev pub AreScoped : (Name → ScopeView) → AgentRequest → Visited → Type 0
-AreScoped scopes request visited =
-    All (IsScopedCall request.site.now request.moment scopes)
+-- each call of the request that its jar accepted is as its name's plan has it
+abbrev pub ArePlanned : List Rule → (Name → PlanView) → AgentRequest → Visited → Type 0
+ArePlanned rules plans request visited =
+    All (IsPlannedCall rules request.site.now request.moment plans)
     (accepted_items visited.outcomes.items request.calls.now)
 
 -- What a request came to, for the agent before it.
-pub record IsVisited (before : Store) (request : AgentRequest) (visited : Visited) : Type 0 where
+pub record IsVisited (before : AgentView) (request : AgentRequest) (visited : Visited)
+    : Type 0 where
   -- one outcome a call: true for one that is never refused, false for one that always is
   pub count : length visited.outcomes.items ≡ length request.calls.now
   pub outcomes : AllZip IsOutcome request.calls.now visited.outcomes.items
   -- it sent the agent's header
-  pub sent : IsOrderedHeader request.site.now request.moment before (string_bytes visited.header)
-  -- its jar is what the accepted calls made of a new one with the header's cookies as its originals
-  pub jar : visited.jar
+  pub sent : IsOrderedHeader request.site.now request.moment before.cookies visited.header.items
+  -- its jar is what the accepted calls made of a new one with the header's cookies as its originals, if the header is
+  -- UTF-8
+  pub jar : IsUtf8 visited.header.items
+      → visited.jar
       ≡ after_all (changes_of visited.outcomes.items request.calls.now)
-      (jar_for (string_bytes visited.header))
+      (jar_for visited.header.items)
   -- its agent is the one before, which read the delta's texts in some order
   pub read : (texts : List (List ℕ)) × AreDeltaTexts visited.jar.delta texts
-      × (visited.agent
-      ≡ store_after_texts standard_key request.site.now request.moment texts before)
-  -- where each accepted call is scoped, then whatever the order and the repetition of the delta's texts, each header
+      × (visited.agent ≡ agent_after_texts request.site.now request.moment texts before)
+  -- if each accepted call is as planned, then whatever the order and the repetition of the delta's texts, each header
   -- that is then sent to the site is read as what the jar shows
-  pub agrees : (scopes : Name → ScopeView) → IsOurStore scopes before
-      → AreScoped scopes request visited
+  pub agrees : (plans : Name → PlanView) → IsOurStore plans before.cookies
+      → ArePlanned before.rules plans request visited
       → (texts : List (List ℕ)) → AreDeltaTexts visited.jar.delta texts
       → (header : List ℕ)
       → IsHeader request.site.now request.moment
-      (store_after_texts standard_key request.site.now request.moment texts before) header
+      (agent_after_texts request.site.now request.moment texts before).cookies header
       → SiteAgrees visited.jar header
   -- and what is stored stays so
-  pub ours : (scopes : Name → ScopeView) → IsOurStore scopes before
-      → AreScoped scopes request visited → IsOurStore scopes visited.agent
+  pub ours : (plans : Name → PlanView) → IsOurStore plans before.cookies
+      → ArePlanned before.rules plans request visited → IsOurStore plans visited.agent.cookies
 
 -- Requests came to this, one after the other. The agent of each goes on to the next.
-abbrev pub AreVisited : Store → List AgentRequest → List Visited → Type 0
+abbrev pub AreVisited : AgentView → List AgentRequest → List Visited → Type 0
 AreVisited before [] [] = Unit {0}
 AreVisited before [] (visited ∷ visits) = ⊥
 AreVisited before (request ∷ requests) [] = ⊥
@@ -59,31 +61,32 @@ AreVisited before (request ∷ requests) (visited ∷ visits) =
     IsVisited before request visited × AreVisited visited.agent requests visits
 
 -- the premise, once for all requests
-abbrev pub AreAllScoped : (Name → ScopeView) → List AgentRequest → List Visited → Type 0
-AreAllScoped scopes [] visits = Unit {0}
-AreAllScoped scopes (request ∷ requests) [] = Unit {0}
-AreAllScoped scopes (request ∷ requests) (visited ∷ visits) =
-    AreScoped scopes request visited × AreAllScoped scopes requests visits
+abbrev pub AreAllPlanned : List Rule → (Name → PlanView) → List AgentRequest → List Visited → Type 0
+AreAllPlanned rules plans [] visits = Unit {0}
+AreAllPlanned rules plans (request ∷ requests) [] = Unit {0}
+AreAllPlanned rules plans (request ∷ requests) (visited ∷ visits) =
+    ArePlanned rules plans request visited × AreAllPlanned rules plans requests visits
 
 -- after each request, whatever header its agent sends to the site is read as what its jar shows
 abbrev pub AllAgree : List AgentRequest → List Visited → Type 0
 AllAgree [] visits = Unit {0}
 AllAgree (request ∷ requests) [] = Unit {0}
 AllAgree (request ∷ requests) (visited ∷ visits) =
-    ((header : List ℕ) → IsHeader request.site.now request.moment visited.agent header
+    ((header : List ℕ) → IsHeader request.site.now request.moment visited.agent.cookies header
     → SiteAgrees visited.jar header) × AllAgree requests visits
 
 -- whatever header its agent sends to a site that is alike is read as what its jar shows, as the next request has it
 -- until something expires
-abbrev pub AgreesOn : (Name → ScopeView) → AgentRequest → Visited → Type 0
-AgreesOn scopes request visited =
-    (other : SiteView) (later : DateTime)
-    → AreAlike scopes visited.agent request.site.now other request.moment later
-    → (header : List ℕ) → IsHeader other later visited.agent header → SiteAgrees visited.jar header
+abbrev pub AgreesOn : (Name → PlanView) → AgentRequest → Visited → Type 0
+AgreesOn plans request visited =
+    (other : RequestView) (later : DateTime)
+    → AreAlike plans visited.agent.cookies request.site.now other request.moment later
+    → (header : List ℕ) → IsHeader other later visited.agent.cookies header
+    → SiteAgrees visited.jar header
 
 -- so it is after each request
-abbrev pub AllAgreeOn : (Name → ScopeView) → List AgentRequest → List Visited → Type 0
-AllAgreeOn scopes [] visits = Unit {0}
-AllAgreeOn scopes (request ∷ requests) [] = Unit {0}
-AllAgreeOn scopes (request ∷ requests) (visited ∷ visits) =
-    AgreesOn scopes request visited × AllAgreeOn scopes requests visits
+abbrev pub AllAgreeOn : (Name → PlanView) → List AgentRequest → List Visited → Type 0
+AllAgreeOn plans [] visits = Unit {0}
+AllAgreeOn plans (request ∷ requests) [] = Unit {0}
+AllAgreeOn plans (request ∷ requests) (visited ∷ visits) =
+    AgreesOn plans request visited × AllAgreeOn plans requests visits

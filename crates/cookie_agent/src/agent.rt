@@ -1,109 +1,152 @@
-//! A user agent (RFC 6265 5.3, 5.4).
-ghost use Rattle.std.specs.Prelude.{◌≡◌, [], false, Some, IfOk, OnOk, OnErr, is_some, string_bytes};
-ghost use Rattle.cookie.specs.CookieOf.{cookie_of};
+//! A user agent (RFC 6265bis, Storage Model, Retrieval Algorithm).
+ghost use Rattle.std.specs.Prelude.{◌≡◌, [], IfOk, OnOk, OnErr, Ok, map};
 ghost use Rattle.cookie.specs.Jar.{Name};
-ghost use Rattle.cookie_agent.specs.Agreement.{IsOurStore};
+ghost use Rattle.cookie_browser.specs.ReceivedCode.{received_view};
+ghost use Rattle.cookie_browser.specs.RefusedCode.{kept_view};
+ghost use Rattle.cookie_browser.specs.Storage.{kept_with, lasting, verdict_on};
+ghost use Rattle.cookie_agent.specs.Agreement.{IsOurStore, PlanView};
 ghost use Rattle.cookie_agent.specs.Apart.{IsApart};
-ghost use Rattle.cookie_agent.specs.Keys.{IsFollowedByAnyKey};
+ghost use Rattle.cookie_agent.specs.Hosts.{AreOnlyOwn};
 ghost use Rattle.cookie_agent.specs.Removals.{IsMissed};
-ghost use Rattle.cookie_agent.specs.Scopes.{ScopeView};
 ghost use Rattle.cookie_agent.specs.Sent.{IsOrderedHeader};
-ghost use Rattle.cookie_agent.specs.Store.{IsKey, store_after_cookie, store_after_text, browser_key, put, standard_key, unexpired};
+ghost use Rattle.cookie_agent.specs.Store.{agent_after_text, agent_verdict, refusal_of};
+ghost use Rattle.cookie_agent.specs.VerdictCode.{unexpiring, verdict_result};
 
 use crate::header::{by_path, joined_pairs, visible};
 use crate::site::Site;
 use crate::stored::StoredCookie;
-use cookie::Cookie;
+use crate::verdict::Verdict;
+use cookie_browser::{Expiry, KeptCookie, Received, Refusal, Suffixes, refused_by};
 use jiff::civil::DateTime;
 use std::alloc::{AllocError, Global};
 use std::marker::Model;
 
-/// A user agent. Contracts see the cookies that it stores, in the order of their creation.
+/// A user agent. Contracts see its rules of public suffixes, and the cookies that it stores, in the order of their
+/// creation.
 #[derive(Drop)]
-pub struct Agent {
+pub struct Agent<'r> {
     alloc: Global,
+    suffixes: &'r Suffixes,
     cookies: Vec<StoredCookie>,
 }
 
-impl Model for Agent {
-    ghost use Rattle.cookie_agent.specs.Store.{Store};
+impl<'r> Model for Agent<'r> {
+    ghost use Rattle.std.specs.Prelude.{map};
+    ghost use Rattle.cookie_agent.specs.Store.{AgentView};
     ghost use Rattle.cookie_agent.specs.Apart.{IsApart};
 
-    ghost Value = { Store };
+    ghost Value = { AgentView };
 
-    ghost view = { λ a. a.cookies.items };
+    ghost view = { λ a. record {
+      rules = a.suffixes.now;
+      cookies = a.cookies.items;
+    } };
 
     ghost invariant = { λ a. IsApart a.cookies.items };
 }
 
-impl Agent {
-    /// A user agent that stores nothing.
-    pub fn new(alloc: Global) -> Agent
-        ensures empty { result ≡ [] }
-        ensures ours { (scopes : Name → ScopeView) → IsOurStore scopes result }
-        ensures keys { IsKey standard_key × IsKey browser_key }
-        ensures any_key { IsFollowedByAnyKey }
+impl<'r> Agent<'r> {
+    /// A user agent that stores nothing. Without rules, each domain of one label is a public suffix, and no other.
+    pub fn new(alloc: Global, suffixes: &'r Suffixes) -> Agent<'r>
+        ensures empty { result ≡ record { rules = suffixes.now; cookies = [] } }
+        ensures ours { (plans : Name → PlanView) → IsOurStore plans result.cookies }
     {
         Agent {
             alloc,
+            suffixes,
             cookies: Vec::new(alloc),
         }
     }
 
-    /// Reads the text of a `Set-Cookie` header of the site's response at a moment in UTC. Returns whether it is a
-    /// cookie (RFC 6265 5.3).
+    /// What the agent makes of the text of a `Set-Cookie` header of the site's response at the time `now`: the cookie
+    /// that it would store, or the first step that refuses it (RFC 6265bis, Storage Model). Fails only if out of memory.
+    pub fn verdict(&self, site: &Site, text: &[u8], now: DateTime) -> Result<Verdict, AllocError>
+        ensures { IfOk result (λ verdict.
+            verdict_result verdict ≡ agent_verdict self.now site.now now text.now) }
+    {
+        match Received::of(text) {
+            Ok(received) => self.verdict_on(site, &received, now),
+            Err(refusal) => Ok(Verdict::Refused(refusal)),
+        }
+    }
+
+    // The verdict on a received cookie.
+    fn verdict_on(
+        &self,
+        site: &Site,
+        received: &Received<'_>,
+        now: DateTime,
+    ) -> Result<Verdict, AllocError>
+        ensures { IfOk result (λ verdict. verdict_result verdict
+            ≡ verdict_on self.now.rules site.now now (lasting now self.now.cookies)
+            (Ok (received_view received.now))) }
+    {
+        let domain = received
+            .attributes
+            .bare_domain()
+            .to_ascii_lowercase(self.alloc)?;
+        let request = site.request();
+        let new = KeptCookie::of(self.suffixes, &request, received, domain.as_slice());
+        let kept = lasting_kept(self.alloc, &self.cookies, now)?;
+        if let Some(refusal) = refused_by(
+            self.suffixes,
+            &request,
+            &kept,
+            received,
+            domain.as_slice(),
+            &new,
+        ) {
+            return Ok(Verdict::Refused(refusal));
+        }
+        let expiry = Expiry::of(&received.attributes, now);
+        Ok(Verdict::Stored(StoredCookie::of(self.alloc, &new, expiry)?))
+    }
+
+    /// Reads the text of a `Set-Cookie` header of the site's response at the time `now`: does what
+    /// [`verdict`](Agent::verdict) says. Returns the refusal, or `None` if the cookie is stored.
     ///
-    /// A cookie whose domain the site may set takes the place of the one with its name, domain and path, or comes last.
-    /// Nothing is decoded. What is expired is dropped, so a cookie that is expired drops the one whose place it takes.
-    /// Fails only if out of memory, and then the agent is as before.
-    pub fn read(&mut self, site: &Site, text: &str, now: DateTime) -> Result<bool, AllocError>
-        ensures gives { IfOk result (λ is_cookie.
-            (self.new ≡ store_after_text standard_key site.now now text.now self.old)
-            × (is_cookie ≡ is_some (cookie_of false text.now))) }
+    /// The cookie takes the place of the one with its name, domain, host-only flag and path, or comes last. Nothing is
+    /// decoded. What is expired is dropped, so a cookie that is expired drops the one whose place it takes. Fails only
+    /// if out of memory, and then the agent is as before.
+    pub fn read(
+        &mut self,
+        site: &Site,
+        text: &[u8],
+        now: DateTime,
+    ) -> Result<Option<Refusal>, AllocError>
+        ensures ok { IfOk result (λ refusal.
+            (self.new ≡ agent_after_text site.now now text.now self.old)
+            × (refusal ≡ refusal_of (agent_verdict self.old site.now now text.now))) }
         ensures err { OnErr result (self.new ≡ self.old) }
-        ensures missed { OnOk result (
-            IsMissed standard_key site.now now text.now self.old self.new) }
+        ensures missed { OnOk result (IsMissed site.now now text.now self.old self.new) }
     {
-        match Cookie::parse(text) {
-            Ok(cookie) => {
-                self.take(site, &cookie, now)?;
-                Ok(true)
+        match self.verdict(site, text, now)? {
+            Verdict::Stored(cookie) => {
+                put(&mut self.cookies, cookie, now)?;
+                Ok(None)
             }
-            Err(_) => {
-                self.evict(now);
-                Ok(false)
+            Verdict::Refused(refusal) => {
+                drop_expired(&mut self.cookies, now);
+                Ok(Some(refusal))
             }
         }
     }
 
-    // Takes a cookie that was read.
-    fn take(&mut self, site: &Site, cookie: &Cookie<'_>, now: DateTime) -> Result<(), AllocError>
-        ensures gives { IfOk result (λ _. self.new
-            ≡ store_after_cookie standard_key site.now now (Some cookie.now.fields) self.old) }
-        ensures err { OnErr result (self.new ≡ self.old) }
-    {
-        match site.scope(self.alloc, cookie.path(), cookie.domain())? {
-            Some(scope) => {
-                let stored = StoredCookie::of(self.alloc, scope, cookie, now)?;
-                put(&mut self.cookies, stored, now)?;
-            }
-            None => drop_expired(&mut self.cookies, now),
-        }
-        Ok(())
-    }
-
-    /// Drops the cookies that are expired at a moment in UTC.
+    /// Drops the cookies that are expired at the time `now`.
     pub fn evict(&mut self, now: DateTime)
-        ensures { self.new ≡ unexpired now self.old }
+        ensures { self.new ≡ record self.old { cookies = lasting now self.old.cookies } }
     {
         drop_expired(&mut self.cookies, now);
     }
 
-    /// The value of the `Cookie` header of a request to the site at a moment in UTC (RFC 6265 5.4): longer paths first,
-    /// and the earlier creation first among equals. Fails only if out of memory.
-    pub fn header(&self, site: &Site, now: DateTime) -> Result<String, AllocError>
-        ensures { IfOk result (λ header.
-            IsOrderedHeader site.now now self.now (string_bytes header)) }
+    /// The value of the `Cookie` header of an http request to the site at the time `now` (RFC 6265bis, Retrieval
+    /// Algorithm): longer paths first, and the earlier creation first among equals. Fails only if out of memory.
+    pub fn header(&self, site: &Site, now: DateTime) -> Result<Vec<u8>, AllocError>
+        ensures value { IfOk result (λ header.
+            IsOrderedHeader site.now now self.now.cookies header.items) }
+
+        // Only the site's own secure responses set what it has under names with the prefix `__Host-`, in any case.
+        ensures only_own { AreOnlyOwn }
     {
         let sent = visible(self.alloc, &self.cookies, site, now)?;
         let sent = by_path(sent)?;
@@ -111,21 +154,40 @@ impl Agent {
     }
 
     /// A user agent that stores the same. Fails only if out of memory.
-    pub fn clone(&self) -> Result<Agent, AllocError>
+    pub fn clone(&self) -> Result<Agent<'r>, AllocError>
         ensures { IfOk result (λ made. made ≡ self.now) }
     {
         Ok(Agent {
             alloc: self.alloc,
+            suffixes: self.suffixes,
             cookies: copies(self.alloc, &self.cookies)?,
         })
     }
 }
 
+// The cookies that aren't expired, without their expiries.
+fn lasting_kept<'a>(
+    alloc: Global,
+    cookies: &'a [StoredCookie],
+    now: DateTime,
+) -> Result<Vec<KeptCookie<'a>>, AllocError>
+    ensures { IfOk result (λ kept.
+        map kept_view kept.items ≡ map unexpiring (lasting now cookies.now)) }
+{
+    let mut kept = Vec::new(alloc);
+    for cookie in cookies {
+        if cookie.lasts(now) {
+            kept.push(cookie.as_kept())?;
+        }
+    }
+    Ok(kept)
+}
+
 // Drops the cookies that are expired.
 fn drop_expired(cookies: &mut Vec<StoredCookie>, now: DateTime)
-    ensures { cookies.new.items ≡ unexpired now cookies.old.items }
+    ensures { cookies.new.items ≡ lasting now cookies.old.items }
 {
-    cookies.retain(|cookie| cookie.is_unexpired(now));
+    cookies.retain(|cookie| cookie.lasts(now));
 }
 
 // Puts a cookie in the place of the one with its key that isn't expired, or last, and drops what is expired. After an
@@ -137,7 +199,7 @@ fn put(
 ) -> Result<(), AllocError>
     requires { IsApart cookies.now.items }
     ensures ok { OnOk result (cookies.new.items
-        ≡ unexpired now (put standard_key cookie (unexpired now cookies.old.items))) }
+        ≡ lasting now (kept_with cookie (lasting now cookies.old.items))) }
     ensures err { OnErr result (cookies.new.items ≡ cookies.old.items) }
 {
     put_in_place(cookies, cookie, now)?;
@@ -153,8 +215,8 @@ fn put_in_place(
     now: DateTime,
 ) -> Result<(), AllocError>
     requires { IsApart cookies.now.items }
-    ensures ok { OnOk result (unexpired now cookies.new.items
-        ≡ unexpired now (put standard_key cookie (unexpired now cookies.old.items))) }
+    ensures ok { OnOk result (lasting now cookies.new.items
+        ≡ lasting now (kept_with cookie (lasting now cookies.old.items))) }
     ensures err { OnErr result (cookies.new.items ≡ cookies.old.items) }
 {
     for index in 0..cookies.len() {

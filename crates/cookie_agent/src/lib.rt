@@ -1,22 +1,24 @@
-//! A user agent that keeps cookies by name, domain and path, as browsers do (RFC 6265 5).
+//! A user agent that keeps cookies as browsers do (RFC 6265bis).
 #![tactic(auto)]
 
 mod agent;
-mod expiry;
+mod bytes;
+mod context;
 mod header;
-mod matching;
 mod request;
 mod requests;
 mod scope;
-mod scoped;
 mod site;
 mod stored;
+mod verdict;
 mod visited;
 
 pub use agent::Agent;
+pub use context::RequestContext;
 pub use request::AgentRequest;
 pub use requests::{visit, visits};
 pub use scope::Scope;
-pub use scoped::is_scoped;
 pub use site::Site;
+pub use stored::StoredCookie;
+pub use verdict::Verdict;
 pub use visited::Visited;

@@ -1,41 +1,45 @@
 //! Many requests of one user agent.
-ghost use Rattle.std.specs.Prelude.{◌≡◌, ℕ, List, [], length, map, IfOk, OnOk, string_bytes};
+ghost use Rattle.std.specs.Prelude.{◌≡◌, [], length, map, IfOk, OnOk, IsUtf8, string_bytes};
 ghost use Rattle.cookie.specs.Jar.{Name};
-ghost use Rattle.cookie.specs.DeltaTexts.{AreDeltaTexts};
-ghost use Rattle.cookie_agent.specs.Agreement.{IsOurStore};
-ghost use Rattle.cookie_agent.specs.Scopes.{ScopeView};
-ghost use Rattle.cookie_agent.specs.Store.{store_after_texts, standard_key};
-ghost use Rattle.cookie_agent.specs.Visits.{AgreesOn, AllAgree, AllAgreeOn, AreAllScoped, AreScoped, AreVisited, IsVisited};
+ghost use Rattle.cookie_agent.specs.Agreement.{IsOurStore, PlanView};
+ghost use Rattle.cookie_agent.specs.Store.{AgentView, agent_after_texts};
+ghost use Rattle.cookie_agent.specs.Visits.{AgreesOn, AllAgree, AllAgreeOn, AreAllPlanned, ArePlanned, AreVisited, IsVisited};
 
 use crate::agent::Agent;
 use crate::request::AgentRequest;
 use crate::site::Site;
 use crate::visited::Visited;
 use cookie::CookieJar;
+use cookie_browser::Suffixes;
 use cookie_client::{delta_texts, replay};
 use jiff::civil::DateTime;
 use std::alloc::{AllocError, Global};
 
-/// Makes the requests in order with one user agent, which stores nothing at first.
+/// Makes the requests in order with one user agent, which stores nothing at first and has these rules of public
+/// suffixes.
 ///
 /// Each request sends the agent's header. Its jar is new, with the header's cookies, split and decoded, as its
 /// originals; the calls are made on it as by `replay`; and the encoded texts of its delta come back as the response,
 /// which the agent reads. The text that is read as the i-th is number `pick[i]` of those that are left, modulo their
 /// count, or number 0 after `pick` has ended. Fails only if out of memory outside the calls.
-pub fn visits(
+pub fn visits<'r>(
     alloc: Global,
+    suffixes: &'r Suffixes,
     requests: &[AgentRequest<'_, '_>],
     pick: &[usize],
-) -> Result<Vec<Visited>, AllocError>
+) -> Result<Vec<Visited<'r>>, AllocError>
     ensures count { IfOk result (λ visited. length visited.items ≡ length requests.now) }
-    ensures visits { IfOk result (λ visited. AreVisited [] requests.now visited.items) }
-    ensures agreement { (scopes : Name → ScopeView) → IfOk result (λ visited.
-        AreAllScoped scopes requests.now visited.items → AllAgree requests.now visited.items) }
-    ensures alike { (scopes : Name → ScopeView) → IfOk result (λ visited.
-        AreAllScoped scopes requests.now visited.items
-        → AllAgreeOn scopes requests.now visited.items) }
+    ensures visits { IfOk result (λ visited. AreVisited
+        (record { rules = suffixes.now; cookies = [] }) requests.now
+        visited.items) }
+    ensures agreement { (plans : Name → PlanView) → IfOk result (λ visited.
+        AreAllPlanned suffixes.now plans requests.now visited.items
+        → AllAgree requests.now visited.items) }
+    ensures alike { (plans : Name → PlanView) → IfOk result (λ visited.
+        AreAllPlanned suffixes.now plans requests.now visited.items
+        → AllAgreeOn plans requests.now visited.items) }
 {
-    let mut agent = Agent::new(alloc);
+    let mut agent = Agent::new(alloc, suffixes);
     let mut visited = Vec::new(alloc);
     for request in requests {
         let one = visit(alloc, &agent, request, pick)?;
@@ -50,19 +54,19 @@ pub fn visits(
 ///
 /// So a test plays requests one after the other, each made after it has looked at the one before. Fails only if out of
 /// memory.
-pub fn visit(
+pub fn visit<'r>(
     alloc: Global,
-    agent: &Agent,
+    agent: &Agent<'r>,
     request: &AgentRequest<'_, '_>,
     pick: &[usize],
-) -> Result<Visited, AllocError>
+) -> Result<Visited<'r>, AllocError>
     ensures visit { IfOk result (λ visited. IsVisited agent.now request.now visited) }
-    ensures alike { (scopes : Name → ScopeView) → IfOk result (λ visited.
-        IsOurStore scopes agent.now → AreScoped scopes request.now visited
-        → AgreesOn scopes request.now visited) }
+    ensures alike { (plans : Name → PlanView) → IfOk result (λ visited.
+        IsOurStore plans agent.now.cookies → ArePlanned agent.now.rules plans request.now visited
+        → AgreesOn plans request.now visited) }
 {
     let header = agent.header(request.site, request.moment)?;
-    let mut jar = CookieJar::new(alloc).with_originals(header.as_str())?;
+    let mut jar = CookieJar::new(alloc).with_originals(text_of(&header))?;
     let outcomes = replay(alloc, &mut jar, request.calls)?;
     let texts = delta_texts(alloc, &jar, pick)?;
     let mut agent = agent.clone()?;
@@ -75,18 +79,25 @@ pub fn visit(
     })
 }
 
+// The header as a text. One that isn't UTF-8 counts as empty.
+fn text_of(header: &[u8]) -> &str
+    ensures { IsUtf8 header.now → result.now ≡ header.now }
+{
+    str::from_utf8(header).unwrap_or("")
+}
+
 // Has the agent read texts in order.
 fn read_texts(
-    agent: &mut Agent,
+    agent: &mut Agent<'_>,
     site: &Site,
     texts: &[String],
     now: DateTime,
 ) -> Result<(), AllocError>
     ensures { OnOk result (agent.new
-        ≡ store_after_texts standard_key site.now now (map string_bytes texts.now) agent.old) }
+        ≡ agent_after_texts site.now now (map string_bytes texts.now) agent.old) }
 {
     for text in texts {
-        agent.read(site, text.as_str(), now)?;
+        agent.read(site, text.as_bytes(), now)?;
     }
     Ok(())
 }

@@ -1,39 +1,45 @@
-//! Where a request goes (RFC 6265 5.1.2 to 5.1.4).
-ghost use Rattle.std.specs.Prelude.{◌≡◌, true, false, IfOk, codes, eqb, string_bytes};
-ghost use Rattle.std.specs.List.{starts_with};
-ghost use Rattle.std.specs.Option.{option_copied};
-ghost use Rattle.cookie_agent.specs.Prefixes.{AreHostBound, AreSecured, IsScopedWhole, host_scope};
-ghost use Rattle.cookie_agent.specs.Scopes.{own_scope, path_of, reaches, scope_by, wide_scope};
-ghost use Rattle.cookie_agent.specs.ScopedCode.{gives_own, gives_scope, gives_wide};
-ghost use Rattle.cookie_agent.specs.Site.{default_path, domain_matches, path_matches, request_path, site_of};
+//! Where a request goes, and how it came about.
+ghost use Rattle.std.specs.Prelude.{◌≡◌, true, false, List, IfOk, string_bytes};
+ghost use Rattle.cookie_browser.specs.RefusedCode.{request_view};
+ghost use Rattle.cookie_browser.specs.Suffixes.{Rule};
+ghost use Rattle.cookie_agent.specs.Prefixes.{AreHostBound, AreSecured};
+ghost use Rattle.cookie_agent.specs.Scopes.{host_scope, reaches};
+ghost use Rattle.cookie_agent.specs.Site.{request_path, site_of};
 
-use crate::matching::{default_path, host_matches, path_matches};
+use crate::context::RequestContext;
 use crate::scope::Scope;
+use cookie_browser::{BrowserRequest, is_in_domain, is_under_path};
 use std::alloc::{AllocError, Global};
 use std::marker::Model;
 
-/// Where a request goes: a host, a path, and whether the connection is secure.
+/// Where a request goes: a host, a path, and whether the connection is secure; and how the request came about.
+///
+/// A browser may count `http://localhost` as secure (RFC 6265bis, Retrieval Algorithm). Then `is_secure` is true for it.
 #[derive(Drop)]
 pub struct Site {
     host: String,
     is_address: bool,
     path: String,
     is_secure: bool,
+    context: RequestContext,
 }
 
 impl Model for Site {
     ghost use Rattle.std.specs.Prelude.{◌≡◌, true, codes, eqb, string_bytes};
     ghost use Rattle.std.specs.List.{starts_with};
     ghost use Rattle.std.specs.Str.{str_to_ascii_lowercase};
-    ghost use Rattle.cookie_agent.specs.Site.{SiteView};
+    ghost use Rattle.cookie_browser.specs.Request.{RequestView};
 
-    ghost Value = { SiteView };
+    ghost Value = { RequestView };
 
     ghost view = { λ s. record {
       host = string_bytes s.host;
       is_address = s.is_address;
       path = string_bytes s.path;
       is_secure = s.is_secure;
+      is_same_site = s.context.is_same_site;
+      is_top_level = s.context.is_top_level;
+      is_safe = s.context.is_safe;
     } };
 
     ghost invariant = { λ s.
@@ -43,7 +49,8 @@ impl Model for Site {
 
 impl Site {
     /// The site of a host name, without its port, and of a request's path, without its query. The host is taken in
-    /// lower case; a path that doesn't begin with `/` gets one, so an empty one is `/`. Fails only if out of memory.
+    /// lower case; a path that doesn't begin with `/` gets one, so an empty one is `/`. The request is a same-site
+    /// top-level navigation with a safe method, until `with_context`. Fails only if out of memory.
     pub fn new(alloc: Global, host: &str, path: &str, is_secure: bool) -> Result<Site, AllocError>
         ensures { IfOk result (λ site.
             site ≡ site_of host.now false path.now is_secure) }
@@ -51,8 +58,8 @@ impl Site {
         Site::of_parts(alloc, host, false, path, is_secure)
     }
 
-    /// The same of a host that is an IP address, which no domain but itself matches (RFC 6265 5.1.3). Fails only
-    /// if out of memory.
+    /// The same of a host that is an IP address, which no domain but itself matches (RFC 6265bis, Domain Matching).
+    /// Fails only if out of memory.
     pub fn of_address(
         alloc: Global,
         host: &str,
@@ -80,157 +87,63 @@ impl Site {
             is_address,
             path: request_path(alloc, path)?,
             is_secure,
+            context: RequestContext::same_site(),
         })
     }
 
-    /// Whether the domain, in lower case, takes in the host (RFC 6265 5.1.3).
-    pub fn matches_domain(&self, domain: &str) -> bool
-        ensures { result ≡ domain_matches self.now domain.now }
+    /// The same site, for a request that came about so.
+    pub fn with_context(mut self, context: RequestContext) -> Site
+        ensures { result ≡ record self {
+          is_same_site = context.is_same_site;
+          is_top_level = context.is_top_level;
+          is_safe = context.is_safe;
+        } }
     {
-        host_matches(self.host.as_str(), self.is_address, domain)
+        self.context = context;
+        self
     }
 
-    /// Whether a cookie's path takes in the site's (RFC 6265 5.1.4).
-    pub fn matches_path(&self, path: &str) -> bool
-        ensures { result ≡ path_matches self.now.path path.now }
+    /// The request, for the calls of `cookie_browser`.
+    pub fn request(&self) -> BrowserRequest<'_>
+        ensures { request_view result ≡ self.now }
     {
-        path_matches(self.path.as_str(), path)
-    }
-
-    /// The path of a cookie that is set or removed at the site without one (RFC 6265 5.1.4).
-    pub fn default_path(&self) -> &str
-        ensures { result.now ≡ default_path self.now.path }
-    {
-        default_path(self.path.as_str())
-    }
-
-    /// The scope of a cookie with this path and this domain that is set or removed at the site, if it may have that
-    /// domain, and else `None` (RFC 6265 5.3). An empty domain counts as none. Fails only if out of memory.
-    pub fn scope(
-        &self,
-        alloc: Global,
-        path: Option<&str>,
-        domain: Option<&str>,
-    ) -> Result<Option<Scope>, AllocError>
-        ensures { IfOk result (λ scope.
-            scope ≡ scope_by self.now (option_copied domain.entry) (option_copied path.entry)) }
-    {
-        let Some(domain) = domain else {
-            return Ok(Some(self.own_scope(alloc, path)?));
-        };
-        if domain.is_empty() {
-            return Ok(Some(self.own_scope(alloc, path)?));
+        BrowserRequest {
+            host: self.host.as_bytes(),
+            is_address: self.is_address,
+            path: self.path.as_bytes(),
+            is_secure: self.is_secure,
+            is_same_site: self.context.is_same_site,
+            is_top_level: self.context.is_top_level,
+            is_safe: self.context.is_safe,
         }
-        self.wide_scope(alloc, domain, path)
     }
 
     /// The whole host of the site and no other, which is the scope of each cookie with the path `/` and without a
-    /// domain, and so of all that a jar with the prefix `__Host-` stores and removes (RFC 6265bis 4.1.3). Fails only if
-    /// out of memory.
-    #[tactic(auto, using(crate::proofs::PrefixLemmas::host_reaches))]
+    /// domain, and so of all that a jar with the prefix `__Host-` stores and removes (RFC 6265bis, The "__Host-" Prefix).
+    /// Fails only if out of memory.
     pub fn host_scope(&self, alloc: Global) -> Result<Scope, AllocError>
         ensures value { IfOk result (λ scope. scope ≡ host_scope self.now) }
 
-        // Each site sees its whole host, and each cookie with the path `/` and without a domain has it.
-        ensures reaches { reaches self.now (host_scope self.now) ≡ true }
-        ensures whole { IsScopedWhole self.now }
-
         // What jars with the prefixes `__Host-` and `__Secure-` store and remove meets what a browser asks of such
-        // names (RFC 6265bis 5.7).
-        ensures host_bound { AreHostBound self.now }
+        // names (RFC 6265bis, Cookie Name Prefixes).
+        ensures host_bound { (rules : List Rule) → AreHostBound rules self.now }
         ensures secured { AreSecured }
     {
-        self.own_scope(alloc, Some("/"))
+        Scope::new(alloc, self.host.as_bytes(), true, b"/".as_slice())
     }
 
-    fn own_scope(&self, alloc: Global, path: Option<&str>) -> Result<Scope, AllocError>
-        ensures scope { IfOk result (λ scope.
-            scope ≡ own_scope self.now (option_copied path.entry)) }
-        ensures path { starts_with eqb self.now.path (codes "/") ≡ true }
-    {
-        Ok(Scope {
-            domain: String::from_str(alloc, self.host.as_str())?,
-            is_host_only: true,
-            path: String::from_str(alloc, self.path_of(path))?,
-        })
-    }
-
-    fn wide_scope(
-        &self,
-        alloc: Global,
-        domain: &str,
-        path: Option<&str>,
-    ) -> Result<Option<Scope>, AllocError>
-        ensures { IfOk result (λ scope.
-            scope ≡ wide_scope self.now domain.now (option_copied path.entry)) }
-    {
-        let domain = domain.to_ascii_lowercase(alloc)?;
-        if !self.matches_domain(domain.as_str()) {
-            return Ok(None);
-        }
-        Ok(Some(Scope {
-            domain,
-            is_host_only: false,
-            path: String::from_str(alloc, self.path_of(path))?,
-        }))
-    }
-
-    // A cookie's path, if it begins with `/`, and else the default path.
-    fn path_of<'a>(&'a self, path: Option<&'a str>) -> &'a str
-        ensures { result.now ≡ path_of self.now (option_copied path.entry) }
-    {
-        match path {
-            Some(path) if path.as_bytes().starts_with(b"/") => path,
-            _ => self.default_path(),
-        }
-    }
-
-    // Whether the site gives the scope to a cookie with this domain and this path.
-    pub(crate) fn gives_scope(
-        &self,
-        scope: &Scope,
-        domain: Option<&str>,
-        path: Option<&str>,
-    ) -> bool
-        ensures { result ≡ gives_scope self.now scope.now (option_copied domain.entry)
-            (option_copied path.entry) }
-    {
-        let Some(domain) = domain else {
-            return self.gives_own(scope, path);
-        };
-        if domain.is_empty() {
-            return self.gives_own(scope, path);
-        }
-        self.gives_wide(scope, domain, path)
-    }
-
-    fn gives_own(&self, scope: &Scope, path: Option<&str>) -> bool
-        ensures { result ≡ gives_own self.now scope.now (option_copied path.entry) }
-    {
-        scope.is_host_only()
-            && scope.domain() == self.host.as_str()
-            && scope.path() == self.path_of(path)
-    }
-
-    fn gives_wide(&self, scope: &Scope, domain: &str, path: Option<&str>) -> bool
-        ensures { result ≡ gives_wide self.now scope.now domain.now (option_copied path.entry) }
-    {
-        !scope.is_host_only()
-            && scope.is_domain(domain)
-            && self.matches_domain(scope.domain())
-            && scope.path() == self.path_of(path)
-    }
-
-    /// Whether a cookie of this scope is sent to the site, if its connection serves (RFC 6265 5.4).
+    /// Whether a cookie of this scope is sent to the site, if its connection and the request's context allow it
+    /// (RFC 6265bis, Retrieval Algorithm).
     pub fn is_reached(&self, scope: &Scope) -> bool
         ensures { result ≡ reaches self.now scope.now }
     {
+        let host = self.host.as_bytes();
         let reaches_host = if scope.is_host_only() {
-            self.host.as_str() == scope.domain()
+            host == scope.domain()
         } else {
-            self.matches_domain(scope.domain())
+            is_in_domain(host, self.is_address, scope.domain())
         };
-        reaches_host && self.matches_path(scope.path())
+        reaches_host && is_under_path(self.path.as_bytes(), scope.path())
     }
 
     /// Whether the connection is secure.

@@ -1,134 +1,140 @@
-//! A stored cookie (RFC 6265 5.3).
-ghost use Rattle.std.specs.Prelude.{◌≡◌, ◌++◌, IfOk, OnOk, string_bytes};
-ghost use Rattle.cookie.specs.Text.{is_true};
+//! A stored cookie.
+ghost use Rattle.std.specs.Prelude.{◌≡◌, ◌++◌, None, IfOk, OnOk};
+ghost use Rattle.cookie_browser.specs.ExpiryCode.{expiry_time};
+ghost use Rattle.cookie_browser.specs.RefusedCode.{kept_view};
+ghost use Rattle.cookie_browser.specs.Storage.{is_sent, lasts};
 ghost use Rattle.cookie_agent.specs.Apart.{gives_place};
-ghost use Rattle.cookie_agent.specs.Sent.{is_visible, sent_pair, path_length};
-ghost use Rattle.cookie_agent.specs.Store.{is_unexpired, standard_key, stored_in};
+ghost use Rattle.cookie_agent.specs.Sent.{path_length, sent_pair};
 
-use crate::expiry::Expiry;
-use crate::scope::Scope;
+use crate::bytes::copied;
 use crate::site::Site;
-use cookie::Cookie;
+use cookie_browser::{Enforcement, Expiry, KeptCookie};
 use jiff::civil::DateTime;
 use std::alloc::{AllocError, Global};
 use std::marker::Model;
 
-/// A stored cookie, with its name and its value as they stood in the header.
+/// A cookie that a user agent stores (RFC 6265bis, Storage Model). Contracts see it as `cookie_browser` does.
 #[derive(Drop)]
-pub(crate) struct StoredCookie {
-    name: String,
-    value: String,
-    scope: Scope,
+pub struct StoredCookie {
+    name: Vec<u8>,
+    value: Vec<u8>,
+    domain: Vec<u8>,
+    is_host_only: bool,
+    path: Vec<u8>,
     is_secure_only: bool,
     is_http_only: bool,
+    same_site: Enforcement,
     expiry: Expiry,
 }
 
 impl Model for StoredCookie {
-    ghost use Rattle.std.specs.Prelude.{string_bytes};
-    ghost use Rattle.cookie_agent.specs.Store.{Stored};
+    ghost use Rattle.cookie_browser.specs.ExpiryCode.{expiry_time};
+    ghost use Rattle.cookie_browser.specs.Storage.{KeptView};
 
-    ghost Value = { Stored };
-
-    ghost use Rattle.cookie_agent.specs.ExpiryCode.{expiry_moment};
+    ghost Value = { KeptView };
 
     ghost view = { λ c. record {
-      name = string_bytes c.name;
-      value = string_bytes c.value;
-      scope = c.scope;
+      name = c.name.items;
+      value = c.value.items;
+      domain = c.domain.items;
+      is_host_only = c.is_host_only;
+      path = c.path.items;
       is_secure_only = c.is_secure_only;
       is_http_only = c.is_http_only;
-      expiry = expiry_moment c.expiry;
+      same_site = c.same_site;
+      expiry = expiry_time c.expiry;
     } };
 }
 
 impl StoredCookie {
-    // What a cookie that was read at the moment `now` is stored as.
+    // A copy of the cookie, with its expiry.
     pub(crate) fn of(
         alloc: Global,
-        scope: Scope,
-        cookie: &Cookie<'_>,
-        now: DateTime,
+        kept: &KeptCookie<'_>,
+        expiry: Expiry,
     ) -> Result<StoredCookie, AllocError>
-        ensures { IfOk result (λ made. made ≡ stored_in scope now cookie.now.fields) }
+        ensures { IfOk result (λ made.
+            made ≡ record (kept_view kept.now) { expiry = expiry_time expiry }) }
     {
         Ok(StoredCookie {
-            name: String::from_str(alloc, cookie.name())?,
-            value: String::from_str(alloc, cookie.value())?,
-            scope,
-            is_secure_only: is_true(cookie.secure()),
-            is_http_only: is_true(cookie.http_only()),
-            expiry: Expiry::of(cookie, now),
+            name: copied(alloc, kept.name)?,
+            value: copied(alloc, kept.value)?,
+            domain: copied(alloc, kept.domain)?,
+            is_host_only: kept.is_host_only,
+            path: copied(alloc, kept.path)?,
+            is_secure_only: kept.is_secure_only,
+            is_http_only: kept.is_http_only,
+            same_site: kept.same_site,
+            expiry,
         })
     }
 
-    // A copy of it.
-    pub(crate) fn clone(&self, alloc: Global) -> Result<StoredCookie, AllocError>
-        ensures { IfOk result (λ made. made ≡ self.now) }
+    /// All but its expiry, for the calls of `cookie_browser`: the name, the value, and what its attributes came to.
+    pub fn as_kept(&self) -> KeptCookie<'_>
+        ensures { kept_view result ≡ record self.now { expiry = None } }
     {
-        Ok(StoredCookie {
-            name: String::from_str(alloc, self.name.as_str())?,
-            value: String::from_str(alloc, self.value.as_str())?,
-            scope: self.scope.clone(alloc)?,
+        KeptCookie {
+            name: self.name.as_slice(),
+            value: self.value.as_slice(),
+            domain: self.domain.as_slice(),
+            is_host_only: self.is_host_only,
+            path: self.path.as_slice(),
             is_secure_only: self.is_secure_only,
             is_http_only: self.is_http_only,
-            expiry: self.expiry,
-        })
+            same_site: self.same_site,
+        }
     }
 
-    // Whether it isn't expired at the moment, and has the name, domain and path of the other.
+    /// When it expires.
+    pub fn expiry(&self) -> Expiry
+        ensures { expiry_time result ≡ self.now.expiry }
+    {
+        self.expiry
+    }
+
+    /// A copy of it. Fails only if out of memory.
+    pub fn clone(&self, alloc: Global) -> Result<StoredCookie, AllocError>
+        ensures { IfOk result (λ made. made ≡ self.now) }
+    {
+        StoredCookie::of(alloc, &self.as_kept(), self.expiry)
+    }
+
+    // Whether it isn't expired at the time `now`.
+    pub(crate) fn lasts(&self, now: DateTime) -> bool
+        ensures { result ≡ lasts self.now.expiry now }
+    {
+        self.expiry.lasts(now)
+    }
+
+    // Whether it isn't expired at the time `now`, and the other one replaces it.
     pub(crate) fn gives_place(&self, other: &StoredCookie, now: DateTime) -> bool
         ensures { result ≡ gives_place other.now now self.now }
     {
-        self.is_unexpired(now) && self.is_same(other)
+        self.lasts(now) && self.as_kept().is_same(&other.as_kept())
     }
 
-    // Whether it has the same name, domain and path.
-    fn is_same(&self, other: &StoredCookie) -> bool
-        ensures { result ≡ standard_key self.now other.now }
+    /// Whether it is sent to the site at the time `now` (RFC 6265bis, Retrieval Algorithm).
+    pub fn is_sent(&self, site: &Site, now: DateTime) -> bool
+        ensures { result ≡ is_sent site.now now self.now }
     {
-        self.name == other.name
-            && self.scope.domain() == other.scope.domain()
-            && self.scope.path() == other.scope.path()
-    }
-
-    // Whether it isn't expired at the moment.
-    pub(crate) fn is_unexpired(&self, now: DateTime) -> bool
-        ensures { result ≡ is_unexpired self.now.expiry now }
-    {
-        self.expiry.is_unexpired(now)
-    }
-
-    // Whether it is sent to the site at the moment.
-    pub(crate) fn is_visible(&self, site: &Site, now: DateTime) -> bool
-        ensures { result ≡ is_visible site.now now self.now }
-    {
-        self.expiry.is_unexpired(now)
-            && site.is_reached(&self.scope)
-            && (site.is_secure() || !self.is_secure_only)
+        self.lasts(now) && self.as_kept().suits(&site.request())
     }
 
     // The length of its path, in bytes.
     pub(crate) fn path_length(&self) -> usize
         ensures { result ≡ path_length self.now }
     {
-        self.scope.path().len()
+        self.path.len()
     }
 
     // Writes its name and its value after the text.
-    pub(crate) fn push_pair(&self, header: &mut String) -> Result<(), AllocError>
-        ensures { OnOk result (string_bytes header.new
-            ≡ string_bytes header.old ++ sent_pair self.now) }
+    pub(crate) fn push_pair(&self, header: &mut Vec<u8>) -> Result<(), AllocError>
+        ensures { OnOk result (header.new.items ≡ header.old.items ++ sent_pair self.now) }
     {
-        header.push_str(self.name.as_str())?;
-        header.push_str("=")?;
-        header.push_str(self.value.as_str())
+        if !self.name.is_empty() {
+            header.extend_from_slice(&self.name)?;
+            header.extend_from_slice(b"=")?;
+        }
+        header.extend_from_slice(&self.value)
     }
-}
-
-// Whether it is set, and true.
-fn is_true(flag: Option<bool>) -> bool
-    ensures { result ≡ is_true flag }
-{
-    flag.unwrap_or(false)
 }

@@ -4,13 +4,13 @@ use cookie::CookieJar;
 
 /// What a request of a user agent came to.
 #[derive(Drop)]
-pub struct Visited {
+pub struct Visited<'r> {
     /// The value of the `Cookie` header that it sent.
-    pub header: String,
+    pub header: Vec<u8>,
     /// Its jar after the calls.
     pub jar: CookieJar,
     /// The user agent after the response.
-    pub agent: Agent,
+    pub agent: Agent<'r>,
     /// One outcome a call, in their order: true if it was accepted. A refused call counts as not made.
     pub outcomes: Vec<bool>,
 }

@@ -1,4 +1,4 @@
-//! Rows whose answers come from RFC 6265, curl and Python's `http.cookiejar`, and a second body of the agent.
+//! Rows whose answers come from RFC 6265bis, curl and Python's `http.cookiejar`, and a second body of the agent.
 mod comparison;
 mod plain_agent;
 mod requests;
@@ -8,7 +8,7 @@ mod stores;
 
 use jiff::civil::DateTime;
 
-// This many seconds after the minute of all rows, in UTC. A number that no minute has is the first moment there is.
+// This many seconds after the minute of all rows, in UTC. A number that no minute has is the first time there is.
 fn at(second: i8) -> DateTime {
     DateTime::new(2015, 10, 21, 7, 28, second, 0).unwrap_or(DateTime::MIN)
 }

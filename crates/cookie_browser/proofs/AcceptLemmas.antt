@@ -33,7 +33,7 @@ overlays_none request store new (inr all) =
     ap (λ b. not new.is_secure_only && (not request.is_secure && b)) none ∙ ap (λ b. not new.is_secure_only && b) (and_false (not request.is_secure)) ∙ and_false (not new.is_secure_only)
 
 -- only the step on overlaid cookies looks at the store
-refusal_anywhere : (rules : List Rule) (request : RequestView) (store : CookieStore) (r : ReceivedView) (new : KeptView) → IsUncovered request store new.name → first_refusal rules request store r new ≡ first_refusal rules request [] r new
+pub refusal_anywhere : (rules : List Rule) (request : RequestView) (store : CookieStore) (r : ReceivedView) (new : KeptView) → IsUncovered request store new.name → first_refusal rules request store r new ≡ first_refusal rules request [] r new
 unfolding refusal_by_connection
 refusal_anywhere rules request store r new uncovered =
     ap (λ b. or_next_refusal (refusal_by_domain rules request r)

@@ -7,6 +7,7 @@ pub mod Storage
 pub mod ReceivedCode
 pub mod SuffixList
 pub mod SuffixCode
+pub mod ExpiryCode
 pub mod RefusedCode
 pub mod Printed
 pub mod PrintedStored

@@ -63,9 +63,12 @@ abbrev pub is_host_only : List Rule → List ℕ → Bool
 is_host_only rules [] = true
 is_host_only rules (byte ∷ bytes) = is_public_suffix rules (byte ∷ bytes)
 
--- the path that is asked for, if it begins with `/`, and else the default path (The Path Attribute)
+-- the path that is asked for, if it begins with `/`, and else the default path of the request's (The Path Attribute)
+abbrev pub path_or_folder : List ℕ → List ℕ → List ℕ
+path_or_folder request path = if starts_with eqb path (codes "/") then path else folder_of request
+
 abbrev pub asked_path : RequestView → List ℕ → List ℕ
-asked_path request path = if starts_with eqb path (codes "/") then path else folder_of request.path
+asked_path request path = path_or_folder request.path path
 
 -- what a received cookie is stored as
 abbrev pub kept_as : List Rule → RequestView → DateTime → ReceivedView → KeptView
@@ -266,9 +269,12 @@ is_meant_for request cookie =
     else is_in_domain request.host request.is_address cookie.domain)
     && is_under_path request.path cookie.path
 
+-- the request has the cookie, if it isn't expired
+abbrev pub suits : RequestView → KeptView → Bool
+suits request cookie =
+    is_meant_for request cookie
+    && ((request.is_secure || not cookie.is_secure_only) && allows request cookie.same_site)
+
 -- the cookie is sent with the request
 abbrev pub is_sent : RequestView → DateTime → KeptView → Bool
-is_sent request now cookie =
-    lasts cookie.expiry now
-    && (is_meant_for request cookie
-    && ((request.is_secure || not cookie.is_secure_only) && allows request cookie.same_site))
+is_sent request now cookie = lasts cookie.expiry now && suits request cookie

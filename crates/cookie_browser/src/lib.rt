@@ -4,6 +4,7 @@
 mod attributes;
 mod bytes;
 mod enforcement;
+mod expiry;
 mod kept_cookie;
 mod received;
 mod refusal;
@@ -13,9 +14,10 @@ mod suffixes;
 
 pub use attributes::ReceivedAttributes;
 pub use enforcement::Enforcement;
+pub use expiry::Expiry;
 pub use kept_cookie::KeptCookie;
 pub use received::Received;
 pub use refusal::Refusal;
 pub use refused::refused_by;
-pub use request::BrowserRequest;
+pub use request::{BrowserRequest, folder_of, is_in_domain, is_under_path};
 pub use suffixes::Suffixes;

@@ -14,7 +14,7 @@ use crate::refusal::Refusal;
 use crate::request::{BrowserRequest, is_in_domain, is_under_path};
 use crate::suffixes::Suffixes;
 
-fn is_site_bound(enforcement: Enforcement) -> bool
+pub(crate) fn is_site_bound(enforcement: Enforcement) -> bool
     ensures { result ≡ spec.is_site_bound enforcement }
 {
     !matches!(enforcement, Enforcement::None)

@@ -1,6 +1,6 @@
 //! A request, as a browser sees it, and the hosts and paths that a cookie is for.
 ghost use Rattle.std.specs.Prelude.{◌≡◌};
-ghost use Rattle.cookie_browser.specs.Request.{is_in_domain, is_under_path};
+ghost use Rattle.cookie_browser.specs.Request.{folder_of, is_in_domain, is_under_path, or_root};
 
 /// A request: where it goes, and how it came about.
 #[derive(Clone, Copy)]
@@ -21,8 +21,8 @@ pub struct BrowserRequest<'s> {
     pub is_safe: bool,
 }
 
-// Whether the host is the domain, or is no address and ends in a dot and the domain.
-pub(crate) fn is_in_domain(host: &[u8], is_address: bool, domain: &[u8]) -> bool
+/// Whether the host is the domain, or is no address and ends in a dot and the domain (RFC 6265bis, Domain Matching).
+pub fn is_in_domain(host: &[u8], is_address: bool, domain: &[u8]) -> bool
     ensures { result ≡ is_in_domain host.now is_address domain.now }
 {
     if host == domain {
@@ -34,8 +34,8 @@ pub(crate) fn is_in_domain(host: &[u8], is_address: bool, domain: &[u8]) -> bool
     host[..host.len() - domain.len()].ends_with(b".")
 }
 
-// Whether a request's path is the cookie's path, or is below it.
-pub(crate) fn is_under_path(request: &[u8], cookie: &[u8]) -> bool
+/// Whether a request's path is the cookie's path, or is below it (RFC 6265bis, Paths and Path-Match).
+pub fn is_under_path(request: &[u8], cookie: &[u8]) -> bool
     ensures { result ≡ is_under_path request.now cookie.now }
 {
     if request == cookie {
@@ -45,4 +45,26 @@ pub(crate) fn is_under_path(request: &[u8], cookie: &[u8]) -> bool
         return false;
     }
     cookie.ends_with(b"/") || request[cookie.len()..].starts_with(b"/")
+}
+
+/// The path of a cookie that is set at this path without one: up to the last `/`, without it, or `/` (RFC 6265bis, Paths
+/// and Path-Match).
+pub fn folder_of(path: &[u8]) -> &[u8]
+    ensures { result.now ≡ folder_of path.now }
+{
+    if !path.starts_with(b"/") {
+        return b"/".as_slice();
+    }
+    let last = path.iter().rev().take_while(|&&byte| byte != b'/').count();
+    or_root(&path[..(path.len() - last).saturating_sub(1)])
+}
+
+fn or_root(path: &[u8]) -> &[u8]
+    ensures { result.now ≡ or_root path.now }
+{
+    if path.is_empty() {
+        b"/".as_slice()
+    } else {
+        path
+    }
 }

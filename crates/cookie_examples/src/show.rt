@@ -6,6 +6,7 @@ use crate::{
 use anyhow::Result;
 use cookie::{Cookie, CookieBuilder, CookieJar, DateText, JarError, Key};
 use cookie_agent::Site;
+use cookie_browser::Suffixes;
 use cookie_client::{ChildCall, Client, ClientError, JarCall, Played};
 use http_header::{HeaderMap, HeaderValue};
 use jiff::civil::DateTime;
@@ -173,8 +174,9 @@ pub fn browser(rt: &HostRuntime, now: DateTime) -> Result<()> {
     let alloc = rt.alloc();
     let site = Site::new(alloc, "www.example.com", "/shop/cart", true)?;
     let text = "cart=3; Domain=example.com; Path=/shop; Secure";
-    let header = agents::next_header(alloc, &site, text, now)?;
-    println!(rt; "browser: {header}")?;
+    let suffixes = Suffixes::new(alloc, b"com\n")?;
+    let header = agents::next_header(alloc, &suffixes, &site, text, now)?;
+    println!(rt; "browser: {}", str::from_utf8(&header)?)?;
     Ok(())
 }
 

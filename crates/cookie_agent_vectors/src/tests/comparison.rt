@@ -2,8 +2,10 @@
 use super::at;
 use super::plain_agent::{PlainAgent, Spot};
 use super::sites::site_of;
+use super::stores::suffixes;
 use call_steps::{Draws, Tables};
 use cookie_agent::{Agent, AgentRequest, Site, Visited, visits};
+use cookie_browser::Suffixes;
 use cookie_client::JarCall;
 use std::alloc::Global;
 
@@ -49,7 +51,13 @@ impl Drawn {
 
 // What comes of the first of five requests, this many, in one list. A list of requests that are lent can't be made one
 // by one here, so five are lent.
-fn visit(alloc: Global, five: &[Drawn], count: usize, pick: &[usize]) -> Option<Vec<Visited>> {
+fn visit<'r>(
+    alloc: Global,
+    suffixes: &'r Suffixes,
+    five: &[Drawn],
+    count: usize,
+    pick: &[usize],
+) -> Option<Vec<Visited<'r>>> {
     let [first, second, third, fourth, fifth] = five else {
         return None;
     };
@@ -60,17 +68,17 @@ fn visit(alloc: Global, five: &[Drawn], count: usize, pick: &[usize]) -> Option<
         fourth.lend(),
         fifth.lend(),
     ];
-    visits(alloc, lent.get(..count)?, pick).ok()
+    visits(alloc, suffixes, lent.get(..count)?, pick).ok()
 }
 
 // Whether the two agents send the same to each site, at three moments.
-fn are_sent_alike(agent: &Agent, plain: &PlainAgent<'_>) -> Option<bool> {
+fn are_sent_alike(agent: &Agent<'_>, plain: &PlainAgent<'_>) -> Option<bool> {
     for number in 0..12usize {
         let spot = Spot::of(number % 4, *[0, 8, 16].get(number / 4)?);
         let header = agent
             .header(&site_of(plain.alloc, spot.url)?, at(spot.second))
             .ok()?;
-        if header.as_str() != plain.header(spot).ok()?.as_str() {
+        if header.as_slice() != plain.header(spot).ok()?.as_bytes() {
             return Some(false);
         }
     }
@@ -79,9 +87,9 @@ fn are_sent_alike(agent: &Agent, plain: &PlainAgent<'_>) -> Option<bool> {
 
 // Makes the calls of a request on a flat jar, has the plain agent read its changes in their order, and answers whether
 // the same came of them.
-fn is_alike<'c>(plain: &mut PlainAgent<'c>, request: &'c Drawn, one: &Visited) -> Option<bool> {
+fn is_alike<'c>(plain: &mut PlainAgent<'c>, request: &'c Drawn, one: &Visited<'_>) -> Option<bool> {
     let spot = request.spot;
-    let is_begun = plain.header(spot).ok()?.as_str() == one.header.as_str();
+    let is_begun = plain.header(spot).ok()?.as_bytes() == one.header.as_slice();
     let jar = plain.jar_after(spot, &request.calls)?;
     for name in plain.names_in_order(&one.jar)? {
         plain.read(spot, jar.changes.find(name)?).ok()?;
@@ -92,7 +100,8 @@ fn is_alike<'c>(plain: &mut PlainAgent<'c>, request: &'c Drawn, one: &Visited) -
 
 // Whether this many of five requests come to the same with both bodies.
 fn are_alike<'c>(alloc: Global, five: &'c [Drawn], count: usize, pick: [usize; 2]) -> Option<bool> {
-    let visited = visit(alloc, five, count, &pick)?;
+    let suffixes = suffixes(alloc)?;
+    let visited = visit(alloc, &suffixes, five, count, &pick)?;
     let mut plain: PlainAgent<'c> = PlainAgent::new(alloc, pick);
     for (request, one) in five.iter().zip(&visited) {
         if !is_alike(&mut plain, request, one)? {

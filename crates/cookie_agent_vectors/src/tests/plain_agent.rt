@@ -1,4 +1,4 @@
-//! A second body of the user agent over plain values (RFC 6265 5.3, 5.4).
+//! A second body of the user agent over plain values (RFC 6265bis).
 use call_steps::{Entry, FlatJar};
 use cookie::{Cookie, CookieJar};
 use cookie_client::JarCall;
@@ -40,14 +40,16 @@ impl Spot {
     // Whether the domain takes in the host.
     fn is_in(self, domain: &str) -> bool {
         let is_name = !self.url.starts_with("address");
-        let before = self.host.strip_suffix(domain);
-        before.is_some_and(|before| before.is_empty() || is_name && before.ends_with('.'))
+        self.host == domain || is_name && is_in(self.host, domain)
+    }
+
+    fn is_secure(self) -> bool {
+        self.url.starts_with("https")
     }
 
     // Whether its path is at or below the one of a cookie.
     fn is_below(self, path: &str) -> bool {
-        let rest = self.path.strip_prefix(path);
-        rest.is_some_and(|rest| rest.is_empty() || rest.starts_with('/') || path.ends_with('/'))
+        is_below(self.path, path)
     }
 
     // The domain of a cookie and whether it is one host's alone, if the site may set it.
@@ -58,6 +60,18 @@ impl Spot {
             Some(_) => None,
         }
     }
+}
+
+// Whether the host name is the domain, or ends in a dot and the domain.
+fn is_in(host: &str, domain: &str) -> bool {
+    let before = host.strip_suffix(domain);
+    before.is_some_and(|before| before.is_empty() || before.ends_with('.'))
+}
+
+// Whether the path is the other one, or below it.
+fn is_below(path: &str, other: &str) -> bool {
+    let rest = path.strip_prefix(other);
+    rest.is_some_and(|rest| rest.is_empty() || rest.starts_with('/') || other.ends_with('/'))
 }
 
 // The escapes of a name or a value that is drawn, worked by hand.
@@ -81,9 +95,20 @@ struct Held<'c> {
 }
 
 impl<'c> Held<'c> {
-    // What is stored of a change that the site sends. No agent reads a cookie without a name.
+    // What is stored of a change that the site sends, but for what stored cookies say. A cookie without a name has a
+    // value.
     fn of(spot: Spot, change: Entry<'c>) -> Option<Held<'c>> {
         let cookie = change.cookie;
+        let value = if change.is_removal {
+            ""
+        } else {
+            cookie.value()
+        };
+        if cookie.name().is_empty() && value.is_empty()
+            || cookie.secure().is_some() && !spot.is_secure()
+        {
+            return None;
+        }
         let (domain, is_host_only) = spot.domain(cookie.domain())?;
         let age = match cookie.max_age() {
             _ if change.is_removal => 0,
@@ -91,18 +116,30 @@ impl<'c> Held<'c> {
             None => i64::MAX,
         };
         let path = cookie.path().filter(|path| path.starts_with('/'));
-        let held = Held {
+        Some(Held {
             cookie,
             domain,
             is_host_only,
             path: path.unwrap_or(spot.folder),
             expiry: age.saturating_add(spot.second as i64),
-        };
-        (!cookie.name().is_empty()).then_some(held)
+        })
     }
 
-    fn key(&self) -> (&'c str, &'c str, &'c str) {
-        (self.cookie.name(), self.domain, self.path)
+    fn key(&self) -> (&'c str, &'c str, bool, &'c str) {
+        (
+            self.cookie.name(),
+            self.domain,
+            self.is_host_only,
+            self.path,
+        )
+    }
+
+    // Whether it is a secure cookie that the other one, which comes over an insecure connection, would be sent with.
+    fn is_overlaid(&self, other: &Held<'c>) -> bool {
+        self.cookie.name() == other.cookie.name()
+            && self.cookie.secure().is_some()
+            && (is_in(self.domain, other.domain) || is_in(other.domain, self.domain))
+            && is_below(other.path, self.path)
     }
 
     fn is_unexpired(&self, spot: Spot) -> bool {
@@ -113,7 +150,7 @@ impl<'c> Held<'c> {
         self.is_unexpired(spot)
             && (self.domain == spot.host || !self.is_host_only && spot.is_in(self.domain))
             && spot.is_below(self.path)
-            && (spot.url.starts_with("https") || self.cookie.secure().is_none())
+            && (spot.is_secure() || self.cookie.secure().is_none())
     }
 }
 
@@ -167,7 +204,10 @@ impl<'c> PlainAgent<'c> {
     pub(super) fn read(&mut self, spot: Spot, change: Entry<'c>) -> Result<(), AllocError> {
         self.cookies.retain(|held| held.is_unexpired(spot));
         if let Some(cookie) = Held::of(spot, change) {
-            self.put(cookie)?;
+            let is_covered = self.cookies.iter().any(|held| held.is_overlaid(&cookie));
+            if spot.is_secure() || !is_covered {
+                self.put(cookie)?;
+            }
         }
         self.cookies.retain(|held| held.is_unexpired(spot));
         Ok(())
@@ -192,7 +232,13 @@ impl<'c> PlainAgent<'c> {
         for held in &self.sent(spot)? {
             let separator = if header.is_empty() { "" } else { "; " };
             let (name, value) = held.cookie.name_value();
-            write!(header, "{separator}{}={}", escaped(name), escaped(value))?;
+            let mark = if name.is_empty() { "" } else { "=" };
+            write!(
+                header,
+                "{separator}{}{mark}{}",
+                escaped(name),
+                escaped(value)
+            )?;
         }
         Ok(header)
     }
@@ -201,7 +247,9 @@ impl<'c> PlainAgent<'c> {
     pub(super) fn jar_after(&self, spot: Spot, calls: &'c [JarCall<'_>]) -> Option<FlatJar<'c>> {
         let mut jar = FlatJar::new(self.alloc);
         for held in &self.sent(spot).ok()? {
-            jar.originals.put(held.cookie, false).ok()?;
+            if !held.cookie.name().is_empty() {
+                jar.originals.put(held.cookie, false).ok()?;
+            }
         }
         jar.replay(calls).ok()?;
         Some(jar)

@@ -1,7 +1,7 @@
 //! Many requests of one user agent, and the trap of removals.
 use super::at;
 use super::sites::site_of;
-use super::stores::is_sent;
+use super::stores::{is_sent, suffixes};
 use call_steps::calls_of;
 use cookie_agent::{Agent, AgentRequest, Visited, visit};
 use jar_steps::{Look, test_key};
@@ -39,9 +39,9 @@ https://example.com/login 0 [add n=1; Path=/ | add m=2; Path=/] -> [n=1; m=2]
 https://example.com/account/mail 0 [remove n | remove absent] -> [n=1; m=2] -> sent n=1; m=2 | lacks n | shows m=2";
 
 // Whether the request sent the header, or its jar shows what the words say.
-fn is_shown(alloc: Global, one: &Visited, words: &'static str) -> bool {
+fn is_shown(alloc: Global, one: &Visited<'_>, words: &'static str) -> bool {
     match (words.strip_prefix("sent "), Look::parse(words)) {
-        (Some(header), _) => one.header.as_str() == header,
+        (Some(header), _) => one.header.as_slice() == header.as_bytes(),
         (_, Some(look)) => look.is_right(alloc, &one.jar),
         _ => words.is_empty(),
     }
@@ -50,7 +50,7 @@ fn is_shown(alloc: Global, one: &Visited, words: &'static str) -> bool {
 // Makes the agent's request of a line such as `https://example.com/login 0 [add n=1 | remove m] -> [n=1] -> lacks m`:
 // where and when it is made, its calls, the header that the agent sends there after it, and what was sent and what its
 // jar shows. Answers whether it came out so, and each call was accepted.
-fn is_right(alloc: Global, agent: &mut Agent, line: &'static str) -> Option<bool> {
+fn is_right<'r>(alloc: Global, agent: &mut Agent<'r>, line: &'static str) -> Option<bool> {
     let (spot, rest) = line.split_once(" [")?;
     let (steps, told) = rest.split_once("] -> [")?;
     let (header, looks) = told.split_once(']')?;
@@ -74,7 +74,8 @@ fn is_right(alloc: Global, agent: &mut Agent, line: &'static str) -> Option<bool
 
 /// Whether the lines' requests, which one agent makes one after the other, come out as they say.
 pub(super) fn plays(alloc: Global, lines: &'static str) -> Option<bool> {
-    let mut agent = Agent::new(alloc);
+    let suffixes = suffixes(alloc)?;
+    let mut agent = Agent::new(alloc, &suffixes);
     for line in lines.lines() {
         if !is_right(alloc, &mut agent, line)? {
             return Some(false);

@@ -26,19 +26,15 @@ fn what_the_rows_say_is_so(rt: HostRuntime) {
 // A step of each is wrong, or the answer to its question.
 const WRONG: &str = "\
 a new agent sends: on https://example.com/a/b | sends b=2
-no cookie is set: sets n
+no cookie is set: sets =
 a cookie is refused: sets n=1 | refuses n=2
 nothing is sent: sets n=1 | sends
 another cookie is sent: sets n=1 | sends n=2
-a secure one is sent: sets n=1; Secure | sends n=1
-none is sent securely: sets n=1; Secure | on https://example.com/ | sends
+a secure one is sent: on https://example.com/ | sets n=1; Secure | on http://example.com/ | sends n=1
+none is sent securely: on https://example.com/ | sets n=1; Secure | sends
 a domain takes in an address: on address://10.0.0.1/ | sets n=1; Domain=0.0.1 | sends n=1
 it is sent when it is expired: sets n=1; Max-Age=1 | at 1 | sends n=1
 it is sent when it is evicted: sets n=1; Max-Age=1 | at 1 | evicts | at 0 | sends n=1
-one: on http://www.example.com/a/b | domain other.com -> true
-one: on address://10.0.0.1/ | domain 0.0.1 -> true
-one: path /a/b /a -> false
-one: default /a/b -> /
 one: on http://www.example.com/a/b | secure -> true
 one: on http://www.example.com/a/b | scope -> example.com true /a
 one: on http://www.example.com/a/b | scope -> www.example.com false /a
@@ -47,10 +43,7 @@ one: on http://www.example.com/a/b | scope Path=/; Domain=example.com -> none
 one: on http://www.example.com/a/b | scope Path=/; Domain=other.com -> other.com false /
 one: on http://www.example.com/a/b | host -> www.example.com true /a
 one: on http://example.com/ab | reached Path=/a; Domain=example.com -> true
-one: on https://www.example.com/a/b | whole add n=1; Path=/ -> false
-one: on https://www.example.com/a/b | whole add n=1 -> true
-one: on https://example.com/a/c | scoped Domain=example.com -> false
-one: on https://www.example.com/a/b | scoped -> true";
+it is sent to another site's page: sets n=1 | by frame | sends n=1";
 
 // The header that the last request of each leaves is wrong, or what that shows.
 const WRONG_REQUESTS: &str = "\
@@ -88,11 +81,9 @@ https://example.com/login 0 [add n=1; Max-Age] -> [n=1]
 https://example.com/login 0 [add n=1; Max-Age=ever] -> [n=1]
 https://example.com/login 0 [add n=1; Size=5] -> [n=1]
 https://example.com/login 0 [add n=1] -> [n=1
-domain example.com -> maybe
+by mail
 size example.com -> true
-secure example.com/ -> yes
-whole puts n=1 -> true
-scope Size=5 -> none";
+secure example.com/ -> yes";
 
 #[test]
 fn a_wrong_row_is_found(rt: HostRuntime) {

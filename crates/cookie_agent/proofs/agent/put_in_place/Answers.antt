@@ -1,6 +1,6 @@
 -- The place that was found, or the end, is where `put` puts it.
 use Rattle.std.proofs.Common.{◌≡◌, ◌<◌, ◌++◌, ◌∷◌, [], length, true, false, get_or, sym, ap, ◌∙◌, arith, below_more}
-use Rattle.cookie_agent.specs.Store.{unexpired}
+use Rattle.cookie_browser.specs.Storage.{lasting}
 use Rattle.cookie_agent.proofs.PutLemmas.{put_at, put_last, told_at}
 use Rattle.cookie_agent.proofs.agent.put_in_place.Goals as goal
 
@@ -31,4 +31,4 @@ pub returns-clause-ok : goal.returns-clause-ok
 returns-clause-ok c =
     let before = c.args.cookies.now.items in
     let items : c.push.new.self.items ≡ before ++ c.args.cookie ∷ [] = rw c.loop-index.invariant.same at c.in_ok-push.ensures.items in
-    ap (unexpired c.args.now) items ∙ sym (put_last c.args.now c.args.cookie c.args.cookie before (λ k lt. c.loop-index.invariant.before k (omega arith)))
+    ap (lasting c.args.now) items ∙ sym (put_last c.args.now c.args.cookie c.args.cookie before (λ k lt. c.loop-index.invariant.before k (omega arith)))

@@ -1,11 +1,12 @@
 -- The header tells the jar's originals, and the agent follows what the calls made of them.
 use Rattle.std.proofs.Common.{◌≡◌, ℕ, List, true, map, ap, ◌∙◌, string_bytes}
+use Rattle.std.specs.Str.{IsUtf8}
 use Rattle.cookie.specs.CookieOf.{header_cookies}
 use Rattle.cookie.specs.History.{after_all}
 use Rattle.cookie.specs.Jar.{Change, JarState}
 use Rattle.cookie_client.specs.Calls.{changes_of}
 use Rattle.cookie.specs.Originals.{jar_for, with_originals}
-use Rattle.cookie_agent.specs.Store.{store_after_texts, standard_key}
+use Rattle.cookie_agent.specs.Store.{agent_after_texts}
 use Rattle.cookie_agent.proofs.VisitedLemmas.{agrees_on, is_visited}
 use Rattle.cookie_agent.proofs.requests.visit.Goals as goal
 
@@ -15,22 +16,23 @@ returns-clause-visit c =
     let before = c.args.agent.now in
     let outcomes = c.in_ok-outcomes.outcomes.items in
     let changes : List Change = changes_of outcomes request.calls.now in
-    let header : List ℕ = string_bytes c.in_ok-header.header in
+    let header : List ℕ = c.in_ok-header.header.items in
     let start : JarState = jar_for header in
-    let begun : c.in_ok-jar.jar ≡ start =
-    c.in_ok-jar.ensures ∙ ap (with_originals (header_cookies true c.as_str.result.now)) c.new.ensures.empty
-    ∙ ap jar_for c.as_str.ensures.value in
-    let jar : c.replay.new.jar ≡ after_all changes start = c.in_ok-outcomes.ensures.jar ∙ ap (after_all changes) begun in
+    let jar : IsUtf8 header → c.replay.new.jar ≡ after_all changes start = λ u.
+    c.in_ok-outcomes.ensures.jar
+    ∙ ap (after_all changes)
+    (c.in_ok-jar.ensures ∙ ap (with_originals (header_cookies true c.text_of.result.now)) c.new.ensures.empty
+    ∙ ap jar_for (c.text_of.ensures (rw c.deref.ensures.value u) ∙ c.deref.ensures.value)) in
     let texts : List (List ℕ) = map string_bytes c.in_ok-texts.texts.items in
-    let read : c.read_texts.new.agent ≡ store_after_texts standard_key request.site.now request.moment texts before =
+    let read : c.read_texts.new.agent ≡ agent_after_texts request.site.now request.moment texts before =
     c.in_ok-read_texts.ensures
-    ∙ ap (λ ts. store_after_texts standard_key request.site.now request.moment (map string_bytes ts) c.in_ok-agent.agent) c.deref.ensures.value
-    ∙ ap (store_after_texts standard_key request.site.now request.moment texts) c.in_ok-agent.ensures in
+    ∙ ap (λ ts. agent_after_texts request.site.now request.moment (map string_bytes ts) c.in_ok-agent.agent) c.deref-2.ensures.value
+    ∙ ap (agent_after_texts request.site.now request.moment texts) c.in_ok-agent.ensures in
     is_visited before request _
     (record {
       count = c.in_ok-outcomes.ensures.count;
       outcomes = c.in_ok-outcomes.ensures.outcomes;
-      sent = c.in_ok-header.ensures;
+      sent = c.in_ok-header.ensures.value;
       jar = jar;
       texts = texts;
       are = c.in_ok-texts.ensures.each;
@@ -38,5 +40,5 @@ returns-clause-visit c =
     })
 
 pub returns-clause-alike : goal.returns-clause-alike
-returns-clause-alike c scopes ours scoped =
-    agrees_on scopes c.args.agent.now ours c.args.request.now _ (returns-clause-visit c) scoped
+returns-clause-alike c plans ours planned =
+    agrees_on plans c.args.agent.now ours c.args.request.now _ (returns-clause-visit c) planned

@@ -1,4 +1,4 @@
-use Rattle.std.proofs.Common.{◌++◌, [], List, drop}
+use Rattle.std.proofs.Common.{◌++◌, [], List, drop, map}
 use Rattle.cookie_agent.specs.Visits.{AreVisited}
 use Rattle.cookie_agent.specs.declared.visited.Visited.{Visited}
 use Rattle.cookie_agent.proofs.requests.visits.Given as goal
@@ -6,4 +6,4 @@ use Rattle.cookie_agent.proofs.requests.visits.Given as goal
 -- whatever completes the visits from the agent on completes all
 abbrev pub invariant-loop-request : goal.invariant-loop-request
 invariant-loop-request l =
-    (rest : List Visited) → AreVisited l.agent (drop l.request-index l.requests) rest → AreVisited [] l.requests (l.visited.items ++ rest)
+    (rest : List Visited) → AreVisited l.agent (drop l.request-index l.requests) rest → AreVisited (record { rules = l.suffixes; cookies = [] }) l.requests (l.visited.items ++ rest)

@@ -1,17 +1,28 @@
 -- The visible cookies, in the order of the sort, are written.
-use Rattle.std.proofs.Common.{map, ap, ◌∙◌, string_bytes}
+use Rattle.std.proofs.Common.{map, ap, ◌∙◌}
 use Rattle.std.proofs.lemmas.Result.{IfOk-weaker}
 use Rattle.cookie.specs.Header.{joined_texts}
+use Rattle.cookie_agent.specs.Store.{AgentView}
 use Rattle.cookie_agent.specs.Sent.{sent_pair, visible}
 use Rattle.cookie_agent.specs.SentCode.{targets}
+use Rattle.cookie_agent.proofs.HostLemmas.{only_own}
 use Rattle.cookie_agent.proofs.OrderLemmas.{ordered_header}
 use Rattle.cookie_agent.proofs.agent.Agent.header.Goals as goal
 
-pub returns : goal.returns
-returns c =
+pub returns-clause-value : goal.returns-clause-value
+returns-clause-value c =
     IfOk-weaker c.joined_pairs.result _ _ (λ header written.
-    ordered_header c.args.site.now c.args.now c.args.self.now (string_bytes header) (targets c.in_ok-sent.sent.items) (targets c.in_ok-sent-2.sent.items)
-    (c.in_ok-sent.ensures ∙ ap (visible c.args.site.now c.args.now) (c.deref.ensures.value ∙ c.self.view_is))
+    ordered_header c.args.site.now c.args.now c.args.self.now.cookies header.items (targets c.in_ok-sent.sent.items) (targets c.in_ok-sent-2.sent.items)
+    (c.in_ok-sent.ensures ∙ ap (visible c.args.site.now c.args.now) (c.deref.ensures.value ∙ ap (λ (a : AgentView). a.cookies) c.self.view_is))
     c.in_ok-sent-2.ensures
     (written ∙ ap (λ cookies. joined_texts (map sent_pair (targets cookies))) c.deref-2.ensures.value))
     c.joined_pairs.ensures
+
+pub returns-clause-only_own : goal.returns-clause-only_own
+returns-clause-only_own c = only_own
+
+pub returns-in_err-sent-clause-only_own : goal.returns-in_err-sent-clause-only_own
+returns-in_err-sent-clause-only_own c = only_own
+
+pub returns-in_err-sent-2-clause-only_own : goal.returns-in_err-sent-2-clause-only_own
+returns-in_err-sent-2-clause-only_own c = only_own

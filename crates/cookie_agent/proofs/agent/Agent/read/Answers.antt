@@ -1,15 +1,31 @@
--- What was read is what the definition says, which misses where no key is the removal's.
-use Rattle.std.proofs.Common.{◌≡◌, sym, ap, subst, ◌∙◌}
-use Rattle.cookie_agent.specs.Removals.{IsMissed}
-use Rattle.cookie_agent.specs.Store.{store_after_cookie, store_after_text, standard_key}
+-- What is stored stays apart, and a removal whose cookie no stored one is misses.
+use Rattle.std.proofs.Common.{◌≡◌, Ok, sym, ap, subst, ◌∙◌}
+use Rattle.cookie_browser.specs.Storage.{kept_after_verdict, kept_with, lasts, lasting}
+use Rattle.cookie_agent.specs.Agreement.{seen}
+use Rattle.cookie_agent.specs.Apart.{IsApart}
+use Rattle.cookie_agent.specs.Store.{AgentView, agent_after_text, agent_verdict}
+use Rattle.cookie_agent.specs.VerdictCode.{verdict_result}
 use Rattle.cookie_agent.proofs.MissLemmas.{missed}
+use Rattle.cookie_agent.proofs.PutLemmas.{apart-filter, apart-stored}
 use Rattle.cookie_agent.proofs.agent.Agent.read.Goals as goal
 
-pub returns-in_ok-take-in-Ok-clause-missed : goal.returns-in_ok-take-in-Ok-clause-missed
-returns-in_ok-take-in-Ok-clause-missed c =
+pub invariant_of-self-in-Stored : goal.invariant_of-self-in-Stored
+invariant_of-self-in-Stored c =
+    subst IsApart (sym c.in_ok-put-in-Stored.ensures.ok) (apart-stored c.args.now c.in-Stored.cookie c.self.inside.cookies.items c.self.invariant)
+
+pub invariant_of-self-in-Refused : goal.invariant_of-self-in-Refused
+invariant_of-self-in-Refused c =
+    subst IsApart (sym c.drop_expired.ensures) (apart-filter (λ d. lasts d.expiry c.args.now) c.self.inside.cookies.items c.self.invariant)
+
+pub returns-in_ok-put-in-Stored-clause-missed : goal.returns-in_ok-put-in-Stored-clause-missed
+returns-in_ok-put-in-Stored-clause-missed c x stored expired apart name =
     let site = c.args.site.now in
-    let text = c.args.text.now in
-    let before = c.args.self.now in
-    let after : c.take.new.self ≡ store_after_text standard_key site c.args.now text before =
-    c.in_ok-take-in-Ok.ensures.gives ∙ ap (λ o. store_after_cookie standard_key site c.args.now o before) c.in-Ok.ensures.value in
-    subst (IsMissed standard_key site c.args.now text before) (sym after) (missed standard_key site c.args.now text before)
+    let now = c.args.now in
+    let before : AgentView = c.args.self.now in
+    let cookies : c.self.inside.cookies.items ≡ before.cookies = ap (λ (a : AgentView). a.cookies) c.self.view_is in
+    let found : agent_verdict before site now c.args.text.now ≡ Ok c.in-Stored.cookie = sym c.in_ok-cookie.ensures ∙ ap verdict_result c.in-Stored.is in
+    let after : c.put.new.cookies.items ≡ (agent_after_text site now c.args.text.now before).cookies =
+    c.in_ok-put-in-Stored.ensures.ok
+    ∙ ap (λ s. lasting now (kept_with c.in-Stored.cookie (lasting now s))) cookies
+    ∙ sym (ap (λ o. kept_after_verdict now o (lasting now before.cookies)) found) in
+    ap (λ s. seen site now s name) after ∙ missed site now c.args.text.now before x stored expired apart name

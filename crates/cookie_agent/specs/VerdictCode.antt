@@ -1,0 +1,15 @@
+-- Mirrors private code: a verdict as the definitions have it, and a cookie without its expiry.
+use Rattle.std.specs.Prelude.{None, Result, Ok, Err}
+use Rattle.cookie_browser.specs.Storage.{KeptView}
+use Rattle.cookie_browser.specs.declared.refusal.Refusal.{Refusal}
+use Rattle.cookie_agent.specs.declared.verdict.Verdict.{Verdict}
+use Rattle.cookie_agent.specs.declared.verdict.Verdict.TheVariants.{Stored, Refused}
+
+-- the cookie that is stored, or the refusal
+abbrev pub verdict_result : Verdict → Result KeptView Refusal
+verdict_result (Stored cookie) = Ok cookie
+verdict_result (Refused refusal) = Err refusal
+
+-- the cookie without its expiry
+abbrev pub unexpiring : KeptView → KeptView
+unexpiring cookie = record cookie { expiry = None }
