@@ -153,6 +153,13 @@ impl<'r> Agent<'r> {
         joined_pairs(self.alloc, &sent)
     }
 
+    /// The cookies that it stores, in the order of their creation. Some may be expired.
+    pub fn cookies(&self) -> &[StoredCookie]
+        ensures { result.now ≡ self.now.cookies }
+    {
+        &self.cookies
+    }
+
     /// A user agent that stores the same. Fails only if out of memory.
     pub fn clone(&self) -> Result<Agent<'r>, AllocError>
         ensures { IfOk result (λ made. made ≡ self.now) }
