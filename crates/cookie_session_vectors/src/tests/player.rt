@@ -1,7 +1,8 @@
 //! Plays rows: steps of `jar_steps`, those on a site, and those on a session, on a new jar.
 use super::site::Site;
-use cookie::{Cookie, CookieJar};
+use cookie::{Cookie, CookieJar, JarError};
 use cookie_session::{Session, SessionError};
+use cookie_words::is;
 use jar_steps::{Call, Look, Sevens, make, moment, test_key};
 use jiff::SignedDuration;
 use jiff::civil::DateTime;
@@ -124,6 +125,37 @@ impl Player {
             .ok()
     }
 
+    // Adds a cookie under the newest key, by a generator of that many bytes.
+    fn keep(&mut self, words: &'static str, left: usize) -> Option<Result<(), JarError>> {
+        let cookie = cookie_words::cookie(words)?;
+        let keys = self.site.sessions().keys;
+        Some(keys.add(&mut self.jar, cookie, &mut Sevens { left }))
+    }
+
+    // Whether the key at that place opens a cookie with these fields, as `1 theme=dark; Path=/`.
+    fn finds(&self, words: &'static str) -> Option<bool> {
+        let (place, words) = words.split_once(' ')?;
+        let wanted = cookie_words::cookie(words)?;
+        let found = self.site.sessions().keys.get(&self.jar, wanted.name());
+        let opening = found.ok()??;
+        Some(place.parse() == Ok(opening.place) && is(&opening.cookie, &wanted))
+    }
+
+    // Whether no key opens a cookie of that name.
+    fn misses(&self, name: &str) -> bool {
+        let found = self.site.sessions().keys.get(&self.jar, name);
+        found.is_ok_and(|found| found.is_none())
+    }
+
+    // Whether the cookie isn't added by a generator of that many bytes, which fails, as `11 theme=dark`, and the jar is
+    // then as it was.
+    fn loses(&mut self, words: &'static str) -> Option<bool> {
+        let (left, words) = words.split_once(' ')?;
+        let before = self.debugged()?;
+        let error = self.keep(words, left.parse().ok()?)?.err()?;
+        Some(error == JarError::Generator && self.debugged()? == before)
+    }
+
     // The next request of a client that had no cookie: those that the response sets.
     fn come_back(&mut self) -> Option<()> {
         let mut jar = CookieJar::new(self.alloc);
@@ -161,6 +193,10 @@ impl Player {
             "opens" => self.open().is_some_and(|place| rest.parse() == Ok(place)),
             "closed" => self.is_closed(),
             "end" => self.end().is_some(),
+            "keep" => self.keep(rest, AMPLE).is_some_and(|kept| kept.is_ok()),
+            "finds" => self.finds(rest) == Some(true),
+            "misses" => self.misses(rest),
+            "loses" => self.loses(rest) == Some(true),
             "back" => self.come_back().is_some(),
             _ => false,
         }

@@ -66,6 +66,10 @@ impl Site {
         self.keys.rotate(key(name)?).ok()
     }
 
+    fn add_older(&mut self, name: &str) -> Option<()> {
+        self.keys.add_older(key(name)?).ok()
+    }
+
     // Whether the key of that name is retired, or none.
     fn is_retired(&mut self, name: &str) -> bool {
         match (self.keys.retire(), name) {
@@ -82,6 +86,7 @@ impl Site {
             "limits" => self.set_limits(rest).is_some(),
             "ring" => self.begin(rest).is_some(),
             "rotate" => self.rotate(rest).is_some(),
+            "older" => self.add_older(rest).is_some(),
             "retire" => self.is_retired(rest),
             "keys" => rest.parse() == Ok(self.keys.len()),
             "newest" => key(rest).is_some_and(|key| key == *self.keys.newest()),
