@@ -8,4 +8,5 @@ mod keys;
 mod player;
 mod prefixes;
 mod rows;
+mod sealing;
 mod secrets;

@@ -1,7 +1,7 @@
 //! What child jars answer: of a prefix, also of the tests' own, or of the key.
 use super::player::Player;
 use super::prefixes::{self, Bare, Team};
-use super::secrets;
+use super::{sealing, secrets};
 use cookie::prefix::{Host, Prefix, Secure};
 use cookie::{Cookie, CookieJar, JarError};
 use cookie_words::{is, lends};
@@ -119,6 +119,9 @@ pub(super) fn play(player: &mut Player, kind: &str, step: &'static str) -> Optio
         "refuses" => Some(are(&open(player, kind, cookie_words::cookie(rest)?)?, &None)),
         "parse" => add_text(player, kind, rest),
         "lends" => are_all_lent(player, kind, rest),
+        "seals" | "seals-under" | "unsealable" if kind == "private" => {
+            sealing::play(player, verb, rest)
+        }
         "brittle" => secrets::is_brittle(player, kind, rest),
         "add" if kind == "team" => is_made(player, step),
         _ => prefixes::play(player.alloc, kind, verb, rest),

@@ -11,7 +11,7 @@ pub(super) struct Player {
     pub(super) alloc: Global,
     pub(super) jar: CookieJar,
     pub(super) key: Key,
-    rng: Counting,
+    pub(super) rng: Counting,
 }
 
 impl Player {
