@@ -1,6 +1,7 @@
 -- What the uses promise, in the words of a web application.
 use Rattle.std.specs.Prelude.{◌≡◌, true, false, ℕ, List, map, Option, Some, codes, ◌++◌, length, option_map}
 use Rattle.std.specs.FinMap.{get}
+use Rattle.jiff.specs.Types.{DateTime}
 use Rattle.cookie.specs.AnswersExactly.{IsStoredFor}
 use Rattle.cookie.specs.Jar.{JarState, Name, view}
 use Rattle.cookie.specs.Keys.{encryption_half}
@@ -8,6 +9,10 @@ use Rattle.cookie.specs.Record.{Record}
 use Rattle.cookie.specs.Sealing.{IsSealingOf}
 use Rattle.cookie.specs.Text.{cookie_text}
 use Rattle.cookie.specs.Walk.{Walks}
+use Rattle.cookie_session.specs.Seconds.{second_of}
+use Rattle.cookie_session.specs.Session.{SessionState}
+use Rattle.cookie_session.specs.Sessions.{IsStored}
+use Rattle.cookie_session.specs.declared.sessions.Sessions.{Sessions}
 
 -- the cookie that the response sets or drops at a name
 abbrev pub change_at : JarState → Name → Option Record
@@ -29,3 +34,10 @@ flash_of jar = option_map (λ cookie. cookie.value) (view jar (codes "flash"))
 -- the cookie as the team's child jar stores it
 abbrev pub for_team : Record → Record
 for_team cookie = record cookie { name = codes "team." ++ cookie.name; http_only = Some true }
+
+-- the jar stores a session of the user that starts now
+abbrev pub IsLoggedIn : Sessions → JarState → DateTime → List ℕ → Type 0
+IsLoggedIn site jar now user =
+    (session : SessionState) × (session.started ≡ second_of now)
+    × (get session.texts (codes "user") ≡ Some user)
+    × IsStored site (view jar site.cookie.now.fields.name) session

@@ -7,6 +7,7 @@ mod counting;
 mod dates;
 mod flash;
 mod following;
+mod handler;
 mod headers;
 mod printing;
 mod reading;
@@ -28,6 +29,7 @@ fn main(rt: HostRuntime) -> Result<()> {
     show::request(&rt, now)?;
     show::texts(&rt, now)?;
     show::session(&rt)?;
+    show::handler(&rt, now)?;
     show::flash(&rt, now)?;
     show::calls(&rt, now)?;
     show::browser(&rt, now)?;

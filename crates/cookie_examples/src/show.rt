@@ -1,13 +1,14 @@
 //! What `main` prints of each use.
 use crate::{
-    agents, answer, counting, dates, flash, following, headers, printing, reading, removal,
-    requests, runtime, sealing, session, team,
+    agents, answer, counting, dates, flash, following, handler, headers, printing, reading,
+    removal, requests, runtime, sealing, session, team,
 };
 use anyhow::Result;
-use cookie::{Cookie, CookieBuilder, CookieJar, DateText, JarError, Key};
+use cookie::{Cookie, CookieBuilder, CookieJar, DateText, JarError, Key, SameSite};
 use cookie_agent::Site;
 use cookie_browser::Suffixes;
 use cookie_client::{ChildCall, Client, ClientError, JarCall, Played};
+use cookie_session::{KeyRing, Sessions};
 use http_header::{HeaderMap, HeaderValue};
 use jiff::civil::DateTime;
 use rand::SeedableRng;
@@ -57,6 +58,51 @@ fn print_user(rt: &HostRuntime, jar: &CookieJar, key: &Key) -> Result<()> {
     match session::user_of(rt.alloc(), jar, key)? {
         Some(user) => println!(rt; "signed in: {user}")?,
         None => println!(rt; "signed in: nobody")?,
+    }
+    Ok(())
+}
+
+pub fn handler(rt: &HostRuntime, now: DateTime) -> Result<()> {
+    let mut rng = generator();
+    let keys = KeyRing::new(rt.alloc(), Key::generate(&mut rng))?;
+    let cookie = CookieBuilder::new("__Host-session", "")
+        .path("/")
+        .secure(true)
+        .http_only(true)
+        .same_site(SameSite::Lax)
+        .build();
+    let sessions = Sessions {
+        keys: &keys,
+        cookie: &cookie,
+        lifetime: 12 * 3600,
+        idle: 1800,
+    };
+    print_login(rt, &sessions, now, &mut rng)
+}
+
+fn print_login(
+    rt: &HostRuntime,
+    sessions: &Sessions<'_>,
+    now: DateTime,
+    rng: &mut StdRng,
+) -> Result<()> {
+    let mut jar = CookieJar::new(rt.alloc());
+    handler::handle(rt.alloc(), sessions, &mut jar, Some("ann"), now, rng)?;
+    print_delta(rt, &jar)?;
+    print_visitor(rt, sessions, &jar, now)?;
+    handler::handle(rt.alloc(), sessions, &mut jar, None, now, rng)?;
+    print_visitor(rt, sessions, &jar, now)
+}
+
+fn print_visitor(
+    rt: &HostRuntime,
+    sessions: &Sessions<'_>,
+    jar: &CookieJar,
+    now: DateTime,
+) -> Result<()> {
+    match sessions.open(rt.alloc(), jar, now)? {
+        Some(opened) => println!(rt; "logged in: {}", opened.session.get("user").unwrap_or(""))?,
+        None => println!(rt; "logged in: nobody")?,
     }
     Ok(())
 }
