@@ -17,7 +17,7 @@ returns-clause-returns g c can =
     let are : AreDeltaTexts c.save.new.jar.delta (set_cookie_texts response) = are_carried c.save.new.jar.delta response carried.carried.response in
     let unnamed = still_unnamed site nonce c.args.now c.args.later c.args.session.now c.args.jar.now c.play.new.jar c.save.new.jar c.args.calls.now outcomes c.args.client.now
     c.carry.new.client can saved.lives told played added saved.cookie (set_cookie_texts response) are carried.carried.reads in
-    (c.in_ok-opened.ensures 0 (seen_at (second_of c.args.now) c.args.session.now)).1
+    (c.in_ok-opened.ensures.answers 0 (seen_at (second_of c.args.now) c.args.session.now)).1
     (returned_open site nonce c.args.now c.args.later c.args.session.now c.args.jar.now c.play.new.jar c.save.new.jar c.args.calls.now outcomes c.args.client.now
     c.carry.new.client can saved.lives told played added saved.cookie (set_cookie_texts response) are carried.carried.reads
     c.in_ok-carried.carried.next (carried.shows unnamed site.cookie.now.fields.name) saved.opens)
