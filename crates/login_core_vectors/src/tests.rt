@@ -1,5 +1,4 @@
 //! Requests as rows, and what the site has to answer.
-mod pages;
 mod refusals;
 mod rows;
 mod site;

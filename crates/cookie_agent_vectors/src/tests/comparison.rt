@@ -98,17 +98,20 @@ fn is_alike<'c>(plain: &mut PlainAgent<'c>, request: &'c Drawn, one: &Visited<'_
     Some(is_begun && is_like && !one.outcomes.contains(&false))
 }
 
-// Whether this many of five requests come to the same with both bodies.
-fn are_alike<'c>(alloc: Global, five: &'c [Drawn], count: usize, pick: [usize; 2]) -> Option<bool> {
-    let suffixes = suffixes(alloc)?;
-    let visited = visit(alloc, &suffixes, five, count, &pick)?;
+// Whether what came of the first of five requests is the same with both bodies.
+fn are_alike<'c>(
+    alloc: Global,
+    visited: &[Visited<'_>],
+    five: &'c [Drawn],
+    pick: [usize; 2],
+) -> Option<bool> {
     let mut plain: PlainAgent<'c> = PlainAgent::new(alloc, pick);
-    for (request, one) in five.iter().zip(&visited) {
+    for (request, one) in five.iter().zip(visited) {
         if !is_alike(&mut plain, request, one)? {
             return Some(false);
         }
     }
-    Some(visited.len() == count)
+    Some(true)
 }
 
 // The same of requests that are drawn.
@@ -118,7 +121,9 @@ fn is_list_alike(alloc: Global, draws: &mut Draws) -> Option<bool> {
     for _ in 0..5 {
         requests.push(Drawn::draw(alloc, draws)?).ok()?;
     }
-    are_alike(alloc, &requests, count, pick)
+    let suffixes = suffixes(alloc)?;
+    let visited = visit(alloc, &suffixes, &requests, count, &pick)?;
+    Some(visited.len() == count && are_alike(alloc, &visited, &requests, pick)?)
 }
 
 #[test]
