@@ -1,4 +1,5 @@
 //! Requests as rows, and what the site has to answer.
+mod pages;
 mod refusals;
 mod rows;
 mod site;
