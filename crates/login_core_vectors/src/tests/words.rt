@@ -2,8 +2,8 @@
 
 /// Cookies of requests, and, after `=`, texts of `Set-Cookie` fields, as tools/login-rows prints them. Each holds a
 /// session: `{ann}` of a user who logged in a minute ago and whose session was saved half a minute ago, `{ann 41}` with
-/// that number of greetings, `{ann in}` with the message of the login, `{idle 1799}` last saved so many seconds ago,
-/// `{life 43199}` started so many seconds ago.
+/// that number of greetings, `{ann in}` with the message of the login, `{idle 1799}` last saved that number of seconds
+/// ago, `{life 43199}` started that number of seconds ago.
 pub(super) const WORDS: &str = "\
 {ann}: __Host-session=BwcHBwcHBwcHBwcHxr3ptyQiF+vjHTi0H/EZJ4ojpl95fz1zVvp2m7gKpdda/GN0KeW7CAb5HSsyRy17FkZ2HlyPexC5cBVj7jqO
 {bo}: __Host-session=BwcHBwcHBwcHBwcHxr3ptyQiF+vjHTi0H/EZJ4ojpl95fz1zVvp2m7gKpdda/GN0KeW7CAb5HSt2GgDUI0keh0RkNtXHZRyY2UEfNBrhwNKnaG3sCdKIAQ7RHg==
