@@ -56,3 +56,10 @@ cut-shorter c (x ∷ xs) = by (x == c) (cut-shorter c xs)
     by : (b : Bool) → left_length (cut c xs).1 ≤ length xs → left_length (cond {A = List ℕ × Option (List ℕ)} b ([], Some xs) (x ∷ (cut c xs).0, (cut c xs).1)).1 ≤ suc (length xs)
     by true h = omega arith
     by false h = omega arith
+
+-- so each cut of what is left leaves less
+pub rest-shorter : (c : ℕ) (xs : List ℕ) (rest after : Option (List ℕ)) → rest ≡ Some xs → after ≡ (cut c xs).1 → left_length after < left_length rest
+rest-shorter c xs rest after is cut_is =
+    let before = ap left_length is in
+    let later = ap left_length cut_is in
+    omega (arith, before, later, cut-shorter c xs)

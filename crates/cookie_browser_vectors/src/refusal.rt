@@ -17,8 +17,9 @@ pub fn refusal_of(
     received: &Received<'_>,
     new: &KeptCookie<'_>,
 ) -> Result<Option<Refusal>, AllocError>
-    ensures { IfOk result (λ refusal. refusal ≡ first_refusal suffixes.now (request_view request.now)
-        (map kept_view store.now) (received_view received.now) (kept_view new.now)) }
+    ensures { IfOk result (λ refusal. refusal
+        ≡ first_refusal suffixes.now (request_view request.now) (map kept_view store.now)
+        (received_view received.now) (kept_view new.now)) }
 {
     let domain = received.attributes.bare_domain().to_ascii_lowercase(alloc)?;
     Ok(refused_by(suffixes, request, store, received, domain.as_slice(), new))

@@ -1,9 +1,9 @@
-use Rattle.std.proofs.Common.{◌||◌, option_copied, sym, ap, ◌∙◌, arith}
+use Rattle.std.proofs.Common.{◌||◌, option_copied, sym, ap, ◌∙◌}
 use Rattle.std.specs.List.{list_any}
 use Rattle.cookie_browser.specs.Bytes.{cut}
 use Rattle.cookie_browser.specs.SuffixCode.{texts_of}
 use Rattle.cookie_browser.proofs.AnyLemmas.{any-never}
-use Rattle.cookie_browser.proofs.CutLemmas.{left_length, cut-shorter}
+use Rattle.cookie_browser.proofs.CutLemmas.{rest-shorter}
 use Rattle.cookie_browser.proofs.DomainLemmas.{rest_in}
 use Rattle.cookie_browser.proofs.SuffixLemmas.{any-cut}
 use Rattle.cookie_browser.proofs.suffixes.has_domain_of.Goals as goal
@@ -16,11 +16,7 @@ returns-then-has c =
     ∙ any-cut t texts ∙ ap (λ b. b || list_any (rest_in (cut 46 t).1) texts) (sym c.has.ensures ∙ c.if-has.true))
 
 pub loop-rest-smaller : goal.loop-rest-smaller
-loop-rest-smaller c =
-    let t = c.in-Some.text.now in
-    let before = ap (λ o. left_length (option_copied o)) c.in-Some.is in
-    let after = ap left_length c.cut.ensures.after in
-    omega (arith, before, after, cut-shorter 46 t)
+loop-rest-smaller c = rest-shorter 46 c.in-Some.text.now _ _ (ap option_copied c.in-Some.is) c.cut.ensures.after
 
 pub loop-rest-preserved : goal.loop-rest-preserved
 loop-rest-preserved c =

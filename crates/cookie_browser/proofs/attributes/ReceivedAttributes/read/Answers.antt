@@ -1,17 +1,13 @@
-use Rattle.std.proofs.Common.{option_copied, sym, ap, ◌∙◌, arith}
+use Rattle.std.proofs.Common.{option_copied, sym, ap, ◌∙◌}
 use Rattle.std.specs.Prelude.{fold}
 use Rattle.cookie_browser.specs.Bytes.{cut}
 use Rattle.cookie_browser.specs.Received.{pieces_after, with_piece}
 use Rattle.cookie_browser.specs.ReceivedCode.{attributes_view}
-use Rattle.cookie_browser.proofs.CutLemmas.{left_length, cut-shorter, pieces-first}
+use Rattle.cookie_browser.proofs.CutLemmas.{rest-shorter, pieces-first}
 use Rattle.cookie_browser.proofs.attributes.ReceivedAttributes.read.Goals as goal
 
 pub loop-rest-smaller : goal.loop-rest-smaller
-loop-rest-smaller c =
-    let t = c.in-Some.text.now in
-    let before = ap (λ o. left_length (option_copied o)) c.in-Some.is in
-    let after = ap left_length c.cut.ensures.after in
-    omega (arith, before, after, cut-shorter 59 t)
+loop-rest-smaller c = rest-shorter 59 c.in-Some.text.now _ _ (ap option_copied c.in-Some.is) c.cut.ensures.after
 
 pub loop-rest-preserved : goal.loop-rest-preserved
 loop-rest-preserved c =

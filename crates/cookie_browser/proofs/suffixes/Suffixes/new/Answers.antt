@@ -1,18 +1,14 @@
-use Rattle.std.proofs.Common.{◌≡◌, ◌||◌, option_copied, sym, ap, ◌∙◌, arith}
+use Rattle.std.proofs.Common.{◌≡◌, ◌||◌, option_copied, sym, ap, ◌∙◌}
 use Rattle.std.specs.Char.{is_ascii_whitespace}
 use Rattle.std.specs.List.{before_first, cons_option, list_any}
 use Rattle.cookie_browser.specs.Bytes.{cut}
 use Rattle.cookie_browser.specs.SuffixList.{rule_of, rule_of_line}
-use Rattle.cookie_browser.proofs.CutLemmas.{left_length, cut-shorter}
+use Rattle.cookie_browser.proofs.CutLemmas.{rest-shorter}
 use Rattle.cookie_browser.proofs.SuffixLemmas.{rules_after, rules-cut, moved}
 use Rattle.cookie_browser.proofs.suffixes.Suffixes.new.Goals as goal
 
 pub loop-rest-smaller : goal.loop-rest-smaller
-loop-rest-smaller c =
-    let t = c.in-Some.text.now in
-    let before = ap (λ o. left_length (option_copied o)) c.in-Some.is in
-    let after = ap left_length c.cut.ensures.after in
-    omega (arith, before, after, cut-shorter 10 t)
+loop-rest-smaller c = rest-shorter 10 c.in-Some.text.now _ _ (ap option_copied c.in-Some.is) c.cut.ensures.after
 
 pub loop-rest-preserved : goal.loop-rest-preserved
 loop-rest-preserved c test =
