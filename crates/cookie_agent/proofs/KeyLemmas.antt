@@ -22,13 +22,13 @@ turned_flags true false = refl
 turned_flags false true = refl
 turned_flags false false = refl
 
-same_flags : (a b : Bool) → both_or_neither a b ≡ true → a ≡ b
+pub same_flags : (a b : Bool) → both_or_neither a b ≡ true → a ≡ b
 same_flags true true e = refl
 same_flags false false e = refl
 same_flags true false e = absurd (false≢true e)
 same_flags false true e = absurd (false≢true e)
 
-flag_itself : (a : Bool) → both_or_neither a a ≡ true
+pub flag_itself : (a : Bool) → both_or_neither a a ≡ true
 flag_itself true = refl
 flag_itself false = refl
 

@@ -4,12 +4,15 @@ pub mod FollowLemmas
 pub mod HeaderLemmas
 pub mod HostLemmas
 pub mod KeyLemmas
+pub mod LimitLemmas
 pub mod MissLemmas
 pub mod OrderLemmas
 pub mod PairLemmas
+pub mod PlanLemmas
 pub mod PrefixLemmas
 pub mod PutLemmas
 pub mod RefusalLemmas
+pub mod RemovalLemmas
 pub mod RowFacts
 pub mod SiteLemmas
 pub mod StoreLemmas

@@ -23,7 +23,7 @@ use Rattle.cookie_browser.proofs.PrintedLemmas.{received_printed}
 use Rattle.cookie_agent.specs.Prefixes.{AreHostBound, AreSecured, IsAtHome, IsHostBound, IsSecured}
 
 -- a cookie that tells the agent to drop another has its name
-named_removal : (moment : DateTime) (cookie : Record) → IsNamed cookie → IsNamed (removal moment cookie)
+pub named_removal : (moment : DateTime) (cookie : Record) → IsNamed cookie → IsNamed (removal moment cookie)
 named_removal moment cookie h =
     record {
       cookie = record { name = h.cookie.name; value = IsUtf8-nil; path = h.cookie.path; domain = h.cookie.domain; max_age = (omega (arith, signed_arith), omega (arith, signed_arith)) };
@@ -31,7 +31,7 @@ named_removal moment cookie h =
     }
 
 -- and its text isn't longer
-short_removal : (name value : List ℕ) → length (escape name) + length (escape value) ≤ 4096 → length (escape name) + length (escape []) ≤ 4096
+pub short_removal : (name value : List ℕ) → length (escape name) + length (escape value) ≤ 4096 → length (escape name) + length (escape []) ≤ 4096
 short_removal name value h = let e : length (escape []) ≡ 0 = ap length escape-nil in omega arith
 
 slash_plain : IsPlainValue (codes "/")
@@ -40,7 +40,7 @@ slash_plain = record { whole = Lacks-from_test 59 (codes "/") refl; quiet = refl
 
 -- ---- `__Host-`
 
-not_empty : (t : List ℕ) → t ≢ [] → bytes_eq t [] ≡ false
+pub not_empty : (t : List ℕ) → t ≢ [] → bytes_eq t [] ≡ false
 not_empty t some = by (bytes_eq t []) refl
   where
     by : (b : Bool) → bytes_eq t [] ≡ b → b ≡ false

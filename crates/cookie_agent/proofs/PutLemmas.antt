@@ -1,12 +1,15 @@
 -- A cookie is put by a write at one place, or at the end, and the keys stay apart.
-use Rattle.std.proofs.Common.{◌≡◌, ℕ, zero, suc, ◌<◌, ◌&&◌, not, Bool, true, false, cond, [], ◌∷◌, ◌++◌, length, get_or, refl, sym, ap, ◌∙◌, All, arith}
+use Rattle.std.proofs.Common.{◌≡◌, ℕ, zero, suc, ◌<◌, ◌&&◌, not, Bool, true, false, cond, [], ◌∷◌, ◌++◌, length, get_or, map, refl, sym, ap, ◌∙◌, All, arith}
 use Rattle.std.proofs.Math.ListN.{set}
 use Rattle.std.proofs.lemmas.Bool.{and_parts}
-use Rattle.std.proofs.lemmas.List.Elements.{All-nil, All-cons, All-head, All-tail, All-filter, All-weaker}
+use Rattle.std.proofs.lemmas.List.Elements.{All-nil, All-cons, All-head, All-tail, All-filter, All-map, All-weaker}
 use Rattle.std.specs.List.{filter}
 use Rattle.jiff.specs.Types.{DateTime}
+use Rattle.jiff.specs.Words.{civil_nanos}
 use Rattle.cookie_agent.specs.Apart.{IsApart, gives_place}
-use Rattle.cookie_browser.specs.Storage.{KeptView, CookieStore, is_same_cookie, kept_with, lasts, lasting}
+use Rattle.cookie_agent.specs.Sent.{accessed}
+use Rattle.cookie_browser.specs.Request.{RequestView}
+use Rattle.cookie_browser.specs.Storage.{KeptView, CookieStore, is_same_cookie, is_sent, kept_with, lasts, lasting}
 use Rattle.cookie_agent.proofs.KeyLemmas.{turned_key, same_key}
 
 -- the others
@@ -99,3 +102,22 @@ pub told_at : (x : KeptView) (now : DateTime) (xs : CookieStore) (i : ℕ) (old 
 told_at x now [] i old b e below h d = absurd (omega arith)
 told_at x now (y ∷ xs) zero old b e below h d = ap (gives_place x now) (sym e) ∙ sym h
 told_at x now (y ∷ xs) (suc i) old b e below h d = told_at x now xs i old b e (omega arith) h d
+
+-- an access leaves the keys
+
+same_accessed : (site : RequestView) (now : DateTime) (a b : KeptView) → is_same_cookie (accessed site now a) (accessed site now b) ≡ is_same_cookie a b
+same_accessed site now a b = by (is_sent site now a) (is_sent site now b)
+  where
+    by : (r s : Bool) → is_same_cookie (cond r (record a { last_access = civil_nanos now }) a) (cond s (record b { last_access = civil_nanos now }) b) ≡ is_same_cookie a b
+    by true true = refl
+    by true false = refl
+    by false true = refl
+    by false false = refl
+
+pub apart-accessed : (site : RequestView) (now : DateTime) (xs : CookieStore) → IsApart xs → IsApart (map (accessed site now) xs)
+apart-accessed site now [] apart = tt
+apart-accessed site now (c ∷ xs) apart = (
+  All-map (λ d. is_same_cookie d (accessed site now c) ≡ false) (accessed site now) xs
+      (All-weaker (λ d. is_same_cookie d c ≡ false) (λ d. is_same_cookie (accessed site now d) (accessed site now c) ≡ false) (λ d h. same_accessed site now d c ∙ h) xs apart.0),
+  apart-accessed site now xs apart.1,
+)

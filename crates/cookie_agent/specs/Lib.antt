@@ -2,6 +2,9 @@ pub mod Agreement
 pub mod Apart
 pub mod Calls
 pub mod Hosts
+pub mod Limits
+pub mod LimitsCode
+pub mod PlanCode
 pub mod Prefixes
 pub mod Removals
 pub mod Scopes

@@ -1,9 +1,10 @@
 -- The cookies that a user agent sends (RFC 6265bis, Retrieval Algorithm).
-use Rattle.std.specs.Prelude.{◌≡◌, ℕ, List, [], ◌∷◌, ◌++◌, map, filter, length, IsPermutation, IsSortedByKey}
+use Rattle.std.specs.Prelude.{◌≡◌, ℕ, List, [], ◌∷◌, ◌++◌, map, filter, length, IsPermutation, IsSortedByKey, if◌then◌else◌}
 use Rattle.std.specs.List.Sorted.{IsStableByKey}
 use Rattle.std.specs.Ordering.{nat_cmp}
 use Rattle.std.specs.declared.cmp.Ordering.{Ordering}
 use Rattle.jiff.specs.Types.{DateTime}
+use Rattle.jiff.specs.Words.{civil_nanos}
 use Rattle.cookie.specs.Header.{joined_texts}
 use Rattle.cookie_browser.specs.Request.{RequestView}
 use Rattle.cookie_browser.specs.Storage.{KeptView, CookieStore, is_sent}
@@ -11,6 +12,11 @@ use Rattle.cookie_browser.specs.Storage.{KeptView, CookieStore, is_sent}
 -- the cookies that are sent, in the order of their creation
 abbrev pub visible : RequestView → DateTime → CookieStore → CookieStore
 visible site now store = filter (is_sent site now) store
+
+-- the cookie after the request: if it was sent, the time is its last access
+abbrev pub accessed : RequestView → DateTime → KeptView → KeptView
+accessed site now cookie =
+    if is_sent site now cookie then record cookie { last_access = civil_nanos now } else cookie
 
 -- the name and an `=`, or nothing if there is no name
 abbrev pub name_part : List ℕ → List ℕ

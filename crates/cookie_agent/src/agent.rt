@@ -7,14 +7,17 @@ ghost use Rattle.cookie_browser.specs.Storage.{kept_with, lasting, verdict_on};
 ghost use Rattle.cookie_agent.specs.Agreement.{IsOurStore, PlanView};
 ghost use Rattle.cookie_agent.specs.Apart.{IsApart};
 ghost use Rattle.cookie_agent.specs.Hosts.{AreOnlyOwn};
-ghost use Rattle.cookie_agent.specs.Removals.{IsMissed};
-ghost use Rattle.cookie_agent.specs.Sent.{IsOrderedHeader};
+ghost use Rattle.cookie_agent.specs.Limits.{IsWithin, trimmed};
+ghost use Rattle.cookie_agent.specs.Removals.{IsMissed, IsRemovedAsSet};
+ghost use Rattle.cookie_agent.specs.Sent.{IsOrderedHeader, accessed};
 ghost use Rattle.cookie_agent.specs.Store.{agent_after_text, agent_verdict, refusal_of};
-ghost use Rattle.cookie_agent.specs.VerdictCode.{unexpiring, verdict_result};
+ghost use Rattle.cookie_agent.specs.VerdictCode.{timeless, verdict_result};
 
 use crate::header::{by_path, joined_pairs, visible};
+use crate::limits::Limits;
 use crate::site::Site;
 use crate::stored::StoredCookie;
+use crate::trim::{trim_domains, trim_total};
 use crate::verdict::Verdict;
 use cookie_browser::{Expiry, KeptCookie, Received, Refusal, Suffixes, refused_by};
 use jiff::civil::DateTime;
@@ -99,7 +102,7 @@ impl<'r> Agent<'r> {
             return Ok(Verdict::Refused(refusal));
         }
         let expiry = Expiry::of(&received.attributes, now);
-        Ok(Verdict::Stored(StoredCookie::of(self.alloc, &new, expiry)?))
+        Ok(Verdict::Stored(StoredCookie::of(self.alloc, &new, expiry, now)?))
     }
 
     /// Reads the text of a `Set-Cookie` header of the site's response at the time `now`: does what
@@ -119,6 +122,7 @@ impl<'r> Agent<'r> {
             × (refusal ≡ refusal_of (agent_verdict self.old site.now now text.now))) }
         ensures err { OnErr result (self.new ≡ self.old) }
         ensures missed { OnOk result (IsMissed site.now now text.now self.old self.new) }
+        ensures removed { OnOk result (IsRemovedAsSet site.now now text.now self.old self.new) }
     {
         match self.verdict(site, text, now)? {
             Verdict::Stored(cookie) => {
@@ -153,11 +157,43 @@ impl<'r> Agent<'r> {
         joined_pairs(self.alloc, &sent)
     }
 
+    /// Does what [`header`](Agent::header) says, for a request that is made: `now` becomes the last access of each
+    /// cookie that is sent (RFC 6265bis, Retrieval Algorithm). Fails only if out of memory, and then the agent is as
+    /// before.
+    pub fn retrieve(&mut self, site: &Site, now: DateTime) -> Result<Vec<u8>, AllocError>
+        ensures value { IfOk result (λ header.
+            IsOrderedHeader site.now now self.old.cookies header.items) }
+        ensures ok { OnOk result (self.new
+            ≡ record self.old { cookies = map (accessed site.now now) self.old.cookies }) }
+        ensures err { OnErr result (self.new ≡ self.old) }
+    {
+        let header = self.header(site, now)?;
+        access(&mut self.cookies, site, now);
+        Ok(header)
+    }
+
+    /// Drops what is expired at the time `now`, and then the cookies above the limits, as RFC 6265bis orders them
+    /// (Storage Model): of a domain with too many cookies first those that aren't secure-only, then the others; then of
+    /// all cookies. Where the order leaves a choice, the one with the earliest last access goes.
+    ///
+    /// The last access is when a cookie was last stored, or sent by [`retrieve`](Agent::retrieve). Of cookies that are
+    /// alike in that too, the one that was created first goes.
+    pub fn trim(&mut self, limits: Limits, now: DateTime)
+        ensures value { self.new ≡ record self.old { cookies = trimmed limits now self.old.cookies } }
+        ensures within { IsWithin limits self.new.cookies }
+        ensures needed { IsWithin limits (lasting now self.old.cookies)
+            → self.new.cookies ≡ lasting now self.old.cookies }
+    {
+        drop_expired(&mut self.cookies, now);
+        trim_domains(&mut self.cookies, limits.per_domain);
+        trim_total(&mut self.cookies, limits.total);
+    }
+
     /// The cookies that it stores, in the order of their creation. Some may be expired.
     pub fn cookies(&self) -> &[StoredCookie]
         ensures { result.now ≡ self.now.cookies }
     {
-        &self.cookies
+        self.cookies.as_slice()
     }
 
     /// A user agent that stores the same. Fails only if out of memory.
@@ -172,14 +208,14 @@ impl<'r> Agent<'r> {
     }
 }
 
-// The cookies that aren't expired, without their expiries.
+// The cookies that aren't expired, without their times.
 fn lasting_kept<'a>(
     alloc: Global,
     cookies: &'a [StoredCookie],
     now: DateTime,
 ) -> Result<Vec<KeptCookie<'a>>, AllocError>
     ensures { IfOk result (λ kept.
-        map kept_view kept.items ≡ map unexpiring (lasting now cookies.now)) }
+        map kept_view kept.items ≡ map timeless (lasting now cookies.now)) }
 {
     let mut kept = Vec::new(alloc);
     for cookie in cookies {
@@ -195,6 +231,15 @@ fn drop_expired(cookies: &mut Vec<StoredCookie>, now: DateTime)
     ensures { cookies.new.items ≡ lasting now cookies.old.items }
 {
     cookies.retain(|cookie| cookie.lasts(now));
+}
+
+// Sets the last access of each cookie that is sent.
+fn access(cookies: &mut Vec<StoredCookie>, site: &Site, now: DateTime)
+    ensures { cookies.new.items ≡ map (accessed site.now now) cookies.old.items }
+{
+    for cookie in cookies.iter_mut() {
+        cookie.access(site, now);
+    }
 }
 
 // Puts a cookie in the place of the one with its key that isn't expired, or last, and drops what is expired. After an

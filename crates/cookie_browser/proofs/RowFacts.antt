@@ -1,6 +1,7 @@
 -- What a received cookie is stored as, worked out by hand from RFC 6265bis. No call computes it.
 use Rattle.std.specs.Prelude.{◌≡◌, ℕ, true, false, List, [], ◌∷◌, codes, refl, None, Ok}
 use Rattle.jiff.specs.Types.{DateTime}
+use Rattle.jiff.specs.Words.{civil_nanos}
 use Rattle.cookie_browser.specs.Bytes.{cut, trim_wsp}
 use Rattle.cookie_browser.specs.Received.{received, with_piece, with_attribute}
 use Rattle.cookie_browser.specs.Request.{RequestView}
@@ -14,17 +15,17 @@ rules = Plain (codes "com") ∷ Plain (codes "co.uk") ∷ Wild (codes "ck") ∷ 
 abbrev at : List ℕ → RequestView
 at host = record { host = host; is_address = false; path = codes "/d/p"; is_secure = true; is_same_site = true; is_top_level = true; is_safe = true }
 
-abbrev host_cookie : List ℕ → List ℕ → List ℕ → KeptView
-host_cookie name value path = record { name = name; value = value; domain = codes "a.com"; is_host_only = true; path = path; is_secure_only = false; is_http_only = false; same_site = enforcement.Default; expiry = None }
+abbrev host_cookie : DateTime → List ℕ → List ℕ → List ℕ → KeptView
+host_cookie now name value path = record { name = name; value = value; domain = codes "a.com"; is_host_only = true; path = path; is_secure_only = false; is_http_only = false; same_site = enforcement.Default; expiry = None; last_access = civil_nanos now }
 
-pub stored_plain : (now : DateTime) → verdict rules (at (codes "a.com")) now [] (codes "n=v") ≡ Ok (host_cookie (codes "n") (codes "v") (codes "/d"))
+pub stored_plain : (now : DateTime) → verdict rules (at (codes "a.com")) now [] (codes "n=v") ≡ Ok (host_cookie now (codes "n") (codes "v") (codes "/d"))
 unfolding received refusal_by_domain refusal_by_connection refusal_by_prefix is_public_suffix cut trim_wsp with_piece with_attribute
 stored_plain now = refl
 
-pub stored_nameless : (now : DateTime) → verdict rules (at (codes "a.com")) now [] (codes "v; Path=/") ≡ Ok (host_cookie [] (codes "v") (codes "/"))
+pub stored_nameless : (now : DateTime) → verdict rules (at (codes "a.com")) now [] (codes "v; Path=/") ≡ Ok (host_cookie now [] (codes "v") (codes "/"))
 unfolding received refusal_by_domain refusal_by_connection refusal_by_prefix is_public_suffix cut trim_wsp with_piece with_attribute
 stored_nameless now = refl
 
-pub stored_suffix_host : (now : DateTime) → verdict rules (at (codes "com")) now [] (codes "n=v; Domain=com; Path=/") ≡ Ok (record (host_cookie (codes "n") (codes "v") (codes "/")) { domain = codes "com" })
+pub stored_suffix_host : (now : DateTime) → verdict rules (at (codes "com")) now [] (codes "n=v; Domain=com; Path=/") ≡ Ok (record (host_cookie now (codes "n") (codes "v") (codes "/")) { domain = codes "com" })
 unfolding received refusal_by_domain refusal_by_connection refusal_by_prefix is_public_suffix cut trim_wsp with_piece with_attribute
 stored_suffix_host now = refl

@@ -77,7 +77,7 @@ live_kept : (age : Option ℤ) (e : Option Expiration) (now : DateTime) → pos 
 live_kept None e now from live = later_kept e now from live
 live_kept (Some age) e now from live = further now (printed_age age) (age_above (int_div age (pos 1000000000)) live)
 
-dropped : (age : Option ℤ) (e : Option Expiration) (now : DateTime) → age ≡ Some (pos 0) → lasts (kept_until now (option_map printed_age age) (printed_moment e)) now ≡ false
+pub dropped : (age : Option ℤ) (e : Option Expiration) (now : DateTime) → age ≡ Some (pos 0) → lasts (kept_until now (option_map printed_age age) (printed_moment e)) now ≡ false
 dropped age e now is = ap (λ o. lasts (kept_until now (option_map printed_age o) (printed_moment e)) now) is ∙ not_further (civil_nanos now)
 
 pub printed_is_sent : IsPrintedSent

@@ -1,5 +1,5 @@
 -- Mirrors private code: a request and a kept cookie with copies of their texts.
-use Rattle.std.specs.Prelude.{None}
+use Rattle.std.specs.Prelude.{None, pos}
 use Rattle.cookie_browser.specs.Request.{RequestView}
 use Rattle.cookie_browser.specs.Storage.{KeptView}
 use Rattle.cookie_browser.specs.declared.request.BrowserRequest.{BrowserRequest}
@@ -17,7 +17,7 @@ request_view request =
       is_safe = request.is_safe;
     }
 
--- a refusal doesn't depend on the expiry
+-- a refusal depends neither on the expiry nor on the last access
 abbrev pub kept_view : KeptCookie → KeptView
 kept_view cookie =
     record {
@@ -30,4 +30,5 @@ kept_view cookie =
       is_http_only = cookie.is_http_only;
       same_site = cookie.same_site;
       expiry = None;
+      last_access = pos 0;
     }

@@ -14,7 +14,8 @@ use Rattle.cookie_browser.specs.declared.enforcement.Enforcement.TheVariants as 
 use Rattle.cookie_browser.specs.declared.refusal.Refusal.{Refusal}
 use Rattle.cookie_browser.specs.declared.refusal.Refusal.TheVariants as refusal
 
--- a stored cookie; its expiry is a time in UTC, in nanoseconds, and one without an expiry lasts for the session
+-- a stored cookie; its expiry and its last access are times in UTC, in nanoseconds, and one without an expiry lasts for
+-- the session
 pub record KeptView : Type 0 where
   pub name : List ℕ
   pub value : List ℕ
@@ -25,6 +26,7 @@ pub record KeptView : Type 0 where
   pub is_http_only : Bool
   pub same_site : Enforcement
   pub expiry : Option ℤ
+  pub last_access : ℤ
 
 -- the stored cookies in the order of their creation
 abbrev pub CookieStore : Type 0
@@ -84,6 +86,7 @@ kept_as rules request now cookie =
       is_http_only = cookie.attributes.http_only;
       same_site = cookie.attributes.same_site;
       expiry = kept_until now cookie.attributes.max_age cookie.attributes.expires;
+      last_access = civil_nanos now;
     }
 
 -- ---- refusals

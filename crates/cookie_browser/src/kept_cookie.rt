@@ -1,5 +1,5 @@
 //! A cookie, as a browser keeps it.
-ghost use Rattle.std.specs.Prelude.{◌≡◌, None, map};
+ghost use Rattle.std.specs.Prelude.{◌≡◌, None, map, pos};
 ghost use Rattle.jiff.specs.Types.{DateTime};
 ghost use Rattle.cookie_browser.specs.Storage as spec;
 ghost use Rattle.cookie_browser.specs.ReceivedCode.{received_view};
@@ -77,7 +77,7 @@ impl<'s> KeptCookie<'s> {
         requires { domain.now ≡ spec.asked_domain (received_view received.now).attributes }
         ensures { (now : DateTime) → kept_view result
             ≡ record (spec.kept_as suffixes.now (request_view request.now) now
-            (received_view received.now)) { expiry = None } }
+            (received_view received.now)) { expiry = None; last_access = pos 0 } }
     {
         let is_host_only = is_host_only(suffixes, domain);
         KeptCookie {

@@ -1,5 +1,5 @@
 -- Each request goes on from the agent that the one before left.
-use Rattle.std.proofs.Common.{◌≡◌, ◌+◌, [], ◌∷◌, ◌++◌, drop, map, sym, ap, subst, ◌∙◌, append-nil, append_assoc, drop_of_length-le}
+use Rattle.std.proofs.Common.{◌≡◌, ◌+◌, [], ◌∷◌, ◌++◌, drop, sym, ap, subst, ◌∙◌, append-nil, append_assoc, drop_of_length-le}
 use Rattle.std.proofs.lemmas.List.{drop_more}
 use Rattle.cookie_agent.specs.Store.{AgentView}
 use Rattle.cookie_agent.specs.Visits.{AreVisited, IsVisited}

@@ -1,4 +1,4 @@
-use Rattle.std.proofs.Common.{◌++◌, [], List, drop, map}
+use Rattle.std.proofs.Common.{◌++◌, [], List, drop}
 use Rattle.cookie_agent.specs.Visits.{AreVisited}
 use Rattle.cookie_agent.specs.declared.visited.Visited.{Visited}
 use Rattle.cookie_agent.proofs.requests.visits.Given as goal

@@ -1,11 +1,12 @@
 -- What is stored stays apart, and a removal whose cookie no stored one is misses.
-use Rattle.std.proofs.Common.{◌≡◌, Ok, sym, ap, subst, ◌∙◌}
-use Rattle.cookie_browser.specs.Storage.{kept_after_verdict, kept_with, lasts, lasting}
+use Rattle.std.proofs.Common.{◌≡◌, false, All, Ok, Err, sym, ap, subst, ◌∙◌}
+use Rattle.cookie_browser.specs.Storage.{is_same_cookie, kept_after_verdict, kept_with, lasts, lasting}
 use Rattle.cookie_agent.specs.Agreement.{seen}
 use Rattle.cookie_agent.specs.Apart.{IsApart}
 use Rattle.cookie_agent.specs.Store.{AgentView, agent_after_text, agent_verdict}
 use Rattle.cookie_agent.specs.VerdictCode.{verdict_result}
 use Rattle.cookie_agent.proofs.MissLemmas.{missed}
+use Rattle.cookie_agent.proofs.RemovalLemmas.{removed}
 use Rattle.cookie_agent.proofs.PutLemmas.{apart-filter, apart-stored}
 use Rattle.cookie_agent.proofs.agent.Agent.read.Goals as goal
 
@@ -29,3 +30,28 @@ returns-in_ok-put-in-Stored-clause-missed c x stored expired apart name =
     ∙ ap (λ s. lasting now (kept_with c.in-Stored.cookie (lasting now s))) cookies
     ∙ sym (ap (λ o. kept_after_verdict now o (lasting now before.cookies)) found) in
     ap (λ s. seen site now s name) after ∙ missed site now c.args.text.now before x stored expired apart name
+
+pub returns-in_ok-put-in-Stored-clause-removed : goal.returns-in_ok-put-in-Stored-clause-removed
+returns-in_ok-put-in-Stored-clause-removed c set moment is receivable past store kept stored uncovered =
+    let site = c.args.site.now in
+    let now = c.args.now in
+    let before : AgentView = c.args.self.now in
+    let cookies : c.self.inside.cookies.items ≡ before.cookies = ap (λ (a : AgentView). a.cookies) c.self.view_is in
+    let found : agent_verdict before site now c.args.text.now ≡ Ok c.in-Stored.cookie = sym c.in_ok-cookie.ensures ∙ ap verdict_result c.in-Stored.is in
+    let after : c.put.new.cookies.items ≡ (agent_after_text site now c.args.text.now before).cookies =
+    c.in_ok-put-in-Stored.ensures.ok
+    ∙ ap (λ s. lasting now (kept_with c.in-Stored.cookie (lasting now s))) cookies
+    ∙ sym (ap (λ o. kept_after_verdict now o (lasting now before.cookies)) found) in
+    subst (All (λ c. is_same_cookie c kept ≡ false)) (sym after) (removed site now c.args.text.now before set moment is receivable past store kept stored uncovered)
+
+pub returns-in-Refused-clause-removed : goal.returns-in-Refused-clause-removed
+returns-in-Refused-clause-removed c set moment is receivable past store kept stored uncovered =
+    let site = c.args.site.now in
+    let now = c.args.now in
+    let before : AgentView = c.args.self.now in
+    let cookies : c.self.inside.cookies.items ≡ before.cookies = ap (λ (a : AgentView). a.cookies) c.self.view_is in
+    let found : agent_verdict before site now c.args.text.now ≡ Err c.in-Refused.refusal = sym c.in_ok-cookie.ensures ∙ ap verdict_result c.in-Refused.is in
+    let after : c.drop_expired.new.cookies.items ≡ (agent_after_text site now c.args.text.now before).cookies =
+    c.drop_expired.ensures ∙ ap (lasting now) cookies
+    ∙ sym (ap (λ o. kept_after_verdict now o (lasting now before.cookies)) found) in
+    subst (All (λ c. is_same_cookie c kept ≡ false)) (sym after) (removed site now c.args.text.now before set moment is receivable past store kept stored uncovered)

@@ -1,12 +1,13 @@
--- The first refusal, or the cookie with its expiry, is what the definition says.
+-- The first refusal, or the cookie with its times, is what the definition says.
 use Rattle.std.proofs.Common.{◌≡◌, List, map, Some, None, Ok, ap, ◌∙◌}
+use Rattle.jiff.specs.Words.{civil_nanos}
 use Rattle.cookie_browser.specs.Received.{ReceivedView}
 use Rattle.cookie_browser.specs.ReceivedCode.{received_view}
 use Rattle.cookie_browser.specs.RefusedCode.{kept_view, request_view}
 use Rattle.cookie_browser.specs.Storage.{KeptView, first_refusal, kept_as, kept_until, lasting}
 use Rattle.cookie_browser.specs.Suffixes.{Rule}
 use Rattle.cookie_agent.specs.Store.{AgentView}
-use Rattle.cookie_agent.specs.VerdictCode.{unexpiring}
+use Rattle.cookie_agent.specs.VerdictCode.{timeless}
 use Rattle.cookie_agent.proofs.RefusalLemmas.{verdict_by}
 use Rattle.cookie_agent.proofs.agent.Agent.verdict_on.Goals as goal
 
@@ -17,7 +18,7 @@ returns-in-Some c =
     (lasting now c.args.self.now.cookies) (map kept_view c.in_ok-kept.kept.items) (received_view c.args.received.now) (kept_view c.of-new.result) (Some c.in-Some.refusal)
     (ap (λ (a : AgentView). a.rules) c.self.view_is)
     c.request-request.ensures
-    (c.in_ok-kept.ensures ∙ ap (λ s. map unexpiring (lasting now s)) (c.deref.ensures.value ∙ ap (λ (a : AgentView). a.cookies) c.self.view_is))
+    (c.in_ok-kept.ensures ∙ ap (λ s. map timeless (lasting now s)) (c.deref.ensures.value ∙ ap (λ (a : AgentView). a.cookies) c.self.view_is))
     (c.of-new.ensures now)
     (c.in-Some.ensures.value
     ∙ ap (λ s. first_refusal c.self.inside.suffixes.now (request_view c.request-request.result) (map kept_view s) (received_view c.args.received.now) (kept_view c.of-new.result)) c.deref-2.ensures.value)
@@ -30,8 +31,8 @@ returns c =
     let read : ReceivedView = received_view c.args.received.now in
     let made : c.in_ok-of.field-0 ≡ kept_as c.args.self.now.rules c.args.site.now now read =
     c.in_ok-of.ensures
-    ∙ ap (λ e. record (kept_view c.of-new.result) { expiry = e }) c.of-expiry.ensures
-    ∙ ap (λ (k : KeptView). record k { expiry = kept_until now read.attributes.max_age read.attributes.expires }) (c.of-new.ensures now)
+    ∙ ap (λ e. record (kept_view c.of-new.result) { expiry = e; last_access = civil_nanos now }) c.of-expiry.ensures
+    ∙ ap (λ (k : KeptView). record k { expiry = kept_until now read.attributes.max_age read.attributes.expires; last_access = civil_nanos now }) (c.of-new.ensures now)
     ∙ ap (λ s. kept_as rules s now read) c.request-request.ensures
     ∙ ap (λ r. kept_as r c.args.site.now now read) by_rules in
     ap (λ k. Ok k) made
@@ -39,7 +40,7 @@ returns c =
     (lasting now c.args.self.now.cookies) (map kept_view c.in_ok-kept.kept.items) read (kept_view c.of-new.result) None
     by_rules
     c.request-request.ensures
-    (c.in_ok-kept.ensures ∙ ap (λ s. map unexpiring (lasting now s)) (c.deref.ensures.value ∙ ap (λ (a : AgentView). a.cookies) c.self.view_is))
+    (c.in_ok-kept.ensures ∙ ap (λ s. map timeless (lasting now s)) (c.deref.ensures.value ∙ ap (λ (a : AgentView). a.cookies) c.self.view_is))
     (c.of-new.ensures now)
     (c.in_default.ensures.value
     ∙ ap (λ s. first_refusal rules (request_view c.request-request.result) (map kept_view s) read (kept_view c.of-new.result)) c.deref-2.ensures.value)
