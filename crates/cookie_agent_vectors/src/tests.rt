@@ -5,6 +5,7 @@ mod requests;
 mod rows;
 mod sites;
 mod stores;
+mod tables;
 
 use jiff::civil::DateTime;
 

@@ -52,7 +52,7 @@ impl Spot {
         is_below(self.path, path)
     }
 
-    // The domain of a cookie and whether it is one host's alone, if the site may set it.
+    // The domain of a cookie and whether only that host gets it, if the site may set it.
     fn domain<'c>(self, domain: Option<&'c str>) -> Option<(&'c str, bool)> {
         match domain {
             None | Some("") => Some((self.host, true)),
@@ -243,7 +243,7 @@ impl<'c> PlainAgent<'c> {
         Ok(header)
     }
 
-    /// The jar of a request after its calls. It begins with what is sent, the last of a name alone.
+    /// The jar of a request after its calls. It begins with what is sent, and only the last of a name.
     pub(super) fn jar_after(&self, spot: Spot, calls: &'c [JarCall<'_>]) -> Option<FlatJar<'c>> {
         let mut jar = FlatJar::new(self.alloc);
         for held in &self.sent(spot).ok()? {

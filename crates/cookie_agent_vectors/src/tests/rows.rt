@@ -43,7 +43,11 @@ one: on http://www.example.com/a/b | scope Path=/; Domain=example.com -> none
 one: on http://www.example.com/a/b | scope Path=/; Domain=other.com -> other.com false /
 one: on http://www.example.com/a/b | host -> www.example.com true /a
 one: on http://example.com/ab | reached Path=/a; Domain=example.com -> true
-it is sent to another site's page: sets n=1 | by frame | sends n=1";
+it is sent to another site's page: sets n=1 | by frame | sends n=1
+another step refuses it: meets ForeignDomain n=1; Domain=com
+no step refuses it: meets Empty n=1
+the first of a domain stays: sets a=1 | at 1 | sets b=2 | trims 1 9 | sends a=1
+another header is retrieved: sets a=1 | retrieves b=2";
 
 // The header that the last request of each leaves is wrong, or what that shows.
 const WRONG_REQUESTS: &str = "\
@@ -83,7 +87,10 @@ https://example.com/login 0 [add n=1; Size=5] -> [n=1]
 https://example.com/login 0 [add n=1] -> [n=1
 by mail
 size example.com -> true
-secure example.com/ -> yes";
+secure example.com/ -> yes
+meets Empty
+trims 2
+trims few 2";
 
 #[test]
 fn a_wrong_row_is_found(rt: HostRuntime) {

@@ -18,6 +18,11 @@ the scope of a domain: on http://www.example.com/a/b | scope Path=x; Domain=exam
 domains that may not be set: on http://www.example.com/a/b | scope Path=/; Domain=other.com -> none | \
     scope Path=/; Domain=a.www.example.com -> none | scope Path=/; Domain=..example.com -> none | \
     on address://10.0.0.1/ | scope Path=/; Domain=0.0.1 -> none
+the domains of Go 1.19 (jar_test.go, domainAndTypeTests): on address://127.0.0.1/ | scope -> 127.0.0.1 true / | \
+    on http://www.example.com/ | scope Domain=example.com -> example.com false / | scope Domain=other.com -> none | \
+    scope Domain=com -> none | on http://bar.co.uk/ | scope Domain=bar.co.uk -> bar.co.uk false / | \
+    on http://com/ | scope Domain=com -> com true / | scope Domain=.com -> com true / | on http://co.uk/ | \
+    scope Domain=co.uk -> co.uk true / | scope Domain=.co.uk -> co.uk true /
 sites that a cookie of one host is sent to: on https://www.example.com/a/c | reached -> true | \
     on http://www.example.com/ | reached -> false | reached Path=/ -> true | on http://a.www.example.com/ | \
     reached Path=/ -> false | on http://example.com/ | reached Path=/ -> false
