@@ -1,5 +1,5 @@
 //! The text of a cookie (RFC 6265 4.1.1).
-ghost use Rattle.std.specs.Prelude.{◌≡◌, Some, None, option_map, true, false, codes, List, ℕ};
+ghost use Rattle.std.specs.Prelude.{◌≡◌, Some, None, option_map, true, false, codes, List, ℕ, IfOk, string_bytes};
 ghost use Rattle.std.specs.Fmt.{DisplaysOnOk};
 ghost use Rattle.cookie_core.specs.Display.{DisplayView};
 ghost use Rattle.cookie_core.specs.Escapes.{printed_form};
@@ -10,8 +10,15 @@ use crate::cookie::Cookie;
 use crate::encoding::encode;
 use crate::same_site::SameSite;
 use cookie_date::DateText;
+use std::alloc::{AllocError, Allocator};
 use std::fmt;
 use std::marker::Model;
+
+// For how many bytes a text has room beside its name, its value, its path and its domain: for the flags and the labels,
+// and for an age and a date.
+const FLAGS_ROOM: usize = 64;
+
+const LIFETIME_ROOM: usize = 64;
 
 // Writes a flag's text, where it is shown.
 fn write_flag<W: fmt::Write>(f: &mut fmt::Formatter<W>, text: &str, is_shown: bool) -> fmt::Result
@@ -206,6 +213,41 @@ impl<'a, 'c> Display<'a, 'c> {
             is_encoded: self.is_encoded,
             is_stripped: true,
         }
+    }
+
+    /// The text, in a `String` that asks for its room at once. Only escapes make it grow.
+    ///
+    /// Fails only if out of memory.
+    pub fn to_string<A: Allocator>(&self, alloc: A) -> Result<String<A>, AllocError>
+        ensures ok { IfOk result (λ text. string_bytes text
+            ≡ cookie_text self.now.is_encoded self.now.is_stripped self.now.fields) }
+    {
+        let mut text = String::with_capacity(alloc, self.room())?;
+        text.write(self)?;
+        Ok(text)
+    }
+
+    // For how many bytes its text has room at first.
+    fn room(&self) -> usize {
+        let (name, value) = self.cookie.name_value();
+        let pair = name.len().saturating_add(value.len()).saturating_add(1);
+        if self.is_stripped {
+            return pair;
+        }
+        pair.saturating_add(self.cookie.attributes_room())
+    }
+}
+
+impl<'c> Cookie<'c> {
+    // For how many bytes the text of its attributes has room at first.
+    fn attributes_room(&self) -> usize {
+        let path = self.path().map_or(0, str::len);
+        let domain = self.domain().map_or(0, str::len);
+        let is_kept = self.max_age().is_some() || self.expires().is_some();
+        let lifetime = if is_kept { LIFETIME_ROOM } else { 0 };
+        path.saturating_add(domain)
+            .saturating_add(FLAGS_ROOM)
+            .saturating_add(lifetime)
     }
 }
 
