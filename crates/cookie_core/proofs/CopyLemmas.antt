@@ -2,11 +2,12 @@
 use Rattle.std.proofs.Common.{◌≡◌, ℕ, ◌==◌, ◌<◌, Bool, true, false, List, [], ◌∷◌, Option, Some, None, IfSome, IsUtf8, refl, ap, ◌∙◌, option_map, subst, cond, arith}
 use Rattle.std.proofs.lemmas.Bool.Decides.{Decides-eqb}
 use Rattle.std.proofs.lemmas.Str.{IsCharBoundary-after_ascii, IsUtf8-between, IsUtf8-drop, IsUtf8-string_bytes}
+use Rattle.std.proofs.lemmas.Option.{same_Some}
 use Rattle.std.specs.Option.{option_and_then}
 use Rattle.jiff.specs.Words.{IsDurationNanos, signed_nanos}
 use Rattle.jiff.specs.declared.SignedDuration.{SignedDuration}
 use Rattle.cookie_core.specs.Record.{CookieView, IsCookie, no_raw_forms, without_leading_dot}
-use Rattle.cookie_core.specs.CookieStr.{Fits, source_bytes, text_bytes, raw_bytes, IsNotLent, IsSameSource, IsSameText, IsSameOptionalText}
+use Rattle.cookie_core.specs.CookieStr.{Fits, source_bytes, text_bytes, raw_bytes, IsNotLent, IsSameIn, IsSameSource, IsSameText, IsSameOptionalText}
 use Rattle.cookie_core.specs.Cookie.{cookie_view, HasFittingTexts}
 use Rattle.cookie_core.specs.declared.cookie_str.CookieStr.{CookieStr}
 use Rattle.cookie_core.specs.declared.cookie_str.CookieStr.TheVariants as text
@@ -97,6 +98,26 @@ view-copied a b k s = rw (fields-copied a b k, raw-copied a b k s)
 
 pub view-copied-own : (a b : Inside) → Copied a b → IsNotLent b.source → cookie_view b ≡ record { fields = (cookie_view a).fields; raw = no_raw_forms }
 view-copied-own a b k s = rw (fields-copied a b k, raw-not_lent b s)
+
+-- ---- another source in which the texts are the same
+
+module _ (a : Inside) (kept : Source) (name : IsSameIn a.source kept (Some a.name)) (value : IsSameIn a.source kept (Some a.value)) (path : IsSameIn a.source kept a.path) (domain : IsSameIn a.source kept a.domain) where
+  pub HasFittingTexts-kept : (IsUtf8 (source_bytes a.source) → IsUtf8 (source_bytes kept)) → HasFittingTexts a → HasFittingTexts (record a { source = kept })
+  HasFittingTexts-kept utf8 h =
+      record {
+        source = utf8 h.source;
+        name = name.fits h.name;
+        value = value.fits h.value;
+        path = path.fits h.path;
+        domain = domain.fits h.domain;
+        max_age = h.max_age;
+      }
+
+  pub fields-kept : (cookie_view (record a { source = kept })).fields ≡ (cookie_view a).fields
+  fields-kept =
+      let n : text_bytes (source_bytes kept) a.name ≡ text_bytes (source_bytes a.source) a.name = same_Some _ _ name.bytes in
+      let v : text_bytes (source_bytes kept) a.value ≡ text_bytes (source_bytes a.source) a.value = same_Some _ _ value.bytes in
+      rw (n, v, path.bytes, domain.bytes)
 
 -- ---- what holds of every cookie
 

@@ -53,6 +53,12 @@ pub record IsSameOptionalText (old new : Option CookieStr) : Type 0 where
   pub lent : (lender : Source)
       → option_and_then (raw_bytes lender) new ≡ option_and_then (raw_bytes lender) old
 
+-- the text, if it is set, has the same bytes in either source, and fits the new one if it fits the old one
+pub record IsSameIn (old new : Source) (part : Option CookieStr) : Type 0 where
+  pub bytes : option_map (text_bytes (source_bytes new)) part
+      ≡ option_map (text_bytes (source_bytes old)) part
+  pub fits : IfSome part (Fits (source_bytes old)) → IfSome part (Fits (source_bytes new))
+
 -- the raw forms of a cookie whose texts are all spans of its source
 abbrev pub lent_forms : Source → Record → RawForms
 lent_forms (source.Borrowed whole) cookie = all_lent cookie

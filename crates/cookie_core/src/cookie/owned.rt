@@ -1,5 +1,6 @@
 //! Cookies with texts of their own.
-ghost use Rattle.std.specs.Prelude.{◌≡◌, Some, None, alloc_error, string_bytes};
+ghost use Rattle.std.specs.Prelude.{◌≡◌, Some, None, alloc_error, string_bytes, IsUtf8};
+ghost use Rattle.cookie_core.specs.CookieStr.{source_bytes, IsSameIn};
 ghost use Rattle.cookie_core.specs.Memory.{Gives};
 ghost use Rattle.cookie_core.specs.OwnedCode.{IsMadeOwn};
 ghost use Rattle.cookie_core.specs.Record.{no_raw_forms, plain, without_leading_dot};
@@ -7,6 +8,7 @@ ghost use Rattle.cookie_core.specs.Record.{no_raw_forms, plain, without_leading_
 use super::Cookie;
 use crate::cookie_str::{self, CookieStr};
 use crate::parse_error::ParseError;
+use crate::source::Source;
 use std::alloc::{AllocError, Global};
 
 impl<'c> Cookie<'c> {
@@ -42,6 +44,7 @@ impl<'c> Cookie<'c> {
             max_age,
             expires,
         } = self;
+        let source = kept_source(source, &name, &value, &path, &domain);
         Ok(Cookie {
             source: source.into_owned(alloc)?,
             name: name.into_owned(alloc)?,
@@ -90,6 +93,26 @@ impl<'c> Cookie<'c> {
         ensures raw { self.new.raw ≡ record self.old.raw { domain = None } }
     {
         self.domain = Some(CookieStr::Owned(domain));
+    }
+}
+
+// The source, if one of the texts stands in it.
+fn kept_source<'c>(
+    source: Source<'c>,
+    name: &CookieStr<'c>,
+    value: &CookieStr<'c>,
+    path: &Option<CookieStr<'c>>,
+    domain: &Option<CookieStr<'c>>,
+) -> Source<'c>
+    ensures utf8 { IsUtf8 (source_bytes source.entry) → IsUtf8 (source_bytes result) }
+    ensures name { IsSameIn source.entry result (Some name.now) }
+    ensures value { IsSameIn source.entry result (Some value.now) }
+    ensures path { IsSameIn source.entry result path.now }
+    ensures domain { IsSameIn source.entry result domain.now }
+{
+    match (name, value, path, domain) {
+        (CookieStr::Owned(_), CookieStr::Owned(_), None, None) => Source::None,
+        _ => source,
     }
 }
 
