@@ -17,6 +17,10 @@ use Rattle.cookie.specs.Table.{by_name, IsKeyedByName}
 pub names_apart : IsAntisymmetric name_cmp
 names_apart = slice_cmp-IsAntisymmetric nat_cmp-IsAntisymmetric
 
+cond-none : {Z : Type 0} (o : Option Z) (b : Bool) → o ≡ None → cond b None o ≡ o
+cond-none o true none = sym none
+cond-none o false none = refl
+
 module _ {X Z : Type 0} (shows : X → Z) where
   pub option_map-cond : (b : Bool) (w o : Option X) → option_map shows (cond b w o) ≡ cond b (option_map shows w) (option_map shows o)
   option_map-cond true w o = refl
@@ -53,6 +57,12 @@ module _ {X Z : Type 0} (shows : X → Z) where
     pub get-by_name-none : (es : List (String Y × X)) (q : List ℕ) → length es ≡ 0 → None ≡ get (by_name shows es) q
     get-by_name-none [] q none = sym (get-by_name [] q)
     get-by_name-none (e ∷ es) q none = absurd (omega (arith, none))
+
+    -- and nothing to remove
+    pub removed-none : (es : List (String Y × X)) (q : List ℕ) → length es ≡ 0 → by_name shows es ≡ remove (by_name shows es) q
+    removed-none es q none = same_map nat_list_cmp_total names_apart _ _ (λ n.
+        sym (cond-none (get (by_name shows es) n) (eq_by_cmp name_cmp n q) (sym (get-by_name-none es n none)))
+        ∙ sym (get-remove nat_list_cmp_total (by_name shows es) q n))
 
     module _ {S : Type 0} (m n : HashMap (String Y) X S) where
       -- a changed table's look-up, over the one before

@@ -134,7 +134,7 @@ fn set<X: Entry>(
     Ok(())
 }
 
-// Drops the entry at a name.
+// Drops the entry at a name. An empty table isn't hashed for.
 pub(crate) fn discard<X: Entry>(table: &mut IndexMap<String, X, NameHash>, name: &str)
     ensures removed { by_name X.shows table.new.entries
         ≡ map.remove (by_name X.shows table.old.entries) name.now }
@@ -142,7 +142,9 @@ pub(crate) fn discard<X: Entry>(table: &mut IndexMap<String, X, NameHash>, name:
         → IsKeyedByName X.name_of (by_name X.shows table.new.entries) }
     ensures hash { hasher_of table.new ≡ hasher_of table.old }
 {
-    table.swap_remove(name);
+    if !table.is_empty() {
+        table.swap_remove(name);
+    }
 }
 
 // A table that shows the same, and hashes names alike.
