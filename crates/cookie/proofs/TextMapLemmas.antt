@@ -19,8 +19,7 @@ use Rattle.std.specs.Str.{bytes_eq}
 use Rattle.std.specs.String.{string_bytes, string_cmp}
 use Rattle.std.specs.declared.cmp.Ordering.TheVariants.{Less}
 use Rattle.cookie.specs.Jar.{name_cmp}
-use Rattle.cookie.specs.Table.{by_name}
-use Rattle.cookie.specs.TextMap.{AreTexts, text_pairs}
+use Rattle.cookie.specs.TextMap.{AreTexts, text_pairs, texts_by_name}
 
 -- entries in the order of their keys are those of their map
 entries-from_entries : (es : List (List ℕ × List ℕ)) → T (is_sorted name_cmp es) → entries (from_entries {R = name_cmp} es) ≡ es
@@ -37,11 +36,11 @@ module _ {Y : Type 0} where
   find_text [] q = refl
   find_text (e ∷ es) q = grind (arith, find_text es q)
 
-  pub get-by_name : (es : List (String Y × String Y)) (q : List ℕ) → get (by_name string_bytes es) q ≡ option_map string_bytes (at_text es q)
+  pub get-by_name : (es : List (String Y × String Y)) (q : List ℕ) → get (texts_by_name es) q ≡ option_map string_bytes (at_text es q)
   get-by_name es q = get-from_entries nat_list_cmp_total (text_pairs es) q ∙ find_text es q
 
   -- entries with equal bytes show one map
-  pub by_name-clone : (es fs : List (String Y × String Y)) → AllZip (λ p q. (string_bytes q.0 ≡ string_bytes p.0) × (string_bytes q.1 ≡ string_bytes p.1)) es fs → by_name string_bytes fs ≡ by_name string_bytes es
+  pub by_name-clone : (es fs : List (String Y × String Y)) → AllZip (λ p q. (string_bytes q.0 ≡ string_bytes p.0) × (string_bytes q.1 ≡ string_bytes p.1)) es fs → texts_by_name fs ≡ texts_by_name es
   by_name-clone [] [] h = refl
   by_name-clone [] (f ∷ fs) h = absurd h
   by_name-clone (e ∷ es) [] h = absurd h
@@ -49,23 +48,23 @@ module _ {Y : Type 0} where
 
   -- the map after a change at a key
   changed : (old new : List (String Y × String Y)) (k : List ℕ) (w : Option (String Y)) (m : FinMap name_cmp (List ℕ))
-      → ((q : List ℕ) → get m q ≡ cond (eq_by_cmp name_cmp q k) (option_map string_bytes w) (get (by_name string_bytes old) q))
-      → ((q : List ℕ) → at_text new q ≡ update bytes_eq (at_text old) k w q) → by_name string_bytes new ≡ m
+      → ((q : List ℕ) → get m q ≡ cond (eq_by_cmp name_cmp q k) (option_map string_bytes w) (get (texts_by_name old) q))
+      → ((q : List ℕ) → at_text new q ≡ update bytes_eq (at_text old) k w q) → texts_by_name new ≡ m
   changed old new k w m after h = same_map nat_list_cmp_total exact_bytes _ _ (λ q.
       grind (arith, get-by_name new q, h q, is_eq-slice_cmp k q, (eq_by_cmp_equiv nat_list_cmp_total).symm k q, get-by_name old q, after q))
 
   module _ (m n : BTreeMap (String Y) (String Y)) where
     -- what `insert` leaves
     pub by_name-insert : (key text : String Y) → UpdatesBy string_cmp (string_cmp key) m n (Some text)
-        → by_name string_bytes n.entries ≡ insert (by_name string_bytes m.entries) (string_bytes key) (string_bytes text)
+        → texts_by_name n.entries ≡ insert (texts_by_name m.entries) (string_bytes key) (string_bytes text)
     by_name-insert key text u = changed m.entries n.entries (string_bytes key) (Some text) _
-        (get-insert nat_list_cmp_total (by_name string_bytes m.entries) (string_bytes key) (string_bytes text))
+        (get-insert nat_list_cmp_total (texts_by_name m.entries) (string_bytes key) (string_bytes text))
         (btree_map_updates_text (string_bytes key) m n (Some text) u)
 
     -- what `remove` leaves
     pub by_name-remove : (k : List ℕ) → UpdatesBy string_cmp (λ x. slice_cmp nat_cmp k (string_bytes x)) m n None
-        → by_name string_bytes n.entries ≡ remove (by_name string_bytes m.entries) k
-    by_name-remove k u = changed m.entries n.entries k None _ (get-remove nat_list_cmp_total (by_name string_bytes m.entries) k) (btree_map_updates_text k m n None u)
+        → texts_by_name n.entries ≡ remove (texts_by_name m.entries) k
+    by_name-remove k u = changed m.entries n.entries k None _ (get-remove nat_list_cmp_total (texts_by_name m.entries) k) (btree_map_updates_text k m n None u)
 
   below : (k : String Y) (es : List (String Y × String Y)) → AllByRecursion (λ y. string_cmp k y ≡ Less) (keys_of es) → below_all name_cmp (string_bytes k) (text_pairs es) ≡ true
   below k [] h = refl
@@ -77,7 +76,7 @@ module _ {Y : Type 0} where
   is_sorted-text_pairs (e ∷ es) h = both_true (below e.0 es h.0) (is_sorted-text_pairs es h.1)
 
   -- the entries of the finite map, in order
-  pub entries-by_name : (m : BTreeMap (String Y) (String Y)) → IsOrdered string_cmp m → entries (by_name string_bytes m.entries) ≡ text_pairs m.entries
+  pub entries-by_name : (m : BTreeMap (String Y) (String Y)) → IsOrdered string_cmp m → entries (texts_by_name m.entries) ≡ text_pairs m.entries
   entries-by_name m h = entries-from_entries (text_pairs m.entries) (rw (is_sorted-text_pairs m.entries h) tt)
 
   -- each is UTF-8

@@ -1,23 +1,33 @@
--- Mirrors private code: a table with text keys, seen as a finite map from names.
-use Rattle.std.specs.Prelude.{◌≡◌, List, String, IfSome, map}
+-- Mirrors private code: a table of cookies by their names, seen as a finite map from names.
+use Rattle.std.specs.Prelude.{◌≡◌, Bool, List, IfSome, map}
+use Rattle.std.specs.Arc.{arc_value}
 use Rattle.std.specs.FinMap.{FinMap, from_entries, get}
-use Rattle.std.specs.String.{string_bytes}
+use Rattle.std.specs.Str.{bytes_eq}
 use Rattle.cookie_core.specs.Record.{Record}
 use Rattle.cookie.specs.Jar.{Name, name_cmp, JarState, Marked}
 use Rattle.cookie.specs.declared.delta.DeltaCookie.{DeltaCookie}
+use Rattle.cookie.specs.declared.name_key.NameKey.{NameKey}
 use Rattle.cookie.specs.declared.original.Original.{Original}
 
--- the map from the bytes of the keys to what the values show
-abbrev pub by_name : {Y X Z : Type 0} → (X → Z) → List (String Y × X) → FinMap name_cmp Z
-by_name shows entries = from_entries (map (λ e. (string_bytes e.0, shows e.1)) entries)
+-- the name of a key's cookie
+abbrev pub key_name : NameKey → Name
+key_name key = (arc_value key.cookie).fields.name
+
+-- both keys have one name
+abbrev pub key_eq : NameKey → NameKey → Bool
+key_eq a b = bytes_eq (key_name a) (key_name b)
+
+-- the map from the names of the keys to what the values show
+abbrev pub by_name : {X Z : Type 0} → (X → Z) → List (NameKey × X) → FinMap name_cmp Z
+by_name shows entries = from_entries (map (λ e. (key_name e.0, shows e.1)) entries)
 
 -- what an original shows
 abbrev pub original_fields : Original → Record
-original_fields entry = entry.cookie.fields
+original_fields entry = (arc_value entry.cookie).fields
 
 -- what a cookie of the delta shows
 abbrev pub delta_mark : DeltaCookie → Marked
-delta_mark entry = record { cookie = entry.cookie.fields; removed = entry.removed }
+delta_mark entry = record { cookie = (arc_value entry.cookie).fields; removed = entry.removed }
 
 -- each name is that of its value
 abbrev pub IsKeyedByName : {Z : Type 0} → (Z → Name) → FinMap name_cmp Z → Type 0

@@ -2,20 +2,21 @@
 ghost use Rattle.std.specs.Prelude.{◌≡◌, ℕ, List, OnOk, OnErr, IfOk};
 ghost use Rattle.std.specs.FinMap as map;
 ghost use Rattle.std.specs.Option.{option_map};
-ghost use Rattle.std.specs.String.{string_bytes};
 ghost use Rattle.indexmap.specs.IndexMap.{hasher_of};
-ghost use Rattle.cookie.specs.Table.{by_name, delta_mark, original_fields, IsKeyedByName};
+ghost use Rattle.cookie.specs.Table.{by_name, delta_mark, key_name, original_fields, IsKeyedByName};
 ghost use Rattle.cookie_core.specs.Record.{Record};
 ghost use Rattle.cookie.specs.Jar.{Marked};
 
 use crate::delta::DeltaCookie;
 use crate::name_hash::NameHash;
+use crate::name_key::NameKey;
 use crate::original::Original;
 use indexmap::IndexMap;
 use std::alloc::{AllocError, Global};
+use std::sync::Arc;
 
 // For how many entries a table has room at first.
-const FIRST_ROOM: usize = 18;
+const FIRST_ROOM: usize = 36;
 
 // What stands at a cookie's name.
 pub(crate) trait Entry: Drop {
@@ -27,11 +28,12 @@ pub(crate) trait Entry: Drop {
     // The name of its cookie.
     ghost name_of: { Shown → List ℕ };
 
-    fn own_name(&self) -> &str
-        ensures { result.now ≡ name_of (shows self.now) };
+    // The key at which it stands.
+    fn key(&self) -> Result<NameKey, AllocError>
+        ensures { IfOk result (λ key. key_name key ≡ name_of (shows self.now)) };
 
-    // A copy that shows the same.
-    fn copy(&self, alloc: Global) -> Result<Self, AllocError>
+    // A copy that shows the same, and shares the cookie.
+    fn copy(&self) -> Result<Self, AllocError>
         ensures { IfOk result (λ copy. shows copy ≡ shows self.now) };
 }
 
@@ -42,12 +44,12 @@ impl Entry for Original {
 
     ghost name_of = { λ r. r.name };
 
-    fn own_name(&self) -> &str {
-        self.cookie.name()
+    fn key(&self) -> Result<NameKey, AllocError> {
+        NameKey::of(&self.cookie)
     }
 
-    fn copy(&self, alloc: Global) -> Result<Original, AllocError> {
-        let cookie = self.cookie.clone(alloc)?;
+    fn copy(&self) -> Result<Original, AllocError> {
+        let cookie = Arc::try_clone(&self.cookie)?;
         Ok(Original { cookie })
     }
 }
@@ -59,12 +61,12 @@ impl Entry for DeltaCookie {
 
     ghost name_of = { λ m. m.cookie.name };
 
-    fn own_name(&self) -> &str {
-        self.cookie.name()
+    fn key(&self) -> Result<NameKey, AllocError> {
+        NameKey::of(&self.cookie)
     }
 
-    fn copy(&self, alloc: Global) -> Result<DeltaCookie, AllocError> {
-        let cookie = self.cookie.clone(alloc)?;
+    fn copy(&self) -> Result<DeltaCookie, AllocError> {
+        let cookie = Arc::try_clone(&self.cookie)?;
         Ok(DeltaCookie {
             cookie,
             removed: self.removed,
@@ -74,7 +76,7 @@ impl Entry for DeltaCookie {
 
 // The entry at a name. An empty table isn't hashed for.
 pub(crate) fn find<'a, X: Entry>(
-    table: &'a IndexMap<String, X, NameHash>,
+    table: &'a IndexMap<NameKey, X, NameHash>,
     name: &str,
 ) -> Option<&'a X>
     ensures { option_map (λ x. X.shows x.now) result
@@ -88,7 +90,7 @@ pub(crate) fn find<'a, X: Entry>(
 
 // Puts an entry at its name. On an error the table stays as it was. It hashes names as before, whatever the answer.
 pub(crate) fn put<X: Entry>(
-    table: &mut IndexMap<String, X, NameHash>,
+    table: &mut IndexMap<NameKey, X, NameHash>,
     entry: X,
 ) -> Result<(), AllocError>
     ensures ok { OnOk result (by_name X.shows table.new.entries
@@ -100,7 +102,7 @@ pub(crate) fn put<X: Entry>(
         → IsKeyedByName X.name_of (by_name X.shows table.new.entries) }
     ensures hash { hasher_of table.new ≡ hasher_of table.old }
 {
-    let key = String::from_str(*table.allocator(), entry.own_name())?;
+    let key = entry.key()?;
     make_room(table)?;
     set(table, key, entry)?;
     Ok(())
@@ -108,7 +110,7 @@ pub(crate) fn put<X: Entry>(
 
 // Makes room in a full table: for some entries at first, and then for four times as many as there are, since each step
 // moves them all.
-fn make_room<X: Entry>(table: &mut IndexMap<String, X, NameHash>) -> Result<(), AllocError>
+fn make_room<X: Entry>(table: &mut IndexMap<NameKey, X, NameHash>) -> Result<(), AllocError>
     ensures same { by_name X.shows table.new.entries ≡ by_name X.shows table.old.entries }
     ensures hash { hasher_of table.new ≡ hasher_of table.old }
 {
@@ -120,12 +122,12 @@ fn make_room<X: Entry>(table: &mut IndexMap<String, X, NameHash>) -> Result<(), 
 
 // Puts an entry at a key. On an error the table stays as it was.
 fn set<X: Entry>(
-    table: &mut IndexMap<String, X, NameHash>,
-    key: String,
+    table: &mut IndexMap<NameKey, X, NameHash>,
+    key: NameKey,
     entry: X,
 ) -> Result<(), AllocError>
     ensures ok { OnOk result (by_name X.shows table.new.entries
-        ≡ map.insert (by_name X.shows table.old.entries) (string_bytes key) (X.shows entry)) }
+        ≡ map.insert (by_name X.shows table.old.entries) (key_name key) (X.shows entry)) }
     ensures err { OnErr result (by_name X.shows table.new.entries
         ≡ by_name X.shows table.old.entries) }
     ensures hash { hasher_of table.new ≡ hasher_of table.old }
@@ -135,7 +137,7 @@ fn set<X: Entry>(
 }
 
 // Drops the entry at a name. An empty table isn't hashed for.
-pub(crate) fn discard<X: Entry>(table: &mut IndexMap<String, X, NameHash>, name: &str)
+pub(crate) fn discard<X: Entry>(table: &mut IndexMap<NameKey, X, NameHash>, name: &str)
     ensures removed { by_name X.shows table.new.entries
         ≡ map.remove (by_name X.shows table.old.entries) name.now }
     ensures named { IsKeyedByName X.name_of (by_name X.shows table.old.entries)
@@ -149,9 +151,9 @@ pub(crate) fn discard<X: Entry>(table: &mut IndexMap<String, X, NameHash>, name:
 
 // A table that shows the same, and hashes names alike.
 pub(crate) fn copy<X: Entry>(
-    table: &IndexMap<String, X, NameHash>,
+    table: &IndexMap<NameKey, X, NameHash>,
     alloc: Global,
-) -> Result<IndexMap<String, X, NameHash>, AllocError>
+) -> Result<IndexMap<NameKey, X, NameHash>, AllocError>
     ensures shows { IfOk result (λ made.
         by_name X.shows made.entries ≡ by_name X.shows table.now.entries) }
     ensures hash { IfOk result (λ made. hasher_of made ≡ hasher_of table.now) }
@@ -159,8 +161,7 @@ pub(crate) fn copy<X: Entry>(
     let hash = *table.hasher();
     let mut made = IndexMap::with_capacity_and_hasher(alloc, table.len(), hash)?;
     for (key, entry) in table {
-        let key = String::from_str(alloc, key.as_str())?;
-        set(&mut made, key, entry.copy(alloc)?)?;
+        set(&mut made, key.copy()?, entry.copy()?)?;
     }
     Ok(made)
 }

@@ -8,6 +8,7 @@ ghost use Rattle.cookie.specs.Table.{by_name, delta_mark, original_fields};
 use crate::delta::DeltaCookie;
 use crate::entry::find;
 use crate::name_hash::NameHash;
+use crate::name_key::NameKey;
 use crate::original::Original;
 use cookie_core::Cookie;
 use indexmap::IndexMap;
@@ -17,21 +18,22 @@ use std::marker::Model;
 /// The cookies that were changed, seen as the list of the records of those that are left.
 #[derive(Drop)]
 pub struct Delta<'a> {
-    entries: Values<'a, String, DeltaCookie>,
+    entries: Values<'a, NameKey, DeltaCookie>,
 }
 
 impl<'a> Model for Delta<'a> {
     ghost use Rattle.std.specs.Prelude.{List, map};
+    ghost use Rattle.cookie.specs.Table.{delta_mark};
     ghost use Rattle.cookie_core.specs.Record.{Record};
 
     ghost Value = { List Record };
 
-    ghost view = { λ a. map (λ d. d.cookie.fields) a.entries };
+    ghost view = { λ a. map (λ d. (delta_mark d).cookie) a.entries };
 }
 
 impl<'a> Delta<'a> {
-    pub(crate) fn new(entries: Values<'a, String, DeltaCookie>) -> Delta<'a>
-        ensures { result ≡ map (λ d. d.cookie.fields) entries.entry }
+    pub(crate) fn new(entries: Values<'a, NameKey, DeltaCookie>) -> Delta<'a>
+        ensures { result ≡ map (λ d. (delta_mark d).cookie) entries.entry }
     {
         Delta { entries }
     }
@@ -50,16 +52,16 @@ impl<'a> Iterator for Delta<'a> {
 
     fn next(&mut self) -> Option<&'a Cookie<'static>> {
         let entry = self.entries.next()?;
-        Some(&entry.cookie)
+        Some(&*entry.cookie)
     }
 }
 
 /// The cookies that a jar shows, seen as the list of the records of those that are left.
 #[derive(Drop)]
 pub struct Iter<'a> {
-    delta: &'a IndexMap<String, DeltaCookie, NameHash>,
-    changes: Values<'a, String, DeltaCookie>,
-    originals: Values<'a, String, Original>,
+    delta: &'a IndexMap<NameKey, DeltaCookie, NameHash>,
+    changes: Values<'a, NameKey, DeltaCookie>,
+    originals: Values<'a, NameKey, Original>,
 }
 
 impl<'a> Model for Iter<'a> {
@@ -77,8 +79,8 @@ impl<'a> Model for Iter<'a> {
 impl<'a> Iter<'a> {
     // The cookies that were added, and then the originals whose names were left alone.
     pub(crate) fn new(
-        delta: &'a IndexMap<String, DeltaCookie, NameHash>,
-        originals: &'a IndexMap<String, Original, NameHash>,
+        delta: &'a IndexMap<NameKey, DeltaCookie, NameHash>,
+        originals: &'a IndexMap<NameKey, Original, NameHash>,
     ) -> Iter<'a>
         ensures { result ≡ additions (map delta_mark (values_of delta.now.entries))
             ++ uncovered (by_name delta_mark delta.now.entries)
@@ -112,13 +114,13 @@ impl<'a> Iterator for Iter<'a> {
 }
 
 // The next cookie that was added.
-fn next_added<'a>(changes: &mut Values<'a, String, DeltaCookie>) -> Option<&'a Cookie<'static>>
+fn next_added<'a>(changes: &mut Values<'a, NameKey, DeltaCookie>) -> Option<&'a Cookie<'static>>
     ensures { TakesFirst (λ c. c.now.fields) (additions (map delta_mark changes.old))
         result (additions (map delta_mark changes.new)) }
 {
     while let Some(entry) = changes.next() {
         if !entry.removed {
-            return Some(&entry.cookie);
+            return Some(&*entry.cookie);
         }
     }
     None
@@ -126,8 +128,8 @@ fn next_added<'a>(changes: &mut Values<'a, String, DeltaCookie>) -> Option<&'a C
 
 // The next original under whose name the delta has nothing.
 fn next_uncovered<'a>(
-    delta: &IndexMap<String, DeltaCookie, NameHash>,
-    originals: &mut Values<'a, String, Original>,
+    delta: &IndexMap<NameKey, DeltaCookie, NameHash>,
+    originals: &mut Values<'a, NameKey, Original>,
 ) -> Option<&'a Cookie<'static>>
     ensures { TakesFirst (λ c. c.now.fields)
         (uncovered (by_name delta_mark delta.now.entries) (map original_fields originals.old))
@@ -136,7 +138,7 @@ fn next_uncovered<'a>(
 {
     while let Some(original) = originals.next() {
         if find(delta, original.cookie.name()).is_none() {
-            return Some(&original.cookie);
+            return Some(&*original.cookie);
         }
     }
     None

@@ -13,6 +13,7 @@ use crate::entry::{copy, discard, find, put};
 use crate::iter::{Delta, Iter};
 use crate::jar_error::JarError;
 use crate::name_hash::NameHash;
+use crate::name_key::NameKey;
 use crate::original::Original;
 use cookie_core::Cookie;
 use indexmap::IndexMap;
@@ -25,8 +26,8 @@ use std::marker::Model;
 /// Cookies by their names, and which of them were changed since they came (RFC 6265 5.3).
 #[derive(Drop)]
 pub struct CookieJar {
-    originals: IndexMap<String, Original, NameHash>,
-    delta: IndexMap<String, DeltaCookie, NameHash>,
+    originals: IndexMap<NameKey, Original, NameHash>,
+    delta: IndexMap<NameKey, DeltaCookie, NameHash>,
 }
 
 // Contracts see the jar as two finite maps from names to the records of cookies.
@@ -94,7 +95,7 @@ impl CookieJar {
     {
         match find(&self.delta, name) {
             Some(entry) if entry.removed => None,
-            Some(entry) => Some(&entry.cookie),
+            Some(entry) => Some(&*entry.cookie),
             None => self.original(name),
         }
     }
@@ -104,7 +105,7 @@ impl CookieJar {
         ensures { option_map (λ c. c.now.fields) result ≡ get self.now.originals name.now }
     {
         let entry = find(&self.originals, name)?;
-        Some(&entry.cookie)
+        Some(&*entry.cookie)
     }
 
     /// Adds an original cookie, in the place of the one of its name. It is no change: the delta stays.
@@ -124,7 +125,8 @@ impl CookieJar {
         ensures ok { OnOk result (self.new ≡ after (AddOriginal cookie.entry.fields) self.old) }
         ensures err { OnErr result (self.new ≡ self.old) }
     {
-        put(&mut self.originals, Original { cookie })
+        let original = Original::new(self.allocator(), cookie)?;
+        put(&mut self.originals, original)
     }
 
     /// Adds a cookie, in the place of the one that the jar shows under its name.
@@ -135,7 +137,8 @@ impl CookieJar {
             self.new ≡ after (Add cookie.entry.fields) self.old) }
         ensures err { OnErr result (self.new ≡ self.old) }
     {
-        put(&mut self.delta, DeltaCookie::addition(cookie))?;
+        let addition = DeltaCookie::addition(self.allocator(), cookie)?;
+        put(&mut self.delta, addition)?;
         Ok(())
     }
 
@@ -150,7 +153,8 @@ impl CookieJar {
         ensures certain { get self.old.originals cookie.entry.fields.name ≡ None → IsOk result }
     {
         if find(&self.originals, cookie.name()).is_some() {
-            put(&mut self.delta, DeltaCookie::removal(cookie, now))?;
+            let removal = DeltaCookie::removal(self.allocator(), cookie, now)?;
+            put(&mut self.delta, removal)?;
         } else {
             discard(&mut self.delta, cookie.name());
         }

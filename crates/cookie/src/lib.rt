@@ -11,6 +11,7 @@ mod iter;
 mod jar;
 mod jar_error;
 mod name_hash;
+mod name_key;
 mod original;
 pub mod prefix;
 mod secure;

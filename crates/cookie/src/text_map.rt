@@ -17,17 +17,16 @@ pub struct TextMap {
 }
 
 impl Model for TextMap {
-    ghost use Rattle.std.specs.Prelude.{List, ℕ, string_bytes};
+    ghost use Rattle.std.specs.Prelude.{List, ℕ};
     ghost use Rattle.std.specs.FinMap.{FinMap};
     ghost use Rattle.cookie.specs.Jar.{name_cmp};
-    ghost use Rattle.cookie.specs.Table.{by_name};
-    ghost use Rattle.cookie.specs.TextMap.{texts_code};
+    ghost use Rattle.cookie.specs.TextMap.{texts_by_name, texts_code};
 
     ghost Value = { FinMap name_cmp (List ℕ) };
 
     ghost coded = { texts_code };
 
-    ghost view = { λ a. by_name string_bytes a.texts.entries };
+    ghost view = { λ a. texts_by_name a.texts.entries };
 }
 
 #[tactic(auto, using(crate::proofs::TextMapLemmas::by_name_calls))]

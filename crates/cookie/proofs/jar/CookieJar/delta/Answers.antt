@@ -14,10 +14,10 @@ pub returns-clause-walks : goal.returns-clause-walks
 returns-clause-walks c =
     let entries = c.self.inside.delta.entries in
     rw (c.new.ensures, c.values-entries.ensures.rest) (
-    subst (λ (s : JarState). Walks (λ n. option_map (λ m. m.cookie) (get s.delta n)) (map (λ d. d.cookie.fields) (values_of entries))) c.self.view_is (
+    subst (λ (s : JarState). Walks (λ n. option_map (λ m. m.cookie) (get s.delta n)) (map (λ d. (delta_mark d).cookie) (values_of entries))) c.self.view_is (
     walks_values delta_mark (λ m. m.cookie) entries c.len-len.ensures.unique c.self.invariant.0.delta))
 
 pub returns-clause-fits : goal.returns-clause-fits
 returns-clause-fits c =
     let values = c.values-entries in
-    omega (arith, ap length c.new.ensures, length-map values.result (λ d. d.cookie.fields), values.ensures.len, values.ensures.fits)
+    omega (arith, ap length c.new.ensures, length-map values.result (λ d. (delta_mark d).cookie), values.ensures.len, values.ensures.fits)

@@ -1,4 +1,4 @@
-use Rattle.std.proofs.Common.{Global, [], ap, sym, ◌∙◌}
+use Rattle.std.proofs.Common.{[], ap, sym, ◌∙◌}
 use Rattle.std.specs.FinMap.{get}
 use Rattle.cookie.specs.Jar.{JarState, overlay}
 use Rattle.cookie.specs.Table.{by_name, delta_mark, original_fields}
@@ -18,5 +18,5 @@ pub returns-clause-originals : goal.returns-clause-originals
 returns-clause-originals c = λ name.
     let original = get (by_name original_fields c.self.inside.originals.entries) name in
     ap (λ es. overlay (get (by_name delta_mark es) name) original) c.truncate.ensures.entries
-    ∙ ap (λ entry. overlay entry original) (get-by_name delta_mark {Y = Global} [] name)
+    ∙ ap (λ entry. overlay entry original) (get-by_name delta_mark [] name)
     ∙ ap (λ (jar : JarState). get jar.originals name) c.self.view_is
