@@ -12,6 +12,7 @@ abbrev pub source_bytes : Source → List ℕ
 source_bytes source.None = []
 source_bytes (source.Borrowed whole) = whole.now
 source_bytes (source.Owned whole) = string_bytes whole
+source_bytes (source.Shared part) = part
 
 -- the bytes of a text in a source of these bytes
 abbrev pub text_bytes : List ℕ → CookieStr → List ℕ

@@ -1,5 +1,6 @@
 -- Mirrors private code: what a splitter's own types mean.
 use Rattle.std.specs.Prelude.{◌≡◌, ℕ, Bool, true, false, List, [], ◌∷◌, Option, Some, None, option_map, IfSome, string_bytes}
+use Rattle.std.specs.Arc.{arc_value}
 use Rattle.cookie_core.specs.Header.{header_texts}
 use Rattle.cookie_core.specs.Pieces.{Lacks}
 use Rattle.cookie_core.specs.Spans.{StandsIn, span_text}
@@ -14,6 +15,7 @@ header_bytes (header.Plain text) = text.now
 header_bytes (header.Encoded alloc text) = text.now
 header_bytes (header.Owned alloc text) = string_bytes text
 header_bytes (header.EncodedOwned alloc text) = string_bytes text
+header_bytes (header.EncodedShared alloc text) = string_bytes (arc_value text)
 
 -- whether its cookies are decoded
 abbrev pub is_decoded : Header → Bool
@@ -21,6 +23,7 @@ is_decoded (header.Plain text) = false
 is_decoded (header.Encoded alloc text) = true
 is_decoded (header.Owned alloc text) = false
 is_decoded (header.EncodedOwned alloc text) = true
+is_decoded (header.EncodedShared alloc text) = true
 
 -- whether its cookies get texts of their own
 abbrev pub is_owned : Header → Bool
@@ -28,6 +31,7 @@ is_owned (header.Plain text) = false
 is_owned (header.Encoded alloc text) = false
 is_owned (header.Owned alloc text) = true
 is_owned (header.EncodedOwned alloc text) = true
+is_owned (header.EncodedShared alloc text) = true
 
 -- the texts of the rest of the text
 abbrev pub texts_in : List ℕ → Option Span → List (List ℕ)

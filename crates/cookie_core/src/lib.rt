@@ -16,6 +16,7 @@ mod part;
 mod quotes;
 mod same;
 mod same_site;
+mod shared_text;
 mod source;
 mod span;
 mod split;

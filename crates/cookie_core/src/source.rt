@@ -2,6 +2,7 @@
 ghost use Rattle.std.specs.Prelude.{◌≡◌, IfOk};
 ghost use Rattle.cookie_core.specs.CookieStr.{source_bytes, IsNotLent, IsSameSource};
 
+use crate::shared_text::SharedText;
 use std::alloc::{AllocError, Global};
 
 /// What a cookie was read from.
@@ -10,6 +11,7 @@ pub(crate) enum Source<'c> {
     None,
     Borrowed(&'c str),
     Owned(String),
+    Shared(SharedText),
 }
 
 impl<'c> Source<'c> {
@@ -20,6 +22,7 @@ impl<'c> Source<'c> {
             Source::None => "",
             Source::Borrowed(text) => text,
             Source::Owned(text) => text.as_str(),
+            Source::Shared(text) => text.as_str(),
         }
     }
 
@@ -31,6 +34,7 @@ impl<'c> Source<'c> {
             Source::None => Ok(Source::None),
             Source::Borrowed(text) => Ok(Source::Owned(String::from_str(alloc, text)?)),
             Source::Owned(text) => Ok(Source::Owned(text)),
+            Source::Shared(text) => Ok(Source::Shared(text)),
         }
     }
 
@@ -41,6 +45,7 @@ impl<'c> Source<'c> {
             Source::None => Ok(Source::None),
             Source::Borrowed(text) => Ok(Source::Borrowed(text)),
             Source::Owned(text) => Ok(Source::Owned(String::from_str(alloc, text.as_str())?)),
+            Source::Shared(text) => Ok(Source::Shared(text.clone()?)),
         }
     }
 }
