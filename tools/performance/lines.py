@@ -66,4 +66,5 @@ def main():
         print(line(numbers, index))
 
 
-main()
+if __name__ == "__main__":
+    main()
