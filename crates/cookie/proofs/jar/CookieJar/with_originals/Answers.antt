@@ -2,7 +2,7 @@ use Rattle.std.proofs.Common.{true, refl, sym, ap, ◌∙◌}
 use Rattle.std.specs.List.{filter_map}
 use Rattle.cookie_core.proofs.CookieOfLemmas.{header_cookies-texts}
 use Rattle.cookie_core.proofs.SplitLemmas.{NextCookie-decodes}
-use Rattle.cookie_core.specs.CookieOf.{cookie_of}
+use Rattle.cookie_core.specs.CookieOf.{cookie_of, header_cookies}
 use Rattle.cookie.specs.Originals.{with_originals}
 use Rattle.cookie.proofs.OriginalLemmas.{with_originals-next}
 use Rattle.cookie.proofs.jar.CookieJar.with_originals.Goals as goal
@@ -10,11 +10,11 @@ use Rattle.cookie.proofs.jar.CookieJar.with_originals.Goals as goal
 pub loop-outcome-init : goal.loop-outcome-init
 loop-outcome-init c =
     let left = c.into_iter-outcome-iterator.ensures.into_iter_gives in
-    let split = c.split_parse_encoded-outcome-items.ensures in
+    let split = c.split_parse_encoded_owned-outcome-items.ensures in
     record {
       is_decoded = ap (λ s. s.is_decoded) (left ∙ split.value);
       jar = ap (λ cookies. with_originals cookies c.args.self)
-          (ap (λ s. filter_map (cookie_of true) s.texts) left ∙ sym (header_cookies-texts true c.args.header.now _ split.texts));
+          (ap (λ s. filter_map (cookie_of true) s.texts) left ∙ sym (header_cookies-texts true _ _ split.texts) ∙ ap (header_cookies true) c.in_ok-text.ensures.ok);
     }
 
 pub loop-outcome-preserved : goal.loop-outcome-preserved
