@@ -44,6 +44,14 @@ module _ {X Z : Type 0} (shows : X → Z) where
   abbrev pub at_text : List (NameKey × X) → List ℕ → Option X
   at_text es q = lookup (λ k. bytes_eq q (key_name k)) es
 
+  -- the first entry, where it has the name
+  pub at_text-first : (es rest : List (NameKey × X)) (k : NameKey) (x : X) (q : List ℕ) → es ≡ (k, x) ∷ rest → bytes_eq q (key_name k) ≡ true → at_text es q ≡ Some x
+  at_text-first es rest k x q e same = ap (λ l. at_text l q) e ∙ ap (λ b. cond b (Some x) (at_text rest q)) same
+
+  -- and the later ones, where it has another
+  pub at_text-later : (es rest : List (NameKey × X)) (k : NameKey) (x : X) (q : List ℕ) → es ≡ (k, x) ∷ rest → bytes_eq q (key_name k) ≡ false → at_text es q ≡ at_text rest q
+  at_text-later es rest k x q e other = ap (λ l. at_text l q) e ∙ ap (λ b. cond b (Some x) (at_text rest q)) other
+
   find_text : (es : List (NameKey × X)) (q : List ℕ) → find name_cmp q (map (λ e. (key_name e.0, shows e.1)) es) ≡ option_map shows (at_text es q)
   find_text [] q = refl
   find_text (e ∷ es) q =

@@ -18,6 +18,9 @@ use std::sync::Arc;
 // For how many entries a table has room at first.
 const FIRST_ROOM: usize = 36;
 
+// In a table of no more entries than this a look-up compares each name, which costs less than to hash one with drawn keys.
+const FEW: usize = 8;
+
 // What stands at a cookie's name.
 pub(crate) trait Entry: Drop {
     // What a jar's contracts see of it.
@@ -74,7 +77,7 @@ impl Entry for DeltaCookie {
     }
 }
 
-// The entry at a name. An empty table isn't hashed for.
+// The entry at a name.
 pub(crate) fn find<'a, X: Entry>(
     table: &'a IndexMap<NameKey, X, NameHash>,
     name: &str,
@@ -82,10 +85,26 @@ pub(crate) fn find<'a, X: Entry>(
     ensures { option_map (λ x. X.shows x.now) result
         ≡ map.get (by_name X.shows table.now.entries) name.now }
 {
-    if table.is_empty() {
-        return None;
+    if table.len() <= FEW {
+        return find_by_comparing(table, name);
     }
     table.get(name)
+}
+
+// The entry at a name, found by comparing it with each key.
+fn find_by_comparing<'a, X: Entry>(
+    table: &'a IndexMap<NameKey, X, NameHash>,
+    name: &str,
+) -> Option<&'a X>
+    ensures { option_map (λ x. X.shows x.now) result
+        ≡ map.get (by_name X.shows table.now.entries) name.now }
+{
+    for (key, entry) in table {
+        if name == key.as_str() {
+            return Some(entry);
+        }
+    }
+    None
 }
 
 // Puts an entry at its name. On an error the table stays as it was. It hashes names as before, whatever the answer.
