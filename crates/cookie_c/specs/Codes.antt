@@ -27,6 +27,10 @@ code_of status.NoPair = 16
 code_of status.NoJar = 17
 code_of status.NotFound = 18
 code_of status.BadAttribute = 19
+code_of status.NoSession = 20
+code_of status.BadPrefix = 21
+code_of status.Over = 22
+code_of status.TooLarge = 23
 
 -- the status of a text that is refused as no cookie
 abbrev pub refusal_status : ParseError → Status

@@ -7,8 +7,12 @@ pub mod Jars
 pub mod Keyed
 pub mod NextPiece
 pub mod Numbers
+pub mod OpenedSessions
 pub mod Pairs
 pub mod Places
 pub mod Played
 pub mod Prints
 pub mod Readings
+pub mod SavedSessions
+pub mod SiteParts
+pub mod Sites

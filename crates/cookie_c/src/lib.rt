@@ -9,12 +9,14 @@ mod jar;
 mod key;
 mod keyed;
 mod next_piece;
+mod opened_session;
 mod pair;
 mod place;
 mod print;
 mod reading;
 mod sealing;
 mod session;
+mod sessions;
 mod signing;
 mod status;
 #[cfg(test)]

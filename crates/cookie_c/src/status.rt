@@ -45,6 +45,14 @@ pub enum Status {
     NotFound = 18,
     /// A number of the attributes says nothing.
     BadAttribute = 19,
+    /// The request has no session that is open.
+    NoSession = 20,
+    /// The cookie lacks what a browser asks of the prefix of its name.
+    BadPrefix = 21,
+    /// The session would be over as soon as it is saved: a limit is 0.
+    Over = 22,
+    /// The cookie's name and value have more than 4,096 bytes; the length is their number.
+    TooLarge = 23,
 }
 
 impl Status {

@@ -4,6 +4,7 @@ mod decoded;
 mod jars;
 mod prints;
 mod rows;
+mod sessions;
 
 use crate::answer::Answer;
 use crate::date::{cookie_print_date, cookie_read_date};

@@ -10,7 +10,7 @@ use Rattle.std.specs.Ordering.{eq_by_cmp, is_lt, is_eq}
 use Rattle.std.specs.declared.cmp.Ordering.{Ordering}
 use Rattle.std.specs.declared.cmp.Ordering.TheVariants.{Less, Equal, Greater}
 use Rattle.cookie.specs.Jar.{name_cmp}
-use Rattle.cookie_session.specs.Reading.{filled}
+use Rattle.cookie_session.specs.Form.{filled}
 
 -- the first of two, if there is one
 abbrev first_of : Option (List ℕ) → Option (List ℕ) → Option (List ℕ)

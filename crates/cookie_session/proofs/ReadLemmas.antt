@@ -8,10 +8,12 @@ use Rattle.form_urlencoded.specs.Form.{raw_pairs}
 use Rattle.form_urlencoded.specs.Parse.{raw_pairs_left}
 use Rattle.form_urlencoded.specs.declared.reading.RawPairs.{RawPairs}
 use Rattle.cookie.specs.Jar.{name_cmp}
-use Rattle.cookie_session.specs.Reading.{ReadsNumber, decoded_pairs, filled, form_pairs, form_text}
+use Rattle.cookie_session.specs.Form.{decoded_pairs, filled, form_of_texts, form_pairs, form_text, texts_of_form}
+use Rattle.cookie_session.specs.Reading.{ReadsNumber}
 use Rattle.cookie_session.specs.Session.{IsSession, IsSessionText, SessionState, session_pairs, session_text}
 use Rattle.cookie_session.proofs.FillLemmas.{filled-entries}
-use Rattle.cookie_session.proofs.TextLemmas.{form_pairs-session_text}
+use Rattle.cookie.specs.TextMap.{AreTexts}
+use Rattle.cookie_session.proofs.TextLemmas.{form_pairs-extended, form_pairs-session_text}
 
 abbrev Pair : Type 0
 Pair = List ℕ × List ℕ
@@ -60,3 +62,7 @@ module _ (text again : List ℕ) (session : SessionState) (wrote : IsSessionText
     λ e. absurd (none-some s e),
     λ of. absurd (other (wrote.written ∙ ap session_text (whose s of) ∙ sym of.written)),
   )
+
+-- the form of texts has these texts
+pub texts-form : (texts : FinMap name_cmp (List ℕ)) → AreTexts (entries texts) → texts_of_form (form_of_texts texts) ≡ texts
+texts-form texts are = ap (λ es. filled es empty) (form_pairs-extended (entries texts) are) ∙ filled-entries texts

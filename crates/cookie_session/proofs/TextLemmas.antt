@@ -10,11 +10,11 @@ use Rattle.std.specs.List.{list_all}
 use Rattle.std.specs.FinMap.{entries}
 use Rattle.std.specs.Fmt.{decimal}
 use Rattle.std.specs.Str.Lossy.{utf8_lossy}
-use Rattle.form_urlencoded.specs.Form.{decode, raw_pairs}
+use Rattle.form_urlencoded.specs.Form.{decode, extend_pairs, raw_pairs}
 use Rattle.form_urlencoded.proofs.FormLemmas.{IsBytePair, round_trip}
 use Rattle.cookie.specs.Bytes.{IsBytes}
 use Rattle.cookie.proofs.SealingLemmas.{bytes_text}
-use Rattle.cookie_session.specs.Reading.{form_pairs}
+use Rattle.cookie_session.specs.Form.{form_pairs}
 use Rattle.cookie_session.specs.Session.{IsSession, SessionState, session_pairs, session_text}
 
 abbrev IsTextPair : List ℕ × List ℕ → Type 0
@@ -57,10 +57,13 @@ text_pairs-session s is =
     (All-cons IsTextPair (codes "started", decimal s.started) ((codes "seen", decimal s.seen) ∷ entries s.texts) started
     (All-cons IsTextPair (codes "seen", decimal s.seen) (entries s.texts) seen is.texts))
 
+-- a form of texts has these texts as its pairs
+pub form_pairs-extended : (es : List (List ℕ × List ℕ)) → All IsTextPair es → form_pairs (extend_pairs [] es) ≡ es
+form_pairs-extended es are =
+    sym (map-map lossy_pair (λ (e : List ℕ × List ℕ). (decode e.0, decode e.1)) (raw_pairs (extend_pairs [] es)))
+    ∙ ap (map lossy_pair) (round_trip es (All-weaker IsTextPair IsBytePair (λ e t. (small_text e.0 t.0, small_text e.1 t.1)) es are))
+    ∙ lossy_pairs es are
+
 -- a session's text has its pairs
 pub form_pairs-session_text : (s : SessionState) → IsSession s → form_pairs (session_text s) ≡ session_pairs s
-form_pairs-session_text s is =
-    let are = text_pairs-session s is in
-    sym (map-map lossy_pair (λ (e : List ℕ × List ℕ). (decode e.0, decode e.1)) (raw_pairs (session_text s)))
-    ∙ ap (map lossy_pair) (round_trip (session_pairs s) (All-weaker IsTextPair IsBytePair (λ e t. (small_text e.0 t.0, small_text e.1 t.1)) (session_pairs s) are))
-    ∙ lossy_pairs (session_pairs s) are
+form_pairs-session_text s is = form_pairs-extended (session_pairs s) (text_pairs-session s is)

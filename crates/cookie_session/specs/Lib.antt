@@ -1,3 +1,4 @@
+pub mod Form
 pub mod KeyRing
 pub mod Reading
 pub mod Seconds

@@ -8,6 +8,7 @@ mod prefix;
 mod seconds;
 mod session;
 mod session_error;
+mod session_form;
 mod session_text;
 mod sessions;
 mod size;

@@ -2,6 +2,7 @@
 ghost use Rattle.std.specs.Prelude.{◌≡◌, ◌↔◌, ◌<◌, ◌^◌, IfOk, IsTrue, OnErr, OnOk, length, string_bytes};
 ghost use Rattle.std.specs.FinMap.{empty, entries, get, insert, remove};
 ghost use Rattle.std.specs.Option.{option_copied};
+ghost use Rattle.cookie_session.specs.Form.{form_of_texts, texts_of_form};
 ghost use Rattle.cookie_session.specs.Seconds.{second_of};
 ghost use Rattle.cookie_session.specs.Session.{IsAlive, IsSessionText, seen_at};
 
@@ -114,6 +115,23 @@ impl Session {
         let second = second_of(now);
         self.started = second;
         self.seen = second;
+    }
+
+    /// Its texts as a form, `name=value&name=value`, in byte order of the names (URL Standard 5.2). `with_form` reads it
+    /// back.
+    ///
+    /// Fails only if out of memory.
+    pub fn to_form(&self, alloc: Global) -> Result<String, AllocError>
+        ensures value { IfOk result (λ form. string_bytes form ≡ form_of_texts self.now.texts) }
+
+        // Read as a form, it is these texts again.
+        ensures back { IfOk result (λ form. texts_of_form (string_bytes form) ≡ self.now.texts) }
+    {
+        let mut form = Serializer::new(String::new(alloc));
+        for (name, text) in self.texts.pairs() {
+            form.append_pair(name, text)?;
+        }
+        Ok(form.finish())
     }
 
     // Whether it lives in the second `now`, if it was last saved in the second `seen`.

@@ -3,7 +3,8 @@ ghost use Rattle.std.specs.Prelude.{◌≡◌, ◌↔◌, ◌<◌, ◌^◌, ℕ,
 ghost use Rattle.std.specs.FinMap.{empty};
 ghost use Rattle.std.specs.Fmt.{decimal};
 ghost use Rattle.form_urlencoded.specs.Parse.{raw_pairs_left};
-ghost use Rattle.cookie_session.specs.Reading.{ReadsNumber, decoded_pairs, filled, form_pairs, form_text};
+ghost use Rattle.cookie_session.specs.Form.{decoded_pairs, filled, form_pairs, form_text};
+ghost use Rattle.cookie_session.specs.Reading.{ReadsNumber};
 ghost use Rattle.cookie_session.specs.Session.{IsSession, IsSessionText, SessionState, session_pairs};
 
 use crate::session::Session;
@@ -57,7 +58,7 @@ fn number_of(text: &str) -> u64
 }
 
 // The texts of the pairs. The last one of a name counts.
-fn texts_of(alloc: Global, pairs: RawPairs<'_>) -> Result<TextMap, AllocError>
+pub(crate) fn texts_of(alloc: Global, pairs: RawPairs<'_>) -> Result<TextMap, AllocError>
     ensures { IfOk result (λ texts.
         texts ≡ filled (decoded_pairs (raw_pairs_left pairs.entry)) empty) }
 {

@@ -1,7 +1,7 @@
 use Rattle.std.proofs.Common.{◌≡◌}
 use Rattle.std.specs.FinMap.{empty}
 use Rattle.form_urlencoded.specs.Parse.{raw_pairs_left}
-use Rattle.cookie_session.specs.Reading.{decoded_pairs, filled}
+use Rattle.cookie_session.specs.Form.{decoded_pairs, filled}
 use Rattle.cookie_session.proofs.session_text.texts_of.Given as goal
 
 -- what is read, filled with the pairs that are left, is the whole

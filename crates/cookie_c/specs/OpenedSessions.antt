@@ -1,0 +1,59 @@
+-- A session that is found for C: `old` is the buffer at the call and `new` at the return.
+use Rattle.std.specs.Prelude.{◌≡◌, ◌↔◌, ◌⊎◌, ℕ, List, Option, Some}
+use Rattle.jiff.specs.Types.{DateTime}
+use Rattle.cookie.specs.Jar.{view}
+use Rattle.cookie.specs.Originals.{jar_for, readable}
+use Rattle.cookie.specs.Record.{Record}
+use Rattle.cookie_session.specs.Form.{form_of_texts}
+use Rattle.cookie_session.specs.Session.{SessionState}
+use Rattle.cookie_session.specs.Sessions.{HoldsOne, IsOpen}
+use Rattle.cookie_session.specs.declared.opened.Opened.{Opened}
+use Rattle.cookie_session.specs.declared.sessions.Sessions.{Sessions}
+use Rattle.cookie_c.specs.Answers.{IsGiven}
+use Rattle.cookie_c.specs.Codes.{code_of}
+use Rattle.cookie_c.specs.declared.opened_session.OpenedSession.{OpenedSession}
+use Rattle.cookie_c.specs.declared.status.Status.{Status}
+use Rattle.cookie_c.specs.declared.status.Status.TheVariants as status
+
+-- the cookie of the site's name in a request's `Cookie` field, if it has one: of several the last
+abbrev pub stored_of : Sessions → List ℕ → Option Record
+stored_of site field = view (jar_for (readable field)) site.cookie.now.fields.name
+
+-- no session is open in the stored cookie
+abbrev pub HasNone : Sessions → Option Record → DateTime → Type 0
+HasNone site stored time = (place : ℕ) (session : SessionState) → ¬ IsOpen site stored time place session
+
+-- the session that is found, if any, is the one that is open, and the cookie holds no other, whatever the time
+pub record Finds (site : Sessions) (stored : Option Record) (time : DateTime)
+    (found : Option Opened) : Type 0 where
+  pub exact : (place : ℕ) (session : SessionState)
+      → (found ≡ Some (record { session = session; place = place }))
+      ↔ IsOpen site stored time place session
+  pub once : HoldsOne site stored
+
+-- the answer of a call that has no session
+abbrev pub refused_opening : Status → OpenedSession
+refused_opening why =
+    record { status = code_of why; length = 0; place = 0; started = 0; seen = 0 }
+
+-- there is no session, and nothing is written
+abbrev pub IsRefusedOpening : Status → OpenedSession → List ℕ → List ℕ → Type 0
+IsRefusedOpening why answer old new = (answer ≡ refused_opening why) × (new ≡ old)
+
+-- The session's texts are given as a form. Its times and the place of its key are told either way.
+pub record GivesSession (place : ℕ) (session : SessionState) (answer : OpenedSession)
+    (old new : List ℕ) : Type 0 where
+  pub texts : IsGiven (form_of_texts session.texts)
+      (record { status = answer.status; length = answer.length }) old new
+  pub place : answer.place ≡ place
+  pub started : answer.started ≡ session.started
+  pub seen : answer.seen ≡ session.seen
+
+-- the session that is open in the stored cookie is given, which holds no other, or there is none, or memory ran out
+abbrev pub IsOpening : Sessions → Option Record → DateTime → OpenedSession → List ℕ → List ℕ
+    → Type 0
+IsOpening site stored time answer old new =
+    ((place : ℕ) × (session : SessionState) × IsOpen site stored time place session
+    × HoldsOne site stored × GivesSession place session answer old new)
+    ⊎ ((HasNone site stored time × IsRefusedOpening status.NoSession answer old new)
+    ⊎ IsRefusedOpening status.OutOfMemory answer old new)

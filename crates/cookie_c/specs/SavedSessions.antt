@@ -1,0 +1,85 @@
+-- A session that is saved for C: `old` is the buffer at the call and `new` at the return.
+use Rattle.std.specs.Prelude.{◌≡◌, ℕ, ◌<◌, ◌≤◌, ◌⊎◌, Bool, true, false, List, Option, Some}
+use Rattle.jiff.specs.Types.{DateTime}
+use Rattle.cookie.specs.Record.{Record}
+use Rattle.cookie.specs.Sealing.{CanSeal}
+use Rattle.cookie.specs.Text.{cookie_text}
+use Rattle.cookie_session.specs.Form.{texts_of_form}
+use Rattle.cookie_session.specs.Seconds.{second_of}
+use Rattle.cookie_session.specs.Session.{SessionState, seen_at}
+use Rattle.cookie_session.specs.Sessions.{CanSave, IsOpen, IsStored, bare_cookie, meets_prefix, saved_cookie}
+use Rattle.cookie_session.specs.Size.{browser_length, most_bytes}
+use Rattle.cookie_session.specs.declared.session_error.SessionError.{SessionError}
+use Rattle.cookie_session.specs.declared.session_error.SessionError.TheVariants as failure
+use Rattle.cookie_session.specs.declared.sessions.Sessions.{Sessions}
+use Rattle.cookie_c.specs.Answers.{IsGiven, IsRefused, IsTold}
+use Rattle.cookie_c.specs.OpenedSessions.{HasNone}
+use Rattle.cookie_c.specs.declared.answer.Answer.{Answer}
+use Rattle.cookie_c.specs.declared.status.Status.{Status}
+use Rattle.cookie_c.specs.declared.status.Status.TheVariants as status
+
+-- the status of a refusal to save; a nonce that is passed in never fails
+abbrev pub unsaved_status : SessionError → Status
+unsaved_status failure.OutOfMemory = status.OutOfMemory
+unsaved_status failure.Prefix = status.BadPrefix
+unsaved_status failure.Over = status.Over
+unsaved_status (failure.TooLarge size) = status.TooLarge
+unsaved_status failure.TooLong = status.TooLong
+unsaved_status failure.Generator = status.BadNonce
+
+-- its number: the size of a cookie that is too large
+abbrev pub unsaved_number : SessionError → ℕ
+unsaved_number (failure.TooLarge size) = size
+unsaved_number _ = 0
+
+-- the session isn't saved for this reason, and nothing is written
+abbrev pub IsUnsaved : Answer → List ℕ → List ℕ → SessionError → Type 0
+IsUnsaved answer old new why =
+    IsTold (unsaved_status why) (unsaved_number why) answer × (new ≡ old)
+
+-- How a session is saved under this nonce: it fails for a reason, or the text of its cookie is given. Memory may run out
+-- in any case.
+pub record Saves (site : Sessions) (nonce : List ℕ) (time : DateTime) (session : SessionState)
+    (Fails : SessionError → Type 0) (Gives : List ℕ → Type 0) : Type 0 where
+  pub prefix : ¬ (meets_prefix site.cookie.now.fields ≡ true)
+      → Fails failure.Prefix ⊎ Fails failure.OutOfMemory
+  pub over : meets_prefix site.cookie.now.fields ≡ true → ¬ CanSave site time session
+      → Fails failure.Over ⊎ Fails failure.OutOfMemory
+  pub too_long : meets_prefix site.cookie.now.fields ≡ true → CanSave site time session
+      → ¬ CanSeal (bare_cookie site time session)
+      → Fails failure.TooLong ⊎ Fails failure.OutOfMemory
+  pub too_large : meets_prefix site.cookie.now.fields ≡ true → CanSave site time session
+      → CanSeal (bare_cookie site time session)
+      → most_bytes < browser_length (saved_cookie site nonce time session)
+      → Fails (failure.TooLarge (browser_length (saved_cookie site nonce time session)))
+      ⊎ Fails failure.OutOfMemory
+  -- the cookie that is given holds the session, as long as it lives
+  pub saved : meets_prefix site.cookie.now.fields ≡ true → CanSave site time session
+      → CanSeal (bare_cookie site time session)
+      → browser_length (saved_cookie site nonce time session) ≤ most_bytes
+      → (Gives (cookie_text true false (saved_cookie site nonce time session))
+      × IsStored site (Some (saved_cookie site nonce time session))
+      (seen_at (second_of time) session))
+      ⊎ Fails failure.OutOfMemory
+
+-- a session that starts at this time, with the texts of a form
+abbrev pub new_session : DateTime → List ℕ → SessionState
+new_session time form =
+    record { started = second_of time; seen = second_of time; texts = texts_of_form form }
+
+-- the session with the texts of a form in place of its own
+abbrev pub with_form : List ℕ → SessionState → SessionState
+with_form form session = record session { texts = texts_of_form form }
+
+-- What is saved with the texts of a form: a new session, if the lifetime starts anew, or else the one that is open in
+-- the stored cookie, whose lifetime goes on.
+pub record SavesTexts (site : Sessions) (stored : Option Record) (form : List ℕ) (renew : Bool)
+    (time : DateTime) (nonce : List ℕ) (answer : Answer) (old new : List ℕ) : Type 0 where
+  pub renewed : renew ≡ true → Saves site nonce time (new_session time form)
+      (IsUnsaved answer old new) (λ text. IsGiven text answer old new)
+  pub continued : renew ≡ false → (place : ℕ) (session : SessionState)
+      → IsOpen site stored time place session
+      → Saves site nonce time (with_form form session)
+      (IsUnsaved answer old new) (λ text. IsGiven text answer old new)
+  pub none : renew ≡ false → HasNone site stored time
+      → IsRefused status.NoSession answer old new ⊎ IsRefused status.OutOfMemory answer old new

@@ -1,0 +1,27 @@
+//! The sessions of a site for C, without a handle: each call has the settings of the site.
+
+mod keys;
+mod nonce;
+pub(crate) mod open;
+pub(crate) mod save;
+mod site;
+mod time;
+
+/// How a site keeps its sessions: one encrypted cookie holds a session.
+#[repr(C)]
+#[derive(Clone, Copy)]
+pub struct SessionSettings<'a> {
+    /// The keys of 64 random bytes each, one after the other, the newest first. The newest encrypts, and each of them
+    /// decrypts.
+    pub keys: &'a [u8],
+    /// The site's cookie as the value of a `Set-Cookie` header. Its value, `Max-Age` and `Expires` don't count.
+    pub cookie: &'a [u8],
+    /// The seconds that a session lives after its start, however it is used.
+    pub lifetime: u32,
+    /// The seconds that a session lives after it was last saved.
+    pub idle: u32,
+    /// A random number: the names of a request's cookies are hashed with it.
+    pub seed: u64,
+    /// Another random number for that.
+    pub other_seed: u64,
+}

@@ -1,0 +1,31 @@
+//! The keys of a site that C passes in, one after the other.
+ghost use Rattle.std.specs.Prelude.{IfOk, IsTrue, ◌↔◌};
+ghost use Rattle.cookie_c.specs.Sites.{AreKeys, HasKeys};
+
+use cookie::Key;
+use cookie_session::KeyRing;
+use std::alloc::{AllocError, Global};
+
+// How many bytes a key has.
+const KEY_LENGTH: usize = 64;
+
+// Whether the bytes are those of one key or more.
+pub(super) fn has_keys(bytes: &[u8]) -> bool
+    ensures { IsTrue result ↔ HasKeys bytes.now }
+{
+    !bytes.is_empty() && bytes.len() % KEY_LENGTH == 0
+}
+
+// The ring of these keys, the first one the newest.
+pub(super) fn ring_of(alloc: Global, bytes: &[u8]) -> Result<KeyRing, AllocError>
+    requires { HasKeys bytes.now }
+    ensures { IfOk result (λ ring. AreKeys bytes.now ring) }
+{
+    let mut ring = KeyRing::new(alloc, Key::from(bytes))?;
+    let mut rest = &bytes[KEY_LENGTH..];
+    while !rest.is_empty() {
+        ring.add_older(Key::from(rest))?;
+        rest = &rest[KEY_LENGTH..];
+    }
+    Ok(ring)
+}

@@ -1,0 +1,90 @@
+//! Opening a session for C.
+ghost use Rattle.std.specs.Prelude.{◌≡◌, IfOk};
+ghost use Rattle.cookie.specs.Memory.{Gives};
+ghost use Rattle.cookie.specs.Originals.{jar_for, readable};
+ghost use Rattle.cookie.specs.declared.jar_error.JarError.TheVariants as refusal;
+ghost use Rattle.cookie_c.specs.OpenedSessions.{Finds, IsOpening, IsRefusedOpening, stored_of};
+ghost use Rattle.cookie_c.specs.Sites.{AtSite};
+
+use super::SessionSettings;
+use super::site::Site;
+use crate::opened_session::OpenedSession;
+use crate::session::Seed;
+use crate::status::Status;
+use cookie::{CookieJar, JarError};
+use cookie_session::{Opened, Sessions};
+use jiff::civil::DateTime;
+use std::alloc::{AllocError, Global};
+use std::hash::RandomState;
+
+/// The session of a request, with the place of the key that opened it. Its texts are for the buffer, as a form in byte
+/// order of the names (URL Standard 5.2). `header` is the value of the request's `Cookie` header: a piece of it that
+/// isn't UTF-8 or isn't a cookie is skipped. `now` is the time in seconds since 1970 in UTC.
+///
+/// Refuses settings and a time that aren't those of a site (`IsUnusable`), and then a request without a session that is
+/// open. It may also run out of memory.
+#[unsafe(no_mangle)]
+pub extern "C" fn cookie_session_open(
+    alloc: Global,
+    settings: &SessionSettings<'_>,
+    header: &[u8],
+    now: u64,
+    out: &mut [u8],
+) -> OpenedSession
+    ensures { AtSite settings.now now
+        (λ site time. IsOpening site (stored_of site header.now) time result out.old out.new)
+        (λ why. IsRefusedOpening why result out.old out.new) }
+{
+    match Site::of(alloc, settings, now) {
+        Ok(site) => give_session(alloc, &site.sessions(), settings, header, site.time, out),
+        Err(why) => OpenedSession::refusal(why),
+    }
+}
+
+// The session of the request, for the buffer.
+fn give_session(
+    alloc: Global,
+    sessions: &Sessions<'_>,
+    settings: &SessionSettings<'_>,
+    header: &[u8],
+    time: DateTime,
+    out: &mut [u8],
+) -> OpenedSession
+    ensures { IsOpening sessions.now (stored_of sessions.now header.now) time result
+        out.old out.new }
+{
+    match find(alloc, sessions, settings, header, time) {
+        Ok(Some(opened)) => OpenedSession::give(alloc, &opened, out),
+        Ok(None) => OpenedSession::refusal(Status::NoSession),
+        Err(_) => OpenedSession::refusal(Status::OutOfMemory),
+    }
+}
+
+// The session of the request, if it has one that is open.
+pub(super) fn find(
+    alloc: Global,
+    sessions: &Sessions<'_>,
+    settings: &SessionSettings<'_>,
+    header: &[u8],
+    time: DateTime,
+) -> Result<Option<Opened>, JarError>
+    ensures { Gives refusal.OutOfMemory result
+        (Finds sessions.now (stored_of sessions.now header.now) time) }
+{
+    let jar = request_jar(alloc, settings, header)?;
+    sessions.open(alloc, &jar, time)
+}
+
+// The jar of the request's cookies.
+fn request_jar(
+    alloc: Global,
+    settings: &SessionSettings<'_>,
+    header: &[u8],
+) -> Result<CookieJar, AllocError>
+    ensures { IfOk result (λ jar. jar ≡ jar_for (readable header.now)) }
+{
+    match RandomState::new(&Seed::of(settings.seed, settings.other_seed)) {
+        Ok(state) => CookieJar::with_hasher(alloc, state).with_field(header),
+        Err(_) => Err(AllocError),
+    }
+}

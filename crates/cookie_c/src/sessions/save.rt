@@ -1,0 +1,210 @@
+//! Saving and ending a session for C.
+ghost use Rattle.std.specs.Prelude.{◌≡◌, ◌≢◌, true, false, Err, IfOk, IsOkAnd, length, string_bytes};
+ghost use Rattle.cookie.specs.Removal.{removal};
+ghost use Rattle.cookie.specs.Text.{cookie_text};
+ghost use Rattle.cookie_c.specs.Answers.{IsGiven, IsGivenInMemory, IsRefused};
+ghost use Rattle.cookie_c.specs.OpenedSessions.{stored_of};
+ghost use Rattle.cookie_c.specs.SavedSessions.{IsUnsaved, Saves, SavesTexts, unsaved_number, unsaved_status, with_form};
+ghost use Rattle.cookie_c.specs.Sites.{AtSite};
+ghost use Rattle.cookie_c.specs.declared.status.Status.TheVariants as status;
+
+use super::SessionSettings;
+use super::nonce::Nonce;
+use super::open::find;
+use super::site::Site;
+use crate::answer::Answer;
+use crate::status::Status;
+use cookie::{Cookie, CookieJar};
+use cookie_session::{Session, SessionError, Sessions};
+use jiff::civil::DateTime;
+use std::alloc::{AllocError, Global};
+
+/// Saves a session with the texts of a form (URL Standard 5.1): the value of the `Set-Cookie` header that sets its
+/// cookie, for the buffer, encrypted under the newest key. With `renew` a session is saved that starts now. Without it,
+/// it is the session of the request, as `cookie_session_open` finds it, whose lifetime goes on. The nonce has twelve
+/// random bytes: under one key no nonce may be used twice, and at most 2^32 may be drawn (SP 800-38D 8.3). `now` is the
+/// time in seconds since 1970 in UTC.
+///
+/// Refuses another nonce, then settings and a time that aren't those of a site (`IsUnusable`), and then a request without
+/// a session that is open, unless `renew` is true. It then fails as `Sessions::save` does, with the size in bytes of a
+/// cookie that is too large. It may also run out of memory.
+#[unsafe(no_mangle)]
+pub extern "C" fn cookie_session_save(
+    alloc: Global,
+    settings: &SessionSettings<'_>,
+    header: &[u8],
+    texts: &[u8],
+    renew: bool,
+    now: u64,
+    nonce: &[u8],
+    out: &mut [u8],
+) -> Answer
+    ensures bad_nonce { length nonce.now ≢ 12
+        → IsRefused status.BadNonce result out.old out.new }
+    ensures saves { length nonce.now ≡ 12 → AtSite settings.now now
+        (λ site time. SavesTexts site (stored_of site header.now) texts.now renew time nonce.now
+        result out.old out.new)
+        (λ why. IsRefused why result out.old out.new) }
+{
+    let Some(nonce) = Nonce::of(nonce) else {
+        return Answer::refusal(Status::BadNonce);
+    };
+    match Site::of(alloc, settings, now) {
+        Ok(site) => give_saved(
+            alloc,
+            &site.sessions(),
+            settings,
+            header,
+            texts,
+            renew,
+            site.time,
+            nonce,
+            out,
+        ),
+        Err(why) => Answer::refusal(why),
+    }
+}
+
+/// Ends a session: the value of the `Set-Cookie` header that has the client drop the site's cookie, with the path and the
+/// domain that the site sets, for the buffer. A copy of the cookie stays open until the session's limits. `now` is the
+/// time in seconds since 1970 in UTC.
+///
+/// Refuses settings and a time that aren't those of a site (`IsUnusable`). It may also run out of memory.
+#[unsafe(no_mangle)]
+pub extern "C" fn cookie_session_end(
+    alloc: Global,
+    settings: &SessionSettings<'_>,
+    now: u64,
+    out: &mut [u8],
+) -> Answer
+    ensures { AtSite settings.now now
+        (λ site time. IsGivenInMemory
+        (cookie_text true false (removal time site.cookie.now.fields)) result out.old out.new)
+        (λ why. IsRefused why result out.old out.new) }
+{
+    match Site::of(alloc, settings, now) {
+        Ok(site) => give_removal(alloc, &site.sessions(), site.time, out),
+        Err(why) => Answer::refusal(why),
+    }
+}
+
+// The session with the texts of the form, saved, for the buffer.
+fn give_saved(
+    alloc: Global,
+    sessions: &Sessions<'_>,
+    settings: &SessionSettings<'_>,
+    header: &[u8],
+    texts: &[u8],
+    renew: bool,
+    time: DateTime,
+    nonce: Nonce,
+    out: &mut [u8],
+) -> Answer
+    ensures { SavesTexts sessions.now (stored_of sessions.now header.now) texts.now renew time
+        nonce.bytes result out.old out.new }
+{
+    if renew {
+        return give_session(
+            alloc,
+            sessions,
+            Session::start(alloc, time),
+            texts,
+            time,
+            nonce,
+            out,
+        );
+    }
+    match find(alloc, sessions, settings, header, time) {
+        Ok(Some(opened)) => give_session(alloc, sessions, opened.session, texts, time, nonce, out),
+        Ok(None) => Answer::refusal(Status::NoSession),
+        Err(_) => Answer::refusal(Status::OutOfMemory),
+    }
+}
+
+// This session with the texts of the form, saved, for the buffer.
+fn give_session(
+    alloc: Global,
+    sessions: &Sessions<'_>,
+    session: Session,
+    texts: &[u8],
+    time: DateTime,
+    nonce: Nonce,
+    out: &mut [u8],
+) -> Answer
+    ensures { Saves sessions.now nonce.bytes time (with_form texts.now session)
+        (IsUnsaved result out.old out.new) (λ text. IsGiven text result out.old out.new) }
+{
+    match saved_text(alloc, sessions, session, texts, time, nonce) {
+        Ok(text) => Answer::give(text.as_bytes(), out),
+        Err(error) => Answer::of(unsaved_status(error), unsaved_number(error)),
+    }
+}
+
+// The text of the cookie of the session with the texts of the form.
+fn saved_text(
+    alloc: Global,
+    sessions: &Sessions<'_>,
+    session: Session,
+    texts: &[u8],
+    time: DateTime,
+    nonce: Nonce,
+) -> Result<String, SessionError>
+    ensures { Saves sessions.now nonce.bytes time (with_form texts.now session)
+        (λ why. result ≡ Err why) (λ text. IsOkAnd result (λ made. string_bytes made ≡ text)) }
+{
+    let session = session.with_form(alloc, texts)?;
+    let mut nonce = nonce;
+    let mut jar = CookieJar::new(alloc);
+    sessions.save(alloc, &mut jar, &session, time, &mut nonce)?;
+    match jar.get(sessions.cookie.name()) {
+        Some(cookie) => Ok(cookie.encoded().to_string(alloc)?),
+        None => Err(SessionError::OutOfMemory),
+    }
+}
+
+fn unsaved_status(error: SessionError) -> Status
+    ensures { result ≡ unsaved_status error }
+{
+    match error {
+        SessionError::OutOfMemory => Status::OutOfMemory,
+        SessionError::Prefix => Status::BadPrefix,
+        SessionError::Over => Status::Over,
+        SessionError::TooLarge(_) => Status::TooLarge,
+        SessionError::TooLong => Status::TooLong,
+        SessionError::Generator => Status::BadNonce,
+    }
+}
+
+// The size of a cookie that is too large, and 0 for another reason.
+fn unsaved_number(error: SessionError) -> usize
+    ensures { result ≡ unsaved_number error }
+{
+    match error {
+        SessionError::TooLarge(size) => size,
+        _ => 0,
+    }
+}
+
+// The text that has the client drop the site's cookie, for the buffer.
+fn give_removal(alloc: Global, sessions: &Sessions<'_>, time: DateTime, out: &mut [u8]) -> Answer
+    ensures { IsGivenInMemory (cookie_text true false (removal time sessions.now.cookie.now.fields))
+        result out.old out.new }
+{
+    match removal_text(alloc, sessions.cookie, time) {
+        Ok(text) => Answer::give(text.as_bytes(), out),
+        Err(_) => Answer::refusal(Status::OutOfMemory),
+    }
+}
+
+fn removal_text(
+    alloc: Global,
+    cookie: &Cookie<'static>,
+    time: DateTime,
+) -> Result<String, AllocError>
+    ensures { IfOk result (λ text. string_bytes text
+        ≡ cookie_text true false (removal time cookie.now.fields)) }
+{
+    let mut removed = cookie.clone(alloc)?;
+    removed.make_removal(time);
+    removed.encoded().to_string(alloc)
+}
