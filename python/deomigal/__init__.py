@@ -1,4 +1,5 @@
-"""Cookies for Python, over the proved library cookie_c: signed and sealed values, dates, reading, printing, and jars.
+"""Cookies for Python, over the proved library cookie_c: signed and sealed values, dates, reading, printing, jars, and
+sessions.
 
 Texts are `str` and keys are `bytes`. A call that is refused raises an exception of `deomigal.errors`, such as
 `KeyTooShort`; all of them are a `CookieError`. A value that isn't signed or sealed under the key and the name is `None`.
@@ -14,9 +15,10 @@ from .dates import print_date, read_date
 from .errors import CookieError
 from .jars import Jar, run
 from .secrets import derive_key, open_sealed, seal, sign, verify
+from .sessions import Session, Sessions
 
 __version__ = "0.1.0"
 __all__ = [
-    "CookieError", "Jar", "decoded_pairs", "derive_key", "open_sealed", "pairs", "print_cookie", "print_date",
-    "read_cookie", "read_date", "read_decoded_cookie", "run", "seal", "sign", "verify",
+    "CookieError", "Jar", "Session", "Sessions", "decoded_pairs", "derive_key", "open_sealed", "pairs", "print_cookie",
+    "print_date", "read_cookie", "read_date", "read_decoded_cookie", "run", "seal", "sign", "verify",
 ]

@@ -52,18 +52,35 @@ class Handle(ctypes.Structure):
     _fields_ = [("is_open", ctypes.c_bool), ("held", Held)]
 
 
+class Settings(ctypes.Structure):
+    _fields_ = [
+        ("keys", ctypes.c_char_p), ("keys_length", ctypes.c_size_t),
+        ("cookie", ctypes.c_char_p), ("cookie_length", ctypes.c_size_t),
+        ("lifetime", ctypes.c_uint32), ("idle", ctypes.c_uint32),
+        ("seed", ctypes.c_uint64), ("other_seed", ctypes.c_uint64),
+    ]
+
+
+class OpenedSession(ctypes.Structure):
+    _fields_ = [("status", ctypes.c_uint32)] + [
+        (name, size) for size, names in ((ctypes.c_size_t, ("length", "place")), (ctypes.c_uint64, ("started", "seen")))
+        for name in names
+    ]
+
+
 # The shared object stands beside this file; the variable COOKIE_C names another one.
 LIBRARY = ctypes.CDLL(os.environ.get("COOKIE_C", str(pathlib.Path(__file__).parent / "libcookie_c.so")))
 TEXT: list[Any] = [ctypes.c_char_p, ctypes.c_size_t]
 HANDLE: list[Any] = [ctypes.POINTER(Handle)]
 SEEDS: list[Any] = [ctypes.c_uint64] * 2
+SETTINGS: list[Any] = [ctypes.POINTER(Settings)]
 
 
 def declare(name: str, parameters: list[Any], result: Any) -> Callable[..., Any]:
-    function = getattr(LIBRARY, "cookie_" + name)
+    function: Any = getattr(LIBRARY, "cookie_" + name)
     function.argtypes = parameters
     function.restype = result
-    return function
+    return function  # type: ignore[no-any-return]
 
 
 DERIVE_KEY = declare("derive_key", TEXT * 2, Answer)
@@ -87,6 +104,11 @@ JAR_REMOVE_SCOPED = declare("jar_remove_scoped", HANDLE + TEXT * 4, ctypes.c_uin
 JAR_GET = declare("jar_get", HANDLE + TEXT * 2, Answer)
 JAR_DELTA = declare("jar_delta", HANDLE + TEXT, Answer)
 JAR_FREE = declare("jar_free", HANDLE, None)
+SESSION_OPEN = declare("session_open", SETTINGS + TEXT + [ctypes.c_uint64] + TEXT, OpenedSession)
+SESSION_SAVE = declare(
+    "session_save", SETTINGS + TEXT * 2 + [ctypes.c_bool, ctypes.c_uint64] + TEXT * 2, Answer
+)
+SESSION_END = declare("session_end", SETTINGS + [ctypes.c_uint64] + TEXT, Answer)
 
 
 def bytes_of(text: str | bytes) -> bytes:
@@ -97,7 +119,7 @@ def arguments_of(inputs: tuple[Any, ...]) -> list[Any]:
     """The arguments for C: each text as its bytes and their count."""
     arguments: list[Any] = []
     for value in inputs:
-        if isinstance(value, (int, Handle, Attributes)):
+        if isinstance(value, (int, ctypes.Structure)):
             arguments.append(value)
         else:
             value = bytes_of(value)
@@ -112,17 +134,23 @@ def done(function: Callable[..., Any], *inputs: Any) -> None:
         raise error_of(status)
 
 
-def given(function: Callable[..., Any], *inputs: Any, room: int = 256) -> bytes:
-    """The bytes that a call gives; where the first buffer is too short, it is called again with one that fits."""
+def told(function: Callable[..., Any], *inputs: Any, room: int = 256) -> tuple[Any, bytes]:
+    """The answer of a call, and its bytes; where the first buffer is too short, it is called again with one that fits."""
     arguments = arguments_of(inputs)
     while True:
         buffer = ctypes.create_string_buffer(room)
         answer = function(*arguments, buffer, room)
-        if answer.status == DONE:
-            return buffer.raw[: answer.length]
         if answer.status != BufferTooShort.status:
-            raise error_of(answer.status, answer.length)
+            return answer, buffer.raw[: answer.length]
         room = answer.length
+
+
+def given(function: Callable[..., Any], *inputs: Any, room: int = 256) -> bytes:
+    """The bytes that a call gives."""
+    answer, text = told(function, *inputs, room=room)
+    if answer.status != DONE:
+        raise error_of(answer.status, answer.length)
+    return text
 
 
 def decoded(function: Callable[..., Any], *inputs: Any, room: int = 256) -> tuple[Any, bytes]:

@@ -126,12 +126,42 @@ class BadAttribute(CookieError):
     status = 19
 
 
+class NoSession(CookieError):
+    """The request has no session that is open. `Sessions.open` returns a new one instead."""
+
+    status = 20
+
+
+class BadPrefix(CookieError):
+    """The cookie lacks what a browser asks of the prefix of its name (RFC 6265bis 4.1.3)."""
+
+    status = 21
+
+
+class Over(CookieError):
+    """The session would be over as soon as it is saved. A limit is 0."""
+
+    status = 22
+
+
+class TooLarge(CookieError):
+    """No browser would store the cookie (RFC 6265bis 5.7). `size` is the bytes of its name and value, above 4,096."""
+
+    status = 23
+
+    def __init__(self, *words: object, size: int = 0) -> None:
+        super().__init__(*words)
+        self.size = size
+
+
 ERRORS = {error.status: error for error in CookieError.__subclasses__()}
 
 
 def error_of(status: int, number: int = 0) -> CookieError:
-    """The exception of a status, and the number of the bad line where that is the reason."""
+    """The exception of a status, with the number of the bad line or the size of the cookie, if that is the reason."""
     error = ERRORS[status]
     if error is BadLine:
         return BadLine(f"line {number} isn't a call", number=number)
+    if error is TooLarge:
+        return TooLarge(f"the cookie's name and value have {number} bytes, and a browser stores 4096", size=number)
     return error((error.__doc__ or "").split(". ")[0].rstrip("."))

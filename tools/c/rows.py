@@ -8,12 +8,12 @@ import re
 import sys
 
 import deomigal
-from deomigal import _library as library, cookies, dates, errors, jars, secrets
+from deomigal import _library as library, cookies, dates, errors, jars, secrets, sessions
 
 CALLS = {"derive_key": library.DERIVE_KEY, "sign": library.SIGN, "verify": library.VERIFY, "seal": library.SEAL,
          "open": library.OPEN, "print": library.PRINT, "print_date": library.PRINT_DATE, "run": library.RUN}
 # The names of the statuses in the rows, such as NOT_UTF8 for `NotUtf8`.
-STATUSES = ["DONE"] + [re.sub(r"(?<!^)(?=[A-Z])", "_", errors.ERRORS[number].__name__).upper() for number in range(1, 20)]
+STATUSES = ["DONE"] + [re.sub(r"(?<!^)(?=[A-Z])", "_", errors.ERRORS[number].__name__).upper() for number in sorted(errors.ERRORS)]
 FIELDS = ("year", "month", "day", "hour", "minute", "second")
 faults = []
 
@@ -166,6 +166,49 @@ def lacks(jar, name):
     return False
 
 
+def use_sessions(key):
+    """Uses of sessions: round trips, and the refusals of what was damaged or is over."""
+    new, now = bytes(reversed(key)), 1445412480
+    sessions = deomigal.Sessions([key], "s", 3600, 60)
+    session = sessions.open("", now)
+    assert session.is_new and not session and session.place is None and session.started == now
+    session.update(user="ann", note="a&b=c;\u00e9 +%\0")
+    text = sessions.save(session)
+    assert text.endswith("; HttpOnly; SameSite=Lax; Secure; Path=/; Max-Age=60")
+    cookie = text.partition(";")[0]
+    for header in (cookie, cookie.encode(), "a=1; x; " + cookie, b"b=\xff; " + cookie.encode(), "b=\udcff; " + cookie):
+        opened = sessions.open(header, now + 59)
+        assert dict(opened) == dict(session) and (opened.started, opened.seen, opened.place) == (now, now, 0)
+        assert not opened.is_new
+    for header in ("", "s=", "a" + cookie, cookie[:-1], cookie[:9] + "." + cookie[10:], cookie + "A", "\udcff", b"\xff", "s"):
+        assert sessions.open(header, now).is_new
+    assert sessions.open(cookie, now + 60).is_new and sessions.open(cookie, now - 1).is_new
+    rotated, retired = (deomigal.Sessions(keys, "s", 3600, 60) for keys in ([new, key], [new]))
+    opened = rotated.open(cookie, now + 30)
+    assert opened.place == 1 and retired.open(cookie, now + 30).is_new
+    saved = rotated.save(opened).partition(";")[0]
+    opened = retired.open(saved, now + 89)
+    assert (opened["user"], opened.place, opened.started, opened.seen) == ("ann", 0, now, now + 30)
+    del opened["note"]
+    opened.renew()
+    opened = retired.open(retired.save(opened).partition(";")[0], now + 90)
+    assert dict(opened) == {"user": "ann"} and (opened.started, opened.seen) == (now + 89, now + 89)
+    large = sessions.start(now)
+    large["text"] = "x" * 4000
+    try:
+        sessions.save(large)
+        faults.append("a session that is too large is saved")
+    except errors.TooLarge as error:
+        # The nonce, the tag and the text without the form's other parts, in base64.
+        assert error.size > (4000 + 28) * 4 / 3
+    try:
+        session["count"] = 1
+        faults.append("a session takes a number")
+    except TypeError:
+        pass
+    assert deomigal.read_cookie(sessions.end(now))[2]["max_age"] == 0
+
+
 def use():
     """Uses of the package, whose answers are the round trip or Python's own."""
     key = deomigal.derive_key(bytes(range(32)))
@@ -205,12 +248,21 @@ def use():
             "Set-Cookie: n=; Path=/p; Domain=b.c; Max-Age=0; Expires=Tue, 21 Oct 2014 07:28:00 GMT",
             "Set-Cookie: name=; Max-Age=0; Expires=Tue, 21 Oct 2014 07:28:00 GMT",
         ]
+    use_sessions(key)
     for wrong, refusal in ((lambda: deomigal.sign(b"short", "a", "b"), errors.KeyTooShort),
                          (lambda: deomigal.sign(key, "a", b"\xff"), errors.NotUtf8),
                          (lambda: deomigal.run(moment, "\nnonsense"), errors.BadLine),
                          (lambda: deomigal.print_cookie("a", "1", path=b"\xff"), errors.NotUtf8),
                          (lambda: deomigal.read_decoded_cookie("a=%ff"), errors.BadEscape),
                          (lambda: jar.get("a"), errors.NoJar),
+                         (lambda: deomigal.Sessions([], "a", 60, 60), errors.KeyTooShort),
+                         (lambda: deomigal.Sessions([key, key[:63]], "a", 60, 60), errors.KeyTooShort),
+                         (lambda: deomigal.Sessions([key], "", 60, 60), errors.EmptyName),
+                         (lambda: deomigal.Sessions([key], "__Host-a", 60, 60, path="/p"), errors.BadPrefix),
+                         (lambda: deomigal.Sessions([key], "__Secure-a", 60, 60, secure=False), errors.BadPrefix),
+                         (lambda: deomigal.Sessions([key], "a", 60, 0), errors.Over),
+                         (lambda: deomigal.Sessions([key], "a", 60, 60).open("", now=2**40), errors.NoDate),
+                         (lambda: deomigal.Sessions([key], "a", 60, 60).open("", now=-1), errors.NoDate),
                          (lambda: deomigal.Jar().add("a"), errors.MissingPair)):
         try:
             wrong()
@@ -218,7 +270,7 @@ def use():
         except deomigal.CookieError as error:
             if type(error) is not refusal:
                 faults.append(f"a use is refused by {error!r}")
-    for module in (deomigal, secrets, dates, cookies, jars):
+    for module in (deomigal, secrets, dates, cookies, jars, sessions):
         failed = doctest.testmod(module).failed
         if failed:
             faults.append(f"{failed} examples of {module.__name__} answer something else")

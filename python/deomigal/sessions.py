@@ -1,0 +1,186 @@
+"""Sessions in one encrypted cookie: keys that rotate, limits that the server checks, and an error if a browser wouldn't
+store the cookie."""
+from __future__ import annotations
+
+import os
+import time
+from typing import Iterator, MutableMapping, Sequence
+from urllib.parse import parse_qsl, urlencode
+
+from ._library import DONE, SESSION_END, SESSION_OPEN, SESSION_SAVE, Settings, given, seeds, told
+from .cookies import print_cookie
+from .errors import KeyTooShort, NoDate, NoSession, error_of
+
+# Room for a cookie that a browser stores, and for the texts in it.
+ROOM = 5000
+
+
+class Session(MutableMapping[str, str]):
+    """A session: a dict of texts. `Sessions.open` makes it.
+
+    `started` is when it started, and `seen` when it was last saved, in seconds since 1970. `place` is the place of the
+    key that opened it: 0 is the newest, and a new session has None.
+
+    >>> session = Session(1445412480)
+    >>> session["user"] = "ann"
+    >>> dict(session), session.started, session.is_new
+    ({'user': 'ann'}, 1445412480, True)
+    """
+
+    def __init__(self, now: int) -> None:
+        self.now = self.started = self.seen = now
+        self.place: int | None = None
+        self.header = b""
+        self.texts: dict[str, str] = {}
+        self.is_renewed = True
+
+    @property
+    def is_new(self) -> bool:
+        """Whether the request has no session that is open."""
+        return self.place is None
+
+    def renew(self) -> None:
+        """Starts it anew with the same texts, so that the lifetime counts from this request. Call it at a login.
+
+        >>> session = Session(1445412480)
+        >>> session.started = 1445400000
+        >>> session.renew()
+        >>> session.started
+        1445412480
+        """
+        self.started = self.seen = self.now
+        self.is_renewed = True
+
+    def __getitem__(self, name: str) -> str:
+        return self.texts[name]
+
+    def __setitem__(self, name: str, text: str) -> None:
+        if not isinstance(name, str) or not isinstance(text, str):
+            raise TypeError("a session has texts by name, each of them a str")
+        self.texts[name] = text
+
+    def __delitem__(self, name: str) -> None:
+        del self.texts[name]
+
+    def __iter__(self) -> Iterator[str]:
+        return iter(self.texts)
+
+    def __len__(self) -> int:
+        return len(self.texts)
+
+    def __repr__(self) -> str:
+        return f"<Session {self.texts!r}>"
+
+
+class Sessions:
+    """How a site keeps its sessions: one encrypted cookie holds a session. Threads may share it.
+
+    `keys` are the site's keys, each of at least 64 random bytes, the newest first. The newest encrypts, and each of them
+    decrypts. A session is over `lifetime` seconds after its start, and `idle` seconds after it was last saved. `name` and
+    the arguments after the limits are the cookie's. Settings that no session could be saved with are refused at once.
+
+    >>> from deomigal import derive_key
+    >>> keys = [derive_key(b"a master key of at least 32 bytes")]
+    >>> sessions = Sessions(keys, "__Host-session", lifetime=12 * 3600, idle=1800)
+    >>> session = sessions.open("")
+    >>> session["user"] = "ann"
+    >>> cookie, _, attributes = sessions.save(session).partition("; ")
+    >>> attributes
+    'HttpOnly; SameSite=Lax; Secure; Path=/; Max-Age=1800'
+    >>> sessions.open(cookie)["user"]
+    'ann'
+    """
+
+    def __init__(
+        self,
+        keys: Sequence[bytes],
+        name: str,
+        lifetime: int,
+        idle: int,
+        *,
+        path: str | None = "/",
+        domain: str | None = None,
+        secure: bool = True,
+        http_only: bool = True,
+        same_site: str | None = "Lax",
+        partitioned: bool = False,
+    ) -> None:
+        if any(len(key) < 64 for key in keys):
+            raise error_of(KeyTooShort.status)
+        if not all(0 <= limit < 2**32 for limit in (lifetime, idle)):
+            raise OverflowError("a limit has at most 32 bits")
+        # The first 64 bytes of a key count.
+        ring = b"".join(key[:64] for key in keys)
+        cookie = print_cookie(
+            name, "", path=path, domain=domain, secure=secure, http_only=http_only, same_site=same_site,
+            partitioned=partitioned or None,
+        ).encode()
+        self.settings = Settings(ring, len(ring), cookie, len(cookie), lifetime, idle, *seeds())
+        self.save(self.start())
+
+    def start(self, now: float | None = None) -> Session:
+        """A new session without texts. `now` is in seconds since 1970; without it the clock's time counts.
+
+        Start one at a login, if no text of before it may survive.
+        """
+        return Session(int(time.time() if now is None else now))
+
+    def open(self, header: str | bytes, now: float | None = None) -> Session:
+        """The session in a request's `Cookie` header, or a new one if there is none that is open.
+
+        There is none if the site's cookie is missing, isn't encrypted under one of the keys, or is over. `now` is in
+        seconds since 1970; without it the clock's time counts.
+
+        >>> from deomigal import derive_key
+        >>> sessions = Sessions([derive_key(b"a master key of at least 32 bytes")], "session", 12 * 3600, 1800)
+        >>> cookie = sessions.save(sessions.start(now=1445412480))
+        >>> sessions.open(cookie, now=1445414279).is_new, sessions.open(cookie, now=1445414280).is_new
+        (False, True)
+        """
+        session = self.start(now)
+        header = header.encode("utf-8", "replace") if isinstance(header, str) else header
+        answer, form = told(SESSION_OPEN, self.settings, header, seconds(session), room=ROOM)
+        if answer.status == DONE:
+            session.started, session.seen, session.place = answer.started, answer.seen, answer.place
+            session.header, session.is_renewed = header, False
+            session.texts = dict(parse_qsl(form.decode(), keep_blank_values=True))
+        elif answer.status != NoSession.status:
+            raise error_of(answer.status)
+        return session
+
+    def save(self, session: Session) -> str:
+        """The value of the `Set-Cookie` header that saves the session, encrypted under the newest key.
+
+        Save at each request, so that the idle time counts from it. Raises `TooLarge` if a browser wouldn't store the
+        cookie: there is room for about 2,800 bytes of texts.
+
+        >>> from deomigal import derive_key
+        >>> from deomigal.errors import TooLarge
+        >>> sessions = Sessions([derive_key(b"a master key of at least 32 bytes")], "session", 12 * 3600, 1800)
+        >>> session = sessions.start()
+        >>> session["notes"] = "x" * 5000
+        >>> try:
+        ...     sessions.save(session)
+        ... except TooLarge as error:
+        ...     print(error.size > 4096)
+        True
+        """
+        inputs = (session.header, urlencode(session.texts), session.is_renewed, seconds(session), os.urandom(12))
+        return given(SESSION_SAVE, self.settings, *inputs, room=ROOM).decode()
+
+    def end(self, now: float | None = None) -> str:
+        """The value of the `Set-Cookie` header that has the browser drop the cookie. A copy stays open until its limits.
+
+        >>> from deomigal import derive_key
+        >>> sessions = Sessions([derive_key(b"a master key of at least 32 bytes")], "session", 12 * 3600, 1800)
+        >>> sessions.end(now=1445412480)
+        'session=; HttpOnly; SameSite=Lax; Secure; Path=/; Max-Age=0; Expires=Tue, 21 Oct 2014 07:28:00 GMT'
+        """
+        return given(SESSION_END, self.settings, seconds(self.start(now))).decode()
+
+
+def seconds(session: Session) -> int:
+    """The second of the session's request. One before 1970 is refused as one past the year 9999 is."""
+    if not 0 <= session.now < 2**64:
+        raise error_of(NoDate.status)
+    return session.now

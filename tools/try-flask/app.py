@@ -1,0 +1,77 @@
+"""The Flask application that tools/try-flask/run plays. Its code is the same for both kinds of sessions.
+
+Its environment says which: TRY_SESSIONS is `deomigal` or `flask`. TRY_KEYS is a file with a key in hexadecimal a line,
+the newest first. TRY_IDLE and TRY_LIFETIME are limits in seconds. TRY_CLOCK, if it is set, is a file with the time.
+"""
+import datetime
+import os
+import pathlib
+import time
+
+from flask import Flask, redirect, request, session
+
+PAGE = """<!doctype html><title>Try Flask</title>
+{% if user %}<h1>Hello, {{ user }}.</h1><p>Visits: {{ visits }}.</p>
+<form method=post action=/logout><button>Log out</button></form>
+{% else %}<h1>Who are you?</h1>
+<form method=post action=/login><input name=user><button>Log in</button></form>{% endif %}
+<p>Worker {{ worker }}.</p>"""
+
+
+def clock():
+    """The time, in seconds since 1970."""
+    path = os.environ.get("TRY_CLOCK")
+    return float(pathlib.Path(path).read_text()) if path else time.time()
+
+
+keys = [bytes.fromhex(line) for line in pathlib.Path(os.environ["TRY_KEYS"]).read_text().split()]
+app = Flask(__name__)
+app.config.update(
+    SECRET_KEY=keys[0],
+    SESSION_COOKIE_NAME="__Host-session",
+    SESSION_COOKIE_SECURE=True,
+    SESSION_COOKIE_SAMESITE="Lax",
+    PERMANENT_SESSION_LIFETIME=datetime.timedelta(seconds=int(os.environ.get("TRY_LIFETIME", 12 * 3600))),
+)
+if os.environ["TRY_SESSIONS"] == "deomigal":
+    from deomigal.flask import SessionInterface
+
+    app.session_interface = SessionInterface(keys, idle=int(os.environ.get("TRY_IDLE", 1800)), clock=clock)
+
+
+page = app.jinja_env.from_string(PAGE)
+
+
+@app.get("/")
+def home():
+    """Greets the user and counts, or asks for a name."""
+    user = session.get("user")
+    if user:
+        session["visits"] = session.get("visits", 0) + 1
+    return page.render(user=user, visits=session.get("visits"), worker=os.getpid())
+
+
+@app.get("/read")
+def read():
+    """Says who the user is, and changes nothing."""
+    return {"user": session.get("user"), "worker": os.getpid()}
+
+
+@app.post("/login")
+def log_in():
+    session.clear()
+    session.update(user=request.form["user"], visits=0)
+    return redirect("/", 303)
+
+
+@app.post("/fill")
+def fill():
+    """Puts a text of that many letters into the session."""
+    session["text"] = "x" * int(request.form["letters"])
+    return redirect("/", 303)
+
+
+@app.post("/logout")
+def log_out():
+    session.clear()
+    return redirect("/", 303)
