@@ -13,8 +13,9 @@ def date_of(moment: Moment) -> datetime.datetime | None:
         return None
     if moment.status != DONE:
         raise error_of(moment.status)
-    numbers = [getattr(moment, name) for name in ("year", "month", "day", "hour", "minute", "second")]
-    return datetime.datetime(*numbers, tzinfo=datetime.timezone.utc)
+    return datetime.datetime(
+        moment.year, moment.month, moment.day, moment.hour, moment.minute, moment.second, tzinfo=datetime.timezone.utc
+    )
 
 
 def numbers_of(moment: datetime.datetime) -> tuple[int, int, int, int, int, int]:

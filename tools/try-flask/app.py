@@ -36,7 +36,7 @@ app.config.update(
 if os.environ["TRY_SESSIONS"] == "deomigal":
     from deomigal.flask import SessionInterface
 
-    app.session_interface = SessionInterface(keys, idle=int(os.environ.get("TRY_IDLE", 1800)), clock=clock)
+    app.session_interface = SessionInterface(keys, idle=int(os.environ.get("TRY_IDLE", 0)) or None, clock=clock)
 
 
 page = app.jinja_env.from_string(PAGE)
