@@ -111,6 +111,12 @@ assert ask(app, "/", cookie)[0].headers["Vary"] == "Cookie" and "Vary" not in as
 assert ask(app, "/")[1] is None
 assert ask(app, "/clear", cookie)[1].startswith("session=; HttpOnly; Path=/; Max-Age=0; Expires=")
 
+# Flask's client for tests keeps the cookie, and its transactions change the session.
+client = app.test_client()
+with client.session_transaction() as transaction:
+    transaction["user"] = "ann"
+assert client.get("/").get_json()["user"] == "ann" and client.get("/clear") and client.get("/").get_json()["user"] is None
+
 # Texts of another program under the same key are an anonymous session.
 kept = app.session_interface.sessions(app).start(NOON)
 kept["user"] = "not JSON"
