@@ -74,7 +74,7 @@ static text unhex(const char *hex) {
 static const char *const NAMES[] = {
     "DONE",      "BUFFER_TOO_SHORT", "OUT_OF_MEMORY", "NOT_UTF8", "KEY_TOO_SHORT", "MASTER_TOO_SHORT", "BAD_NONCE",
     "NOT_SIGNED", "NOT_SEALED", "TOO_LONG", "NO_DATE", "BAD_MOMENT", "BAD_LINE", "MISSING_PAIR", "EMPTY_NAME", "BAD_ESCAPE",
-    "NO_PAIR", "NO_JAR", "NOT_FOUND", "BAD_ATTRIBUTE",
+    "NO_PAIR", "NO_JAR", "NOT_FOUND", "BAD_ATTRIBUTE", "NO_SESSION", "BAD_PREFIX", "OVER", "TOO_LARGE",
 };
 
 static uint32_t status_named(const char *name) {
@@ -219,6 +219,46 @@ static cookie_answer print_cookie(const text *in, uint8_t *out, size_t length) {
     return cookie_print(IN(0), IN(1), IN(2), IN(3), &attributes, in[5].bytes[0] == '1', out, length);
 }
 
+/* The settings of a row on sessions, whose numbers are the two limits, the second, and whether the session is renewed. No
+ * pointer of settings is null. */
+static cookie_session_settings settings_in(const text *in, long long numbers[4]) {
+    static const uint8_t nothing = 0;
+    numbers_in(in[2], 4, numbers);
+    return (cookie_session_settings){
+        .keys = in[0].length > 0 ? in[0].bytes : &nothing,
+        .keys_length = in[0].length,
+        .cookie = in[1].length > 0 ? in[1].bytes : &nothing,
+        .cookie_length = in[1].length,
+        .lifetime = (uint32_t)numbers[0],
+        .idle = (uint32_t)numbers[1],
+        .seed = 1,
+        .other_seed = 2,
+    };
+}
+
+/* A session that is opened: the place of its key and its times are the row's last numbers. */
+static cookie_answer open_session(const text *in, uint8_t *out, size_t length) {
+    long long n[4], told[3];
+    cookie_session_settings settings = settings_in(in, n);
+    cookie_opened_session opened = cookie_session_open(&settings, IN(3), (uint64_t)n[2], out, length);
+    numbers_in(in[4], 3, told);
+    if (opened.place != (size_t)told[0] || opened.started != (uint64_t)told[1] || opened.seen != (uint64_t)told[2])
+        fault("another key or another time");
+    return (cookie_answer){opened.status, opened.length};
+}
+
+static cookie_answer save_session(const text *in, uint8_t *out, size_t length) {
+    long long n[4];
+    cookie_session_settings settings = settings_in(in, n);
+    return cookie_session_save(&settings, IN(3), IN(4), n[3] == 1, (uint64_t)n[2], IN(5), out, length);
+}
+
+static cookie_answer end_session(const text *in, uint8_t *out, size_t length) {
+    long long n[4];
+    cookie_session_settings settings = settings_in(in, n);
+    return cookie_session_end(&settings, (uint64_t)n[2], out, length);
+}
+
 static cookie_answer call(const char *name, const text *in, uint8_t *out, size_t length) {
     if (strcmp(name, "derive_key") == 0)
         return cookie_derive_key(IN(0), out, length);
@@ -236,6 +276,12 @@ static cookie_answer call(const char *name, const text *in, uint8_t *out, size_t
         return play_jar(in, out, length);
     if (strcmp(name, "print") == 0)
         return print_cookie(in, out, length);
+    if (strcmp(name, "session_open") == 0)
+        return open_session(in, out, length);
+    if (strcmp(name, "session_save") == 0)
+        return save_session(in, out, length);
+    if (strcmp(name, "session_end") == 0)
+        return end_session(in, out, length);
     if (strcmp(name, "print_date") == 0) {
         int n[6];
         numbers_of(in[0], n);

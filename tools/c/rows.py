@@ -87,6 +87,9 @@ def played(call, inputs, length):
         given = answer.length if answer.status == library.DONE else 0
         text = buffer.raw[:given]
         return answer.status, answer.length, (in_order(text) if inputs[-1] == b"delta" else text) + buffer.raw[given:]
+    if call.startswith("session_"):
+        answer = play_session(call, inputs, out, length)
+        return answer.status, answer.length, buffer.raw
     arguments = [1, 2] if call == "run" else []
     if call == "print_date":
         arguments = [int(number) for number in inputs[0].split()]
@@ -97,6 +100,22 @@ def played(call, inputs, length):
         arguments += [attributes_in(inputs[4]), inputs[5] == b"1"]
     answer = CALLS[call](*arguments, out, length)
     return answer.status, answer.length, buffer.raw
+
+
+def play_session(call, inputs, out, length):
+    """A row on sessions, whose numbers are the two limits, the second, and whether the session is renewed."""
+    keys, cookie, numbers, *rest = inputs
+    lifetime, idle, now, *renew = (int(number) for number in numbers.split())
+    settings = library.Settings(keys, len(keys), cookie, len(cookie), lifetime, idle, 1, 2)
+    texts = [part for value in rest for part in (value or None, len(value))]
+    if call == "session_open":
+        opened = library.SESSION_OPEN(settings, *texts[:2], now, out, length)
+        if [opened.place, opened.started, opened.seen] != numbers_in(rest[-1], 3):
+            faults.append(f"another key or another time: {inputs}")
+        return opened
+    if call == "session_save":
+        return library.SESSION_SAVE(settings, *texts[:4], renew == [1], now, *texts[4:], out, length)
+    return library.SESSION_END(settings, now, out, length)
 
 
 def check(number, call, inputs, length, status, count, text):

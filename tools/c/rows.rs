@@ -74,6 +74,27 @@ struct Jar {
     held: Held,
 }
 
+#[repr(C)]
+struct SessionSettings {
+    keys: Text,
+    keys_length: usize,
+    cookie: Text,
+    cookie_length: usize,
+    lifetime: u32,
+    idle: u32,
+    seed: u64,
+    other_seed: u64,
+}
+
+#[repr(C)]
+struct OpenedSession {
+    status: u32,
+    length: usize,
+    place: usize,
+    started: u64,
+    seen: u64,
+}
+
 type Text = *const u8;
 
 #[rustfmt::skip]
@@ -99,12 +120,15 @@ unsafe extern "C" {
     fn cookie_jar_get(jar: &mut Jar, name: Text, name_length: usize, out: *mut u8, out_length: usize) -> Answer;
     fn cookie_jar_delta(jar: &mut Jar, out: *mut u8, out_length: usize) -> Answer;
     fn cookie_jar_free(jar: &mut Jar);
+    fn cookie_session_open(settings: &SessionSettings, header: Text, header_length: usize, now: u64, out: *mut u8, out_length: usize) -> OpenedSession;
+    fn cookie_session_save(settings: &SessionSettings, header: Text, header_length: usize, texts: Text, texts_length: usize, renew: bool, now: u64, nonce: Text, nonce_length: usize, out: *mut u8, out_length: usize) -> Answer;
+    fn cookie_session_end(settings: &SessionSettings, now: u64, out: *mut u8, out_length: usize) -> Answer;
 }
 
-const STATUSES: [&str; 20] = [
+const STATUSES: [&str; 24] = [
     "DONE", "BUFFER_TOO_SHORT", "OUT_OF_MEMORY", "NOT_UTF8", "KEY_TOO_SHORT", "MASTER_TOO_SHORT", "BAD_NONCE",
     "NOT_SIGNED", "NOT_SEALED", "TOO_LONG", "NO_DATE", "BAD_MOMENT", "BAD_LINE", "MISSING_PAIR", "EMPTY_NAME", "BAD_ESCAPE",
-    "NO_PAIR", "NO_JAR", "NOT_FOUND", "BAD_ATTRIBUTE",
+    "NO_PAIR", "NO_JAR", "NOT_FOUND", "BAD_ATTRIBUTE", "NO_SESSION", "BAD_PREFIX", "OVER", "TOO_LARGE",
 ];
 
 fn number_of(status: &str) -> u32 {
@@ -195,9 +219,46 @@ fn attributes_in(text: &[u8]) -> Attributes {
     }
 }
 
+/// A row on sessions, whose numbers are the two limits, the second, and whether the session is renewed. No pointer of
+/// settings is null.
+fn play_session(name: &str, inputs: &[Vec<u8>], out: *mut u8, length: usize) -> Answer {
+    let (n, [keys, cookie]) = (numbers_in(&inputs[2], 4), [&inputs[0], &inputs[1]]);
+    let settings = SessionSettings {
+        keys: keys.as_ptr(),
+        keys_length: keys.len(),
+        cookie: cookie.as_ptr(),
+        cookie_length: cookie.len(),
+        lifetime: n[0] as u32,
+        idle: n[1] as u32,
+        seed: 1,
+        other_seed: 2,
+    };
+    let now = n[2] as u64;
+    let at = |i: usize| place(&inputs[i]);
+    let size = |i: usize| inputs[i].len();
+    unsafe {
+        match name {
+            "session_open" => {
+                let opened = cookie_session_open(&settings, at(3), size(3), now, out, length);
+                let told = [opened.place as i64, opened.started as i64, opened.seen as i64];
+                assert_eq!(told[..], numbers_in(&inputs[4], 3)[..], "another key or another time");
+                Answer { status: opened.status, length: opened.length }
+            }
+            "session_save" => {
+                cookie_session_save(&settings, at(3), size(3), at(4), size(4), n.get(3) == Some(&1), now, at(5), size(5), out, length)
+            }
+            "session_end" => cookie_session_end(&settings, now, out, length),
+            _ => panic!("no call {name}"),
+        }
+    }
+}
+
 fn call(name: &str, inputs: &[Vec<u8>], out: *mut u8, length: usize) -> Answer {
     if name == "jar" {
         return play_jar(inputs, out, length);
+    }
+    if name.starts_with("session_") {
+        return play_session(name, inputs, out, length);
     }
     let at = |i: usize| place(&inputs[i]);
     let size = |i: usize| inputs[i].len();

@@ -3,8 +3,11 @@ mod DecodedLemmas
 mod HeldBox
 mod JarLemmas
 mod KeyedLemmas
+mod OpenLemmas
 mod PairLemmas
 mod PrintLemmas
 mod ReadBackLemmas
 mod ReadingLemmas
+mod SaveLemmas
+mod SiteLemmas
 mod StoredLemmas

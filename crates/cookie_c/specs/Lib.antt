@@ -2,6 +2,7 @@ pub mod Answers
 pub mod Codes
 pub mod Dates
 pub mod Decoded
+pub mod Explanations
 pub mod Held
 pub mod Jars
 pub mod Keyed
@@ -13,6 +14,7 @@ pub mod Places
 pub mod Played
 pub mod Prints
 pub mod Readings
+pub mod SaveParts
 pub mod SavedSessions
 pub mod SiteParts
 pub mod Sites

@@ -41,11 +41,11 @@ abbrev pub IsRefusedOpening : Status → OpenedSession → List ℕ → List ℕ
 IsRefusedOpening why answer old new = (answer ≡ refused_opening why) × (new ≡ old)
 
 -- The session's texts are given as a form. Its times and the place of its key are told either way.
-pub record GivesSession (place : ℕ) (session : SessionState) (answer : OpenedSession)
+pub record GivesSession (key : ℕ) (session : SessionState) (answer : OpenedSession)
     (old new : List ℕ) : Type 0 where
   pub texts : IsGiven (form_of_texts session.texts)
       (record { status = answer.status; length = answer.length }) old new
-  pub place : answer.place ≡ place
+  pub place : answer.place ≡ key
   pub started : answer.started ≡ session.started
   pub seen : answer.seen ≡ session.seen
 

@@ -39,7 +39,7 @@ pub record IsSiteOf (settings : SessionSettings) (second : ℕ) (site : Sessions
   pub lifetime : site.lifetime ≡ settings.lifetime
   pub idle : site.idle ≡ settings.idle
   pub within : second ≤ last_second
-  pub time : IsAtSecond second time
+  pub at : IsAtSecond second time
 
 -- the second is one of a date, and the settings have keys and a text
 pub record CanBeSite (settings : SessionSettings) (second : ℕ) : Type 0 where

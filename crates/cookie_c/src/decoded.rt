@@ -121,7 +121,7 @@ fn give_pair(name: &str, value: &str, next: usize, out: &mut [u8]) -> Pair
 }
 
 // The first text and right after it the second, for the buffer.
-fn give_both(first: &[u8], second: &[u8], out: &mut [u8]) -> Answer
+pub(crate) fn give_both(first: &[u8], second: &[u8], out: &mut [u8]) -> Answer
     ensures { IsGiven (first.now ++ second.now) result out.old out.new }
 {
     let length = first.len() + second.len();

@@ -5,6 +5,7 @@ mod answer;
 mod attributes;
 mod date;
 mod decoded;
+mod explanation;
 mod jar;
 mod key;
 mod keyed;

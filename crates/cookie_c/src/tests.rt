@@ -1,6 +1,7 @@
 //! Calls whose answers come from elsewhere: rows of `tools/c/rows.tsv`, with a buffer that fits and one that is a byte
 //! too short.
 mod decoded;
+mod explanations;
 mod jars;
 mod prints;
 mod rows;

@@ -128,8 +128,8 @@ impl Session {
         ensures back { IfOk result (λ form. texts_of_form (string_bytes form) ≡ self.now.texts) }
     {
         let mut form = Serializer::new(String::new(alloc));
-        for (name, text) in self.texts.pairs() {
-            form.append_pair(name, text)?;
+        for (name, value) in self.texts.pairs() {
+            form.append_pair(name, value)?;
         }
         Ok(form.finish())
     }

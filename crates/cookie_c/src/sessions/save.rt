@@ -1,10 +1,13 @@
 //! Saving and ending a session for C.
-ghost use Rattle.std.specs.Prelude.{◌≡◌, ◌≢◌, true, false, Err, IfOk, IsOkAnd, length, string_bytes};
+ghost use Rattle.std.specs.Prelude.{◌≡◌, ◌≢◌, true, false, Some, Err, IfOk, IsOkAnd, MatchResult, length, option_map, string_bytes};
+ghost use Rattle.cookie.specs.Jar.{view};
 ghost use Rattle.cookie.specs.Removal.{removal};
 ghost use Rattle.cookie.specs.Text.{cookie_text};
+ghost use Rattle.cookie_session.specs.declared.session_error.SessionError.TheVariants as failure;
 ghost use Rattle.cookie_c.specs.Answers.{IsGiven, IsGivenInMemory, IsRefused};
 ghost use Rattle.cookie_c.specs.OpenedSessions.{stored_of};
 ghost use Rattle.cookie_c.specs.SavedSessions.{IsUnsaved, Saves, SavesTexts, unsaved_number, unsaved_status, with_form};
+ghost use Rattle.cookie_c.specs.SaveParts.{IsSaved};
 ghost use Rattle.cookie_c.specs.Sites.{AtSite};
 ghost use Rattle.cookie_c.specs.declared.status.Status.TheVariants as status;
 
@@ -152,13 +155,53 @@ fn saved_text(
     ensures { Saves sessions.now nonce.bytes time (with_form texts.now session)
         (λ why. result ≡ Err why) (λ text. IsOkAnd result (λ made. string_bytes made ≡ text)) }
 {
-    let session = session.with_form(alloc, texts)?;
-    let mut nonce = nonce;
+    let Ok(session) = session.with_form(alloc, texts) else {
+        return Err(SessionError::OutOfMemory);
+    };
     let mut jar = CookieJar::new(alloc);
-    sessions.save(alloc, &mut jar, &session, time, &mut nonce)?;
-    match jar.get(sessions.cookie.name()) {
-        Some(cookie) => Ok(cookie.encoded().to_string(alloc)?),
+    match save_in(alloc, sessions, &mut jar, &session, time, nonce) {
+        Ok(()) => shown_text(alloc, &jar, sessions.cookie.name()),
+        Err(error) => Err(error),
+    }
+}
+
+// Saves the session in the jar.
+fn save_in(
+    alloc: Global,
+    sessions: &Sessions<'_>,
+    jar: &mut CookieJar,
+    session: &Session,
+    time: DateTime,
+    nonce: Nonce,
+) -> Result<(), SessionError>
+    ensures { IsSaved sessions.now nonce.bytes time session.now result
+        (view jar.new sessions.now.cookie.now.fields.name) }
+{
+    let mut nonce = nonce;
+    sessions.save(alloc, jar, session, time, &mut nonce)
+}
+
+// The text of the cookie that the jar shows under the name.
+fn shown_text(alloc: Global, jar: &CookieJar, name: &str) -> Result<String, SessionError>
+    ensures { MatchResult result
+        (λ text. option_map (cookie_text true false) (view jar.now name.now)
+        ≡ Some (string_bytes text))
+        (λ why. why ≡ failure.OutOfMemory) }
+{
+    match jar.get(name) {
+        Some(cookie) => encoded_text(alloc, cookie),
         None => Err(SessionError::OutOfMemory),
+    }
+}
+
+fn encoded_text(alloc: Global, cookie: &Cookie<'static>) -> Result<String, SessionError>
+    ensures { MatchResult result
+        (λ text. string_bytes text ≡ cookie_text true false cookie.now.fields)
+        (λ why. why ≡ failure.OutOfMemory) }
+{
+    match cookie.encoded().to_string(alloc) {
+        Ok(text) => Ok(text),
+        Err(_) => Err(SessionError::OutOfMemory),
     }
 }
 

@@ -1,0 +1,34 @@
+-- Which session is found for C.
+use Rattle.std.proofs.Common.{◌≡◌, ◌↔◌, ℕ, Option, Some, None, Result, Ok, Err, IfOk, refl, inl, inr, subst}
+use Rattle.std.proofs.lemmas.Option.{none-some, same_Some}
+use Rattle.jiff.specs.Types.{DateTime}
+use Rattle.cookie.specs.Memory.{Gives}
+use Rattle.cookie.specs.Record.{Record}
+use Rattle.cookie_session.specs.Session.{SessionState}
+use Rattle.cookie_session.specs.Sessions.{HoldsOne, IsOpen}
+use Rattle.cookie_session.specs.declared.opened.Opened.{Opened}
+use Rattle.cookie_session.specs.declared.sessions.Sessions.{Sessions}
+use Rattle.cookie_c.specs.OpenedSessions.{Finds, HasNone}
+
+module _ (site : Sessions) (stored : Option Record) (time : DateTime) where
+  -- the session that was found is open
+  pub found_is_open : (opened : Opened) → Finds site stored time (Some opened) → IsOpen site stored time opened.place opened.session
+  found_is_open opened finds = (finds.exact opened.place opened.session).0 refl
+
+  -- and is each one that is open
+  pub found_is_it : (opened : Opened) (place : ℕ) (session : SessionState) → Finds site stored time (Some opened)
+      → IsOpen site stored time place session → opened.session ≡ session
+  found_is_it opened place session finds is =
+      let same = same_Some opened (record { session = session; place = place }) ((finds.exact place session).1 is) in
+      λ i. (same i).session
+
+  pub found_none : Finds site stored time None → HasNone site stored time
+  found_none finds place session is = none-some (record { session = session; place = place }) ((finds.exact place session).1 is)
+
+  -- what a call finds, of what it answers
+  pub finds_of : {E : Type 0} (refusal : E) (result : Result (Option Opened) E)
+      → Gives refusal result (λ answer. (place : ℕ) (session : SessionState)
+      → (answer ≡ Some (record { session = session; place = place })) ↔ IsOpen site stored time place session)
+      → IfOk result (λ _. HoldsOne site stored) → Gives refusal result (Finds site stored time)
+  finds_of refusal (Ok answer) exact once = record { exact = exact; once = once }
+  finds_of refusal (Err error) is once = is
