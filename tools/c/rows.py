@@ -5,10 +5,11 @@ import doctest
 import http.cookies
 import pathlib
 import re
+import subprocess
 import sys
 
 import deomigal
-from deomigal import _library as library, cookies, dates, errors, jars, secrets, sessions
+from deomigal import _library as library, cookies, dates, errors, explain, jars, secrets, sessions
 
 CALLS = {"derive_key": library.DERIVE_KEY, "sign": library.SIGN, "verify": library.VERIFY, "seal": library.SEAL,
          "open": library.OPEN, "print": library.PRINT, "print_date": library.PRINT_DATE, "run": library.RUN}
@@ -228,6 +229,26 @@ def use_sessions(key):
     assert deomigal.read_cookie(sessions.end(now))[2]["max_age"] == 0
 
 
+def use_explain():
+    """What `python -m deomigal explain` says is what the program cookie_explain says in its stored run, but for removals,
+    since the program knows what is stored."""
+    crate = pathlib.Path(__file__).resolve().parent.parent.parent / "crates/cookie_explain"
+    url, _, now, _, suffixes = (crate / "args").read_text().splitlines()
+    command = [sys.executable, "-m", "deomigal", "explain", url, "--now", now, "--suffixes", crate / "data" / suffixes]
+    lines = (crate / "stdin").read_bytes() + b"Set-Cookie: a=1; SameSite=Lax\n"
+    printed = subprocess.run(command, input=lines, capture_output=True, check=True).stdout.decode().splitlines()
+    wanted = (crate / "stdout").read_text().splitlines()[:-1]
+    removals = ["removes what is stored as: " + line.partition("stored: " if "nothing" in line else "removed: ")[2]
+                for line in wanted if line.startswith("remove")]
+    assert printed[:-1] == [line for line in wanted if not line.startswith("remove")] + removals
+    assert subprocess.run([*command[:4], "ftp://a.b"], input=b"", capture_output=True).returncode == 2
+    assert explain.refusal("http://a.example/", "a=1; Secure").step == "InsecureConnection"
+    assert explain.refusal("http://localhost/", "a=1; Secure") is None
+    assert explain.refusal("https://a.example/", "a=1", is_cross_site=True).step == "CrossSite"
+    assert explain.explain("https://[::1]/", "=v; Domain=") == "stored: =v; for [::1] only; path /; until the browser closes"
+    assert explain.explain("https://a.example/x/", b"v\xff; Path=y").startswith("stored: =v\ufffd; for a.example only; path /x;")
+
+
 def use():
     """Uses of the package, whose answers are the round trip or Python's own."""
     key = deomigal.derive_key(bytes(range(32)))
@@ -268,6 +289,7 @@ def use():
             "Set-Cookie: name=; Max-Age=0; Expires=Tue, 21 Oct 2014 07:28:00 GMT",
         ]
     use_sessions(key)
+    use_explain()
     for wrong, refusal in ((lambda: deomigal.sign(b"short", "a", "b"), errors.KeyTooShort),
                          (lambda: deomigal.sign(key, "a", b"\xff"), errors.NotUtf8),
                          (lambda: deomigal.run(moment, "\nnonsense"), errors.BadLine),
@@ -289,7 +311,7 @@ def use():
         except deomigal.CookieError as error:
             if type(error) is not refusal:
                 faults.append(f"a use is refused by {error!r}")
-    for module in (deomigal, secrets, dates, cookies, jars, sessions):
+    for module in (deomigal, secrets, dates, cookies, jars, sessions, explain):
         failed = doctest.testmod(module).failed
         if failed:
             faults.append(f"{failed} examples of {module.__name__} answer something else")
