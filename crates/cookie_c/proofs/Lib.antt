@@ -1,7 +1,9 @@
 mod DateLemmas
 mod DecodedLemmas
+mod ExplainLemmas
 mod HeldBox
 mod JarLemmas
+mod KeyBytesLemmas
 mod KeyedLemmas
 mod OpenLemmas
 mod PairLemmas

@@ -1,5 +1,5 @@
 -- Which session is found for C.
-use Rattle.std.proofs.Common.{◌≡◌, ◌↔◌, ℕ, Option, Some, None, Result, Ok, Err, IfOk, refl, inl, inr, subst}
+use Rattle.std.proofs.Common.{◌≡◌, ◌↔◌, ◌⊎◌, ℕ, List, Option, Some, None, Result, Ok, Err, IfOk, refl, inl, inr}
 use Rattle.std.proofs.lemmas.Option.{none-some, same_Some}
 use Rattle.jiff.specs.Types.{DateTime}
 use Rattle.cookie.specs.Memory.{Gives}
@@ -8,7 +8,9 @@ use Rattle.cookie_session.specs.Session.{SessionState}
 use Rattle.cookie_session.specs.Sessions.{HoldsOne, IsOpen}
 use Rattle.cookie_session.specs.declared.opened.Opened.{Opened}
 use Rattle.cookie_session.specs.declared.sessions.Sessions.{Sessions}
-use Rattle.cookie_c.specs.OpenedSessions.{Finds, HasNone}
+use Rattle.cookie_c.specs.OpenedSessions.{Finds, GivesSession, HasNone, IsOpening, IsRefusedOpening}
+use Rattle.cookie_c.specs.declared.opened_session.OpenedSession.{OpenedSession}
+use Rattle.cookie_c.specs.declared.status.Status.TheVariants as status
 
 module _ (site : Sessions) (stored : Option Record) (time : DateTime) where
   -- the session that was found is open
@@ -32,3 +34,11 @@ module _ (site : Sessions) (stored : Option Record) (time : DateTime) where
       → IfOk result (λ _. HoldsOne site stored) → Gives refusal result (Finds site stored time)
   finds_of refusal (Ok answer) exact once = record { exact = exact; once = once }
   finds_of refusal (Err error) is once = is
+
+  -- it is given, or memory ran out
+  pub opening_given : (opened : Opened) (answer : OpenedSession) (old new : List ℕ) → Finds site stored time (Some opened)
+      → GivesSession opened.place opened.session answer old new ⊎ IsRefusedOpening status.OutOfMemory answer old new
+      → IsOpening site stored time answer old new
+  opening_given opened answer old new finds (inl gives) =
+      inl (opened.place, opened.session, found_is_open opened finds, finds.once, gives)
+  opening_given opened answer old new finds (inr refused) = inr (inr refused)

@@ -1,5 +1,5 @@
 -- How a session is saved for C, by what the library's call does.
-use Rattle.std.proofs.Common.{◌≡◌, ◌↔◌, ℕ, ◌<◌, ◌≤◌, ◌⊎◌, inl, inr, true, false, List, Option, Some, option_map, Result, Ok, Err, IfSome, MatchResult, IsOkAnd, OnOk, arith, refl, sym, ap, subst, ◌∙◌}
+use Rattle.std.proofs.Common.{◌≡◌, ◌↔◌, ℕ, ◌<◌, ◌≤◌, ◌⊎◌, inl, inr, Bool, true, false, List, Option, Some, option_map, Result, Ok, Err, IfSome, MatchResult, IsOkAnd, OnOk, arith, refl, sym, ap, subst, ◌∙◌}
 use Rattle.std.proofs.lemmas.Option.{same_Some}
 use Rattle.jiff.specs.Types.{DateTime}
 use Rattle.cookie.proofs.AnswerLemmas.{view-stored}
@@ -11,11 +11,17 @@ use Rattle.cookie_session.specs.Seconds.{second_of}
 use Rattle.cookie_session.specs.Session.{SessionState, seen_at}
 use Rattle.cookie_session.specs.Sessions.{CanSave, IsStored, bare_cookie, meets_prefix, saved_cookie}
 use Rattle.cookie_session.specs.Size.{browser_length, most_bytes}
+use Rattle.cookie_session.specs.declared.opened.Opened.{Opened}
 use Rattle.cookie_session.specs.declared.session_error.SessionError.{SessionError}
 use Rattle.cookie_session.specs.declared.session_error.SessionError.TheVariants as failure
 use Rattle.cookie_session.specs.declared.sessions.Sessions.{Sessions}
 use Rattle.cookie_c.specs.SaveParts.{IsSaved}
-use Rattle.cookie_c.specs.SavedSessions.{Saves}
+use Rattle.cookie_c.specs.Answers.{IsGiven, IsTold}
+use Rattle.cookie_c.specs.OpenedSessions.{Finds}
+use Rattle.cookie_c.specs.SavedSessions.{IsUnsaved, Saves, SavesTexts, new_session, unsaved_number, unsaved_status, with_form}
+use Rattle.cookie_c.specs.declared.answer.Answer.{Answer}
+use Rattle.cookie_c.specs.declared.status.Status.{Status}
+use Rattle.cookie_c.proofs.OpenLemmas.{found_is_it, found_is_open}
 
 module _ (site : Sessions) (nonce : List ℕ) (time : DateTime) (session : SessionState) where
   -- memory ran out
@@ -58,7 +64,7 @@ module _ (site : Sessions) (nonce : List ℕ) (time : DateTime) (session : Sessi
     }
 
     -- the call refused it
-    pub saves_refused : (why : SessionError) → IsSaved {T} site nonce time session (Err why) shown → Fails why
+    pub saves_refused : (why : SessionError) → IsSaved {T = T} site nonce time session (Err why) shown → Fails why
         → Saves site nonce time session Fails Gives
     saves_refused failure.OutOfMemory is fails = saves_memory Fails Gives fails
     saves_refused failure.Prefix is fails = record {
@@ -92,17 +98,14 @@ module _ (site : Sessions) (nonce : List ℕ) (time : DateTime) (session : Sessi
     saves_refused failure.Generator is fails = absurd (is.drawn refl)
 
   -- what is known of the jar once the call saved it in there under a nonce that was drawn
-  module _ {T : Type 0} (Drawn : List ℕ → Type 0) (only : (other : List ℕ) → IsNonce other → Drawn other → other ≡ nonce) (old new : JarState) where
-    abbrev name : List ℕ
-    name = site.cookie.now.fields.name
-
+  module _ (Drawn : List ℕ → Type 0) (only : (other : List ℕ) → IsNonce other → Drawn other → other ≡ nonce) (old new : JarState) where
     shows : (other : List ℕ) → other ≡ nonce → new ≡ after (Add (saved_cookie site other time session)) old
-        → view new name ≡ Some (saved_cookie site nonce time session)
+        → view new site.cookie.now.fields.name ≡ Some (saved_cookie site nonce time session)
     shows other same is =
-        ap (λ j. view j name) is ∙ view-stored old (saved_cookie site other time session)
+        ap (λ j. view j site.cookie.now.fields.name) is ∙ view-stored old (saved_cookie site other time session)
         ∙ ap (λ n. Some (saved_cookie site n time session)) same
 
-    pub saved_of : (result : Result T SessionError)
+    pub saved_of : {T : Type 0} (result : Result T SessionError)
         → (¬ (meets_prefix site.cookie.now.fields ≡ true)) ↔ (result ≡ Err failure.Prefix)
         → (meets_prefix site.cookie.now.fields ≡ true → (¬ CanSave site time session) ↔ (result ≡ Err failure.Over))
         → (CanSave site time session → ¬ (result ≡ Err failure.Prefix) → ¬ (result ≡ Err failure.OutOfMemory)
@@ -111,10 +114,10 @@ module _ (site : Sessions) (nonce : List ℕ) (time : DateTime) (session : Sessi
         × (size ≡ browser_length (saved_cookie site other time session)))
         → ¬ (result ≡ Err failure.Generator)
         → OnOk result (CanSeal (bare_cookie site time session))
-        → OnOk result (IfSome (view new name) (λ cookie. browser_length cookie ≤ most_bytes))
+        → OnOk result (IfSome (view new site.cookie.now.fields.name) (λ cookie. browser_length cookie ≤ most_bytes))
         → OnOk result ((other : List ℕ) × IsNonce other × Drawn other × (new ≡ after (Add (saved_cookie site other time session)) old))
-        → OnOk result (IsStored site (view new name) (seen_at (second_of time) session))
-        → IsSaved site nonce time session result (view new name)
+        → OnOk result (IsStored site (view new site.cookie.now.fields.name) (seen_at (second_of time) session))
+        → IsSaved site nonce time session result (view new site.cookie.now.fields.name)
     saved_of (Ok value) prefix over too_long too_large drawn within fits ok stored =
         let is = shows ok.0 (only ok.0 ok.1 ok.2) ok.3 in
         record {
@@ -144,11 +147,71 @@ module _ (site : Sessions) (nonce : List ℕ) (time : DateTime) (session : Sessi
 
   -- the text of what the jar shows once it is saved there
   pub saves_shown : {T X : Type 0} (bytes : X → List ℕ) (value : T) (shown : Option Record) (text : Result X SessionError)
-      → IsSaved {T} site nonce time session (Ok value) shown
+      → IsSaved {T = T} site nonce time session (Ok value) shown
       → MatchResult text (λ made. option_map (cookie_text true false) shown ≡ Some (bytes made)) (λ why. why ≡ failure.OutOfMemory)
       → Saves site nonce time session (λ why. text ≡ Err why) (λ wanted. IsOkAnd text (λ made. bytes made ≡ wanted))
-  saves_shown bytes value shown (Ok made) is shows =
-      saves_given shown (λ why. Ok made ≡ Err why) (λ wanted. IsOkAnd (Ok made) (λ m. bytes m ≡ wanted)) value is
+  saves_shown {T} {X} bytes value shown (Ok made) is shows =
+      let text : Result X SessionError = Ok made in
+      saves_given shown (λ why. text ≡ Err why) (λ wanted. IsOkAnd text (λ m. bytes m ≡ wanted)) value is
       (same_Some (bytes made) (cookie_text true false (saved_cookie site nonce time session)) (sym shows ∙ ap (option_map (cookie_text true false)) is.added))
-  saves_shown bytes value shown (Err why) is memory =
-      saves_memory (λ w. Err why ≡ Err w) (λ wanted. IsOkAnd (Err why) (λ m. bytes m ≡ wanted)) (ap Err memory)
+  saves_shown {T} {X} bytes value shown (Err why) is memory =
+      let text : Result X SessionError = Err why in
+      let none : text ≡ Err failure.OutOfMemory = ap Err memory in
+      saves_memory (λ w. text ≡ Err w) (λ wanted. IsOkAnd text (λ m. bytes m ≡ wanted)) none
+
+  -- a refusal is passed on
+  pub saves_passed : {T X : Type 0} (bytes : X → List ℕ) (why : SessionError) (shown : Option Record) (result : Result X SessionError)
+      → result ≡ Err why → IsSaved {T = T} site nonce time session (Err why) shown
+      → Saves site nonce time session (λ w. result ≡ Err w) (λ wanted. IsOkAnd result (λ m. bytes m ≡ wanted))
+  saves_passed bytes why shown result same is =
+      saves_refused shown (λ w. result ≡ Err w) (λ wanted. IsOkAnd result (λ m. bytes m ≡ wanted)) why is same
+
+  -- the refusal is told
+  pub saves_told : {X : Type 0} (bytes : X → List ℕ) (why : SessionError) (result : Result X SessionError) (what : Status) (number : ℕ)
+      (answer : Answer) (old new : List ℕ) → result ≡ Err why → what ≡ unsaved_status why → number ≡ unsaved_number why
+      → IsTold what number answer → new ≡ old
+      → Saves site nonce time session (λ w. result ≡ Err w) (λ wanted. IsOkAnd result (λ m. bytes m ≡ wanted))
+      → Saves site nonce time session (IsUnsaved answer old new) (λ text. IsGiven text answer old new)
+  saves_told bytes why result what number answer old new is stands counts told kept saves =
+      let mine : IsUnsaved answer old new why =
+      (subst (λ s. IsTold s (unsaved_number why) answer) stands (subst (λ n. IsTold what n answer) counts told), kept) in
+      saves_as (λ w. result ≡ Err w) (IsUnsaved answer old new) (λ wanted. IsOkAnd result (λ m. bytes m ≡ wanted))
+      (λ text. IsGiven text answer old new) (λ w same. subst (IsUnsaved answer old new) (let e : why ≡ w = cc in e) mine)
+      (λ text made. absurd (subst (λ r. IsOkAnd r (λ m. bytes m ≡ text)) is made)) saves
+
+-- a refusal is passed on, of a session that is equal
+pub text_refused : {T X : Type 0} (site : Sessions) (nonce : List ℕ) (time : DateTime) (session other : SessionState) (bytes : X → List ℕ)
+    (why : SessionError) (shown : Option Record) (result : Result X SessionError) → session ≡ other → result ≡ Err why
+    → IsSaved {T = T} site nonce time session (Err why) shown
+    → Saves site nonce time other (λ w. result ≡ Err w) (λ wanted. IsOkAnd result (λ m. bytes m ≡ wanted))
+text_refused site nonce time session other bytes why shown result same fails is =
+    subst (λ s. Saves site nonce time s (λ w. result ≡ Err w) (λ wanted. IsOkAnd result (λ m. bytes m ≡ wanted))) same
+    (saves_passed site nonce time session bytes why shown result fails is)
+
+module _ (site : Sessions) (stored : Option Record) (form : List ℕ) (time : DateTime) (nonce : List ℕ) (answer : Answer) (old new : List ℕ) where
+  abbrev SavesAs : SessionState → Type 0
+  SavesAs session = Saves site nonce time session (IsUnsaved answer old new) (λ text. IsGiven text answer old new)
+
+  -- a new session is saved
+  pub texts_renewed : (renew : Bool) → renew ≡ true → SavesAs (new_session time form) → SavesTexts site stored form renew time nonce answer old new
+  texts_renewed renew is saves = record {
+    renewed = λ _. saves;
+    continued = λ no place session open'. absurd (let clash : true ≡ false = sym is ∙ no in cc);
+    none = λ no has. absurd (let clash : true ≡ false = sym is ∙ no in cc);
+  }
+
+  -- the session that is open is saved
+  pub texts_continued : (renew : Bool) (opened : Opened) → renew ≡ false → Finds site stored time (Some opened)
+      → SavesAs (with_form form opened.session) → SavesTexts site stored form renew time nonce answer old new
+  texts_continued renew opened is finds saves = record {
+    renewed = λ yes. absurd (let clash : true ≡ false = sym yes ∙ is in cc);
+    continued = λ _ place session there. subst (λ s. SavesAs (with_form form s)) (found_is_it site stored time opened place session finds there) saves;
+    none = λ _ has. absurd (has opened.place opened.session (found_is_open site stored time opened finds));
+  }
+
+-- the same under a nonce that is equal
+pub saves_same : (site : Sessions) (stored : Option Record) (form : List ℕ) (renew : Bool) (time : DateTime) (nonce other : List ℕ)
+    (answer : Answer) (old new : List ℕ) → nonce ≡ other → SavesTexts site stored form renew time nonce answer old new
+    → SavesTexts site stored form renew time other answer old new
+saves_same site stored form renew time nonce other answer old new same saves =
+    subst (λ n. SavesTexts site stored form renew time n answer old new) same saves

@@ -17,11 +17,11 @@ module _ (settings : SessionSettings) (second : ℕ) where
   unusable_date late = inl (refl, late)
 
   pub unusable_keys : second ≤ last_second → ¬ HasKeys settings.keys.now → IsUnusable settings second status.KeyTooShort
-  unusable_keys within no = inr (inl (refl, within, no))
+  unusable_keys within lacks = inr (inl (refl, within, lacks))
 
   pub unusable_text : second ≤ last_second → HasKeys settings.keys.now → ¬ IsUtf8 settings.cookie.now
       → IsUnusable settings second status.NotUtf8
-  unusable_text within keys no = inr (inr (inl (refl, within, keys, no)))
+  unusable_text within keys other = inr (inr (inl (refl, within, keys, other)))
 
   module _ (within : second ≤ last_second) (keys : HasKeys settings.keys.now) (text : IsUtf8 settings.cookie.now) where
     can : CanBeSite settings second

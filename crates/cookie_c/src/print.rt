@@ -56,7 +56,12 @@ pub extern "C" fn cookie_print(
 }
 
 // The cookie's text, for the buffer.
-fn give_text(alloc: Global, cookie: &Cookie<'_>, is_escaped: bool, out: &mut [u8]) -> Answer
+pub(crate) fn give_text(
+    alloc: Global,
+    cookie: &Cookie<'_>,
+    is_escaped: bool,
+    out: &mut [u8],
+) -> Answer
     ensures { IsGivenInMemory (cookie_text is_escaped false cookie.now.fields)
         result out.old out.new }
 {

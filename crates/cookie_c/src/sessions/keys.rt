@@ -23,7 +23,7 @@ pub(super) fn ring_of(alloc: Global, bytes: &[u8]) -> Result<KeyRing, AllocError
 {
     let mut ring = KeyRing::new(alloc, Key::from(bytes))?;
     let mut rest = &bytes[KEY_LENGTH..];
-    while !rest.is_empty() {
+    while rest.len() >= KEY_LENGTH {
         ring.add_older(Key::from(rest))?;
         rest = &rest[KEY_LENGTH..];
     }

@@ -16,6 +16,7 @@ use super::nonce::Nonce;
 use super::open::find;
 use super::site::Site;
 use crate::answer::Answer;
+use crate::print::give_text;
 use crate::status::Status;
 use cookie::{Cookie, CookieJar};
 use cookie_session::{Session, SessionError, Sessions};
@@ -233,21 +234,21 @@ fn give_removal(alloc: Global, sessions: &Sessions<'_>, time: DateTime, out: &mu
     ensures { IsGivenInMemory (cookie_text true false (removal time sessions.now.cookie.now.fields))
         result out.old out.new }
 {
-    match removal_text(alloc, sessions.cookie, time) {
-        Ok(text) => Answer::give(text.as_bytes(), out),
+    match removed_cookie(alloc, sessions.cookie, time) {
+        Ok(cookie) => give_text(alloc, &cookie, true, out),
         Err(_) => Answer::refusal(Status::OutOfMemory),
     }
 }
 
-fn removal_text(
+// The cookie that has the client drop this one.
+fn removed_cookie(
     alloc: Global,
     cookie: &Cookie<'static>,
     time: DateTime,
-) -> Result<String, AllocError>
-    ensures { IfOk result (λ text. string_bytes text
-        ≡ cookie_text true false (removal time cookie.now.fields)) }
+) -> Result<Cookie<'static>, AllocError>
+    ensures { IfOk result (λ removed. removed.fields ≡ removal time cookie.now.fields) }
 {
     let mut removed = cookie.clone(alloc)?;
     removed.make_removal(time);
-    removed.encoded().to_string(alloc)
+    Ok(removed)
 }
