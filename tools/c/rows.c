@@ -259,6 +259,21 @@ static cookie_answer end_session(const text *in, uint8_t *out, size_t length) {
     return cookie_session_end(&settings, (uint64_t)n[2], out, length);
 }
 
+/* Why a browser refuses a cookie: the row's last numbers are the step and the lengths of its sentence and its section. */
+static cookie_answer explain(const text *in, uint8_t *out, size_t length) {
+    long long flags[4], told[3];
+    numbers_in(in[2], 4, flags);
+    numbers_in(in[5], 3, told);
+    cookie_request request = {in[0].bytes, in[0].length, in[1].bytes, in[1].length,
+                              flags[0] == 1, flags[1] == 1, flags[2] == 1, flags[3] == 1};
+    cookie_explanation why = cookie_explain(&request, IN(3), IN(4), out, length);
+    size_t end = (size_t)told[1];
+    if (why.refusal != (uint32_t)told[0] || why.sentence.start != 0 || why.sentence.length != end
+        || why.section.start != end || why.section.length != (size_t)told[2])
+        fault("another refusal");
+    return (cookie_answer){why.status, why.section.start + why.section.length};
+}
+
 static cookie_answer call(const char *name, const text *in, uint8_t *out, size_t length) {
     if (strcmp(name, "derive_key") == 0)
         return cookie_derive_key(IN(0), out, length);
@@ -276,6 +291,8 @@ static cookie_answer call(const char *name, const text *in, uint8_t *out, size_t
         return play_jar(in, out, length);
     if (strcmp(name, "print") == 0)
         return print_cookie(in, out, length);
+    if (strcmp(name, "explain") == 0)
+        return explain(in, out, length);
     if (strcmp(name, "session_open") == 0)
         return open_session(in, out, length);
     if (strcmp(name, "session_save") == 0)

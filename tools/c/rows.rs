@@ -95,6 +95,26 @@ struct OpenedSession {
     seen: u64,
 }
 
+#[repr(C)]
+struct Request {
+    host: Text,
+    host_length: usize,
+    path: Text,
+    path_length: usize,
+    is_address: bool,
+    is_secure: bool,
+    is_same_site: bool,
+    is_top_level: bool,
+}
+
+#[repr(C)]
+struct Explanation {
+    status: u32,
+    refusal: u32,
+    sentence: Place,
+    section: Place,
+}
+
 type Text = *const u8;
 
 #[rustfmt::skip]
@@ -120,6 +140,7 @@ unsafe extern "C" {
     fn cookie_jar_get(jar: &mut Jar, name: Text, name_length: usize, out: *mut u8, out_length: usize) -> Answer;
     fn cookie_jar_delta(jar: &mut Jar, out: *mut u8, out_length: usize) -> Answer;
     fn cookie_jar_free(jar: &mut Jar);
+    fn cookie_explain(request: &Request, list: Text, list_length: usize, text: Text, text_length: usize, out: *mut u8, out_length: usize) -> Explanation;
     fn cookie_session_open(settings: &SessionSettings, header: Text, header_length: usize, now: u64, out: *mut u8, out_length: usize) -> OpenedSession;
     fn cookie_session_save(settings: &SessionSettings, header: Text, header_length: usize, texts: Text, texts_length: usize, renew: bool, now: u64, nonce: Text, nonce_length: usize, out: *mut u8, out_length: usize) -> Answer;
     fn cookie_session_end(settings: &SessionSettings, now: u64, out: *mut u8, out_length: usize) -> Answer;
@@ -253,9 +274,33 @@ fn play_session(name: &str, inputs: &[Vec<u8>], out: *mut u8, length: usize) -> 
     }
 }
 
+/// Why a browser refuses a cookie: the row's last numbers are the step and the lengths of its sentence and its section.
+fn explain(inputs: &[Vec<u8>], out: *mut u8, length: usize) -> Answer {
+    let (n, [host, path]) = (numbers_in(&inputs[2], 4), [&inputs[0], &inputs[1]]);
+    let request = Request {
+        host: host.as_ptr(),
+        host_length: host.len(),
+        path: path.as_ptr(),
+        path_length: path.len(),
+        is_address: n[0] == 1,
+        is_secure: n[1] == 1,
+        is_same_site: n[2] == 1,
+        is_top_level: n[3] == 1,
+    };
+    let (list, text) = (&inputs[3], &inputs[4]);
+    let why = unsafe { cookie_explain(&request, place(list), list.len(), place(text), text.len(), out, length) };
+    let told = [why.refusal as i64, why.sentence.length as i64, why.section.length as i64];
+    assert_eq!(told[..], numbers_in(&inputs[5], 3)[..], "another refusal");
+    assert_eq!((why.sentence.start, why.section.start), (0, why.sentence.length), "another place");
+    Answer { status: why.status, length: why.section.start + why.section.length }
+}
+
 fn call(name: &str, inputs: &[Vec<u8>], out: *mut u8, length: usize) -> Answer {
     if name == "jar" {
         return play_jar(inputs, out, length);
+    }
+    if name == "explain" {
+        return explain(inputs, out, length);
     }
     if name.starts_with("session_") {
         return play_session(name, inputs, out, length);
