@@ -68,19 +68,6 @@ class OpenedSession(ctypes.Structure):
     ]
 
 
-class Request(ctypes.Structure):
-    _fields_ = [
-        ("host", ctypes.c_char_p), ("host_length", ctypes.c_size_t),
-        ("path", ctypes.c_char_p), ("path_length", ctypes.c_size_t),
-    ] + [(name, ctypes.c_bool) for name in ("is_address", "is_secure", "is_same_site", "is_top_level")]
-
-
-class Explanation(ctypes.Structure):
-    _fields_ = [
-        ("status", ctypes.c_uint32), ("refusal", ctypes.c_uint32), ("sentence", Place), ("section", Place),
-    ]
-
-
 # The shared object stands beside this file; the variable COOKIE_C names another one.
 LIBRARY = ctypes.CDLL(os.environ.get("COOKIE_C", str(pathlib.Path(__file__).parent / "libcookie_c.so")))
 TEXT: list[Any] = [ctypes.c_char_p, ctypes.c_size_t]
@@ -122,7 +109,6 @@ SESSION_SAVE = declare(
     "session_save", SETTINGS + TEXT * 2 + [ctypes.c_bool, ctypes.c_uint64] + TEXT * 2, Answer
 )
 SESSION_END = declare("session_end", SETTINGS + [ctypes.c_uint64] + TEXT, Answer)
-EXPLAIN = declare("explain", [ctypes.POINTER(Request)] + TEXT * 3, Explanation)
 
 
 def bytes_of(text: str | bytes) -> bytes:

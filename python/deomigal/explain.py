@@ -7,7 +7,7 @@ import ipaddress
 from typing import Any, NamedTuple
 from urllib.parse import urlsplit
 
-from ._library import DONE, EXPLAIN, Request, bytes_of, text_at
+from ._library import DONE, TEXT, Place, bytes_of, declare, text_at
 from .cookies import read_cookie
 from .dates import print_date
 from .errors import EmptyName, MissingPair, error_of
@@ -21,6 +21,22 @@ STEPS = (
 LONGEST = datetime.timedelta(days=400)
 # More than a sentence and a title have.
 ROOM = 1000
+
+
+class Request(ctypes.Structure):
+    _fields_ = [
+        ("host", ctypes.c_char_p), ("host_length", ctypes.c_size_t),
+        ("path", ctypes.c_char_p), ("path_length", ctypes.c_size_t),
+    ] + [(name, ctypes.c_bool) for name in ("is_address", "is_secure", "is_same_site", "is_top_level")]
+
+
+class Explanation(ctypes.Structure):
+    _fields_ = [
+        ("status", ctypes.c_uint32), ("refusal", ctypes.c_uint32), ("sentence", Place), ("section", Place),
+    ]
+
+
+EXPLAIN = declare("explain", [ctypes.POINTER(Request)] + TEXT * 3, Explanation)
 
 
 class Refusal(NamedTuple):

@@ -89,7 +89,7 @@ def played(call, inputs, length):
         text = buffer.raw[:given]
         return answer.status, answer.length, (in_order(text) if inputs[-1] == b"delta" else text) + buffer.raw[given:]
     if call == "explain":
-        answer = explain(inputs, out, length)
+        answer = play_explain(inputs, out, length)
         return answer.status, answer.length, buffer.raw
     if call.startswith("session_"):
         answer = play_session(call, inputs, out, length)
@@ -106,25 +106,11 @@ def played(call, inputs, length):
     return answer.status, answer.length, buffer.raw
 
 
-class Request(ctypes.Structure):
-    _fields_ = [(name, kind) for text in ("host", "path")
-                for name, kind in ((text, ctypes.c_char_p), (text + "_length", ctypes.c_size_t))] + [
-        (name, ctypes.c_bool) for name in ("is_address", "is_secure", "is_same_site", "is_top_level")]
-
-
-class Explanation(ctypes.Structure):
-    _fields_ = [("status", ctypes.c_uint32), ("refusal", ctypes.c_uint32), ("sentence", library.Place),
-                ("section", library.Place)]
-
-
-EXPLAIN = library.declare("explain", [ctypes.POINTER(Request)] + library.TEXT * 3, Explanation)
-
-
-def explain(inputs, out, length):
+def play_explain(inputs, out, length):
     """Why a browser refuses a cookie: the row's last numbers are the step and the lengths of its sentence and section."""
     host, path, flags, listed, text, told = inputs
-    request = Request(host, len(host), path, len(path), *(flag == b"1" for flag in flags.split()))
-    why = EXPLAIN(request, listed or None, len(listed), text or None, len(text), out, length)
+    request = explain.Request(host, len(host), path, len(path), *(flag == b"1" for flag in flags.split()))
+    why = explain.EXPLAIN(request, listed or None, len(listed), text or None, len(text), out, length)
     if [why.refusal, why.sentence.length, why.section.length] != numbers_in(told, 3):
         faults.append(f"another refusal: {inputs}")
     return library.Answer(why.status, why.section.start + why.section.length)
