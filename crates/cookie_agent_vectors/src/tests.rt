@@ -1,6 +1,7 @@
 //! Rows whose answers come from RFC 6265bis, curl and Python's `http.cookiejar`, and a second body of the agent.
 mod comparison;
 mod plain_agent;
+mod plans;
 mod requests;
 mod rows;
 mod sites;
