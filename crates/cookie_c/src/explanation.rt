@@ -3,7 +3,7 @@ ghost use Rattle.std.specs.Prelude.{◌≡◌, [], IfOk, Ok};
 ghost use Rattle.jiff.specs.Types.{DateTime};
 ghost use Rattle.cookie_browser.specs.ReceivedCode.{received_view};
 ghost use Rattle.cookie_browser.specs.RefusedCode.{request_view};
-ghost use Rattle.cookie_browser.specs.Storage.{verdict, verdict_on};
+ghost use Rattle.cookie_browser.specs.Storage.{asked_domain, verdict, verdict_on};
 ghost use Rattle.cookie_c.specs.Explanations.{Explains, IsExplained, refusal_code, refusal_in, request_of, section_of, sentence_of, unexplained};
 
 use crate::decoded::give_both;
@@ -64,15 +64,15 @@ pub extern "C" fn cookie_explain(
     let Ok(suffixes) = Suffixes::new(alloc, list) else {
         return Explanation::out_of_memory();
     };
-    match refusal_of(alloc, &suffixes, &request.as_seen(), text) {
+    match refusal_of(alloc, &suffixes, request.as_seen(), text) {
         Ok(refusal) => Explanation::give(refusal, out),
         Err(_) => Explanation::out_of_memory(),
     }
 }
 
-impl<'a> Request<'a> {
+impl Request<'_> {
     // The request as a browser sees it.
-    fn as_seen(&self) -> BrowserRequest<'a>
+    fn as_seen(&self) -> BrowserRequest<'_>
         ensures { request_view result ≡ request_of self.now }
     {
         BrowserRequest {
@@ -153,33 +153,37 @@ fn code_of(refusal: Option<Refusal>) -> u32
 }
 
 // The first step of a browser without cookies that refuses the text, if one does.
-fn refusal_of(
+fn refusal_of<'x>(
     alloc: Global,
     suffixes: &Suffixes,
-    request: &BrowserRequest<'_>,
-    text: &[u8],
+    request: BrowserRequest<'x>,
+    text: &'x [u8],
 ) -> Result<Option<Refusal>, AllocError>
     ensures { (now : DateTime) → IfOk result (λ refusal. refusal
-        ≡ refusal_in (verdict suffixes.now (request_view request.now) now [] text.now)) }
+        ≡ refusal_in (verdict suffixes.now (request_view request.entry) now [] text.now)) }
 {
     match Received::of(text) {
-        Ok(received) => refusal_on(alloc, suffixes, request, &received),
+        Ok(received) => {
+            let domain = received.attributes.bare_domain().to_ascii_lowercase(alloc)?;
+            let seen = request;
+            Ok(refusal_on(suffixes, &seen, &received, domain.as_slice()))
+        }
         Err(refusal) => Ok(Some(refusal)),
     }
 }
 
-// The same of a received cookie.
-fn refusal_on(
-    alloc: Global,
+// The same of a received cookie, with its domain in lower case.
+fn refusal_on<'x>(
     suffixes: &Suffixes,
-    request: &BrowserRequest<'_>,
-    received: &Received<'_>,
-) -> Result<Option<Refusal>, AllocError>
-    ensures { (now : DateTime) → IfOk result (λ refusal. refusal
+    request: &BrowserRequest<'x>,
+    received: &Received<'x>,
+    domain: &'x [u8],
+) -> Option<Refusal>
+    requires { domain.now ≡ asked_domain (received_view received.now).attributes }
+    ensures { (now : DateTime) → result
         ≡ refusal_in (verdict_on suffixes.now (request_view request.now) now []
-        (Ok (received_view received.now)))) }
+        (Ok (received_view received.now))) }
 {
-    let domain = received.attributes.bare_domain().to_ascii_lowercase(alloc)?;
-    let new = KeptCookie::of(suffixes, request, received, domain.as_slice());
-    Ok(refused_by(suffixes, request, &[], received, domain.as_slice(), &new))
+    let new = KeptCookie::of(suffixes, request, received, domain);
+    refused_by(suffixes, request, &[], received, domain, &new)
 }
