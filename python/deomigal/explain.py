@@ -4,6 +4,7 @@ from __future__ import annotations
 import ctypes
 import datetime
 import ipaddress
+import re
 from typing import Any, NamedTuple
 from urllib.parse import urlsplit
 
@@ -19,6 +20,7 @@ STEPS = (
 )
 # A browser stores no cookie for longer (RFC 6265bis, Cookie Lifetime Limits).
 LONGEST = datetime.timedelta(days=400)
+MONTHS = "jan feb mar apr may jun jul aug sep oct nov dec".split()
 # More than a sentence and a title have.
 ROOM = 1000
 
@@ -114,7 +116,8 @@ def explain(
     refused = refusal(url, text, suffixes, is_cross_site)
     if refused:
         return f"refused: {refused.sentence} (RFC 6265bis, {refused.section})"
-    name, value, attributes = parts_of(bytes_of(text).decode(errors="replace"))
+    shown = bytes_of(text).decode(errors="replace")
+    name, value, attributes = parts_of(shown)
     address = address_of(url)
     domain = attributes.get("domain", "").lower()
     is_host_only = not domain or domain == address.host and (address.is_address or "." not in domain)
@@ -122,7 +125,7 @@ def explain(
     path = attributes.get("path", "")
     scope += f"; path {path if path.startswith('/') else default_path(address.path)}"
     now = now or datetime.datetime.now(datetime.timezone.utc)
-    end = end_of(attributes, now)
+    end = end_of(attributes.get("max_age"), expiry_in(shown), now)
     if end is not None and end <= now:
         return f"removes what is stored as: {name}{scope}"
     until = "; until the browser closes" if end is None else f"; until {print_date(end)}"
@@ -148,9 +151,44 @@ def default_path(path: str) -> str:
     return path.rpartition("/")[0] or "/"
 
 
-def end_of(attributes: dict[str, Any], now: datetime.datetime) -> datetime.datetime | None:
-    """When the cookie expires, or None if the browser has it until it closes."""
-    if "max_age" in attributes:
-        return now + datetime.timedelta(seconds=min(max(attributes["max_age"], 0), LONGEST.total_seconds()))
-    expires: datetime.datetime | None = attributes.get("expires")
-    return expires and min(expires, now + LONGEST)
+def end_of(
+    age: int | None, expiry: datetime.datetime | None, now: datetime.datetime
+) -> datetime.datetime | None:
+    """When a cookie expires, or None if the browser has it until it closes."""
+    if age is not None:
+        return now + datetime.timedelta(seconds=min(max(age, 0), LONGEST.total_seconds()))
+    return expiry and min(expiry, now + LONGEST)
+
+
+def expiry_in(text: str) -> datetime.datetime | None:
+    """The date of the last `Expires` that has one."""
+    pieces = [piece.partition("=") for piece in text.split(";")[1:]]
+    dates = [browser_date(value) for name, _, value in pieces if name.strip().lower() == "expires"]
+    return next((date for date in reversed(dates) if date), None)
+
+
+def browser_date(text: str) -> datetime.datetime | None:
+    """The date as browsers read it, who take more than `read_date` does (RFC 6265bis 5.1.1).
+
+    >>> browser_date("Thu, 1 Jan 70 0:00:00")
+    datetime.datetime(1970, 1, 1, 0, 0, tzinfo=datetime.timezone.utc)
+    """
+    clock = day = month = year = None
+    for token in re.split(r"[\t -/;-@\[-`{-~]+", text):
+        if not clock and (found := re.match(r"([0-9]{1,2}):([0-9]{1,2}):([0-9]{1,2})(?![0-9])", token)):
+            clock = found.groups()
+        elif day is None and (found := re.match(r"[0-9]{1,2}(?![0-9])", token)):
+            day = int(found[0])
+        elif month is None and token[:3].lower() in MONTHS:
+            month = MONTHS.index(token[:3].lower()) + 1
+        elif year is None and (found := re.match(r"[0-9]{2,4}(?![0-9])", token)):
+            year = int(found[0])
+    if clock is None or day is None or month is None or year is None:
+        return None
+    hour, minute, second = map(int, clock)
+    year += 1900 if 70 <= year <= 99 else 2000 if year <= 69 else 0
+    try:
+        date = datetime.datetime(year, month, day, hour, minute, second, tzinfo=datetime.timezone.utc)
+    except ValueError:
+        return None
+    return date if year >= 1601 else None
