@@ -1,5 +1,6 @@
 -- Why a browser refuses a cookie, for C.
 use Rattle.std.proofs.Common.{◌≡◌, ℕ, List, [], Option, Some, None, Ok, inl, refl, sym, ap, subst, ◌∙◌}
+use Rattle.std.specs.Prelude.{pos}
 use Rattle.jiff.specs.Types.{DateTime}
 use Rattle.cookie_browser.specs.Received.{ReceivedView}
 use Rattle.cookie_browser.specs.Request.{RequestView}
@@ -16,17 +17,17 @@ refusal_unless None new = refl
 refusal_unless (Some why) new = refl
 
 module _ (rules : List Rule) (request : RequestView) (now : DateTime) (cookie : ReceivedView) where
-  -- a refusal doesn't depend on the expiry
-  unexpiring : first_refusal rules request [] cookie (record (kept_as rules request now cookie) { expiry = None })
+  -- a refusal doesn't depend on the two times
+  timeless : first_refusal rules request [] cookie (record (kept_as rules request now cookie) { expiry = None; last_access = pos 0 })
       ≡ first_refusal rules request [] cookie (kept_as rules request now cookie)
   unfolding refusal_by_connection refusal_by_prefix
-  unexpiring = refl
+  timeless = refl
 
-  -- the first refusal of a cookie without its expiry is that of the verdict
-  pub refusal_on_received : (why : Option Refusal) (kept : KeptView) → kept ≡ record (kept_as rules request now cookie) { expiry = None }
+  -- the first refusal of a cookie without its times is that of the verdict
+  pub refusal_on_received : (why : Option Refusal) (kept : KeptView) → kept ≡ record (kept_as rules request now cookie) { expiry = None; last_access = pos 0 }
       → why ≡ first_refusal rules request [] cookie kept → why ≡ refusal_in (verdict_on rules request now [] (Ok cookie))
   refusal_on_received why kept is first =
-      first ∙ ap (first_refusal rules request [] cookie) is ∙ unexpiring
+      first ∙ ap (first_refusal rules request [] cookie) is ∙ timeless
       ∙ sym (refusal_unless (first_refusal rules request [] cookie (kept_as rules request now cookie)) (kept_as rules request now cookie))
 
 -- the refusal that was found explains the text
