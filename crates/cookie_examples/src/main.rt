@@ -18,7 +18,6 @@ mod sealing;
 mod session;
 mod show;
 mod team;
-mod visits;
 
 use anyhow::Result;
 use cookie::read_date;
@@ -31,7 +30,6 @@ fn main(rt: HostRuntime) -> Result<()> {
     show::texts(&rt, now)?;
     show::session(&rt)?;
     show::handler(&rt, now)?;
-    show::visits(&rt)?;
     show::flash(&rt, now)?;
     show::calls(&rt, now)?;
     show::browser(&rt, now)?;

@@ -1,7 +1,7 @@
 //! What `main` prints of each use.
 use crate::{
     agents, answer, counting, dates, flash, following, handler, headers, printing, reading,
-    removal, requests, runtime, sealing, session, team, visits,
+    removal, requests, runtime, sealing, session, team,
 };
 use anyhow::Result;
 use cookie::{Cookie, CookieBuilder, CookieJar, DateText, JarError, Key, SameSite};
@@ -104,12 +104,6 @@ fn print_visitor(
         Some(opened) => println!(rt; "logged in: {}", opened.session.get("user").unwrap_or(""))?,
         None => println!(rt; "logged in: nobody")?,
     }
-    Ok(())
-}
-
-pub fn visits(rt: &HostRuntime) -> Result<()> {
-    let texts = visits::respond(rt, b"notice=1; lang=en")?;
-    println!(rt; "a response that sets {} cookies", texts.len())?;
     Ok(())
 }
 
