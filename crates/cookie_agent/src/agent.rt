@@ -179,7 +179,8 @@ impl<'r> Agent<'r> {
     /// The last access is when a cookie was last stored, or sent by [`retrieve`](Agent::retrieve). Of cookies that are
     /// alike in that too, the one that was created first goes.
     pub fn trim(&mut self, limits: Limits, now: DateTime)
-        ensures value { self.new ≡ record self.old { cookies = trimmed limits now self.old.cookies } }
+        ensures value { self.new
+            ≡ record self.old { cookies = trimmed limits now self.old.cookies } }
         ensures within { IsWithin limits self.new.cookies }
         ensures needed { IsWithin limits (lasting now self.old.cookies)
             → self.new.cookies ≡ lasting now self.old.cookies }

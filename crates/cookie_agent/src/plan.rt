@@ -20,7 +20,7 @@ use std::alloc::{AllocError, Global};
 use std::marker::Model;
 
 /// Where the cookies of a name are sent, and whether they may be secure-only. The theorem of [`visits`](crate::visits)
-/// asks for a plan for each name: every cookie that is added or removed under it must fit.
+/// needs a plan for each name: every cookie that is added or removed under it must fit.
 #[derive(Drop)]
 pub struct Plan {
     scope: Scope,

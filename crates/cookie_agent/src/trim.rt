@@ -47,7 +47,8 @@ fn count_of(cookies: &[StoredCookie], domain: &[u8]) -> usize
 // The index of the cookie that goes first, of those with the domain or of all.
 fn first_to_go(cookies: &[StoredCookie], domain: Option<&[u8]>) -> usize
     requires { 0 < length cookies.now }
-    ensures { IsFirstBest (precedes (option_copied domain.entry)) cookies.now (length cookies.now) result }
+    ensures { IsFirstBest (precedes (option_copied domain.entry)) cookies.now
+        (length cookies.now) result }
 {
     let mut first = 0;
     for index in 1..cookies.len() {
