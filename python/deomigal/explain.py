@@ -120,7 +120,7 @@ def explain(
     name, value, attributes = parts_of(shown)
     address = address_of(url)
     domain = attributes.get("domain", "").lower()
-    is_host_only = not domain or domain == address.host and (address.is_address or "." not in domain)
+    is_host_only = is_for_host_only(address, domain, suffixes)
     scope = f"; for {address.host} only" if is_host_only else f"; for {domain} and the hosts below it"
     path = attributes.get("path", "")
     scope += f"; path {path if path.startswith('/') else default_path(address.path)}"
@@ -132,6 +132,22 @@ def explain(
     flags = "".join(f"; {flag}" for flag, key in (("Secure", "secure"), ("HttpOnly", "http_only")) if attributes.get(key))
     site = f"; SameSite={attributes['same_site']}" if "same_site" in attributes else ""
     return f"stored: {name}={value}{scope}{until}{flags}{site}"
+
+
+def is_for_host_only(address: Address, domain: str, suffixes: str | bytes) -> bool:
+    """Whether only the host gets a cookie that is stored with this domain: it has none, or the host is an IP address or a
+    public suffix.
+
+    >>> is_for_host_only(address_of("https://github.io/"), "github.io", "github.io")
+    True
+    >>> is_for_host_only(address_of("https://github.io/"), "github.io", "")
+    False
+    """
+    if not domain or domain != address.host or address.is_address:
+        return not domain or domain == address.host
+    # Whether it is a public suffix is the library's answer: then no host below it may set a cookie for it.
+    below = refusal(f"https://x.{domain}/", f"a=1; Domain={domain}", suffixes)
+    return below is not None and below.step == "PublicSuffix"
 
 
 def parts_of(text: str) -> tuple[str, str, dict[str, Any]]:
