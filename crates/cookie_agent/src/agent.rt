@@ -50,6 +50,7 @@ impl<'r> Model for Agent<'r> {
 
 impl<'r> Agent<'r> {
     /// A user agent that stores nothing. Without rules, each domain of one label is a public suffix, and no other.
+    /// Example: `next_header` in crates/cookie_examples/src/agents.rt.
     pub fn new(alloc: Global, suffixes: &'r Suffixes) -> Agent<'r>
         ensures empty { result ≡ record { rules = suffixes.now; cookies = [] } }
         ensures ours { (plans : Name → PlanView) → IsOurStore plans result.cookies }
@@ -111,6 +112,7 @@ impl<'r> Agent<'r> {
     /// The cookie takes the place of the one with its name, domain, host-only flag and path, or comes last. Nothing is
     /// decoded. What is expired is dropped, so a cookie that is expired drops the one whose place it takes. Fails only
     /// if out of memory, and then the agent is as before.
+    /// Example: `next_header` in crates/cookie_examples/src/agents.rt.
     pub fn read(
         &mut self,
         site: &Site,
@@ -145,6 +147,7 @@ impl<'r> Agent<'r> {
 
     /// The value of the `Cookie` header of an http request to the site at the time `now` (RFC 6265bis, Retrieval
     /// Algorithm): longer paths first, and the earlier creation first among equals. Fails only if out of memory.
+    /// Example: `next_header` in crates/cookie_examples/src/agents.rt.
     pub fn header(&self, site: &Site, now: DateTime) -> Result<Vec<u8>, AllocError>
         ensures value { IfOk result (λ header.
             IsOrderedHeader site.now now self.now.cookies header.items) }
@@ -173,11 +176,12 @@ impl<'r> Agent<'r> {
     }
 
     /// Drops what is expired at the time `now`, and then the cookies above the limits, as RFC 6265bis orders them
-    /// (Storage Model): of a domain with too many cookies first those that aren't secure-only, then the others; then of
-    /// all cookies. Where the order leaves a choice, the one with the earliest last access goes.
+    /// (Storage Model). First, of each domain with too many cookies, those that aren't secure-only go before the
+    /// others. Then, if there are too many cookies in all, cookies of any domain go. If the order leaves a choice, the
+    /// cookie with the earliest last access goes.
     ///
-    /// The last access is when a cookie was last stored, or sent by [`retrieve`](Agent::retrieve). Of cookies that are
-    /// alike in that too, the one that was created first goes.
+    /// The last access is when a cookie was last stored, or sent by [`retrieve`](Agent::retrieve). Of cookies with the
+    /// same last access, the one that was created first goes.
     pub fn trim(&mut self, limits: Limits, now: DateTime)
         ensures value { self.new
             ≡ record self.old { cookies = trimmed limits now self.old.cookies } }

@@ -68,8 +68,8 @@ impl Plan {
         }
     }
 
-    /// Whether the cookie may be removed in a response of the site at the time `now`. `removal` is what the client is
-    /// told: the cookie after [`make_removal`](cookie::Cookie::make_removal). It has a name, and an agent without
+    /// Whether the cookie may be removed in a response of the site at the time `now`. `removal` is what the client
+    /// receives: the cookie after [`make_removal`](cookie::Cookie::make_removal). It has a name, and an agent without
     /// cookies stores its text as planned, and expired. Fails only if out of memory.
     pub fn fits_removal(
         &self,

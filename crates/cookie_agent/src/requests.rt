@@ -19,8 +19,8 @@ use std::alloc::{AllocError, Global};
 /// suffixes.
 ///
 /// Each request sends the agent's header. Its jar is new, with the header's cookies, split and decoded, as its
-/// originals; the calls are made on it as by `replay`; and the encoded texts of its delta come back as the response,
-/// which the agent reads. The text that is read as the i-th is number `pick[i]` of those that are left, modulo their
+/// originals. The calls are made on it as by `replay`. The encoded texts of its delta come back as the response, which
+/// the agent reads. The text that is read as the i-th is number `pick[i]` of the texts that are left, modulo their
 /// count, or number 0 after `pick` has ended. Fails only if out of memory outside the calls.
 pub fn visits<'r>(
     alloc: Global,
@@ -49,8 +49,8 @@ pub fn visits<'r>(
     Ok(visited)
 }
 
-/// Makes one request with a user agent, as [`visits`] makes each of its own. The agent itself stays as it is: `agent`
-/// of the returned `Visited` is the one that has read the response.
+/// Makes one request with a user agent, as [`visits`] makes each of its requests. The agent itself stays as it is:
+/// `agent` of the returned `Visited` is the one that has read the response.
 ///
 /// So a test plays requests one after the other, each made after it has looked at the one before. Fails only if out of
 /// memory.

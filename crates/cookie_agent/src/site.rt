@@ -49,8 +49,9 @@ impl Model for Site {
 
 impl Site {
     /// The site of a host name, without its port, and of a request's path, without its query. The host is taken in
-    /// lower case; a path that doesn't begin with `/` gets one, so an empty one is `/`. The request is a same-site
+    /// lower case. A path that doesn't begin with `/` gets one, so an empty one is `/`. The request is a same-site
     /// top-level navigation with a safe method, until `with_context`. Fails only if out of memory.
+    /// Example: `browser` in crates/cookie_examples/src/show.rt.
     pub fn new(alloc: Global, host: &str, path: &str, is_secure: bool) -> Result<Site, AllocError>
         ensures { IfOk result (λ site.
             site ≡ site_of host.now false path.now is_secure) }
@@ -58,8 +59,8 @@ impl Site {
         Site::of_parts(alloc, host, false, path, is_secure)
     }
 
-    /// The same of a host that is an IP address, which no domain but itself matches (RFC 6265bis, Domain Matching).
-    /// Fails only if out of memory.
+    /// Makes a site as [`new`](Site::new) does, of a host that is an IP address. No domain but itself matches the host
+    /// (RFC 6265bis, Domain Matching). Fails only if out of memory.
     pub fn of_address(
         alloc: Global,
         host: &str,
@@ -91,7 +92,7 @@ impl Site {
         })
     }
 
-    /// The same site, for a request that came about so.
+    /// The same site, for a request in this context.
     pub fn with_context(mut self, context: RequestContext) -> Site
         ensures { result ≡ record self {
           is_same_site = context.is_same_site;
@@ -118,13 +119,13 @@ impl Site {
         }
     }
 
-    /// The whole host of the site and no other, which is the scope of each cookie with the path `/` and without a
-    /// domain, and so of all that a jar with the prefix `__Host-` stores and removes (RFC 6265bis, The "__Host-" Prefix).
-    /// Fails only if out of memory.
+    /// The whole host of the site and no other. It is the scope of each cookie with the path `/` and without a domain,
+    /// and so of all that a jar with the prefix `__Host-` stores and removes (RFC 6265bis, The "__Host-" Prefix). Fails
+    /// only if out of memory.
     pub fn host_scope(&self, alloc: Global) -> Result<Scope, AllocError>
         ensures value { IfOk result (λ scope. scope ≡ host_scope self.now) }
 
-        // What jars with the prefixes `__Host-` and `__Secure-` store and remove meets what a browser asks of such
+        // What jars with the prefixes `__Host-` and `__Secure-` store and remove meets what a browser requires of such
         // names (RFC 6265bis, Cookie Name Prefixes).
         ensures host_bound { (rules : List Rule) → AreHostBound rules self.now }
         ensures secured { AreSecured }
@@ -154,7 +155,7 @@ impl Site {
     }
 }
 
-// The path, with `/` before it where it doesn't begin with one.
+// The path, with `/` before it if it doesn't begin with one.
 fn request_path(alloc: Global, path: &str) -> Result<String, AllocError>
     ensures { IfOk result (λ made. string_bytes made ≡ request_path path.now) }
 {

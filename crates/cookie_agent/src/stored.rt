@@ -79,7 +79,8 @@ impl StoredCookie {
         })
     }
 
-    /// All but its expiry and its last access, for the calls of `cookie_browser`: the name, the value, and what its attributes came to.
+    /// All but its expiry and its last access, for the calls of `cookie_browser`: the name, the value, and what its
+    /// attributes came to.
     pub fn as_kept(&self) -> KeptCookie<'_>
         ensures { kept_view result ≡ record self.now { expiry = None; last_access = pos 0 } }
     {

@@ -15,7 +15,7 @@ pub enum Expiry {
     Session,
     /// At a time.
     At(DateTime),
-    /// So long after the time at which the cookie was stored. The sum may be outside the calendar.
+    /// This long after the time at which the cookie was stored. The sum may be outside the calendar.
     After(DateTime, SignedDuration),
 }
 

@@ -73,7 +73,7 @@ impl Suffixes {
         Ok(suffixes)
     }
 
-    // Adds the rule that is written so, if it is one.
+    // Adds the rule that the text writes, if it is one.
     fn add_rule(&mut self, alloc: Global, rule: &[u8]) -> Result<(), AllocError>
         ensures { OnOk result (HasSameElements self.new (cons_option (rule_of rule.now) self.old)) }
     {
@@ -89,8 +89,9 @@ impl Suffixes {
         add(alloc, &mut self.plain, rule)
     }
 
-    /// Whether the domain, in lower case and in ASCII, is a public suffix (publicsuffix.org, Algorithm). A domain of one
-    /// label is one, unless a rule excepts it. The time grows with the number of labels, and not with that of rules.
+    /// Whether the domain, in lower case and in ASCII, is a public suffix (publicsuffix.org, Algorithm). A domain of
+    /// one label is one, unless a rule excepts it. The time grows with the number of labels, and not with the number of
+    /// rules.
     #[tactic(auto, unfolding(crate::specs::Suffixes::is_public_suffix))]
     pub fn is_public(&self, domain: &[u8]) -> bool
         ensures { result ≡ spec.is_public_suffix self.now domain.now }

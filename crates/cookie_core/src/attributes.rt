@@ -19,24 +19,24 @@ use crate::span::Span;
 use cookie_date::read_date;
 use jiff::SignedDuration;
 
-/// The attributes of a cookie, as the pieces after its pair give them, if they do (RFC 6265 5.2.1 to 5.2.6).
+/// The attributes of a cookie that the pieces after its pair set, each if it is set (RFC 6265 5.2.1 to 5.2.6).
 #[derive(Clone, Copy)]
 pub struct Attributes {
-    /// Whether scripts are kept from it.
+    /// Whether scripts are kept from the cookie.
     pub http_only: Option<bool>,
-    /// Whether it is for secure connections only.
+    /// Whether the cookie is for secure connections only.
     pub secure: Option<bool>,
-    /// Whether it is kept apart for each top-level site.
+    /// Whether the cookie is kept apart for each top-level site.
     pub partitioned: Option<bool>,
-    /// To which requests from other sites it is sent.
+    /// To which requests from other sites the cookie is sent.
     pub same_site: Option<SameSite>,
-    /// Where its path stands.
+    /// Where the path is in the text.
     pub path: Option<Span>,
-    /// Where its domain stands, with its leading dot if it has one.
+    /// Where the domain is in the text, with its leading dot if it has one.
     pub domain: Option<Span>,
-    /// The age after which it expires, in whole seconds from zero to `i64::MAX`.
+    /// The age after which the cookie expires, in whole seconds from zero to `i64::MAX`.
     pub max_age: Option<SignedDuration>,
-    /// The date and time in UTC at which it expires.
+    /// The date and time in UTC at which the cookie expires.
     pub expires: Option<Expiration>,
 }
 
@@ -64,7 +64,7 @@ fn are_digits(text: &str) -> bool
     text.as_bytes().iter().all(|byte| byte.is_ascii_digit())
 }
 
-// The seconds that the digits give, at most the greatest; `None` where there is no digit, or anything else.
+// The number of seconds that the digits write, at most `i64::MAX`. `None` if there is no digit, or another character.
 fn seconds(digits: &str) -> Option<i64>
     ensures { result ≡ option_map pos (seconds_of_digits digits.now) }
 {
@@ -77,7 +77,7 @@ fn seconds(digits: &str) -> Option<i64>
     }
 }
 
-// The age that the value of `Max-Age` gives, none below zero (RFC 6265 5.2.2).
+// The age in the value of `Max-Age`. A negative age counts as zero (RFC 6265 5.2.2).
 fn max_age(value: &str) -> Option<SignedDuration>
     ensures { option_map signed_nanos result
         ≡ option_map nanos_of_seconds (max_age_seconds value.now) }
@@ -165,7 +165,7 @@ fn same_site(text: &str) -> Option<SameSite>
     None
 }
 
-// The expiry that the text gives.
+// The expiry in the text, if the text is a date.
 fn expiration(text: &str) -> Option<Expiration>
     ensures { MatchOption result ((x : Expiration) → ¬ (GivesExpiry text.now x))
         (GivesExpiry text.now) }
@@ -277,8 +277,8 @@ impl Attributes {
         self.expires = later.expires.or(self.expires);
     }
 
-    // The attributes that the pieces of `later` in the text set. Always inlined, so that where there are none nothing
-    // is left of it.
+    // The attributes that the pieces of `later` in the text set. Always inlined, so that nothing is left of it if there
+    // are none.
     #[inline(always)]
     pub(crate) fn read(text: &str, later: Option<Span>) -> Attributes
         requires { IfSome later (StandsIn text.now) }

@@ -1,4 +1,4 @@
-//! A cookie in the making.
+//! The builder of a cookie.
 ghost use Rattle.std.specs.Prelude.{◌≡◌, Some, None, alloc_error, string_bytes};
 ghost use Rattle.std.specs.Borrow.{sem};
 ghost use Rattle.jiff.specs.Words.{signed_nanos};
@@ -18,8 +18,8 @@ use std::alloc::{AllocError, Global};
 use std::fmt;
 use std::marker::Model;
 
-/// Something in the making. Contracts see it as what is made.
-// It is generic so that `inner_mut` gives a value whose type names no lifetime.
+/// A builder of a value. Contracts see it as the value.
+// It is generic so that `inner_mut` returns a value whose type names no lifetime.
 #[derive(Debug, Drop)]
 pub struct Builder<C> {
     inner: C,
@@ -34,14 +34,14 @@ impl<C> Model for Builder<C> {
 }
 
 impl<C> Builder<C> {
-    /// What has been made so far.
+    /// The value as built so far.
     pub fn inner(&self) -> &C
         ensures { result.now ≡ self.now }
     {
         &self.inner
     }
 
-    /// What has been made so far, to change it.
+    /// The value as built so far, to change it.
     pub fn inner_mut(&mut self) -> &mut C
         ensures* writes_back { sem 𝓛 (LendsInner C.row self.entry result) }
         ensures value { result.now ≡ self.old }
@@ -49,14 +49,15 @@ impl<C> Builder<C> {
         &mut self.inner
     }
 
-    /// What was made.
+    /// Returns the built value.
+    /// Example: `sign_in` in crates/cookie_examples/src/session.rt.
     pub fn build(self) -> C
         ensures { result ≡ self }
     {
         self.inner
     }
 
-    /// What was made, as by [`Builder::build`].
+    /// Returns the built value, as [`Builder::build`] does.
     pub fn finish(self) -> C
         ensures { result ≡ self }
     {
@@ -64,19 +65,20 @@ impl<C> Builder<C> {
     }
 }
 
-/// A cookie in the making. Each call sets one field, as the setter of that name does.
+/// A builder of a cookie. Each call sets one field, as the setter of that name does.
 pub type CookieBuilder<'c> = Builder<Cookie<'c>>;
 
 impl<'c> Builder<Cookie<'c>> {
     /// A builder of a cookie with this name and value, and no attribute.
+    /// Example: `sign_in` in crates/cookie_examples/src/session.rt.
     pub fn new(name: &'c str, value: &'c str) -> CookieBuilder<'c>
         ensures { result ≡ record { fields = plain name.now value.now; raw = no_raw_forms } }
     {
         Cookie::build(Cookie::new(name, value))
     }
 
-    /// Sets the expiry, whose date and time is in UTC (RFC 6265 4.1.2.1). One past 9999-12-31 23:59:59.999999 counts as
-    /// that one, and whole seconds are printed.
+    /// Sets the expiry, whose date and time is in UTC (RFC 6265 4.1.2.1). A time after 9999-12-31 23:59:59.999999
+    /// counts as that time. Whole seconds are printed.
     pub fn expires(mut self, when: Expiration) -> CookieBuilder<'c>
         ensures fields { result.fields
             ≡ record self.entry.fields { expires = Some (capped_expiry when) } }
@@ -86,8 +88,8 @@ impl<'c> Builder<Cookie<'c>> {
         self
     }
 
-    /// Sets the age from now on after which it expires (RFC 6265 5.2.2). Whole seconds of it are printed and looked at,
-    /// cut toward zero.
+    /// Sets the age from now on after which the cookie expires (RFC 6265 5.2.2). Its whole seconds are printed and
+    /// looked at, truncated toward zero.
     pub fn max_age(mut self, age: SignedDuration) -> CookieBuilder<'c>
         ensures fields { result.fields
             ≡ record self.entry.fields { max_age = Some (signed_nanos age) } }
@@ -97,7 +99,7 @@ impl<'c> Builder<Cookie<'c>> {
         self
     }
 
-    /// Sets the domain, of which one leading dot doesn't count (RFC 6265 4.1.2.3, 5.2.3).
+    /// Sets the domain, without one leading dot (RFC 6265 4.1.2.3, 5.2.3).
     pub fn domain(mut self, domain: &'c str) -> CookieBuilder<'c>
         ensures fields { result.fields
             ≡ record self.entry.fields { domain = Some (without_leading_dot domain.now) } }
@@ -108,6 +110,7 @@ impl<'c> Builder<Cookie<'c>> {
     }
 
     /// Sets the path (RFC 6265 4.1.2.4).
+    /// Example: `sign_in` in crates/cookie_examples/src/session.rt.
     pub fn path(mut self, path: &'c str) -> CookieBuilder<'c>
         ensures fields { result.fields ≡ record self.entry.fields { path = Some path.now } }
         ensures raw { result.raw ≡ record self.entry.raw { path = None } }
@@ -116,8 +119,7 @@ impl<'c> Builder<Cookie<'c>> {
         self
     }
 
-    /// Sets the domain to a text of its own, of which one leading dot doesn't count (RFC 6265 4.1.2.3, 5.2.3). It takes
-    /// no memory.
+    /// Sets the domain to an owned string, without one leading dot (RFC 6265 4.1.2.3, 5.2.3). It doesn't allocate.
     pub fn domain_owned(mut self, domain: String) -> CookieBuilder<'c>
         ensures fields { result.fields ≡ record self.entry.fields {
           domain = Some (without_leading_dot (string_bytes domain));
@@ -128,7 +130,7 @@ impl<'c> Builder<Cookie<'c>> {
         self
     }
 
-    /// Sets the path to a text of its own (RFC 6265 4.1.2.4). It doesn't allocate.
+    /// Sets the path to an owned string (RFC 6265 4.1.2.4). It doesn't allocate.
     pub fn path_owned(mut self, path: String) -> CookieBuilder<'c>
         ensures fields { result.fields
             ≡ record self.entry.fields { path = Some (string_bytes path) } }
@@ -138,7 +140,7 @@ impl<'c> Builder<Cookie<'c>> {
         self
     }
 
-    /// Sets whether it is for secure connections only (RFC 6265 4.1.2.5).
+    /// Sets whether the cookie is for secure connections only (RFC 6265 4.1.2.5).
     pub fn secure(mut self, value: bool) -> CookieBuilder<'c>
         ensures fields { result.fields ≡ record self.entry.fields { secure = Some value } }
         ensures raw { result.raw ≡ self.entry.raw }
@@ -147,7 +149,7 @@ impl<'c> Builder<Cookie<'c>> {
         self
     }
 
-    /// Sets whether scripts are kept from it (RFC 6265 4.1.2.6).
+    /// Sets whether scripts are kept from the cookie (RFC 6265 4.1.2.6).
     pub fn http_only(mut self, value: bool) -> CookieBuilder<'c>
         ensures fields { result.fields ≡ record self.entry.fields { http_only = Some value } }
         ensures raw { result.raw ≡ self.entry.raw }
@@ -156,7 +158,7 @@ impl<'c> Builder<Cookie<'c>> {
         self
     }
 
-    /// Sets to which requests from other sites it is sent (RFC 6265bis 4.1.2.7).
+    /// Sets to which requests from other sites the cookie is sent (RFC 6265bis 4.1.2.7).
     pub fn same_site(mut self, value: SameSite) -> CookieBuilder<'c>
         ensures fields { result.fields ≡ record self.entry.fields { same_site = Some value } }
         ensures raw { result.raw ≡ self.entry.raw }
@@ -165,7 +167,7 @@ impl<'c> Builder<Cookie<'c>> {
         self
     }
 
-    /// Sets whether it is kept apart for each top-level site.
+    /// Sets whether the cookie is kept apart for each top-level site.
     pub fn partitioned(mut self, value: bool) -> CookieBuilder<'c>
         ensures fields { result.fields ≡ record self.entry.fields { partitioned = Some value } }
         ensures raw { result.raw ≡ self.entry.raw }
@@ -175,7 +177,7 @@ impl<'c> Builder<Cookie<'c>> {
     }
 
     /// Makes it a cookie that a client keeps for twenty years from `now`, which is in UTC, as
-    /// [`Cookie::make_permanent`].
+    /// [`Cookie::make_permanent`] does.
     pub fn permanent(mut self, now: DateTime) -> CookieBuilder<'c>
         ensures fields { result.fields ≡ permanent now self.entry.fields }
         ensures raw { result.raw ≡ self.entry.raw }
@@ -184,8 +186,8 @@ impl<'c> Builder<Cookie<'c>> {
         self
     }
 
-    /// Makes it a cookie that tells a client at `now`, which is in UTC, to drop the one of its name, path and domain,
-    /// as [`Cookie::make_removal`] (RFC 6265 3.1).
+    /// Makes it a cookie that tells a client to drop the cookie with its name, path and domain, as
+    /// [`Cookie::make_removal`] does (RFC 6265 3.1). `now` is in UTC.
     pub fn removal(mut self, now: DateTime) -> CookieBuilder<'c>
         ensures fields { result.fields ≡ removal now self.entry.fields }
         ensures raw { result.raw ≡ record self.entry.raw { value = None } }
@@ -194,7 +196,7 @@ impl<'c> Builder<Cookie<'c>> {
         self
     }
 
-    /// A copy, with the same raw forms. Fails only with `AllocError`, when memory runs out.
+    /// A copy, with the same raw forms. Fails only with `AllocError`, if out of memory.
     pub fn clone(&self, alloc: Global) -> Result<CookieBuilder<'c>, AllocError>
         ensures { Gives alloc_error result (λ b. b ≡ self.now) }
     {
@@ -211,7 +213,7 @@ impl<'c> Cookie<'c> {
     }
 }
 
-/// Equal where the cookies are.
+/// Equal if the cookies are.
 impl<'c> PartialEq for Builder<Cookie<'c>> {
     ghost use Rattle.cookie_core.specs.Same.{same_cookie, same_cookie-laws};
 

@@ -24,7 +24,7 @@ use std::marker::Model;
 
 /// A cookie: its name, its value and its attributes (RFC 6265 5.3).
 ///
-/// One that was read from a borrowed text keeps its parts as spans of that text.
+/// A cookie that was read from a borrowed text keeps its parts as spans of the text.
 #[derive(Drop)]
 pub struct Cookie<'c> {
     source: Source<'c>,
@@ -40,8 +40,7 @@ pub struct Cookie<'c> {
     expires: Option<Expiration>,
 }
 
-// Contracts see a cookie as the record of its ten fields, beside the parts of a borrowed source that
-// it borrows.
+// Contracts see a cookie as the record of its ten fields, with the parts of a borrowed source that it borrows.
 impl<'c> Model for Cookie<'c> {
     ghost use Rattle.cookie_core.specs.Record.{CookieView};
 
@@ -55,7 +54,8 @@ impl<'c> Model for Cookie<'c> {
 }
 
 impl<'c> Cookie<'c> {
-    /// The cookie of a name and a value, with no attribute set.
+    /// A cookie with this name and value, and no attribute set.
+    /// Example: `answer` in crates/cookie_examples/src/answer.rt.
     pub fn new(name: &'c str, value: &'c str) -> Cookie<'c>
         ensures { result ≡ record { fields = plain name.now value.now; raw = no_raw_forms } }
     {
@@ -74,14 +74,15 @@ impl<'c> Cookie<'c> {
         }
     }
 
-    /// The cookie of a name, with the empty value.
+    /// A cookie with this name and the empty value.
+    /// Example: `take_flash` in crates/cookie_examples/src/flash.rt.
     pub fn named(name: &'c str) -> Cookie<'c>
         ensures { result ≡ record { fields = plain name.now []; raw = no_raw_forms } }
     {
         Cookie::new(name, "")
     }
 
-    /// A copy, with the same raw forms. Fails only with `AllocError`, when memory runs out.
+    /// A copy, with the same raw forms. Fails only with `AllocError`, if out of memory.
     pub fn clone(&self, alloc: Global) -> Result<Cookie<'c>, AllocError>
         ensures gives { Gives alloc_error result (λ c. c ≡ self.now) }
 
@@ -111,6 +112,7 @@ impl<'c> Cookie<'c> {
     }
 
     /// The value.
+    /// Example: `user_of` in crates/cookie_examples/src/session.rt.
     pub fn value(&self) -> &str
         ensures { result.now ≡ self.now.fields.value }
     {
@@ -131,14 +133,14 @@ impl<'c> Cookie<'c> {
         )
     }
 
-    /// The value without a `"` at both ends, where it has both, else the value.
+    /// The value without a `"` at both ends if it has both, else the whole value.
     pub fn value_trimmed(&self) -> &str
         ensures { result.now ≡ trimmed_value self.now.fields.value }
     {
         quotes::trim_quotes(self.value())
     }
 
-    /// The name, and the value without a `"` at both ends, where it has both.
+    /// The name, and the value without a `"` at both ends if it has both.
     pub fn name_value_trimmed(&self) -> (&str, &str)
         ensures name { result.0.now ≡ self.now.fields.name }
         ensures value { result.1.now ≡ trimmed_value self.now.fields.value }
@@ -146,28 +148,28 @@ impl<'c> Cookie<'c> {
         (self.name(), self.value_trimmed())
     }
 
-    /// Whether scripts are kept from it, if that is set (RFC 6265 4.1.2.6).
+    /// Whether scripts are kept from the cookie, if that is set (RFC 6265 4.1.2.6).
     pub fn http_only(&self) -> Option<bool>
         ensures { result ≡ self.now.fields.http_only }
     {
         self.http_only
     }
 
-    /// Whether it is for secure connections only, if that is set (RFC 6265 4.1.2.5).
+    /// Whether the cookie is for secure connections only, if that is set (RFC 6265 4.1.2.5).
     pub fn secure(&self) -> Option<bool>
         ensures { result ≡ self.now.fields.secure }
     {
         self.secure
     }
 
-    /// Whether it is kept apart for each top-level site, if that is set.
+    /// Whether the cookie is kept apart for each top-level site, if that is set.
     pub fn partitioned(&self) -> Option<bool>
         ensures { result ≡ self.now.fields.partitioned }
     {
         self.partitioned
     }
 
-    /// To which requests from other sites it is sent, if that is set (RFC 6265bis 4.1.2.7).
+    /// To which requests from other sites the cookie is sent, if that is set (RFC 6265bis 4.1.2.7).
     pub fn same_site(&self) -> Option<SameSite>
         ensures { result ≡ self.now.fields.same_site }
     {
@@ -189,15 +191,15 @@ impl<'c> Cookie<'c> {
         Some(after_dot(domain.as_str(&self.source)))
     }
 
-    /// The age from now on after which it expires, if it is set. One that was read is in whole seconds, from zero to
-    /// `i64::MAX` of them (RFC 6265 5.2.2). Of one that was set whole seconds count, cut toward zero.
+    /// The age from now on after which the cookie expires, if it is set (RFC 6265 5.2.2). An age that was read is in
+    /// whole seconds, from zero to `i64::MAX`. Of an age that was set, the whole seconds count, truncated toward zero.
     pub fn max_age(&self) -> Option<SignedDuration>
         ensures { option_map signed_nanos result ≡ self.now.fields.max_age }
     {
         self.max_age
     }
 
-    // The age in whole seconds, cut toward zero.
+    // The age in whole seconds, truncated toward zero.
     pub(crate) fn whole_seconds(&self) -> Option<i64>
         ensures { result ≡ option_map (λ n. int_div n (pos 1000000000)) self.now.fields.max_age }
     {
@@ -211,7 +213,7 @@ impl<'c> Cookie<'c> {
         self.expires
     }
 
-    /// The date and time in UTC at which it expires, if that is set and isn't the end of the session.
+    /// The date and time in UTC at which the cookie expires, if that is set and isn't the end of the session.
     pub fn expires_datetime(&self) -> Option<DateTime>
         ensures { result ≡ option_and_then datetime_of self.now.fields.expires }
     {

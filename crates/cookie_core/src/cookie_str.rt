@@ -1,4 +1,4 @@
-//! Where a cookie's texts stand.
+//! Where a cookie's texts are kept.
 ghost use Rattle.std.specs.Prelude.{◌≡◌, IfOk, option_map};
 ghost use Rattle.cookie_core.specs.CookieStr.{source_bytes, text_bytes, raw_bytes, Fits, IsSameText, IsSameOptionalText};
 
@@ -6,7 +6,7 @@ use crate::source::Source;
 use crate::span::Span;
 use std::alloc::{AllocError, Global};
 
-/// A text of a cookie: a span of its source, or a text of its own.
+/// A text of a cookie: a span of its source, a borrowed string, or an owned string.
 #[derive(Drop)]
 pub(crate) enum CookieStr<'c> {
     Span(Span),

@@ -8,7 +8,7 @@ use crate::parse_error::ParseError;
 use percent_encoding::percent_decode;
 use std::alloc::{AllocError, Global};
 
-// The text of the bytes that the text stands for.
+// Percent-decodes the text.
 pub(crate) fn decode_text(alloc: Global, text: &str) -> Result<String, ParseError>
     ensures bytes { IfOk result (λ t. string_bytes t ≡ unescape text.now) }
     ensures utf8 { IfOk result (λ t. IsUtf8 (string_bytes t)) }
@@ -24,7 +24,7 @@ pub(crate) fn decode_text(alloc: Global, text: &str) -> Result<String, ParseErro
     }
 }
 
-// The bytes that the text stands for, which are no more than its own.
+// Percent-decodes the bytes. The result isn't longer than they are.
 fn unescape_bytes(alloc: Global, text: &[u8]) -> Result<Vec<u8>, AllocError>
     ensures { IfOk result (λ bytes. bytes.items ≡ unescape text.now) }
 {

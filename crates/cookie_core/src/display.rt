@@ -14,13 +14,13 @@ use std::alloc::{AllocError, Allocator};
 use std::fmt;
 use std::marker::Model;
 
-// For how many bytes a text has room beside its name, its value, its path and its domain: for the flags and the labels,
-// and for an age and a date.
+// The bytes that a text reserves beside its name, its value, its path and its domain: for the flags and the labels, and
+// for an age and a date.
 const FLAGS_ROOM: usize = 64;
 
 const LIFETIME_ROOM: usize = 64;
 
-// Writes a flag's text, where it is shown.
+// Writes a flag's text, if it is shown.
 fn write_flag<W: fmt::Write>(f: &mut fmt::Formatter<W>, text: &str, is_shown: bool) -> fmt::Result
     ensures { DisplaysOnOk W.write_str_gives f.old result
         (Some (flag_text text.now is_shown)) f.new }
@@ -31,7 +31,7 @@ fn write_flag<W: fmt::Write>(f: &mut fmt::Formatter<W>, text: &str, is_shown: bo
     Ok(())
 }
 
-// Writes a label and a value, where there is one.
+// Writes a label and a value, if there is one.
 fn write_labelled<W: fmt::Write, V: fmt::Display + Drop>(
     f: &mut fmt::Formatter<W>,
     label: &str,
@@ -46,7 +46,7 @@ fn write_labelled<W: fmt::Write, V: fmt::Display + Drop>(
     }
 }
 
-// Writes a name or a value, escaped where asked for.
+// Writes a name or a value, escaped if `is_encoded`.
 fn write_text<W: fmt::Write>(f: &mut fmt::Formatter<W>, text: &str, is_encoded: bool) -> fmt::Result
     ensures { DisplaysOnOk W.write_str_gives f.old result
         (Some (printed_form is_encoded text.now)) f.new }
@@ -78,8 +78,8 @@ impl<'c> Cookie<'c> {
         matches!(self.same_site(), Some(SameSite::None))
     }
 
-    /// Whether `Secure` is printed (RFC 6265bis 4.1.2): where it is set to true, where the cookie is partitioned, and,
-    /// unless it is set to false, where `SameSite` is `None`.
+    /// Whether `Secure` is printed (RFC 6265bis 4.1.2). It is printed if it is set to true, if the cookie is
+    /// partitioned, and, unless it is set to false, if `SameSite` is `None`.
     pub fn prints_secure(&self) -> bool
         ensures { result ≡ prints_secure self.now.fields }
     {
@@ -143,7 +143,7 @@ fn write_lifetime<W: fmt::Write>(f: &mut fmt::Formatter<W>, cookie: &Cookie<'_>)
     write_expires(f, cookie)
 }
 
-// Writes the cookie, its name and value escaped and its attributes left out where asked for.
+// Writes the cookie, with its name and value escaped if `is_encoded`, and without its attributes if `is_stripped`.
 fn write_cookie<W: fmt::Write>(
     f: &mut fmt::Formatter<W>,
     cookie: &Cookie<'_>,
@@ -167,9 +167,9 @@ fn write_cookie<W: fmt::Write>(
 /// A cookie as it is printed: its name and value escaped or as they are, and with its attributes or without
 /// (RFC 6265 4.1.1).
 ///
-/// The attributes stand in this order, each where it is set: `HttpOnly`, `SameSite`, `Partitioned`, `Secure`, `Path`,
-/// `Domain`, `Max-Age` in whole seconds, `Expires` in whole seconds of UTC. A flag that is false isn't printed.
-/// `Secure` is printed where it is set to true, where the cookie is partitioned, and, unless it is set to false, where
+/// The attributes are printed in this order, each if it is set: `HttpOnly`, `SameSite`, `Partitioned`, `Secure`,
+/// `Path`, `Domain`, `Max-Age` in whole seconds, `Expires` in whole seconds of UTC. A flag that is false isn't printed.
+/// `Secure` is printed if it is set to true, if the cookie is partitioned, and, unless it is set to false, if
 /// `SameSite` is `None` (RFC 6265bis 4.1.2). Path and domain are printed as they are: docs/DIFFERENCES.md says what
 /// they mustn't hold.
 #[derive(Drop)]
@@ -179,7 +179,7 @@ pub struct Display<'a, 'c> {
     is_stripped: bool,
 }
 
-// Contracts see it as the cookie's record, beside what was asked for.
+// Contracts see it as the cookie's record, with two flags: whether it is encoded, and whether it is stripped.
 impl<'a, 'c> Model for Display<'a, 'c> {
     ghost use Rattle.cookie_core.specs.Display.{DisplayView};
 
@@ -193,7 +193,7 @@ impl<'a, 'c> Model for Display<'a, 'c> {
 }
 
 impl<'a, 'c> Display<'a, 'c> {
-    /// The same, its name and value escaped.
+    /// The same, with its name and value escaped.
     pub fn encoded(self) -> Display<'a, 'c>
         ensures { result ≡ record self.entry { is_encoded = true } }
     {
@@ -205,6 +205,7 @@ impl<'a, 'c> Display<'a, 'c> {
     }
 
     /// The same, without its attributes.
+    /// Example: `pair_text` in crates/cookie_examples/src/printing.rt.
     pub fn stripped(self) -> Display<'a, 'c>
         ensures { result ≡ record self.entry { is_stripped = true } }
     {
@@ -215,9 +216,10 @@ impl<'a, 'c> Display<'a, 'c> {
         }
     }
 
-    /// The text, in a `String` that asks for its room at once. Only escapes make it grow.
+    /// The text, in a `String` that reserves its room at once. Only escapes make it grow.
     ///
     /// Fails only if out of memory.
+    /// Example: `pair_text` in crates/cookie_examples/src/printing.rt.
     pub fn to_string<A: Allocator>(&self, alloc: A) -> Result<String<A>, AllocError>
         ensures ok { IfOk result (λ text. string_bytes text
             ≡ cookie_text self.now.is_encoded self.now.is_stripped self.now.fields) }
@@ -227,7 +229,7 @@ impl<'a, 'c> Display<'a, 'c> {
         Ok(text)
     }
 
-    // For how many bytes its text has room at first.
+    // The number of bytes that its text reserves at first.
     fn room(&self) -> usize {
         let (name, value) = self.cookie.name_value();
         let pair = name.len().saturating_add(value.len()).saturating_add(1);
@@ -239,7 +241,7 @@ impl<'a, 'c> Display<'a, 'c> {
 }
 
 impl<'c> Cookie<'c> {
-    // For how many bytes the text of its attributes has room at first.
+    // The number of bytes that the text of its attributes reserves at first.
     fn attributes_room(&self) -> usize {
         let path = self.path().map_or(0, str::len);
         let domain = self.domain().map_or(0, str::len);
@@ -252,7 +254,8 @@ impl<'c> Cookie<'c> {
 }
 
 impl<'c> Cookie<'c> {
-    /// The cookie as a `Set-Cookie` header has it, its name and value escaped (RFC 6265 4.1.1, RFC 3986 2.1).
+    /// The cookie as a `Set-Cookie` header has it, with its name and value escaped (RFC 6265 4.1.1, RFC 3986 2.1).
+    /// Example: `pair_text` in crates/cookie_examples/src/printing.rt.
     pub fn encoded(&self) -> Display<'_, 'c>
         ensures { result
             ≡ record { fields = self.now.fields; is_encoded = true; is_stripped = false } }
@@ -277,7 +280,7 @@ impl<'c> Cookie<'c> {
     }
 }
 
-/// Prints the name and the value, escaped where that was asked for, and the attributes unless they are stripped.
+/// Prints the name and the value, escaped if it is encoded, and the attributes unless it is stripped.
 impl<'a, 'c> fmt::Display for Display<'a, 'c> {
     ghost output = { λ d. Some (cookie_text d.is_encoded d.is_stripped d.fields) };
 
@@ -286,8 +289,8 @@ impl<'a, 'c> fmt::Display for Display<'a, 'c> {
     }
 }
 
-/// Prints the cookie as a `Set-Cookie` header has it, its name and value as they are, with the attributes in the order
-/// of [`Display`].
+/// Prints the cookie as a `Set-Cookie` header has it, with its name and value as they are, and with the attributes in
+/// the order of [`Display`].
 impl<'c> fmt::Display for Cookie<'c> {
     ghost output = { λ c. Some (cookie_text false false c.fields) };
 

@@ -51,7 +51,7 @@ impl<'a> Model for EncodedText<'a> {
     ghost view = { λ e. e.text.now };
 }
 
-/// The text, escaped where it is printed (RFC 3986 2.1). It doesn't allocate.
+/// The text, escaped when it is printed (RFC 3986 2.1). It doesn't allocate.
 pub fn encode(text: &str) -> EncodedText<'_>
     ensures { result ≡ text.now }
 {
@@ -68,7 +68,7 @@ impl<'a> fmt::Display for EncodedText<'a> {
     }
 }
 
-// Whether a `%` with two hexadecimal digits stands in the text.
+// Whether the text holds a `%` with two hexadecimal digits.
 pub(crate) fn has_escape(text: &str) -> bool
     ensures { result ≡ has_escape text.now }
 {
@@ -79,7 +79,7 @@ pub(crate) fn has_escape(text: &str) -> bool
     plain_length(bytes) < bytes.len()
 }
 
-// How many bytes stand before the first `%` with two hexadecimal digits.
+// The number of bytes before the first `%` with two hexadecimal digits.
 pub(crate) fn plain_length(text: &[u8]) -> usize
     ensures bound { result ≤ length text.now }
     ensures kept { unescape text.now

@@ -55,9 +55,9 @@ impl Expiration {
         }
     }
 
-    /// The expiry at what the function makes of its date and time, which is in UTC; the end of the session stays.
+    /// Applies the function to the date and time, which is in UTC. The end of the session stays.
     ///
-    /// The caller sees to it that the function can be called on that date and time.
+    /// The caller makes sure that the function can be called on the date and time.
     pub fn map<F: FnOnce(DateTime) -> DateTime + Drop>(self, f: F) -> Expiration
         requires { IfSome (datetime_of self) (F.pre f) }
         ensures { MatchOption (datetime_of self) (datetime_of result ≡ None)

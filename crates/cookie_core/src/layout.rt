@@ -1,4 +1,4 @@
-//! Where the parts of one cookie's text stand (RFC 6265 5.2).
+//! Where the parts of one cookie's text are (RFC 6265 5.2).
 ghost use Rattle.std.specs.Prelude.{◌≡◌, ◌++◌, List, ℕ, false, IfOk, option_map};
 ghost use Rattle.std.specs.Result.{result_ok};
 ghost use Rattle.cookie_core.specs.CookieOf.{cookie_of};
@@ -13,19 +13,20 @@ use crate::parse_error::ParseError;
 use crate::part::Part;
 use crate::span::Span;
 
-/// Where the parts of a cookie's text stand, as they are in the text, and what its attributes are (RFC 6265 5.2).
+/// Where the parts of a cookie's text are, which aren't decoded, and what its attributes are (RFC 6265 5.2).
 #[derive(Clone, Copy)]
 pub struct Layout {
-    /// Where the name stands, which isn't empty.
+    /// Where the name is. It isn't empty.
     pub name: Span,
-    /// Where the value stands.
+    /// Where the value is.
     pub value: Span,
     /// The attributes.
     pub attributes: Attributes,
 }
 
 impl Layout {
-    /// Where the parts of a cookie's text stand (RFC 6265 5.2). It doesn't allocate, and fails as `Cookie::parse` does.
+    /// Finds where the parts of a cookie's text are (RFC 6265 5.2). It doesn't allocate, and fails as `Cookie::parse`
+    /// does.
     pub fn of(text: &str) -> Result<Layout, ParseError>
         ensures reads { Reads false text.now (laid_out text.now result) }
         ensures value { result_ok (laid_out text.now result) ≡ cookie_of false text.now }
@@ -35,7 +36,7 @@ impl Layout {
         Layout::of_pieces(first, later)
     }
 
-    // The same of a text without a `;`.
+    // The layout of a text without a `;`.
     #[inline(always)]
     pub(crate) fn of_pair(text: &str) -> Result<Layout, ParseError>
         requires { Lacks 59 text.now }
@@ -45,7 +46,7 @@ impl Layout {
         Layout::of_pieces(Part::all(text), None)
     }
 
-    // The same of a first piece, and of what stands after its `;`.
+    // The layout of a first piece, and of the text after its `;`.
     #[inline(always)]
     fn of_pieces(first: Part<'_>, later: Option<Part<'_>>) -> Result<Layout, ParseError>
         requires apart { Lacks 59 (part_text first) }

@@ -17,12 +17,12 @@ pub enum ParseError {
     EmptyName,
     /// The decoded name, or the decoded value, isn't UTF-8.
     Utf8Error(Utf8Error),
-    /// There was no memory for a text of its own.
+    /// There was no memory for an owned string.
     OutOfMemory,
 }
 
 impl ParseError {
-    /// The text of the refusal.
+    /// The text of the error.
     pub fn as_str(&self) -> &'static str
         ensures { result.now ≡ error_text self.now }
     {

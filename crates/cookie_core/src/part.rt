@@ -7,7 +7,7 @@ ghost use Rattle.cookie_core.specs.Trim.{IsTrimmed};
 
 use crate::span::Span;
 
-/// A part of a text, which knows that it stands there.
+/// A part of a text. A ghost field says that the span is in the text.
 #[derive(Clone, Copy)]
 pub(crate) struct Part<'t> {
     pub(crate) whole: &'t str,
@@ -40,7 +40,7 @@ impl<'t> Part<'t> {
         Part { whole: text, span }
     }
 
-    // Where the part stands, if there is one.
+    // The span of the part, if there is one.
     pub(crate) fn span_of(part: Option<Part<'_>>) -> Option<Span>
         ensures { result ≡ option_map (λ p. p.span) part.entry }
     {

@@ -8,7 +8,7 @@ fn is_quoted(value: &str) -> bool
     value.len() >= 2 && value.starts_with('"') && value.ends_with('"')
 }
 
-// The value without a `"` at both ends, where it has both, else the value.
+// The value without a `"` at both ends if it has both, else the whole value.
 pub(crate) fn trim_quotes(value: &str) -> &str
     ensures { result.now ≡ trimmed_value value.now }
 {

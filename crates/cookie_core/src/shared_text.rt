@@ -8,7 +8,7 @@ use std::alloc::{AllocError, Global};
 use std::marker::Model;
 use std::sync::Arc;
 
-/// A part of a text that others share. The text goes with the last of them.
+/// A part of a text that others share. The text is dropped with the last of them.
 #[derive(Drop)]
 pub(crate) struct SharedText {
     whole: Arc<String, Global>,

@@ -1,4 +1,4 @@
-//! Where a part of a text stands.
+//! Where a part of a text is.
 ghost use Rattle.std.specs.Prelude.{◌≡◌, ◌≤◌, List, ℕ, length, take};
 ghost use Rattle.std.specs.Char.{is_not_whitespace};
 ghost use Rattle.std.specs.Str.{NoCharPasses, trim};
@@ -15,7 +15,7 @@ pub struct Span {
 }
 
 impl Span {
-    /// Where the text stands without the white space at its ends (RFC 6265 5.2, and here Unicode White_Space).
+    /// The span of the text without the white space at its ends (RFC 6265 5.2, and here Unicode White_Space).
     pub fn trim(text: &str) -> Span
         ensures stands { StandsIn text.now result }
         ensures text { span_text text.now result ≡ trim text.now }

@@ -123,7 +123,7 @@ fn four_rounds(words: &[u8; 240], done: usize, state: u8x16) -> u8x16
     round(words, done + 3, state)
 }
 
-// The rounds stand one after the other, so that their tables stay in registers.
+// The rounds are written one after the other, so that their tables stay in registers.
 fn cipher(words: &[u8; 240], block: [u8; 16]) -> [u8; 16]
     ensures { result ≡ cipher words.now block }
 {
@@ -135,7 +135,7 @@ fn cipher(words: &[u8; 240], block: [u8; 16]) -> [u8; 16]
     add_round_key(words, 14, shift_rows(sub_bytes(state))).to_array()
 }
 
-/// AES-256 under a key, which is what a clause sees.
+/// AES-256 under a key. Contracts see the key.
 #[derive(Drop)]
 pub struct Aes256 {
     words: [u8; 240],

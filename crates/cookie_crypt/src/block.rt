@@ -59,7 +59,7 @@ pub fn block_at(bytes: &[u8], i: usize) -> u128
     number_of(block)
 }
 
-/// Adds a block to the bytes from `start` on, or its first bytes where fewer are left.
+/// Adds a block to the bytes from `start` on, or its first bytes if fewer are left.
 pub fn add_block(bytes: &mut [u8], start: usize, block: &[u8; 16])
     requires { start < length bytes.old }
     ensures length { length bytes.new ≡ length bytes.old }

@@ -11,7 +11,7 @@ pub fn times_x(block: u128) -> u128
     (block >> 1) ^ ((block & 1) * REDUCTION)
 }
 
-/// The sum over the coefficients of `a` below `count` of `x` to their number times `b`. What is done rests on `a`.
+/// The sum over the coefficients of `a` below `count` of `x` to their number times `b`. What is done depends on `a`.
 pub fn product_below(a: u128, b: u128, count: u32) -> u128
     requires { count ≤ 128 }
     ensures { result ≡ product_below count a b }

@@ -56,7 +56,7 @@ fn tag_of(cipher: &Aes256, nonce: &[u8; 12], aad: &[u8], text: &[u8], steps: &mu
     bytes_of(hash ^ mask)
 }
 
-/// AES-256-GCM under a key, which is what a clause sees.
+/// AES-256-GCM under a key. Contracts see the key.
 #[derive(Drop)]
 pub struct Gcm {
     cipher: Aes256,
@@ -72,6 +72,7 @@ impl Model for Gcm {
 
 impl Gcm {
     /// AES-256-GCM under `key`, which must be random. It isn't wiped from memory.
+    /// Example: `comes_back` in crates/cookie_examples/src/sealing.rt.
     pub fn new(key: &[u8; 32]) -> Gcm
         ensures value { result ≡ key.now }
         ensures bytes { SealsToBytes key.now }
@@ -81,12 +82,13 @@ impl Gcm {
         }
     }
 
-    /// Encrypts the text in place, and gives the tag of it and of the associated data `aad`
-    /// (SP 800-38D 7.1). No two texts may be sealed under one key and one nonce, and under one key at
-    /// most 2^32 random nonces may be drawn (8.3).
+    /// Encrypts the text in place, and returns the tag of the text and of the associated data `aad` (SP 800-38D 7.1).
+    /// No two texts may be sealed under one key and one nonce, and under one key at most 2^32 random nonces may be
+    /// drawn (8.3).
     ///
-    /// `None` where the text has more than 2^36 - 32 bytes or the data more than 2^61 - 1. `steps` is
-    /// set to what was done, whatever it held.
+    /// Returns `None` if the text has more than 2^36 - 32 bytes or the data more than 2^61 - 1. `steps` is set to what
+    /// was done, whatever it held.
+    /// Example: `comes_back` in crates/cookie_examples/src/sealing.rt.
     pub fn seal_in_place(
         &self,
         nonce: &[u8; 12],
@@ -102,8 +104,8 @@ impl Gcm {
         ensures unchanged { IfNone result (text.new ≡ text.old) }
         ensures uncounted { IfNone result (steps.new ≡ no_steps) }
 
-        // The hash in the tag is a sum of blocks times powers. The standard's steps give it too, over all blocks, and a
-        // block times a power is one product.
+        // The hash in the tag is a sum of blocks times powers. The standard's steps over all blocks compute the same
+        // hash, and a block times a power is one product.
         ensures by_steps { IfSome result (λ tag.
             tag ≡ tag_by_steps self.now nonce.now aad.now text.new) }
         ensures steps_are_the_sum { HasSum (hash_subkey self.now) }
@@ -120,10 +122,11 @@ impl Gcm {
         Some(tag_of(cipher, nonce, aad, text, steps))
     }
 
-    /// Decrypts the text in place and answers true where text and tag are a sealing (SP 800-38D 7.2).
-    /// Else it leaves the text as it was. The tags are compared to their last byte, wherever they differ.
+    /// Decrypts the text in place and returns true if text and tag are a sealing (SP 800-38D 7.2). Else it returns
+    /// false and leaves the text as it was. The tags are compared to their last byte, wherever they differ.
     ///
     /// `steps` is set to what was done, whatever it held.
+    /// Example: `comes_back` in crates/cookie_examples/src/sealing.rt.
     pub fn open_in_place(
         &self,
         nonce: &[u8; 12],

@@ -1,4 +1,4 @@
-//! Sixteen bytes at a time, with no place in memory that rests on them.
+//! Sixteen bytes at a time, with no memory address that depends on them.
 ghost use Rattle.std.specs.Prelude.{◌≡◌, ◌+◌, ◌*◌, ◌/◌, ◌%◌, ◌∷◌, ℕ, List, map, take, slice_index, bit_and, bit_xor};
 ghost use Rattle.std.specs.List.{range_with_len};
 ghost use Rattle.std.specs.Simd.Lanes.{zip2};
@@ -19,7 +19,7 @@ const FROM_HIGH: [u8; 16] = [
     0, 179, 109, 222, 51, 128, 94, 237, 30, 173, 115, 192, 45, 158, 64, 243,
 ];
 
-// The inverses of the smaller field. 128 stands for the inverse of 0, and its look-up gives 0.
+// The inverses of the smaller field. 128 is in the place of the inverse of 0, and its look-up returns 0.
 const INVERSES: [u8; 16] = [128, 1, 9, 14, 13, 11, 7, 6, 15, 2, 12, 5, 10, 4, 3, 8];
 
 const FIVE_OVER: [u8; 16] = [128, 5, 11, 3, 12, 1, 8, 13, 6, 10, 9, 2, 4, 7, 15, 14];

@@ -79,8 +79,8 @@ fn copy_of(hasher: &Sha256) -> Sha256
     copy
 }
 
-/// HMAC-SHA256 under a key of 32 bytes, which is what a clause sees. It keeps the two hashes of the masked key, so
-/// that each code costs two blocks less than by `hmac`.
+/// HMAC-SHA256 under a key of 32 bytes. Contracts see the key. It keeps the two hashes of the masked key, so that each
+/// code costs two blocks less than by `hmac`.
 #[derive(Drop)]
 pub struct Mac {
     key: [u8; 32],

@@ -68,7 +68,7 @@ fn product(upper: &[[u8; 16]; 16], lower: &[[u8; 16]; 16], block: u128) -> u128
     number_of(first.to_array()) ^ fallen ^ (fallen >> 1) ^ (fallen >> 2) ^ (fallen >> 7)
 }
 
-/// The multiples of a block that a product looks up. A clause sees the block.
+/// The multiples of a block that a product looks up. Contracts see the block.
 #[derive(Drop)]
 pub struct Multiples {
     block: u128,

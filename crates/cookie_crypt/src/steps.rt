@@ -8,10 +8,10 @@ use crate::aes::Aes256;
 use crate::multiples::Multiples;
 use std::marker::Model;
 
-/// How many blocks were encrypted, how many products were taken in the field of GCM, and how many
-/// entries of a table of multiples were looked up and added.
+/// The numbers of blocks that were encrypted, of products that were taken in the field of GCM, and of entries of a
+/// table of multiples that were looked up and added.
 ///
-/// Only two calls of this file raise a count, each as it gives the result of the work that it counts.
+/// Only two calls of this file raise a count, each when it returns the result of the work that it counts.
 #[derive(Drop)]
 pub struct Steps {
     blocks: u64,
@@ -31,6 +31,7 @@ impl Model for Steps {
 
 impl Steps {
     /// No steps.
+    /// Example: `comes_back` in crates/cookie_examples/src/sealing.rt.
     pub fn new() -> Steps
         ensures { result ≡ no_steps }
     {

@@ -1,4 +1,4 @@
-//! The fields of a written date, and the date-time that they stand for.
+//! The fields of a written date, and their date-time.
 ghost use Rattle.std.specs.Prelude.{◌≡◌, ◌<◌, ◌↔◌, IsSome, IfSome};
 ghost use Rattle.jiff.specs.Words.{IsYear};
 ghost use Rattle.cookie_date.specs.Fields.{Exists, HasFields};

@@ -71,7 +71,7 @@ fn read_month_first(text: &[u8]) -> Option<Fields>
     })
 }
 
-// The byte after the day tells whether blanks or hyphens stand round the month.
+// The byte after the day tells whether blanks or hyphens are round the month.
 #[tactic(auto, unfolding(crate::specs::Reader::read_either_mark))]
 fn read_either_mark(text: &[u8]) -> Option<Fields>
     ensures { result ≡ Reader.read_either_mark text.now }
@@ -119,7 +119,7 @@ fn read_fields(text: &[u8]) -> Option<Fields>
     }
 }
 
-/// The date-time in UTC, in whole seconds, that the text stands for.
+/// Reads a text as a date-time in UTC, in whole seconds.
 ///
 /// The text has one of four forms: the three of RFC 9110 5.6.7, as `Sun, 06 Nov 1994 08:49:37 GMT`,
 /// `Sunday, 06-Nov-94 08:49:37 GMT` and `Sun Nov  6 08:49:37 1994`, and the first with hyphens round the month.
@@ -127,7 +127,8 @@ fn read_fields(text: &[u8]) -> Option<Fields>
 /// in the others one to four, after a sign or none. A year from 0 to 99 is completed to one from 1970 to 2069
 /// (RFC 6265 5.1.1, steps 3 and 4).
 ///
-/// `None` says that the text has none of the forms, or shows a date or a time that there isn't.
+/// Returns `None` if the text has none of the forms, or if its date or its time doesn't exist.
+/// Example: `week_after` in crates/cookie_examples/src/dates.rt.
 pub fn read_date(text: &str) -> Option<DateTime>
     ensures exact { ReadsAsDate text.now result }
     ensures value { result ≡ date_of text.now }

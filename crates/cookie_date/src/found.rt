@@ -1,4 +1,4 @@
-//! What the tokens of a date give, in their order (RFC 6265 5.1.1).
+//! What is found in the tokens of a date, in their order (RFC 6265 5.1.1).
 ghost use Rattle.std.specs.Prelude.{◌≡◌, ◌<◌, Some, option_copied, IfSome};
 ghost use Rattle.cookie_date.specs.CookieDate as Tokens;
 ghost use Rattle.cookie_date.specs.Found.{AreSmall, IsShort};
@@ -6,7 +6,7 @@ ghost use Rattle.cookie_date.specs.Found.{AreSmall, IsShort};
 use crate::fields::Fields;
 use crate::tokens::{cut_token, day_in, month_in, time_in, year_in};
 
-/// What the tokens of a date gave so far: the four flags of RFC 6265bis 5.1.1, with their numbers.
+/// What was found in the tokens of a date so far: the four flags of RFC 6265bis 5.1.1, with their numbers.
 #[derive(Clone, Copy)]
 pub struct Found {
     pub time: Option<(u8, u8, u8)>,
@@ -122,7 +122,7 @@ impl Found {
     }
 }
 
-// What all tokens of the text give.
+// What is found in all tokens of the text.
 pub fn found_in(text: &[u8]) -> Found
     ensures value { result ≡ Tokens.found_in text.now }
     ensures small { AreSmall result }

@@ -1,4 +1,4 @@
-//! The pieces of a written date: each `read_` function gives what stands at the front, and the rest.
+//! The pieces of a written date: each `read_` function returns what is at the front, and the rest.
 ghost use Rattle.std.specs.Prelude.{◌≡◌, ◌<◌, option_copied, IfSome};
 ghost use Rattle.cookie_date.specs.Names.{weekday_text, month_text};
 ghost use Rattle.cookie_date.specs.Reader as Reader;
@@ -83,7 +83,7 @@ pub fn read_digits(most: u8, number: u16, text: &[u8]) -> (u16, &[u8])
     }
 }
 
-// One to four digits, as many as there are.
+// One to four digits: all digits at the front, but at most four.
 #[tactic(auto, unfolding(crate::specs::Reader::read_number))]
 fn read_number(text: &[u8]) -> Option<(u16, &[u8])>
     ensures value { Reader.front result ≡ Reader.read_number text.now }
@@ -96,7 +96,7 @@ fn read_number(text: &[u8]) -> Option<(u16, &[u8])>
     Some((number, rest))
 }
 
-// Whether a `-` stands at the front, and what follows the sign, if there is one.
+// Whether a `-` is at the front, and what follows the sign, if there is one.
 fn read_sign(text: &[u8]) -> (bool, &[u8])
     ensures { (result.0, result.1.now) ≡ Reader.read_sign text.now }
 {

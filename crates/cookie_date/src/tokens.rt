@@ -14,7 +14,7 @@ fn is_delimiter(byte: u8) -> bool
     matches!(byte, 9 | 32..=47 | 59..=64 | 91..=96 | 123..=126)
 }
 
-// What stands before the first delimiter, and after it, if there is one.
+// What is before the first delimiter, and what is after it, if there is one.
 pub fn cut_token(text: &[u8]) -> (&[u8], Option<&[u8]>)
     ensures before { result.0.now ≡ (cut_token text.now).0 }
     ensures after { option_copied result.1 ≡ (cut_token text.now).1 }

@@ -72,7 +72,7 @@ fn explain(rt: &HostRuntime, matches: &ArgMatches<'_>) -> Result<()> {
     Ok(())
 }
 
-// The program's status: 2 where an argument or the input can't be read.
+// The program's status: 2 if an argument or the input can't be read.
 fn run(rt: &HostRuntime) -> Result<ExitCode> {
     let words: Vec<String> = env::args(rt)?.collect(rt.alloc())?;
     let matches = match command(rt.alloc())?.try_get_matches_from(words.as_slice()) {

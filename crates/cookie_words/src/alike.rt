@@ -18,7 +18,7 @@ pub fn is(cookie: &Cookie<'_>, other: &Cookie<'_>) -> bool {
         && are_flags_alike(cookie, other)
 }
 
-/// Whether the cookie lends these parts of the text that it was read of: its name, value, path and domain, as in
+/// Whether the cookie borrows these parts of the text that it was read from: its name, value, path and domain, as in
 /// `a|1|-|-`.
 pub fn lends(cookie: &Cookie<'_>, parts: &str) -> bool {
     let mut parts = parts.split('|');

@@ -1,12 +1,13 @@
 //! The texts of a value under each flag of a format, by the rules of `std::fmt`.
 //!
 //! What an `impl` writes by `write_str` or `write!` heeds no flag. A derived `Debug` writes a variant without fields by
-//! `write_str`, and hands its flags on to the fields of any other. `#` puts each field on a line of its own, four
+//! `write_str`, and passes its flags on to the fields of any other. `#` puts each field on a line of its own, four
 //! spaces further in, with a comma after it.
 use std::alloc::Global;
 use std::fmt::{Debug, Display};
 
-// Whether the texts, the later ones each after its flag, are the first wanted one, but for those that are wanted too.
+// Whether each text, from the second on without its flag, is the first wanted text. A text that isn't must be the next
+// wanted one, with its flag.
 fn are_texts(texts: &str, wanted: &str) -> bool {
     let mut wanted = wanted.split('|');
     let plain = wanted.next().unwrap_or("");
@@ -22,8 +23,8 @@ fn are_texts(texts: &str, wanted: &str) -> bool {
     wanted.next().is_none()
 }
 
-/// Whether the value prints as the text before the first bar, and so under each flag of which no other text follows, as
-/// in `7|+ +7`.
+/// Whether the value prints as the text before the first bar, also under each flag that no later text names, as in
+/// `7|+ +7`.
 pub fn prints<T: Display>(alloc: Global, it: &T, wanted: &str) -> bool {
     let texts = format!(in alloc;
         "{it}|# {it:#}|+ {it:+}|> {it:>80}|< {it:<80}|^ {it:*^80}|0 {it:080}|.3 {it:.3}|all {it:+#080.3}"
@@ -31,7 +32,7 @@ pub fn prints<T: Display>(alloc: Global, it: &T, wanted: &str) -> bool {
     matches!(texts, Ok(texts) if are_texts(texts.as_str(), wanted))
 }
 
-// The texts for a programmer, the last one within `Some` under `#`.
+// The texts of `Debug`, the last one within `Some` under `#`.
 fn debugged<T: Debug>(alloc: Global, it: &T) -> Option<String> {
     let held = format!(in alloc; "{:#?}", Some(it)).ok()?;
     let held = held
@@ -45,7 +46,7 @@ fn debugged<T: Debug>(alloc: Global, it: &T) -> Option<String> {
     .ok()
 }
 
-/// The same of the text for a programmer. `in` is that within another value, under `#`.
+/// Whether the value prints so by `Debug`. The flag `in` is for the text within another value, under `#`.
 pub fn debugs<T: Debug>(alloc: Global, it: &T, wanted: &str) -> bool {
     matches!(debugged(alloc, it), Some(texts) if are_texts(texts.as_str(), wanted))
 }

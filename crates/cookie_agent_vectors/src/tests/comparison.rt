@@ -49,8 +49,8 @@ impl Drawn {
     }
 }
 
-// What comes of the first of five requests, this many, in one list. A list of requests that are lent can't be made one
-// by one here, so five are lent.
+// What comes of the first `count` of five requests, in one list. A list of borrowed requests can't be made one by one
+// here, so five are borrowed.
 fn visit<'r>(
     alloc: Global,
     suffixes: &'r Suffixes,
@@ -71,7 +71,7 @@ fn visit<'r>(
     visits(alloc, suffixes, lent.get(..count)?, pick).ok()
 }
 
-// Whether the two agents send the same to each site, at three moments.
+// Whether the two agents send the same to each site, at three times.
 fn are_sent_alike(agent: &Agent<'_>, plain: &PlainAgent<'_>) -> Option<bool> {
     for number in 0..12usize {
         let spot = Spot::of(number % 4, *[0, 8, 16].get(number / 4)?);
@@ -85,7 +85,7 @@ fn are_sent_alike(agent: &Agent<'_>, plain: &PlainAgent<'_>) -> Option<bool> {
     Some(true)
 }
 
-// Makes the calls of a request on a flat jar, has the plain agent read its changes in their order, and answers whether
+// Makes the calls of a request on a flat jar, has the plain agent read its changes in their order, and returns whether
 // the same came of them.
 fn is_alike<'c>(plain: &mut PlainAgent<'c>, request: &'c Drawn, one: &Visited<'_>) -> Option<bool> {
     let spot = request.spot;
@@ -114,7 +114,7 @@ fn are_alike<'c>(
     Some(true)
 }
 
-// The same of requests that are drawn.
+// Whether the same comes of drawn requests with both bodies.
 fn is_list_alike(alloc: Global, draws: &mut Draws) -> Option<bool> {
     let (count, pick) = (draws.below(6), [draws.below(8), draws.below(8)]);
     let mut requests = Vec::new(alloc);

@@ -171,8 +171,8 @@ impl<'c> PlainAgent<'c> {
         }
     }
 
-    /// The names of the jar's delta, in the order in which their texts are read: the name that each number chooses of
-    /// those from its place on comes in that place.
+    /// The names of the jar's delta, in the order in which their texts are read. Each number chooses one of the names
+    /// from its place on, and that name comes in its place.
     pub(super) fn names_in_order<'a>(&self, jar: &'a CookieJar) -> Option<Vec<&'a str>> {
         let mut names = Vec::new(self.alloc);
         for cookie in jar.delta() {

@@ -1,6 +1,6 @@
-//! Which cookies fit a plan: `add URL SECURE TEXT -> ANSWER`, whether the cookie of the text may be added in a response of
-//! the URL, if its name's scope is the URL's whole host and its cookies may be secure-only (`SECURE`); `remove` asks the
-//! same of its removal.
+//! Which cookies fit a plan. `add URL SECURE TEXT -> ANSWER` says whether the cookie of the text may be added in a
+//! response of the URL, if its name's scope is the URL's whole host and its cookies may be secure-only (`SECURE`).
+//! `remove` says whether the cookie may be removed.
 use super::at;
 use super::sites::site_of;
 use super::stores::suffixes;

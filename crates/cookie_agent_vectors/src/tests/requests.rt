@@ -49,7 +49,7 @@ fn is_shown(alloc: Global, one: &Visited<'_>, words: &'static str) -> bool {
 
 // Makes the agent's request of a line such as `https://example.com/login 0 [add n=1 | remove m] -> [n=1] -> lacks m`:
 // where and when it is made, its calls, the header that the agent sends there after it, and what was sent and what its
-// jar shows. Answers whether it came out so, and each call was accepted.
+// jar shows. Returns whether it came out so, and each call was accepted.
 fn is_right<'r>(alloc: Global, agent: &mut Agent<'r>, line: &'static str) -> Option<bool> {
     let (spot, rest) = line.split_once(" [")?;
     let (steps, told) = rest.split_once("] -> [")?;

@@ -2,7 +2,7 @@
 use super::{requests, sites, stores};
 use std::alloc::Global;
 
-// Whether the row is right, or `None` where it says nothing: a title and steps of a new agent, or requests, which have
+// Whether the row is right, or `None` if it says nothing: a title and steps of a new agent, or requests, which have
 // brackets.
 fn is_right(alloc: Global, row: &'static str) -> Option<bool> {
     if row.contains("] -> [") {
@@ -49,7 +49,7 @@ no step refuses it: meets Empty n=1
 the first of a domain stays: sets a=1 | at 1 | sets b=2 | trims 1 9 | sends a=1
 another header is retrieved: sets a=1 | retrieves b=2";
 
-// The header that the last request of each leaves is wrong, or what that shows.
+// The header that the last request of each leaves is wrong, or what the request shows.
 const WRONG_REQUESTS: &str = "\
 # it is added:
 https://example.com/login 0 [add n=1; Path=/] -> [n=1]

@@ -1,4 +1,4 @@
-//! What is stored, refused, replaced, removed and sent (RFC 6265bis), in steps that README.md lists. Where a row's answer
+//! What is stored, refused, replaced, removed and sent (RFC 6265bis), in steps that README.md lists. If a row's answer
 //! isn't curl's and Python's `http.cookiejar`'s too, its title says so.
 use super::at;
 use super::sites::{context_of, is_answer, site_of};

@@ -1,6 +1,6 @@
-//! Tables of other projects' suites: `domain HOST DOMAIN ANSWER`, whether a cookie of the domain is sent to the host;
-//! `address`, the same of an IP address; `path PATH COOKIE ANSWER`, whether one of the cookie's path is sent to the path;
-//! `folder PATH FOLDER ANSWER`, whether that is the path of a cookie without one.
+//! Tables of other projects' suites. `domain HOST DOMAIN ANSWER`: whether a cookie of the domain is sent to the host.
+//! `address`: whether it is if the host is an IP address. `path PATH COOKIE ANSWER`: whether a cookie of the path
+//! `COOKIE` is sent to the path. `folder PATH FOLDER ANSWER`: whether `FOLDER` is the path of a cookie without one.
 use super::at;
 use super::stores::suffixes;
 use cookie_agent::{Agent, Scope, Site, Verdict};

@@ -36,7 +36,7 @@ fn asked_path<'s>(request: &'s [u8], path: &'s [u8]) -> &'s [u8] {
     folder(request)
 }
 
-/// The cookie that a browser would store. `domain` is the one that the text asks for, in lower case.
+/// The cookie that a browser would store. `domain` is the domain that the text requests, in lower case.
 pub(super) fn kept<'s>(
     suffixes: &Suffixes,
     request: &BrowserRequest<'s>,
@@ -56,7 +56,7 @@ pub(super) fn kept<'s>(
     }
 }
 
-/// The domain that the text asks for, in lower case. It is empty if the text isn't received.
+/// The domain that the text requests, in lower case. It is empty if the text isn't received.
 pub(super) fn lower_domain(alloc: Global, text: &str) -> Result<Vec<u8>, AllocError> {
     match Received::of(text.as_bytes()) {
         Ok(received) => received.attributes.bare_domain().to_ascii_lowercase(alloc),

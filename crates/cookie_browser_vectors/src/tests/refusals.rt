@@ -46,7 +46,7 @@ fn chromium_refuses_so(rt: HostRuntime) -> Result<(), Fail> {
     play(rt.alloc(), CHROMIUM)
 }
 
-// Worked out by hand from RFC 6265bis: where two steps refuse, the first one is returned.
+// Worked out by hand from RFC 6265bis: if two steps refuse, the first one is returned.
 const WORKED: &str = "\
 get https://a.com/d/p [n=v; Domain=.COM] PublicSuffix
 get https://com/d/p [n=v; Domain=com; Path=/] stored

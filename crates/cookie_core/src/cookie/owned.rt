@@ -1,4 +1,4 @@
-//! Cookies with texts of their own.
+//! Cookies with owned strings.
 ghost use Rattle.std.specs.Prelude.{◌≡◌, Some, None, alloc_error, string_bytes, IsUtf8};
 ghost use Rattle.cookie_core.specs.CookieStr.{source_bytes, IsSameIn};
 ghost use Rattle.cookie_core.specs.Memory.{Gives};
@@ -12,7 +12,7 @@ use crate::source::Source;
 use std::alloc::{AllocError, Global};
 
 impl<'c> Cookie<'c> {
-    /// The cookie of a name and a value of its own, with no attribute set.
+    /// A cookie with this owned name and value, and no attribute set.
     pub fn new_owned(name: String, value: String) -> Cookie<'c>
         ensures { result ≡ record {
           fields = plain (string_bytes name) (string_bytes value);
@@ -25,8 +25,9 @@ impl<'c> Cookie<'c> {
         cookie
     }
 
-    /// The same cookie with texts of its own, so that it can go into a jar. Fails only with `AllocError`,
-    /// when memory runs out, and then the cookie is gone.
+    /// The same cookie with owned strings, so that it can go into a jar. Fails only with `AllocError`, if out of
+    /// memory, and then the cookie is dropped.
+    /// Example: `sign_in` in crates/cookie_examples/src/session.rt.
     pub fn into_owned(self, alloc: Global) -> Result<Cookie<'static>, AllocError>
         ensures { Gives alloc_error result
             (λ c. c ≡ record { fields = self.entry.fields; raw = no_raw_forms }) }
@@ -60,7 +61,7 @@ impl<'c> Cookie<'c> {
         })
     }
 
-    /// Sets the name to a text of its own, which is no longer borrowed.
+    /// Sets the name to an owned string. It is then no longer borrowed.
     pub fn set_name_owned(&mut self, name: String)
         ensures fields { self.new.fields ≡ record self.old.fields { name = string_bytes name } }
         ensures raw { self.new.raw ≡ record self.old.raw { name = None } }
@@ -68,7 +69,7 @@ impl<'c> Cookie<'c> {
         self.name = CookieStr::Owned(name);
     }
 
-    /// Sets the value to a text of its own, which is no longer borrowed.
+    /// Sets the value to an owned string. It is then no longer borrowed.
     pub fn set_value_owned(&mut self, value: String)
         ensures fields { self.new.fields ≡ record self.old.fields { value = string_bytes value } }
         ensures raw { self.new.raw ≡ record self.old.raw { value = None } }
@@ -76,7 +77,7 @@ impl<'c> Cookie<'c> {
         self.value = CookieStr::Owned(value);
     }
 
-    /// Sets the path to a text of its own, which is no longer borrowed (RFC 6265 4.1.2.4).
+    /// Sets the path to an owned string (RFC 6265 4.1.2.4). It is then no longer borrowed.
     pub fn set_path_owned(&mut self, path: String)
         ensures fields { self.new.fields
             ≡ record self.old.fields { path = Some (string_bytes path) } }
@@ -85,8 +86,8 @@ impl<'c> Cookie<'c> {
         self.path = Some(CookieStr::Owned(path));
     }
 
-    /// Sets the domain to a text of its own, which is no longer borrowed. One leading dot isn't part of the domain
-    /// (RFC 6265 4.1.2.3, 5.2.3).
+    /// Sets the domain to an owned string, without one leading dot (RFC 6265 4.1.2.3, 5.2.3). It is then no longer
+    /// borrowed.
     pub fn set_domain_owned(&mut self, domain: String)
         ensures fields { self.new.fields
             ≡ record self.old.fields { domain = Some (without_leading_dot (string_bytes domain)) } }
@@ -96,7 +97,7 @@ impl<'c> Cookie<'c> {
     }
 }
 
-// The source, if one of the texts stands in it.
+// The source, if one of the texts is in it.
 fn kept_source<'c>(
     source: Source<'c>,
     name: &CookieStr<'c>,
@@ -116,7 +117,7 @@ fn kept_source<'c>(
     }
 }
 
-// The same outcome, with texts of its own.
+// The same outcome, with owned strings.
 pub(crate) fn make_own(
     alloc: Global,
     outcome: Result<Cookie<'_>, ParseError>,

@@ -1,4 +1,4 @@
-//! What changes a cookie's fields (RFC 6265 5.3).
+//! The setters of a cookie's fields (RFC 6265 5.3).
 ghost use Rattle.std.specs.Prelude.{◌≡◌, Some, None, option_map};
 ghost use Rattle.jiff.specs.Words.{signed_nanos};
 ghost use Rattle.cookie_core.specs.Expiration.{capped_expiry};
@@ -31,7 +31,8 @@ impl<'c> Cookie<'c> {
         self.value = CookieStr::Borrowed(value);
     }
 
-    /// Sets whether scripts are kept from it; `None` unsets that (RFC 6265 4.1.2.6).
+    /// Sets whether scripts are kept from the cookie; `None` unsets that (RFC 6265 4.1.2.6).
+    /// Example: `conform` in crates/cookie_examples/src/team.rt.
     pub fn set_http_only(&mut self, value: Option<bool>)
         ensures fields { self.new.fields ≡ record self.old.fields { http_only = value } }
         ensures raw { self.new.raw ≡ self.old.raw }
@@ -39,7 +40,7 @@ impl<'c> Cookie<'c> {
         self.http_only = value;
     }
 
-    /// Sets whether it is for secure connections only; `None` unsets that (RFC 6265 4.1.2.5).
+    /// Sets whether the cookie is for secure connections only; `None` unsets that (RFC 6265 4.1.2.5).
     pub fn set_secure(&mut self, value: Option<bool>)
         ensures fields { self.new.fields ≡ record self.old.fields { secure = value } }
         ensures raw { self.new.raw ≡ self.old.raw }
@@ -47,7 +48,7 @@ impl<'c> Cookie<'c> {
         self.secure = value;
     }
 
-    /// Sets whether it is kept apart for each top-level site; `None` unsets that.
+    /// Sets whether the cookie is kept apart for each top-level site; `None` unsets that.
     pub fn set_partitioned(&mut self, value: Option<bool>)
         ensures fields { self.new.fields ≡ record self.old.fields { partitioned = value } }
         ensures raw { self.new.raw ≡ self.old.raw }
@@ -55,8 +56,8 @@ impl<'c> Cookie<'c> {
         self.partitioned = value;
     }
 
-    /// Sets to which requests from other sites it is sent; `None` unsets that, in contrast to
-    /// `Some(SameSite::None)` (RFC 6265bis 4.1.2.7).
+    /// Sets to which requests from other sites the cookie is sent (RFC 6265bis 4.1.2.7). `None` unsets that, in
+    /// contrast to `Some(SameSite::None)`.
     pub fn set_same_site(&mut self, value: Option<SameSite>)
         ensures fields { self.new.fields ≡ record self.old.fields { same_site = value } }
         ensures raw { self.new.raw ≡ self.old.raw }
@@ -80,7 +81,7 @@ impl<'c> Cookie<'c> {
         self.path = None;
     }
 
-    /// Sets the domain, of which one leading dot doesn't count (RFC 6265 4.1.2.3, 5.2.3).
+    /// Sets the domain, without one leading dot (RFC 6265 4.1.2.3, 5.2.3).
     pub fn set_domain(&mut self, domain: &'c str)
         ensures fields { self.new.fields
             ≡ record self.old.fields { domain = Some (without_leading_dot domain.now) } }
@@ -97,8 +98,8 @@ impl<'c> Cookie<'c> {
         self.domain = None;
     }
 
-    /// Sets the age from now on after which it expires; `None` unsets that (RFC 6265 5.2.2). Whole seconds of it are
-    /// printed and looked at, cut toward zero.
+    /// Sets the age from now on after which the cookie expires; `None` unsets that (RFC 6265 5.2.2). Its whole seconds
+    /// are printed and looked at, truncated toward zero.
     pub fn set_max_age(&mut self, value: Option<SignedDuration>)
         ensures fields { self.new.fields
             ≡ record self.old.fields { max_age = option_map signed_nanos value } }
@@ -107,8 +108,8 @@ impl<'c> Cookie<'c> {
         self.max_age = value;
     }
 
-    /// Sets the expiry, whose date and time is in UTC (RFC 6265 4.1.2.1). One past 9999-12-31 23:59:59.999999 counts as
-    /// that one, and whole seconds are printed.
+    /// Sets the expiry, whose date and time is in UTC (RFC 6265 4.1.2.1). A time after 9999-12-31 23:59:59.999999
+    /// counts as that time. Whole seconds are printed.
     pub fn set_expires(&mut self, when: Expiration)
         ensures fields { self.new.fields
             ≡ record self.old.fields { expires = Some (capped_expiry when) } }
@@ -117,7 +118,7 @@ impl<'c> Cookie<'c> {
         self.expires = Some(when.cap());
     }
 
-    /// Unsets the expiry, which is not to set it to the end of the session.
+    /// Unsets the expiry. This doesn't set it to the end of the session.
     pub fn unset_expires(&mut self)
         ensures fields { self.new.fields ≡ record self.old.fields { expires = None } }
         ensures raw { self.new.raw ≡ self.old.raw }
@@ -125,8 +126,8 @@ impl<'c> Cookie<'c> {
         self.expires = None;
     }
 
-    /// Makes it a cookie that a client keeps for twenty years: the age of 7,300 days, and an expiry that many
-    /// days after `now`, which is in UTC.
+    /// Makes it a cookie that a client keeps for twenty years: its age is 7,300 days, and its expiry is 7,300 days
+    /// after `now`, which is in UTC.
     pub fn make_permanent(&mut self, now: DateTime)
         ensures fields { self.new.fields ≡ permanent now self.old.fields }
         ensures raw { self.new.raw ≡ self.old.raw }
@@ -135,8 +136,9 @@ impl<'c> Cookie<'c> {
         self.set_expires(Expiration::DateTime(days_after(now, 7300)));
     }
 
-    /// Makes it a cookie that tells a client to drop the one of its name, path and domain: the empty value, the age
-    /// zero, and an expiry 365 days before `now`, which is in UTC (RFC 6265 3.1).
+    /// Makes it a cookie that tells a client to drop the cookie with its name, path and domain (RFC 6265 3.1). It has
+    /// the empty value, the age zero, and an expiry 365 days before `now`, which is in UTC.
+    /// Example: `removal_text` in crates/cookie_examples/src/printing.rt.
     pub fn make_removal(&mut self, now: DateTime)
         ensures fields { self.new.fields ≡ removal now self.old.fields }
         ensures raw { self.new.raw ≡ record self.old.raw { value = None } }

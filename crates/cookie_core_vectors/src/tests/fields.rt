@@ -1,4 +1,4 @@
-//! The calls that change, print and compare a cookie's fields, and those of its builder.
+//! The calls that change, print and compare a cookie's fields, and the calls of its builder.
 use super::rows::first_wrong;
 use super::showing::has;
 use cookie_core::{Cookie, CookieBuilder, Expiration, SameSite};
@@ -149,7 +149,7 @@ fn a_builder_sets_each_field(rt: HostRuntime) -> Result<(), AllocError> {
     Ok(())
 }
 
-// Whether a builder whose cookie was lent and got this path has it, and so has a copy.
+// Whether a builder has this path after its cookie was borrowed and got it, and so has a copy.
 fn has_path(alloc: Global, path: &'static str) -> Option<bool> {
     let mut builder = Cookie::build(Cookie::new("a", "1")).path("/x");
     builder.inner_mut().set_path(path);

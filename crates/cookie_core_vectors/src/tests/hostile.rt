@@ -2,9 +2,9 @@
 use super::rows::first_wrong;
 use std::alloc::{AllocError, Global};
 
-// White space of other alphabets is trimmed, but a space of no width isn't White_Space in Unicode. The case of keys is
-// that of ASCII: U+017F is a small s of another shape, and U+212A a capital K: in Unicode both have ASCII letters in
-// the other case.
+// White space of other alphabets is trimmed, but a space of no width isn't White_Space in Unicode. Keys are compared
+// ignoring ASCII case: U+017F is a small s of another shape, and U+212A a capital K. In Unicode both have ASCII letters
+// in the other case.
 const ALPHABETS: &str = "\
 read [\u{3000}a\u{a0}=\u{85}1\u{3000} || a=1; \u{17f}ecure || a=1; \u{17f}ame\u{17f}ite=Lax] has a=1 & lends a|1|-|-
 read [\u{200b}=1 ||  \u{200b} = 1 ] has \u{200b}=1 & lends \u{200b}|1|-|-
@@ -18,14 +18,14 @@ fn texts_of_other_alphabets_are_read_as_pairs(rt: HostRuntime) {
     assert!(rt; wrong.is_none(), "{wrong:?}");
 }
 
-// Ten thousand empty names are as many refusals.
+// Ten thousand empty names are ten thousand refusals.
 fn empty_names(alloc: Global) -> Result<String, AllocError> {
     let names = "=;".repeat(alloc, 10_000)?;
     let refusals = "[no name]".repeat(alloc, 10_000)?;
     format!(in alloc; "split [{names}] has {refusals}\nsplit encoded [{names}] has {refusals}")
 }
 
-// An age of 100,000 digits is the greatest, and there is none where a letter stands after it.
+// An age of 100,000 digits is the greatest, and there is none if a letter is after it.
 fn long_ages(alloc: Global) -> Result<String, AllocError> {
     let digits = "9".repeat(alloc, 100_000)?;
     let greatest = "a=1; Max-Age=9223372036854775807";
@@ -44,13 +44,13 @@ fn long_texts_are_read_and_split(rt: HostRuntime) -> Result<(), AllocError> {
 const LONG: &str =
     "id=x%20y; HttpOnly; SameSite=Lax; Partitioned; Secure; Path=/; Domain=a.example; Max-Age=90; Expires=Sun, 06 Nov 1994 08:49:37 GMT";
 
-// Cut to any length, `LONG` is read as its first this many bytes say, of these the greatest number that fits; below the
-// first there is no pair. By the crate `cookie`, but for `Max-Age=` (89), which sets nothing here.
+// Cut to any length, `LONG` is read as its first n bytes say, with the greatest n of these that fits. Below the first n
+// there is no pair. By the crate `cookie`, but for `Max-Age=` (89), which sets nothing here.
 const READ: [usize; 24] = [
     3, 4, 5, 6, 7, 8, 18, 32, 45, 53, 60, 61, 71, 72, 73, 74, 75, 76, 77, 78, 79, 90, 91, 130,
 ];
 
-// The pairs that it is split into where it is cut, each line from that length on; `~` is the last piece, as it stands.
+// The pairs that it is split into if it is cut, each line from its length on. `~` is the last piece, as it is.
 const SPLIT: &str = "\
 0 
 1 [no pair]
@@ -74,7 +74,7 @@ const SPLIT: &str = "\
 94 [id=x%20y][no pair][SameSite=Lax][no pair][no pair][Path=/][Domain=a.example][Max-Age=90][no pair]
 101 [id=x%20y][no pair][SameSite=Lax][no pair][no pair][Path=/][Domain=a.example][Max-Age=90][~]";
 
-// What the text that is cut to that length is read as.
+// What the text is read as if it is cut to this length.
 fn read_at(length: usize) -> Option<&'static str> {
     let mut words = "no pair";
     for end in READ {

@@ -3,7 +3,7 @@ use cookie_core::{Cookie, CookieBuilder, Expiration, days_after, read_date};
 use jiff::civil::DateTime;
 use std::alloc::Global;
 
-// Sets an own text, such as `Path=/` or `name b`.
+// Sets an owned string, such as `Path=/` or `name b`.
 fn set_own(alloc: Global, cookie: &mut Cookie<'_>, words: &str) -> Option<()> {
     let (name, text) = words.split_once(['=', ' '])?;
     let text = String::from_str(alloc, text).ok()?;
@@ -52,7 +52,8 @@ fn change<'c>(alloc: Global, cookie: &mut Cookie<'c>, words: &'c str) -> Option<
     Some(())
 }
 
-// The cookie that the changes of a row begin with: of a pair, of a name alone, of own texts, or of a text that is read.
+// The cookie that the changes of a row begin with: of a pair, of only a name, of owned strings, or of a text that is
+// read.
 fn begun<'c>(alloc: Global, way: &str, text: &'c str) -> Option<Cookie<'c>> {
     match (way, text.split_once('=')) {
         ("set", Some((name, value))) => Some(Cookie::new(name, value)),

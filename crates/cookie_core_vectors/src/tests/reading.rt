@@ -1,4 +1,4 @@
-//! Texts that are read as one cookie, and headers that are split; and those that are refused.
+//! Texts that are read as one cookie, headers that are split, and texts and headers that are refused.
 use super::rows::first_wrong;
 use cookie_core::{Cookie, Layout, ParseError, Span};
 
@@ -136,7 +136,7 @@ fn a_header_that_has_ended_gives_no_items(rt: HostRuntime) {
     }
 }
 
-// Whether the forms that a text's cookie lends outlive it.
+// Whether the forms that a cookie borrows from its text outlive the cookie.
 fn are_lent_for_long() -> Option<bool> {
     let cookie = Cookie::parse("bar=baz; Path=/subdir; HttpOnly; Domain=crates.io").ok()?;
     let pair = (cookie.name_raw(), cookie.value_raw());
@@ -154,7 +154,7 @@ fn is_at(span: Span, start: usize, end: usize) -> bool {
     (span.start, span.end) == (start, end)
 }
 
-// Whether the parts of a text have their places.
+// Whether the parts of a text are in their places.
 fn is_laid_out() -> Option<bool> {
     let layout = Layout::of(" bar = baz ; Path=/subdir; HttpOnly; Domain=.crates.io").ok()?;
     let attributes = layout.attributes;

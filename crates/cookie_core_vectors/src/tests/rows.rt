@@ -1,5 +1,5 @@
-//! Rows `WAY [TEXT || TEXT ..] LOOK ANSWER & LOOK ANSWER ..`: how a cookie is made, of which texts each, how it is
-//! looked at, and what is seen.
+//! Rows `WAY [TEXT || TEXT ..] LOOK ANSWER & LOOK ANSWER ..`: how a cookie is made of each text, how it is looked at,
+//! and what is seen.
 use super::making::{builder, made};
 use super::showing::Look;
 use cookie_core::{Cookie, SplitCookies};
@@ -14,7 +14,7 @@ fn is_parsed(text: &str, look: Look<'_>) -> Option<bool> {
     Some(is_own && look.is_right(&Cookie::parse(text)))
 }
 
-// The same of those that undo escapes.
+// Whether the text is read so by each call that undoes its escapes.
 fn is_decoded(text: &str, look: Look<'_>) -> Option<bool> {
     let alloc = look.alloc;
     let owned = Cookie::parse_encoded_owned(alloc, String::from_str(alloc, text).ok()?);
@@ -22,7 +22,7 @@ fn is_decoded(text: &str, look: Look<'_>) -> Option<bool> {
     Some(is_lent && look.of_own().is_right(&owned))
 }
 
-// The same of all of them.
+// Whether the text is read so by all these calls.
 fn is_read(text: &str, look: Look<'_>) -> Option<bool> {
     let is_parsed = is_parsed(text, look)?;
     Some(is_parsed && is_decoded(text, look)?)
@@ -47,7 +47,7 @@ fn is_split(text: &str, look: Look<'_>) -> Option<bool> {
     Some(are_items(Cookie::split_parse(text), false, look) && are_items(owned, true, look))
 }
 
-// The same of those that undo escapes.
+// Whether both calls that undo escapes split the text so.
 fn is_split_decoded(text: &str, look: Look<'_>) -> Option<bool> {
     let alloc = look.alloc;
     let owned = Cookie::split_parse_encoded_owned(alloc, String::from_str(alloc, text).ok()?);
@@ -55,7 +55,7 @@ fn is_split_decoded(text: &str, look: Look<'_>) -> Option<bool> {
     Some(are_items(lent, false, look) && are_items(owned, true, look))
 }
 
-// Whether the cookie compares so with that of `WAY [TEXT]`.
+// Whether the cookie compares so with the cookie of `WAY [TEXT]`.
 fn is_compared(one: &Cookie<'_>, look: Look<'_>) -> Option<bool> {
     let (way, text) = look.seen.strip_suffix("]")?.split_once(" [")?;
     let other = made(look.alloc, way, text)?;
@@ -67,7 +67,7 @@ fn is_built(text: &str, look: Look<'_>) -> Option<bool> {
     Some(prints(look.alloc, &builder(look.alloc, text)?, look.seen))
 }
 
-// Whether what the way makes of the text is seen so.
+// Whether the cookie that the way makes of the text is seen so.
 fn is_seen(way: &str, text: &str, look: Look<'_>) -> Option<bool> {
     match (way, look.verb) {
         (_, "==" | "!=") => is_compared(&made(look.alloc, way, text)?, look),

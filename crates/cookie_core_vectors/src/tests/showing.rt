@@ -8,7 +8,7 @@ fn is_text(shown: Result<String, AllocError>, text: &str) -> bool {
     matches!(shown, Ok(shown) if shown.as_str() == text)
 }
 
-// Whether the refusal is told so, or has this text.
+// Whether the refusal is named so, or has this text.
 fn is_refused(refusal: ParseError, look: Look<'_>) -> bool {
     let place = look.seen.strip_prefix("no UTF-8 from ");
     match (look.verb, refusal, place) {
@@ -24,7 +24,7 @@ fn is_refused(refusal: ParseError, look: Look<'_>) -> bool {
     }
 }
 
-// Whether the expiry is that at the moment, or at the end of the session where there is none, by each call.
+// Whether the expiry is at this time, or at the end of the session if there is none, by each call.
 fn is_expiry(expiry: Expiration, moment: Option<DateTime>) -> bool {
     Expiration::from_option(moment) == expiry
         && (expiry.is_datetime(), expiry.is_session()) == (moment.is_some(), moment.is_none())
@@ -63,7 +63,7 @@ impl<'a> Look<'a> {
         Some(Look { alloc, verb, seen })
     }
 
-    /// The same look at a cookie that keeps its texts, and so lends none.
+    /// The same look at a cookie that keeps its texts, and so borrows none.
     pub(super) fn of_own(self) -> Look<'a> {
         if self.verb == "lends" && self.seen.contains('|') {
             return self.of("-|-|-|-");
@@ -93,7 +93,7 @@ impl<'a> Look<'a> {
         }
     }
 
-    // Whether a clone is seen so too, and an own copy, which lends nothing.
+    // Whether a clone is seen so too, and an owned copy, which borrows nothing.
     fn is_copied(self, cookie: &Cookie<'_>) -> Option<bool> {
         let copy = cookie.clone(self.alloc).ok()?;
         let is_cloned = self.shows(&copy);

@@ -46,7 +46,7 @@ fn messages_are_hashed_keys_expanded_and_codes_compared(rt: HostRuntime) {
     assert!(rt; wrong.is_none(), "{wrong:?}");
 }
 
-// Whether the state of a key of 32 bytes and its copy give the code, whole and in pieces.
+// Whether the state of a key of 32 bytes and its copy compute the code, whole and in pieces.
 fn has_code_by_states(key: &[u8], message: &[u8], code: &[u8]) -> Option<bool> {
     let mac = Mac::new(&key.try_into().ok()?);
     let copy = mac.clone().ok()?;
@@ -79,7 +79,7 @@ pub(super) fn is_expanded(mut words: Words<'_>) -> Option<bool> {
     Some(expanded.starts_with(expansion.as_slice()) && !expansion.is_empty())
 }
 
-/// Whether the two are equal, or others, as told.
+/// Whether the two are equal, or others, as the row says.
 pub(super) fn are_compared(mut words: Words<'_>) -> Option<bool> {
     let (one, other) = (words.bytes()?, words.bytes()?);
     let are_alike = are_equal(one.as_slice(), other.as_slice());

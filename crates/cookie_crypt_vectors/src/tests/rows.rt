@@ -1,4 +1,4 @@
-//! Rows `CALL INPUT -> ANSWER`, whose words write bytes in hexadecimal, `-` where there is none.
+//! Rows `CALL INPUT -> ANSWER`, whose words write bytes in hexadecimal, `-` if there is none.
 use super::{blocks, macs, sealings};
 use hex::{FromHex, decode};
 use std::alloc::Global;
@@ -41,7 +41,7 @@ pub(super) fn draw(state: &mut u64, bytes: &mut [u8]) {
     }
 }
 
-// Whether the row's call gives its answer, where it has both.
+// Whether the row's call returns its answer, if the row has both.
 fn is_right(alloc: Global, row: &str) -> Option<bool> {
     let (call, rest) = row.split_once(' ')?;
     let words = Words { alloc, rest };

@@ -108,7 +108,7 @@ pub(super) fn is_refused(mut words: Words<'_>) -> Option<bool> {
 
 const LONGEST: usize = 100;
 
-// Puts down a drawn text of this size, sealed under a drawn key with drawn data of another size, and its tag.
+// Appends a drawn text of this size, sealed under a drawn key with drawn data of another size, and its tag.
 fn push_sealed(all: &mut Vec<u8>, state: &mut u64, size: usize) -> Option<()> {
     let (mut key, mut nonce, mut data, mut text) = ([0; 32], [0; 12], [0; LONGEST], [0; LONGEST]);
     draw(state, &mut key);

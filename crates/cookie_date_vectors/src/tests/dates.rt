@@ -5,7 +5,7 @@ use std::alloc::Global;
 use std::test::Fail;
 
 // What a header's date is read as; what a browser reads; and printed dates. The last rows have the first and the last
-// moment of the calendar.
+// date-time of the calendar.
 const ROWS: &str = "\
 # each form
 read Sun, 06 Nov 1994 08:49:37 GMT || 06 Nov 1994 08:49:37 GMT || Sunday, 06-Nov-94 08:49:37 GMT -> 1994-11-06T08:49:37
@@ -126,7 +126,7 @@ fn added(words: &str) -> Option<DateTime> {
     Some(days_after(start.parse().ok()?, days.parse().ok()?))
 }
 
-// What the call gives, where there is such a call: a date, or none.
+// What the call returns, if there is such a call: a date, or none.
 fn given(alloc: Global, call: &str, input: &str) -> Option<String> {
     let date = match call {
         "printed" => return printed(alloc, input),
@@ -142,7 +142,7 @@ fn given(alloc: Global, call: &str, input: &str) -> Option<String> {
     }
 }
 
-// Whether the row's call gives its answer for each input.
+// Whether the row's call returns its answer for each input.
 fn is_right(alloc: Global, row: &str) -> Option<bool> {
     let (asked, answer) = row.split_once(" -> ")?;
     let (call, inputs) = asked.split_once(' ')?;

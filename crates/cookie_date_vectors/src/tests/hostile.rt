@@ -3,9 +3,9 @@ use cookie_date::read_date;
 use std::alloc::Global;
 
 // Texts with the year inside: `Sun, 06 Nov 1994 08:49:37 GMT` has the day at 5, the year at 12 and the hour at 17. A
-// row is `PLACE EDIT -> DATE`, and an edit that no row names gives no date. `5 with 12 -> 1994-11-_6T08:49:37` is two
-// rows: the place has the character `1` or `2`, which stands in the date for `_`. The rows were worked out by the
-// grammar as a regular expression, in Python.
+// row is `PLACE EDIT -> DATE`, and after an edit that no row names the text is no date.
+// `5 with 12 -> 1994-11-_6T08:49:37` is two rows: the place has the character `1` or `2`, which replaces `_` in the
+// date. The rows were worked out by the grammar as a regular expression, in Python.
 const YEAR_INSIDE: &str = "\
 5 with 12 -> 1994-11-_6T08:49:37
 6 with 12345789 -> 1994-11-0_T08:49:37
@@ -99,7 +99,8 @@ fn is_right(alloc: Global, form: (&str, &str), place: usize, edit: &str) -> Opti
     }
 }
 
-// The same of each character of ASCII, one of two bytes and one of four, and of the other edits.
+// Whether it is so after the edits with each character of ASCII, one of two bytes and one of four, and after the other
+// edits.
 fn are_right(alloc: Global, form: (&str, &str), place: usize) -> Option<bool> {
     let mut are_right = true;
     for code in 0..128u8 {
