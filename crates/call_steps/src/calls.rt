@@ -43,7 +43,7 @@ pub fn own_call(alloc: Global, verb: Verb, cookie: Cookie<'static>) -> Option<Ja
     })
 }
 
-/// The call that the step says. `earlier a=1` is a removal at the least moment.
+/// The call that the step says. `earlier a=1` is a removal at the earliest time.
 pub fn call_of<'k>(alloc: Global, key: &'k Key, step: &'static str) -> Option<JarCall<'k>> {
     if let Some(words) = step.strip_prefix("earlier ") {
         return Some(JarCall::Remove(cookie_words::cookie(words)?, DateTime::MIN));

@@ -6,13 +6,13 @@ use cookie_words::set;
 use jar_steps::Verb;
 use std::alloc::Global;
 
-/// What calls are drawn of: texts with bars between them. One that stands twice is drawn twice as often.
+/// What calls are drawn from: texts with bars between them. A text that is listed twice is drawn twice as often.
 #[derive(Clone, Copy)]
 pub struct Tables {
     pub verbs: &'static str,
     pub names: &'static str,
     pub values: &'static str,
-    /// Fields such as `Path=/`. A cookie has one of each text, or none where an empty one is drawn.
+    /// Fields such as `Path=/`. A cookie has one of each text, or none if an empty one is drawn.
     pub fields: &'static [&'static str],
 }
 
@@ -51,7 +51,7 @@ impl Draws {
         own_call(alloc, verb, cookie)
     }
 
-    /// Fewer calls than that number.
+    /// Draws fewer calls than that number.
     pub fn calls(&mut self, alloc: Global, of: Tables, end: u64) -> Option<Vec<JarCall<'static>>> {
         let mut calls = Vec::new(alloc);
         for _ in 0..self.below(end) {

@@ -1,4 +1,5 @@
-//! A second body of the jar: two lists, in which a name is found by going over all of them, without a contract.
+//! A second implementation of the jar: two lists, in which a name is found by going over all of them, without a
+//! contract.
 use cookie::{Cookie, CookieJar};
 use cookie_client::JarCall;
 use jar_steps::{counts, shown_value};
@@ -30,7 +31,7 @@ impl<'c> Entries<'c> {
         Entries { list }
     }
 
-    /// What stands under the name.
+    /// The entry under the name.
     pub fn find(&self, name: &str) -> Option<Entry<'c>> {
         let mut entries = self.list.iter().copied();
         entries.find(|held| held.cookie.name() == name)
@@ -40,7 +41,7 @@ impl<'c> Entries<'c> {
         self.list.retain(|held| held.cookie.name() != name);
     }
 
-    /// Puts the cookie last, in the place of the one of its name.
+    /// Puts the cookie last, in place of the one of its name.
     pub fn put(&mut self, cookie: &'c Cookie<'static>, is_removal: bool) -> Result<(), AllocError> {
         self.forget(cookie.name());
         self.list.push(Entry { cookie, is_removal })?;

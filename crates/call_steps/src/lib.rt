@@ -1,5 +1,5 @@
-//! What the tests of clients, of user agents and of header maps share: calls as values of their words, a second body of
-//! the jar, and calls that are drawn.
+//! What the tests of clients, of user agents and of header maps share: calls as values of their words, a second
+//! implementation of the jar, and calls that are drawn.
 #![tactic(auto)]
 
 mod calls;

@@ -13,7 +13,7 @@ use cookie_core::Cookie;
 use jiff::civil::DateTime;
 use std::alloc::{AllocError, Global};
 
-/// How a child jar stores the cookies that it is handed.
+/// How a child jar stores the cookies that are passed to it.
 pub trait Storing: Drop {
     // The cookie as an addition stores it.
     ghost stored: { Self → Record → Record };
@@ -21,23 +21,23 @@ pub trait Storing: Drop {
     // The cookie whose name a removal drops.
     ghost dropped: { Self → Record → Record };
 
-    // Making that cookie takes no memory.
+    // Making that cookie doesn't allocate.
     ghost DropsFreely: { Type 0 };
 
-    // A look-up through the child jar gives the name and the value of this cookie.
+    // A look-up through the child jar returns the name and the value of this cookie.
     ghost ShowsPair: { Self → JarState → Record → Type 0 };
 
-    /// The cookie that the jar is to add. Fails only with `AllocError`, when memory runs out.
+    /// Returns the cookie that the jar is to add. Fails only with `AllocError`, if out of memory.
     fn to_add(&self, alloc: Global, cookie: Cookie<'static>) -> Result<Cookie<'static>, AllocError>
         ensures gives { Gives alloc_error result (λ c.
             c.fields ≡ stored self.now cookie.entry.fields) }
 
-        // Whatever the jar, one that it was added to shows it.
+        // Any jar that it was added to shows it.
         ensures shown { (jar : JarState)
             → ShowsPair self.now (after (Add (stored self.now cookie.entry.fields)) jar)
             cookie.entry.fields };
 
-    /// The cookie that the jar is to remove. Fails only with `AllocError`, when memory runs out.
+    /// Returns the cookie that the jar is to remove. Fails only with `AllocError`, if out of memory.
     fn to_remove(
         &self,
         alloc: Global,
@@ -70,9 +70,10 @@ impl<'a, S: Storing> ChildJar<'a, S> {
         self.jar.add_original(original)
     }
 
-    /// Adds a cookie, as the child jar stores it. A `get` of its name then gives its name and value.
+    /// Adds a cookie, as the child jar stores it. A `get` of its name then returns its name and value.
     ///
     /// Fails only with `JarError::OutOfMemory`, and then leaves the jar as it was.
+    /// Example: `add_for_team` in crates/cookie_examples/src/team.rt.
     pub fn add(&mut self, cookie: Cookie<'static>) -> Result<(), JarError>
         ensures gives { Gives refusal.OutOfMemory result (λ _.
             jar_of self.new ≡ after
@@ -86,12 +87,13 @@ impl<'a, S: Storing> ChildJar<'a, S> {
         self.jar.add(added)
     }
 
-    /// Removes the cookie of that name, at the date and time `now` in UTC; of a prefix's child jar, the one that has
-    /// this name after the prefix. Where there is an original of that name, the delta gets a cookie that tells the
-    /// client to drop it, with this cookie's path and domain.
+    /// Removes the cookie of that name, at the date and time `now` in UTC. Through the child jar of a prefix, it
+    /// removes the one that has this name after the prefix. If there is an original of that name, the delta gets a
+    /// cookie that tells the client to drop it, with this cookie's path and domain as the child jar stores them.
     ///
-    /// Fails only with `JarError::OutOfMemory`, and then leaves the jar as it was. A signed child jar's is never
-    /// refused where there is no such original.
+    /// Fails only with `JarError::OutOfMemory`, and then leaves the jar as it was. Through a signed child jar it never
+    /// fails if there is no such original.
+    /// Example: `remove_in_scope` in crates/cookie_examples/src/removal.rt.
     pub fn remove(&mut self, cookie: Cookie<'static>, now: DateTime) -> Result<(), JarError>
         ensures gives { Gives refusal.OutOfMemory result (λ _.
             jar_of self.new ≡ after

@@ -6,10 +6,11 @@ use crate::jar::CookieJar;
 use std::alloc::AllocError;
 
 impl CookieJar {
-    /// The encoded texts of the delta's cookies, one for each. Their order isn't promised. A response sends each in a
-    /// `Set-Cookie` header (RFC 6265 4.1.1).
+    /// Returns the encoded texts of the delta's cookies, one for each. Their order isn't promised. A response sends
+    /// each in a `Set-Cookie` header (RFC 6265 4.1.1).
     ///
     /// Fails only if out of memory.
+    /// Example: `answer` in crates/cookie_examples/src/answer.rt.
     pub fn set_cookie_texts(&self) -> Result<Vec<String>, AllocError>
         ensures once { IfOk result (λ texts.
             AreDeltaTextsOnce self.now.delta (map string_bytes texts.items)) }

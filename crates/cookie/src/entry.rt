@@ -1,4 +1,4 @@
-//! What stands at a name of a table, and the calls that a jar makes of its two tables.
+//! The entries of a jar's two tables, and the calls that the jar makes on the tables.
 ghost use Rattle.std.specs.Prelude.{◌≡◌, ℕ, List, OnOk, OnErr, IfOk};
 ghost use Rattle.std.specs.FinMap as map;
 ghost use Rattle.std.specs.Option.{option_map};
@@ -21,7 +21,7 @@ const FIRST_ROOM: usize = 36;
 // In a table of no more entries than this a look-up compares each name, which costs less than to hash one with drawn keys.
 const FEW: usize = 8;
 
-// What stands at a cookie's name.
+// The entry under a cookie's name.
 pub(crate) trait Entry: Drop {
     // What a jar's contracts see of it.
     ghost Shown: { Type 0 };
@@ -31,7 +31,7 @@ pub(crate) trait Entry: Drop {
     // The name of its cookie.
     ghost name_of: { Shown → List ℕ };
 
-    // The key at which it stands.
+    // Its key in the table.
     fn key(&self) -> Result<NameKey, AllocError>
         ensures { IfOk result (λ key. key_name key ≡ name_of (shows self.now)) };
 
@@ -107,7 +107,7 @@ fn find_by_comparing<'a, X: Entry>(
     None
 }
 
-// Puts an entry at its name. On an error the table stays as it was. It hashes names as before, whatever the answer.
+// Puts an entry at its name. On an error the table stays as it was. It hashes names as before, in both cases.
 pub(crate) fn put<X: Entry>(
     table: &mut IndexMap<NameKey, X, NameHash>,
     entry: X,
@@ -127,7 +127,7 @@ pub(crate) fn put<X: Entry>(
     Ok(())
 }
 
-// Makes room in a full table: for some entries at first, and then for four times as many as there are, since each step
+// Makes room in a full table: for some entries at first, and then for four times the number of entries, since each step
 // moves them all.
 fn make_room<X: Entry>(table: &mut IndexMap<NameKey, X, NameHash>) -> Result<(), AllocError>
     ensures same { by_name X.shows table.new.entries ≡ by_name X.shows table.old.entries }

@@ -8,9 +8,9 @@ use cookie_core::ParseError;
 use std::alloc::{AllocError, AllocFailed};
 use std::{error, fmt};
 
-/// Why a call failed, for a function that reads texts, makes keys and changes jars: `?` makes it of their errors.
+/// Why a call failed, for a function that reads texts, makes keys and changes jars: `?` converts their errors to it.
 ///
-/// Want of memory is one case, whichever call ran out of it.
+/// Out of memory is one case, whichever call ran out of it.
 #[derive(Clone, Copy, Debug, PartialEq, Eq)]
 pub enum Error {
     /// Memory ran out.

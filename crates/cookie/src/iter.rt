@@ -77,7 +77,7 @@ impl<'a> Model for Iter<'a> {
 }
 
 impl<'a> Iter<'a> {
-    // The cookies that were added, and then the originals whose names were left alone.
+    // The cookies that were added, and then the originals under whose names nothing was added or removed.
     pub(crate) fn new(
         delta: &'a IndexMap<NameKey, DeltaCookie, NameHash>,
         originals: &'a IndexMap<NameKey, Original, NameHash>,

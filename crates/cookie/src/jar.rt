@@ -54,9 +54,10 @@ impl Model for CookieJar {
 }
 
 impl CookieJar {
-    /// A jar with no cookie. It takes no memory.
+    /// Makes a jar with no cookie. It doesn't allocate.
     ///
-    /// After any changes of it, each map has at each name what looking back through the changes finds.
+    /// After any changes, each of its two maps has under each name what looking back through the changes finds.
+    /// Example: `jar_of_user` in crates/cookie_examples/src/show.rt.
     pub fn new(alloc: Global) -> CookieJar
         ensures empty { result ≡ empty_jar }
         ensures history { (changes : List Change)
@@ -65,10 +66,11 @@ impl CookieJar {
         CookieJar::hashing(alloc, NameHash::Fixed)
     }
 
-    /// A jar with no cookie, for names that strangers choose: it hashes them with the keys of `state`, and so do
-    /// its copies. It takes no memory.
+    /// Makes a jar with no cookie, for names that strangers choose. The jar and its copies hash the names with the keys
+    /// of `state`. It doesn't allocate.
     ///
-    /// After any changes of it, each map has at each name what looking back through the changes finds.
+    /// After any changes, each of its two maps has under each name what looking back through the changes finds.
+    /// Example: `request_jar` in crates/cookie_examples/src/requests.rt.
     pub fn with_hasher(alloc: Global, state: RandomState) -> CookieJar
         ensures empty { result ≡ empty_jar }
         ensures history { (changes : List Change)
@@ -77,7 +79,7 @@ impl CookieJar {
         CookieJar::hashing(alloc, NameHash::Keyed(state))
     }
 
-    // A jar with no cookie, which hashes names this way.
+    // Makes a jar with no cookie, which hashes names this way.
     fn hashing(alloc: Global, hash: NameHash) -> CookieJar
         ensures empty { result ≡ empty_jar }
         ensures history { (changes : List Change)
@@ -89,7 +91,9 @@ impl CookieJar {
         }
     }
 
-    /// The cookie that the jar shows under `name`.
+    /// Returns the cookie under `name`: the one that was added, or else the original. Returns `None` if there is
+    /// neither, or if it was removed.
+    /// Example: `take_flash` in crates/cookie_examples/src/flash.rt.
     pub fn get(&self, name: &str) -> Option<&Cookie<'static>>
         ensures { option_map (λ c. c.now.fields) result ≡ view self.now name.now }
     {
@@ -100,7 +104,7 @@ impl CookieJar {
         }
     }
 
-    /// The original stored under `name`, whatever the delta has there. It takes no memory.
+    /// Returns the original cookie under `name`, whatever the delta has there. It doesn't allocate.
     pub fn original(&self, name: &str) -> Option<&Cookie<'static>>
         ensures { option_map (λ c. c.now.fields) result ≡ get self.now.originals name.now }
     {
@@ -108,7 +112,7 @@ impl CookieJar {
         Some(&*entry.cookie)
     }
 
-    /// Adds an original cookie, in the place of the one of its name. It is no change: the delta stays.
+    /// Adds an original cookie, in place of the original of its name. This isn't a change: the delta stays as it is.
     ///
     /// Fails only with `JarError::OutOfMemory`, and then leaves the jar as it was.
     pub fn add_original(&mut self, cookie: Cookie<'static>) -> Result<(), JarError>
@@ -129,9 +133,10 @@ impl CookieJar {
         put(&mut self.originals, original)
     }
 
-    /// Adds a cookie, in the place of the one that the jar shows under its name.
+    /// Adds a cookie, in place of the one that the jar shows under its name.
     ///
     /// Fails only with `JarError::OutOfMemory`, and then leaves the jar as it was.
+    /// Example: `answer` in crates/cookie_examples/src/answer.rt.
     pub fn add(&mut self, cookie: Cookie<'static>) -> Result<(), JarError>
         ensures gives { Gives refusal.OutOfMemory result (λ _.
             self.new ≡ after (Add cookie.entry.fields) self.old) }
@@ -142,10 +147,12 @@ impl CookieJar {
         Ok(())
     }
 
-    /// Removes the cookie of that name, at the date and time `now` in UTC. Where there is an original of that
-    /// name, the delta gets a cookie that tells the client to drop it, with this cookie's path and domain.
+    /// Removes the cookie of that name, at the date and time `now` in UTC. If there is an original of that name, the
+    /// delta gets a cookie that tells the client to drop it, with this cookie's path and domain.
     ///
-    /// Fails only with `JarError::OutOfMemory`, where there is such an original, and then leaves the jar as it was.
+    /// Fails only with `JarError::OutOfMemory`, and only if there is such an original. It then leaves the jar as it
+    /// was.
+    /// Example: `take_flash` in crates/cookie_examples/src/flash.rt.
     pub fn remove(&mut self, cookie: Cookie<'static>, now: DateTime) -> Result<(), JarError>
         ensures gives { Gives refusal.OutOfMemory result (λ _.
             self.new ≡ after (Remove cookie.entry.fields now) self.old) }
@@ -161,8 +168,8 @@ impl CookieJar {
         Ok(())
     }
 
-    /// Removes what the jar has under that name, an original and a change alike. The delta gets no cookie that
-    /// would tell the client to drop it. It takes no memory.
+    /// Removes what the jar has under that name, original and change alike. The delta gets no cookie that would tell
+    /// the client to drop it. It doesn't allocate.
     pub fn force_remove(&mut self, name: &str)
         ensures { self.new ≡ after (ForceRemove name.now) self.old }
     {
@@ -170,7 +177,7 @@ impl CookieJar {
         discard(&mut self.delta, name);
     }
 
-    /// Forgets all changes: the delta is empty, and the jar shows its originals again. It takes no memory.
+    /// Forgets all changes: the delta is empty, and the jar shows its originals again. It doesn't allocate.
     pub fn reset_delta(&mut self)
         ensures change { self.new ≡ after ResetDelta self.old }
         ensures originals { (name : Name) → view self.new name ≡ get self.old.originals name }
@@ -178,12 +185,12 @@ impl CookieJar {
         self.delta.truncate(0);
     }
 
-    // What the jar and its child jars ask for memory.
+    // The allocator of the jar and of its child jars.
     pub(crate) fn allocator(&self) -> Global {
         *self.delta.allocator()
     }
 
-    /// A jar with copies of this one's originals and changes.
+    /// Copies the jar, with its originals and changes.
     ///
     /// Fails only with `JarError::OutOfMemory`.
     pub fn clone(&self) -> Result<CookieJar, JarError>
@@ -197,8 +204,9 @@ impl CookieJar {
         Ok(made)
     }
 
-    /// The cookies that the jar shows, each name once: those that were added, and the originals under whose
-    /// names nothing was added or removed. It takes no memory.
+    /// Iterates over the cookies that the jar shows, each name once: those that were added, and the originals under
+    /// whose names nothing was added or removed. It doesn't allocate.
+    /// Example: `shown_count` in crates/cookie_examples/src/counting.rt.
     pub fn iter(&self) -> Iter<'_>
         ensures walks { Walks (view self.now) result }
 
@@ -211,8 +219,9 @@ impl CookieJar {
         Iter::new(&self.delta, &self.originals)
     }
 
-    /// The cookies that were changed, each name once: those that were added, and those that tell the client to
-    /// drop an original. It takes no memory.
+    /// Iterates over the cookies that were changed, each name once: those that were added, and those that tell the
+    /// client to drop an original. It doesn't allocate.
+    /// Example: `change_count` in crates/cookie_examples/src/counting.rt.
     pub fn delta(&self) -> Delta<'_>
         ensures walks { Walks (λ n. option_map (λ m. m.cookie) (get self.now.delta n)) result }
 

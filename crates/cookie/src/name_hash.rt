@@ -49,7 +49,7 @@ impl BuildHasher for NameHash {
         }
     }
 
-    // It asks which function it is once, where the trait's own body asks at each write.
+    // It checks once which function it is, but the trait's own body checks at each write.
     fn hash_one<T: Hash + Drop>(&self, x: T) -> u64 {
         match self {
             NameHash::Fixed => {

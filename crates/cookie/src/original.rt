@@ -7,7 +7,7 @@ use std::alloc::{AllocError, Global};
 use std::sync::Arc;
 
 // A cookie that the jar began with. Its key shares it, and so do copies of the jar. Its type names no lifetime, as the
-// calls on tables want it.
+// calls on tables require.
 #[derive(Debug, Drop)]
 pub(crate) struct Original {
     pub(crate) cookie: Arc<Cookie<'static>, Global>,

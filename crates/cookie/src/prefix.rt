@@ -1,4 +1,4 @@
-//! Prefixes of cookie names, and what they ask of a cookie (RFC 6265bis 4.1.3).
+//! Prefixes of cookie names, and what they require of a cookie (RFC 6265bis 4.1.3).
 ghost use Rattle.std.specs.Prelude.{◌≡◌, ◌++◌, alloc_error, option_map, string_bytes};
 ghost use Rattle.cookie_core.specs.Memory.{Gives};
 ghost use Rattle.cookie_core.specs.Record.{Record, RawForms, CookieView};
@@ -18,9 +18,9 @@ pub use name_prefix::NamePrefix;
 pub use secure_prefix::Secure;
 use std::alloc::{AllocError, Global};
 
-/// A prefix of names, and what it asks of a cookie whose name has it.
+/// A prefix of names, and what it requires of a cookie whose name has it.
 pub trait Prefix: Drop {
-    /// What stands before the names.
+    /// The text before the names.
     const PREFIX: NamePrefix;
 
     ghost PREFIX: { Name };
@@ -28,10 +28,10 @@ pub trait Prefix: Drop {
     // What conforming makes of a cookie's record.
     ghost conformed: { Record → Record };
 
-    // What a cookie that was made to conform lends.
+    // The parts of a text that a cookie borrows after it was made to conform.
     ghost conformed_raw: { CookieView → RawForms };
 
-    /// Makes a cookie conform to what the prefix asks for. It takes no memory.
+    /// Makes a cookie conform to what the prefix requires. It doesn't allocate.
     fn conform<'c>(cookie: Cookie<'c>) -> Cookie<'c>
         ensures fields { result.fields ≡ conformed cookie.entry.fields }
         ensures raw { result.raw ≡ conformed_raw cookie.entry };
@@ -43,7 +43,7 @@ pub trait Prefix: Drop {
 
 /// The calls of a prefix on names and cookies. Each type with a [`Prefix`] has them, and none can write its own.
 pub trait Prefixing: Prefix {
-    /// The name with the prefix before it. Fails only with `AllocError`, when memory runs out.
+    /// Returns the name with the prefix before it. Fails only with `AllocError`, if out of memory.
     fn prefixed_name(alloc: Global, name: &str) -> Result<String, AllocError>
         ensures { Gives alloc_error result (λ made. string_bytes made ≡ Self.PREFIX ++ name.now) }
     {
@@ -52,8 +52,8 @@ pub trait Prefixing: Prefix {
         Ok(made)
     }
 
-    /// The cookie with the prefix before its name. The name counts as set, where the prefix isn't empty. Fails only
-    /// with `AllocError`, when memory runs out.
+    /// Puts the prefix before the cookie's name. The name counts as set if the prefix isn't empty. Fails only with
+    /// `AllocError`, if out of memory.
     fn prefix<'c>(alloc: Global, mut cookie: Cookie<'c>) -> Result<Cookie<'c>, AllocError>
         ensures fields { Gives alloc_error result (λ c.
             c.fields ≡ prefixed_cookie Self.PREFIX cookie.entry.fields) }
@@ -69,8 +69,8 @@ pub trait Prefixing: Prefix {
         Ok(cookie)
     }
 
-    /// The cookie without the prefix before its name, where it stands there. The name counts as set, where it
-    /// changes. Fails only with `AllocError`, when memory runs out.
+    /// Takes the prefix off the cookie's name, if the name begins with it. The name counts as set if it changes. Fails
+    /// only with `AllocError`, if out of memory.
     fn clip<'c>(alloc: Global, mut cookie: Cookie<'c>) -> Result<Cookie<'c>, AllocError>
         ensures fields { Gives alloc_error result (λ c.
             c.fields ≡ clipped_cookie Self.PREFIX cookie.entry.fields) }
@@ -84,8 +84,8 @@ pub trait Prefixing: Prefix {
         Ok(cookie)
     }
 
-    /// The cookie as it is stored: with the prefix before its name, and then conforming. Fails only with
-    /// `AllocError`, when memory runs out.
+    /// Makes the cookie as it is stored: with the prefix before its name, and then conforming. Fails only with
+    /// `AllocError`, if out of memory.
     fn apply<'c>(alloc: Global, cookie: Cookie<'c>) -> Result<Cookie<'c>, AllocError>
         ensures fields { Gives alloc_error result (λ c.
             c.fields ≡ conforming_cookie Self.PREFIX Self.conformed cookie.entry.fields) }
@@ -102,7 +102,7 @@ pub trait Prefixing: Prefix {
 
 impl<P: Prefix> Prefixing for P {}
 
-// What stands after the prefix in a name, where that is another name.
+// The name without the prefix. `None` if the prefix is empty, or if the name doesn't begin with it.
 fn without<'n>(prefix: &str, name: &'n str) -> Option<&'n str>
     ensures { LeavesName prefix.now name.now (option_map (λ n. n.now) result) }
 {

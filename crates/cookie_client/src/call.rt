@@ -16,7 +16,7 @@ pub enum JarCall<'k> {
     AddOriginal(Cookie<'static>),
     /// Adds a cookie.
     Add(Cookie<'static>),
-    /// Removes the cookie's name at a moment in UTC (RFC 6265 3.1).
+    /// Removes the cookie's name at a time in UTC (RFC 6265 3.1).
     Remove(Cookie<'static>, DateTime),
     /// Removes a name from originals and changes alike.
     ForceRemove(String),
@@ -28,14 +28,15 @@ pub enum JarCall<'k> {
     Signed(&'k Key, ChildCall),
     /// A call through the private child jar of the key. An addition is sealed under the nonce of twelve bytes, which a
     /// removal doesn't use. The key must be random, and nothing else may ever be sealed with it under the same nonce
-    /// (SP 800-38D 8): no contract sees to that. Of random nonces at most 2^32 may be used with one key (8.3).
+    /// (SP 800-38D 8): no contract checks that. At most 2^32 random nonces may be used with one key (8.3).
     Private(&'k Key, [u8; 12], ChildCall),
 }
 
 impl<'k> JarCall<'k> {
-    /// Whether a client can follow the call at the moment `now` in UTC. A cookie in it must have a name; one that is
-    /// added, and is no original, must be live at the moment ([`is_live`]), and its path and its domain must hold no
-    /// semicolon. The cookie is looked at as it was passed in.
+    /// Whether a client can follow the call at the time `now` in UTC. A cookie in it must have a name. If it is added
+    /// and isn't an original, it must also be live at that time ([`is_live`]), and its path and its domain must hold no
+    /// semicolon. The cookie is checked as it was passed in.
+    /// Example: `are_fit` in crates/cookie_examples/src/following.rt.
     pub fn is_fit(&self, now: DateTime) -> bool
         ensures { IsTrue result ↔ IsFitCall now self.now }
     {

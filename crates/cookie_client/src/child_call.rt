@@ -9,6 +9,6 @@ pub enum ChildCall {
     AddOriginal(Cookie<'static>),
     /// Adds a cookie.
     Add(Cookie<'static>),
-    /// Removes the cookie's name at a moment in UTC.
+    /// Removes the cookie's name at a time in UTC.
     Remove(Cookie<'static>, DateTime),
 }

@@ -50,14 +50,15 @@ impl Client {
         }
     }
 
-    /// The value that it holds for the name.
+    /// Returns the value that it holds under the name.
     pub fn get(&self, name: &str) -> Option<&str>
         ensures { option_copied result ≡ get self.now name.now }
     {
         self.values.get(name)
     }
 
-    /// The names that it holds with their values, in byte order of the names. It doesn't allocate.
+    /// Iterates over the names that it holds, with their values, in byte order of the names. It doesn't allocate.
+    /// Example: `held_count` in crates/cookie_examples/src/counting.rt.
     pub fn iter(&self) -> Pairs<'_>
         ensures listed { result ≡ entries self.now }
 
@@ -67,7 +68,7 @@ impl Client {
         self.values.pairs()
     }
 
-    /// Holds this value for the name from now on. Fails only with `ClientError::OutOfMemory`, and then the client is
+    /// Holds this value under the name from now on. Fails only with `ClientError::OutOfMemory`, and then the client is
     /// as before.
     pub fn hold(&mut self, name: &str, value: &str) -> Result<(), ClientError>
         ensures gives { Gives refusal.OutOfMemory result (λ _.
@@ -102,9 +103,10 @@ impl Client {
         Ok(())
     }
 
-    /// Reads the text of a `Set-Cookie` header at a moment in UTC (RFC 6265 5.3), and answers whether it is a cookie.
-    /// One that is live ([`is_live`]) sets its name to its value, one that isn't drops its name, and a text that is no
-    /// cookie changes nothing. Fails only with `ClientError::OutOfMemory`, and then the client is as before.
+    /// Reads the text of a `Set-Cookie` header at the time `now` in UTC (RFC 6265 5.3), and returns whether it is a
+    /// cookie. A cookie that is live ([`is_live`]) sets its name to its value, one that isn't drops its name, and a
+    /// text that is no cookie changes nothing. Fails only with `ClientError::OutOfMemory`, and then the client is as
+    /// before.
     pub fn read(&mut self, text: &str, now: DateTime) -> Result<bool, ClientError>
         ensures gives { Gives refusal.OutOfMemory result (λ is_cookie.
             (self.new ≡ after_text now text.now self.old)
@@ -123,10 +125,12 @@ impl Client {
         }
     }
 
-    /// The value of its `Cookie` header (RFC 6265 5.4): each name and value, escaped, in byte order of the names.
+    /// Returns the value of its `Cookie` header (RFC 6265 5.4): each name and value, escaped, in byte order of the
+    /// names.
     ///
-    /// Where it holds nothing under the empty name, the header's cookies, decoded, are those names and values, and none
-    /// is refused. Fails only with `ClientError::OutOfMemory`.
+    /// If it holds nothing under the empty name, the header's cookies, decoded, are those names and values, and none is
+    /// refused. Fails only with `ClientError::OutOfMemory`.
+    /// Example: `print_held` in crates/cookie_examples/src/show.rt.
     pub fn header(&self) -> Result<String, ClientError>
         ensures text { Gives refusal.OutOfMemory result (λ header.
             string_bytes header ≡ header_text self.now) }
@@ -147,9 +151,10 @@ impl Client {
         Ok(header)
     }
 
-    /// The jar of its next request (RFC 6265 5.4): a new one, whose originals are the cookies of its header, decoded.
+    /// Makes the jar of its next request (RFC 6265 5.4): a new one, whose originals are the cookies of its header,
+    /// decoded.
     ///
-    /// Where it holds nothing under the empty name, the jar shows each name that it holds, with its value and nothing
+    /// If it holds nothing under the empty name, the jar shows each name that it holds, with its value and nothing
     /// else, and no other name. Fails only with `ClientError::OutOfMemory`.
     pub fn next_jar(&self) -> Result<CookieJar, ClientError>
         ensures made { Gives refusal.OutOfMemory result (λ jar.

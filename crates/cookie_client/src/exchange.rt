@@ -26,22 +26,23 @@ pub struct Played {
     pub jar: CookieJar,
     /// The client after it has read the texts of the jar's delta.
     pub client: Client,
-    /// One outcome a call, in their order: true where it was accepted. A refused call counts as not made.
+    /// One outcome for each call, in their order: `true` if it was accepted. A refused call counts as not made.
     pub outcomes: Vec<bool>,
 }
 
-/// Makes the calls on a new jar, and has a client follow it: one that holds the value of each name's last accepted
-/// original as it was stored, and then reads the encoded text of each cookie of the delta at the moment `now` in UTC
+/// Makes the calls on a new jar, and has a client follow it. The client holds the value of each name's last accepted
+/// original, as it was stored. It then reads the encoded text of each cookie of the delta, at the time `now` in UTC
 /// (RFC 6265 5.3).
 ///
-/// Where each accepted call is fit at that moment (`JarCall::is_fit`), the client has at every name the value that the
-/// jar shows, except at a name that one of them removes by force.
+/// If each accepted call is fit at that time (`JarCall::is_fit`), the client then holds the value that the jar shows
+/// under every name, except under a name that one of the calls removes by force.
 ///
-/// The texts stand in the order of the delta's walk. The text that is read as the i-th is number `pick[i]` of those
-/// that are left, modulo their count, or number 0 where `pick` has ended.
+/// The i-th text that the client reads is number `pick[i]` of those that are left, in the order of `CookieJar::delta`
+/// and modulo their number, or number 0 after the end of `pick`.
 ///
-/// The calls are made as by `replay`, so a call that is refused is an outcome and no failure. It fails only
-/// where memory runs out outside the calls, and then answers `ClientError::OutOfMemory` and nothing else.
+/// The calls are made as by `replay`, so a call that is refused is an outcome and no failure. Fails only with
+/// `ClientError::OutOfMemory`, if out of memory outside the calls.
+/// Example: `follow` in crates/cookie_examples/src/following.rt.
 pub fn mirror(
     alloc: Global,
     calls: &[JarCall<'_>],
@@ -55,7 +56,7 @@ pub fn mirror(
     ensures held { IfOk result (λ p. HoldsOriginals now (changes_by calls.now p) p.jar) }
     ensures looks_back { IfOk result (λ p. LooksBack (reverse (changes_by calls.now p)) p.jar) }
 
-    // So where the accepted calls are fit, it agrees at each name that none of them removes by force.
+    // So if the accepted calls are fit, it agrees at each name that none of them removes by force.
     ensures agrees { IfOk result (λ p. All (IsFitCall now) (accepted_calls calls.now p)
         → (name : Name) → is_forced name (changes_by calls.now p) ≡ false
         → get p.client name ≡ value_of (view p.jar name)) }
@@ -71,8 +72,8 @@ pub fn mirror(
     })
 }
 
-/// Has a client read the encoded text of each cookie of the jar's delta at the moment `now` in UTC (RFC 6265 5.3), in the
-/// order that `pick` asks for, as in [`mirror`].
+/// Has a client read the encoded text of each cookie of the jar's delta at the time `now` in UTC (RFC 6265 5.3), in the
+/// order of `pick`, as in [`mirror`].
 ///
 /// Fails only with `ClientError::OutOfMemory`. The client may then have read some of the texts.
 pub fn read_delta(

@@ -106,7 +106,7 @@ fn play_private(
     }
 }
 
-// Makes one call, and answers whether it was accepted.
+// Makes one call, and returns whether it was accepted.
 pub(crate) fn is_accepted(alloc: Global, jar: &mut CookieJar, call: &JarCall<'_>) -> bool
     ensures jar { jar.new ≡ after_all (changes_of (result ∷ []) (call.now ∷ [])) jar.old }
     ensures outcome { IsOutcome call.now result }
@@ -114,12 +114,14 @@ pub(crate) fn is_accepted(alloc: Global, jar: &mut CookieJar, call: &JarCall<'_>
     play(alloc, jar, call).is_ok()
 }
 
-/// Makes the calls in order, and answers which were accepted: one outcome a call, true where it was.
+/// Makes the calls in order, and returns which were accepted: one outcome for each call, `true` if it was accepted.
 ///
-/// A call that is refused, or whose cookie finds no memory to be copied, has the outcome false and changes nothing.
-/// Forced removals and resets are always accepted; an addition through a private jar that is too long to be sealed
-/// never is. It fails only where the list of outcomes finds no memory, before any call is made: then it answers
-/// `ClientError::OutOfMemory`, and the jar is as before.
+/// A call that is refused, or that runs out of memory for a copy of its cookie, has the outcome `false` and changes
+/// nothing. Forced removals and resets are always accepted. An addition through a private jar that is too long to be
+/// sealed never is.
+///
+/// Fails only with `ClientError::OutOfMemory`, if out of memory for the list of outcomes. No call was made then, and
+/// the jar is as before.
 pub fn replay(
     alloc: Global,
     jar: &mut CookieJar,

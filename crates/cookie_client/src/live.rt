@@ -18,10 +18,10 @@ fn is_later(expires: Option<Expiration>, now: DateTime) -> bool
     }
 }
 
-/// Whether the cookie is live at the moment `now` in UTC, so that a client keeps it (RFC 6265 5.2.2, 5.3).
+/// Whether the cookie is live at the time `now` in UTC, so that a client keeps it (RFC 6265 5.2.2, 5.3).
 ///
-/// It is where its age, in whole seconds, is above zero; and, where it has no age, where its expiry, in whole seconds
-/// of UTC, is later than `now`. One with neither is live, and so is one that ends with the session.
+/// A cookie with an age is live if the age, in whole seconds, is above zero. A cookie without an age is live if its
+/// expiry, in whole seconds of UTC, is later than `now`, if it ends with the session, or if it has no expiry.
 pub fn is_live(cookie: &Cookie<'_>, now: DateTime) -> bool
     ensures { result ≡ is_live cookie.now.fields now }
 {

@@ -3,17 +3,17 @@ ghost use Rattle.std.specs.Prelude.{◌≡◌, ◌<◌, length, IfOk, IsPermutat
 
 use std::alloc::{AllocError, Global};
 
-// A place that a text stands at.
+// The place of a text.
 #[derive(Clone, Copy)]
 struct Place {
-    // How many texts are left in the block of places that ends here. With places counted from 1, a block has as many as
-    // the lowest bit of its end's number says (a Fenwick tree).
+    // The number of texts that are left in the block of places that ends here. With places counted from 1, the size of
+    // a block is the lowest bit of its end's number (a Fenwick tree).
     left: usize,
     // The turn in which its text is picked.
     turn: usize,
 }
 
-// So many places, each with its text.
+// `count` places, each with its text.
 fn places(alloc: Global, count: usize) -> Result<Vec<Place>, AllocError>
     ensures { IfOk result (λ places. length places.items ≡ count) }
 {
@@ -50,7 +50,7 @@ fn pick_place(places: &mut [Place], number: usize) -> usize
     place
 }
 
-// The number, among this many texts that are left, of the one that a turn takes.
+// The number of the text that a turn takes, among the texts that are left.
 fn number_of(pick: &[usize], turn: usize, left: usize) -> usize
     requires { 0 < left }
     ensures { result < left }
@@ -79,7 +79,7 @@ fn arrange(texts: &mut [String], places: &mut [Place])
     }
 }
 
-// The texts in the order that `pick` asks for, in time that grows with their count times its logarithm.
+// The texts in the order of `pick`, in time that grows as n log n for n texts.
 pub(crate) fn reorder(
     alloc: Global,
     mut texts: Vec<String>,

@@ -19,7 +19,7 @@ use cookie::CookieJar;
 use std::alloc::Global;
 
 /// Makes the calls as `replay` does, and has the client hold the value of each original that an accepted call adds, as
-/// the jar stores it. So where the client held nothing before, it now holds the value of each name's last original.
+/// the jar stores it. So if the client held nothing before, it now holds the value of each name's last original.
 ///
 /// It reads nothing of the jar's delta. A call that is refused is an outcome and no failure. Fails only with
 /// `ClientError::OutOfMemory`. Then some of the calls may have been made, so discard the jar and the client.
@@ -43,7 +43,7 @@ pub fn replay_told(
     Ok(outcomes)
 }
 
-// Makes one call, and answers whether it was accepted. If so, the client holds what it added as an original.
+// Makes one call, and returns whether it was accepted. If so, the client holds what it added as an original.
 fn play_told(
     alloc: Global,
     jar: &mut CookieJar,
@@ -81,7 +81,7 @@ fn hold_added(
     }
 }
 
-// The same of a call on the child jar of a prefix.
+// Has the client hold what a call on the child jar of a prefix added as an original, if it added one.
 fn hold_prefixed(
     alloc: Global,
     client: &mut Client,
@@ -101,7 +101,7 @@ fn hold_prefixed(
     }
 }
 
-// The same of a call on a child jar that keeps names.
+// Has the client hold what a call on a child jar that keeps names added as an original, if it added one.
 fn hold_named(client: &mut Client, jar: &CookieJar, call: &ChildCall) -> Result<(), ClientError>
     ensures { (handling : Handling)
         → ((cookie : Record) → (handling.stored cookie).name ≡ cookie.name)

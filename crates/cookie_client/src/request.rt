@@ -1,7 +1,7 @@
 //! The calls of one request.
 use crate::call::JarCall;
 
-/// The calls that one request makes on its jar. The moments of its removals are in UTC.
+/// The calls that one request makes on its jar. The times of its removals are in UTC.
 #[derive(Drop)]
 pub struct ClientRequest<'a, 'k> {
     /// The calls, in the order in which they are made.

@@ -25,13 +25,13 @@ use std::alloc::Global;
 ///
 /// The client holds nothing at first. The jar of a request is new: its originals are the cookies of the client's
 /// header, split and decoded, with only a name and a value. The calls are made as by `replay`, and the client then
-/// reads the delta as in `mirror`, at the one moment `now` in UTC, with `pick` from its start.
+/// reads the delta as in `mirror`, at the time `now` in UTC for all requests, with `pick` from its start.
 ///
-/// Where each accepted call of a request is fit at that moment (`JarCall::is_fit`) and a change (`JarCall::is_change`),
-/// the client of that request has at every name the value that its jar shows.
+/// If each accepted call of a request is fit at that time (`JarCall::is_fit`) and a change (`JarCall::is_change`), the
+/// client of that request holds the value that its jar shows under every name.
 ///
-/// A call that is refused is an outcome and no failure. It fails only where memory runs out outside the calls, and
-/// then answers `ClientError::OutOfMemory` and nothing else.
+/// A call that is refused is an outcome and no failure. Fails only with `ClientError::OutOfMemory`, if out of memory
+/// outside the calls.
 pub fn rounds(
     alloc: Global,
     requests: &[ClientRequest<'_, '_>],
@@ -52,7 +52,7 @@ pub fn rounds(
     Ok(played)
 }
 
-// Plays one request of a client that holds what the header tells: its cookies are the originals of the new jar, and all
+// Plays one request of a client that holds what the header says: its cookies are the originals of the new jar, and all
 // that a new client holds.
 fn visit(
     alloc: Global,

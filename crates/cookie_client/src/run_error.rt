@@ -31,7 +31,7 @@ pub enum RunError {
 }
 
 impl RunError {
-    /// The status that the program ends with: 2 for what was asked wrongly, 1 for what failed.
+    /// The status that the program ends with: 2 if its argument or its input is bad, 1 if something failed.
     pub fn status(&self) -> u8
         ensures { result ≡ status_of self.now }
     {

@@ -26,8 +26,8 @@ use std::alloc::{AllocError, Global};
 use std::hash::RandomState;
 use std::io::{Read, Write};
 
-/// The moment of a session that the text stands for: a date in UTC, in one of the four forms that `cookie::read_date`
-/// takes, of the year 100 or later. Any other text has none.
+/// Reads the time of a session: a date in UTC, in one of the four forms that `cookie::read_date` takes, of the year 100
+/// or later. Returns `None` for any other text.
 pub fn moment_of(text: &str) -> Option<DateTime>
     ensures { result ≡ moment_of text.now }
 {
@@ -72,7 +72,7 @@ fn forced_removal(alloc: Global, name: &str) -> Result<Option<JarCall<'static>>,
     Ok(Some(JarCall::ForceRemove(String::from_str(alloc, name)?)))
 }
 
-// The call that a line asks for which discards cookies, if it asks for such a call.
+// The call that a line requests, if it is one that discards cookies.
 fn discarding(alloc: Global, line: &str) -> Result<Option<JarCall<'static>>, RunError>
     ensures { Gives refusal.OutOfMemory result (λ call.
         option_map change_of call ≡ discarding_of line.now) }
@@ -86,7 +86,7 @@ fn discarding(alloc: Global, line: &str) -> Result<Option<JarCall<'static>>, Run
     Ok(None)
 }
 
-// The call that a line asks for, if it asks for one.
+// The call that a line requests, if any.
 fn call_of(alloc: Global, line: &str, now: DateTime) -> Result<Option<JarCall<'static>>, RunError>
     ensures { Gives refusal.OutOfMemory result (λ call.
         option_map change_of call ≡ call_of now line.now) }
@@ -100,7 +100,7 @@ fn call_of(alloc: Global, line: &str, now: DateTime) -> Result<Option<JarCall<'s
     discarding(alloc, line)
 }
 
-// The calls that the lines ask for, or the first bad one. An empty line asks for none. The first line is number 2.
+// The calls that the lines request, or the first bad line. An empty line requests none. The first line is number 2.
 fn calls_of(
     alloc: Global,
     lines: Lines<'_>,
@@ -171,7 +171,7 @@ fn tell(
     Ok(written)
 }
 
-// What is written of a jar, and of a client that reads its delta.
+// The text that is written for a jar, and for a client that reads its delta.
 fn output(alloc: Global, client: Client, jar: &CookieJar, now: DateTime) -> Result<String, RunError>
     ensures { Gives refusal.OutOfMemory result (λ text.
         let told = after_texts now (delta_texts jar.now) client in
@@ -186,7 +186,7 @@ fn output(alloc: Global, client: Client, jar: &CookieJar, now: DateTime) -> Resu
     Ok(written)
 }
 
-// The text of a session at a moment. A call that is refused ends it.
+// The text of a session at the time `now`. A call that is refused ends it.
 fn session_text(
     alloc: Global,
     jar: CookieJar,
@@ -227,7 +227,7 @@ fn are_accepted(outcomes: &[bool]) -> bool
     outcomes.iter().all(|outcome| *outcome)
 }
 
-// The text of a session of bytes at a moment.
+// The text of a session of bytes at the time `now`.
 fn answer(alloc: Global, jar: CookieJar, now: DateTime, bytes: &[u8]) -> Result<String, RunError>
     requires { jar ≡ empty_jar }
     ensures played { MatchResult result
@@ -242,20 +242,20 @@ fn answer(alloc: Global, jar: CookieJar, now: DateTime, bytes: &[u8]) -> Result<
     }
 }
 
-/// Plays the program's session: reads the input to its end, works out the whole text, and then writes it. The moment is
-/// a date in UTC that [`moment_of`] takes.
+/// Plays the program's session: reads the input to its end, works out the whole text, and then writes it. `moment` is a
+/// date in UTC that [`moment_of`] takes.
 ///
 /// Line 1 of the input is the value of a `Cookie` header, which may be empty: its cookies are the jar's originals and
-/// what the client holds. Each further line is a call: `add TEXT` with the text of a `Set-Cookie` header,
-/// `remove NAME`, `force NAME` or `reset`; an empty line is none. What is written is a line `Set-Cookie: TEXT` for each
-/// cookie of the jar's delta, in byte order of the names, and then the line `Cookie: HEADER` of the client that has
-/// read them (RFC 6265 4.1, 5.3, 5.4).
+/// what the client holds. Each further line is a call: `add TEXT` with the text of a `Set-Cookie` header, `remove
+/// NAME`, `force NAME` or `reset`. An empty line is no call. The output is a line `Set-Cookie: TEXT` for each cookie of
+/// the jar's delta, in byte order of the names, and then the line `Cookie: HEADER` of the client that has read them
+/// (RFC 6265 4.1, 5.3, 5.4).
 ///
-/// Fails with `BadMoment` before anything is read. Then come, in this order, `Input` where a read fails, `BadInput`
-/// where the bytes aren't UTF-8, `BadLine` at the first line that is no call, counted from 1, and `Output` where a
-/// write fails, an interrupted one too, or takes nothing. `OutOfMemory` may stand in the place of any but `BadMoment`,
-/// before anything is written. After `Output` a beginning of the text was written that isn't the whole, after any other
-/// failure nothing. It doesn't flush.
+/// Fails with `BadMoment` before anything is read. Else fails, in this order, with `Input` if a read fails, with
+/// `BadInput` if the bytes aren't UTF-8, with `BadLine` at the first line that is no call, counted from 1, and with
+/// `Output` if a write takes nothing, fails, or is interrupted. Out of memory, it may fail with `OutOfMemory` instead
+/// of any of these but `BadMoment`, before anything is written. After `Output` only part of the text was written, and
+/// after any other failure nothing was. It doesn't flush.
 pub fn run<R: Read, W: Write>(
     alloc: Global,
     moment: &str,

@@ -28,8 +28,8 @@ pub(crate) fn read_all<R: Read>(alloc: Global, input: &mut R) -> Result<Vec<u8>,
     }
 }
 
-// Writes the text, going on after a short write. It fails where a write fails or takes nothing, and then a beginning
-// of the text was written that isn't the whole.
+// Writes the text, going on after a short write. It fails if a write fails or takes nothing, and then only part of the
+// text was written.
 pub(crate) fn write_text<W: Write>(output: &mut W, text: &[u8]) -> Result<(), RunError>
     ensures ok { OnOk result (Appends (W.contents output.old) (W.contents output.new) text.now) }
     ensures err { IfErr result (λ e. (e ≡ refusal.Output)

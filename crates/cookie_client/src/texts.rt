@@ -6,10 +6,10 @@ use crate::order::reorder;
 use cookie::CookieJar;
 use std::alloc::{AllocError, Global};
 
-/// The texts of `CookieJar::set_cookie_texts`, in the order that `pick` asks for.
+/// Returns the texts of `CookieJar::set_cookie_texts`, in the order of `pick`.
 ///
-/// The i-th text is number `pick[i]` of those that are left, in the order of the delta's walk and modulo their count,
-/// or number 0 after `pick` has ended. Fails only if out of memory.
+/// The i-th text is number `pick[i]` of those that are left, in the order of `CookieJar::delta` and modulo their
+/// number, or number 0 after the end of `pick`. Fails only if out of memory.
 pub fn delta_texts(
     alloc: Global,
     jar: &CookieJar,

@@ -1,4 +1,5 @@
-//! Tests of the client, of calls as values and of the program's engine, and a second body of the jar to compare with.
+//! Tests of the client, of calls as values and of the program's engine, and a second implementation of the jar to
+//! compare with.
 #![tactic(auto)]
 
 #[cfg(test)]

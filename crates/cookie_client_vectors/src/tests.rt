@@ -1,4 +1,5 @@
-//! Rows whose answers come from the rules of the program, from the standards, and from a second body of the jar.
+//! Rows whose answers come from the rules of the program, from the standards, and from a second implementation of the
+//! jar.
 mod clients;
 mod comparison;
 mod exchanges;
@@ -9,5 +10,5 @@ mod rows;
 mod sessions;
 mod streams;
 
-// The moment of most rows, as the argument of the program.
+// The time of most rows, as the argument of the program.
 const MOMENT: &str = "Wed, 21 Oct 2015 07:28:00 GMT";

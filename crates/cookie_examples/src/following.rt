@@ -10,7 +10,7 @@ use cookie_client::{ClientError, JarCall, Played, mirror};
 use jiff::civil::DateTime;
 use std::alloc::Global;
 
-// Whether a client can follow all the calls at the moment `now` in UTC.
+// Whether a client can follow all the calls at the time `now` in UTC.
 fn are_fit(calls: &[JarCall<'_>], now: DateTime) -> bool
     ensures { IsTrue result ↔ All (IsFitCall now) calls.now }
 {

@@ -24,7 +24,7 @@ use cookie::read_date;
 use jiff::civil::DateTime;
 
 fn main(rt: HostRuntime) -> Result<()> {
-    // A fixed moment, so that each run prints the same. A server takes `runtime::now`.
+    // A fixed time, so that each run prints the same. A server takes `runtime::now`.
     let now = read_date("Wed, 21 Oct 2015 07:28:00 GMT").unwrap_or(DateTime::MIN);
     show::request(&rt, now)?;
     show::texts(&rt, now)?;

@@ -10,8 +10,8 @@ use cookie::{Cookie, CookieBuilder, CookieJar, JarError};
 use jiff::civil::DateTime;
 use std::alloc::Global;
 
-/// Removes a cookie as it was set: the client is told to drop it with the same path and domain, without which a browser
-/// drops another cookie or none. `now` is in UTC. After an error the jar is as before.
+/// Removes a cookie as it was set: the response tells the client to drop it with the same path and domain, without
+/// which a browser drops another cookie or none. `now` is in UTC. After an error the jar is as before.
 pub fn remove_as_set(
     alloc: Global,
     jar: &mut CookieJar,

@@ -15,7 +15,7 @@ pub fn now(rt: &HostRuntime) -> Result<DateTime, Error>
     Ok(Offset::UTC.to_datetime(Timestamp::now(rt)?))
 }
 
-/// A key of the system's random bytes, or `None` where it gives none.
+/// A key of the system's random bytes, or `None` if the system has none.
 pub fn new_key(rt: &HostRuntime) -> Option<Key> {
     Key::try_generate(&mut SysRng::new(rt))
 }

@@ -18,10 +18,10 @@ use http_header::{HeaderMap, HeaderValue};
 use jiff::civil::DateTime;
 use std::str;
 
-/// The value of the `Cookie` field that the client sends (RFC 6265 5.4): its names and values, escaped, which are a
-/// field value whatever they hold.
+/// Returns the value of the `Cookie` field that the client sends (RFC 6265 5.4): its names and values, escaped, which
+/// are a field value whatever they hold.
 ///
-/// It fails only when memory runs out.
+/// Fails only if out of memory.
 pub fn cookie_of_client(client: &Client) -> Result<HeaderValue, HttpError>
     ensures text { Gives refusal.OutOfMemory result (λ value.
         value ≡ plain_value (header_text client.now)) }
@@ -33,10 +33,10 @@ pub fn cookie_of_client(client: &Client) -> Result<HeaderValue, HttpError>
     Ok(HeaderValue::from_known_valid(Bytes::from_string(header)?))
 }
 
-/// Has the client read all `Set-Cookie` fields of a response, in order, at the moment `now` in UTC (RFC 6265 5.2, 5.3).
-/// A field that isn't UTF-8 is passed over.
+/// Has the client read all `Set-Cookie` fields of a response, in order, at the time `now` in UTC (RFC 6265 5.2, 5.3). A
+/// field that isn't UTF-8 is skipped.
 ///
-/// It fails only when memory runs out, and then leaves the client as it was.
+/// Fails only if out of memory, and then leaves the client as it was.
 pub fn read_response(
     client: &mut Client,
     headers: &HeaderMap,

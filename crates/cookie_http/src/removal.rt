@@ -9,11 +9,12 @@ use cookie::{Cookie, CookieJar, JarError};
 use jiff::civil::DateTime;
 use std::alloc::Global;
 
-/// Removes a cookie as it was set. If the request had a cookie of that name, the client is told to drop it with the
-/// path and the domain of `set`. Without these a browser drops another cookie or none. `now` is in UTC.
+/// Removes a cookie as it was set. If the request had a cookie of that name, the response tells the client to drop it,
+/// with the path and the domain of `set`. Without these a browser drops another cookie or none. `now` is in UTC.
 ///
-/// A request tells neither path nor domain, so pass in the cookie as the server sets it. It fails only when memory runs
-/// out, and then leaves the jar as it was.
+/// A request has neither path nor domain, so pass in the cookie as the server sets it. Fails only if out of memory, and
+/// then leaves the jar as it was.
+/// Example: `remove_as_set` in crates/cookie_examples/src/removal.rt.
 pub fn remove_as_set(
     alloc: Global,
     jar: &mut CookieJar,

@@ -11,8 +11,8 @@ use cookie::CookieJar;
 use http_header::HeaderMap;
 use std::alloc::Global;
 
-/// A new jar whose originals are the cookies of a request's `Cookie` fields, decoded. Its hash is fixed. If strangers
-/// choose the names, use `with_headers`.
+/// Makes a new jar whose originals are the cookies of a request's `Cookie` fields, decoded. Its hash is fixed. If
+/// strangers choose the names, use `with_headers`.
 ///
 /// Several fields are read as one, joined by `; ` (RFC 9113 8.2.3). A piece between semicolons is skipped if it isn't
 /// UTF-8 or is no cookie. The other pieces count. Fails only with `HttpError::OutOfMemory`.
@@ -22,10 +22,11 @@ pub fn jar_from_headers(alloc: Global, headers: &HeaderMap) -> Result<CookieJar,
     with_headers(CookieJar::new(alloc), headers)
 }
 
-/// The jar with the cookies of a request's `Cookie` fields as originals, read as by `jar_from_headers`. A server hands
-/// in `CookieJar::with_hasher(alloc, state)`, so that nobody can choose names that make the jar slow.
+/// Returns the jar with the cookies of a request's `Cookie` fields as originals, read as by `jar_from_headers`. A
+/// server passes in `CookieJar::with_hasher(alloc, state)`, so that nobody can choose names that make the jar slow.
 ///
 /// Fails only with `HttpError::OutOfMemory`, and then the jar is gone.
+/// Example: `jar_of` in crates/cookie_examples/src/headers.rt.
 pub fn with_headers(jar: CookieJar, headers: &HeaderMap) -> Result<CookieJar, HttpError>
     ensures { Gives refusal.OutOfMemory result (λ made.
         made ≡ with_originals (header_cookies true (cookie_header headers.now)) jar) }

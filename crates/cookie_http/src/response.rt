@@ -104,7 +104,7 @@ fn lacks_room_for(count: usize, headers: &HeaderMap) -> bool
     headers.len().checked_add(count).is_none()
 }
 
-// Whether each cookie of the delta can stand in a field.
+// Whether each cookie of the delta fits a field.
 fn all_fit(jar: &CookieJar) -> bool
     ensures { IsTrue result ↔ AllFitFields jar.now.delta }
 {
@@ -116,7 +116,7 @@ fn all_fit(jar: &CookieJar) -> bool
     true
 }
 
-// Whether the cookie's path and domain can.
+// Whether the cookie's path and domain fit a field.
 fn fits_field(cookie: &Cookie<'_>) -> bool
     ensures { IsTrue result ↔ FitsField cookie.now.fields }
 {

@@ -54,7 +54,7 @@ impl KeyRing {
         ensures ok { OnOk result (self.new ≡ key ∷ self.old) }
         ensures err { OnErr result (self.new ≡ self.old) }
 
-        // What a key opened it opens one place further back, unless the new key opens it too.
+        // What a key opened, it opens one place further back, unless the new key opens it too.
         ensures keeps { OnOk result (KeepsOpening self.old self.new) }
     {
         self.keys.insert(0, key)?;
@@ -69,7 +69,7 @@ impl KeyRing {
         ensures ok { OnOk result (self.new ≡ self.old ++ key ∷ []) }
         ensures err { OnErr result (self.new ≡ self.old) }
 
-        // Each key of before opens exactly what it opened, at the same place.
+        // Each earlier key opens exactly what it opened, at the same place.
         ensures keeps { OnOk result (LeavesOpening self.new self.old) }
     {
         self.keys.push(key)?;
@@ -106,8 +106,8 @@ impl KeyRing {
         &self.keys[0]
     }
 
-    /// A copy of the cookie that `jar` has under `name`, with the value that was encrypted, and the place of the key
-    /// that opened it: the newest that does. Returns `None` if no key opens it.
+    /// Returns a copy of the cookie that `jar` has under `name`, with the value that was encrypted, and the place of
+    /// the key that opened it: the newest that does. Returns `None` if no key opens it.
     ///
     /// Fails only with `JarError::OutOfMemory`.
     pub fn get(&self, jar: &CookieJar, name: &str) -> Result<Option<Opening>, JarError>
@@ -125,8 +125,8 @@ impl KeyRing {
     }
 
     /// Adds a cookie to the jar, with its value encrypted under the newest key and its name. `get` finds it after the
-    /// keys rotated too. One draw of twelve bytes from `rng` gives the nonce. `rng` must be a cryptographic generator,
-    /// and under one key at most 2^32 nonces may be drawn (SP 800-38D 8.3).
+    /// keys rotated too. The nonce is one draw of twelve bytes from `rng`. `rng` must be a cryptographic generator, and
+    /// under one key at most 2^32 nonces may be drawn (SP 800-38D 8.3).
     ///
     /// Fails with `TooLong` if the name has more than 2^61 - 1 bytes or the value more than 2^36 - 32, and then draws
     /// nothing. Else fails with `Generator` if the draw failed, and with `OutOfMemory`. The jar is then as it was.

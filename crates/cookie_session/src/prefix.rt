@@ -1,4 +1,4 @@
-//! What a browser asks of a cookie by its name (RFC 6265bis 4.1.3 and 5.7, steps 20 and 21).
+//! What a browser requires of a cookie by its name (RFC 6265bis 4.1.3 and 5.7, steps 20 and 21).
 ghost use Rattle.std.specs.Prelude.{◌≡◌, string_bytes};
 ghost use Rattle.cookie.specs.Prefixes.{begins, meets_host, meets_secure};
 ghost use Rattle.cookie_session.specs.Sessions.{meets_prefix};
@@ -6,7 +6,7 @@ ghost use Rattle.cookie_session.specs.Sessions.{meets_prefix};
 use cookie::Cookie;
 use cookie::prefix::{Host, NamePrefix, Prefix, Secure};
 
-// Whether the cookie has what a browser asks of its name.
+// Whether the cookie has what a browser requires of its name.
 pub(crate) fn meets_prefix(cookie: &Cookie<'_>) -> bool
     ensures { result ≡ meets_prefix cookie.now.fields }
 {

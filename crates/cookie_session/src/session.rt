@@ -74,14 +74,15 @@ impl Session {
         self.seen
     }
 
-    /// The text at `name`.
+    /// Returns the text at `name`.
+    /// Example: `print_visitor` in crates/cookie_examples/src/show.rt.
     pub fn get(&self, name: &str) -> Option<&str>
         ensures { option_copied result ≡ get self.now.texts name.now }
     {
         self.texts.get(name)
     }
 
-    /// The names with their texts, in byte order of the names. It doesn't allocate.
+    /// Iterates over the names with their texts, in byte order of the names. It doesn't allocate.
     pub fn iter(&self) -> Pairs<'_>
         ensures listed { result ≡ entries self.now.texts }
 
@@ -108,7 +109,8 @@ impl Session {
     }
 
     /// Starts it anew at the time `now` in UTC, with the same texts, so that the lifetime counts from now. If no text
-    /// of before the login may survive, use `start`.
+    /// from before the login may survive, use `start`.
+    /// Example: `handle` in crates/cookie_examples/src/handler.rt.
     pub fn renew(&mut self, now: DateTime)
         ensures { self.new ≡ record self.old { started = second_of now; seen = second_of now } }
     {

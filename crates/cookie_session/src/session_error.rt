@@ -12,8 +12,8 @@ use std::fmt;
 pub enum SessionError {
     /// Memory ran out.
     OutOfMemory,
-    /// The name of the site's cookie begins with `__Host-` or `__Secure-`, and the cookie lacks what a browser asks of
-    /// such a name (RFC 6265bis 4.1.3): no browser would store it.
+    /// The name of the site's cookie begins with `__Host-` or `__Secure-`, and the cookie lacks what a browser requires
+    /// of such a name (RFC 6265bis 4.1.3): no browser would store it.
     Prefix,
     /// The session's lifetime is over, or it starts after now.
     Over,

@@ -1,4 +1,4 @@
-//! The texts of a form, as those of a session (URL Standard 5.1).
+//! A session with the texts of a form (URL Standard 5.1).
 ghost use Rattle.std.specs.Prelude.{◌≡◌, IfOk};
 ghost use Rattle.cookie_session.specs.Form.{texts_of_form};
 

@@ -41,10 +41,12 @@ pub struct Sessions<'a> {
 }
 
 impl<'a> Sessions<'a> {
-    /// The session of a request, at the time `now` in UTC, with the place of the key that opened it. It is the session
-    /// whose text was encrypted in the cookie of the site's name, under a key of the ring, if the session lives.
+    /// Opens the session of a request, at the time `now` in UTC, and returns it with the place of the key that opened
+    /// it. It is the session whose text was encrypted in the cookie of the site's name, under a key of the ring, if the
+    /// session lives.
     ///
     /// Fails only with `JarError::OutOfMemory`.
+    /// Example: `handle` in crates/cookie_examples/src/handler.rt.
     pub fn open(
         &self,
         alloc: Global,
@@ -76,14 +78,15 @@ impl<'a> Sessions<'a> {
     }
 
     /// Saves a session, at the time `now` in UTC: adds the site's cookie with the session's text to the jar, encrypted
-    /// under the newest key. Its `Max-Age` is the number of seconds that the session lives. One draw of twelve bytes
-    /// from `rng` gives the nonce. `rng` must be a cryptographic generator, and under one key at most 2^32 nonces may
-    /// be drawn (SP 800-38D 8.3).
+    /// under the newest key. Its `Max-Age` is the number of seconds that the session lives. The nonce is one draw of
+    /// twelve bytes from `rng`. `rng` must be a cryptographic generator, and under one key at most 2^32 nonces may be
+    /// drawn (SP 800-38D 8.3).
     ///
-    /// Fails with `Prefix` if the site's cookie lacks what a browser asks of its name. Else fails with `Over` if the
-    /// session doesn't live at that time. Else fails with `TooLong` if its text is past the cipher's limits. In these
-    /// cases nothing is drawn. Else fails with `Generator` if the draw failed, with `TooLarge` if a browser wouldn't
-    /// store the cookie, and with `OutOfMemory`. The jar is then as it was.
+    /// Fails with `Prefix` if the site's cookie lacks what a browser requires of its name. Else fails with `Over` if
+    /// the session doesn't live at that time. Else fails with `TooLong` if its text is past the cipher's limits. In
+    /// these cases nothing is drawn. Else fails with `Generator` if the draw failed, with `TooLarge` if a browser
+    /// wouldn't store the cookie, and with `OutOfMemory`. The jar is then as it was.
+    /// Example: `handle` in crates/cookie_examples/src/handler.rt.
     pub fn save<R: TryRng>(
         &self,
         alloc: Global,
@@ -151,10 +154,11 @@ impl<'a> Sessions<'a> {
     }
 
     /// Ends the session, at the time `now` in UTC: removes the site's cookie from the jar, with the path and the domain
-    /// that the site sets. A client that has the cookie is told to drop it. A copy of it stays open until the session's
-    /// limits.
+    /// that the site sets. If the request had the cookie, the response tells the client to drop it. A copy of the
+    /// cookie still opens until the session's limits.
     ///
     /// Fails only with `JarError::OutOfMemory`, and then leaves the jar as it was.
+    /// Example: `handle` in crates/cookie_examples/src/handler.rt.
     pub fn end(&self, alloc: Global, jar: &mut CookieJar, now: DateTime) -> Result<(), JarError>
         ensures gives { Gives jar_refusal.OutOfMemory result (λ _.
             jar.new ≡ after (Remove self.now.cookie.now.fields now) jar.old) }

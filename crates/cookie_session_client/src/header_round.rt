@@ -37,7 +37,7 @@ pub struct Returned {
 /// comes in as a header map, whose session is opened at the time `later`. Both times are in UTC.
 ///
 /// The next request opens the session that was saved, with the newest key, whatever the calls, as long as it lives.
-/// This asks for `CanReturn`, as `save_and_return` does.
+/// This requires `CanReturn`, as `save_and_return` does.
 ///
 /// Fails as [`Sessions::save`] does, and with `Http(InvalidValue)` if a cookie of the response doesn't fit a field. The
 /// jar and the client may then have changed.

@@ -24,11 +24,11 @@ use rand_core::TryRng;
 use std::alloc::{AllocError, Global};
 
 /// Makes a handler's calls on the jar of a request, and saves a session, at the time `now`. Then a client reads the
-/// response, in the order that `pick` asks for as in `mirror`, and the session of its next request is opened, at the
-/// time `later`. Both times are in UTC.
+/// response, in the order of `pick` as in `mirror`, and the session of its next request is opened, at the time `later`.
+/// Both times are in UTC.
 ///
 /// The next request opens the session that was saved, with the newest key, whatever the calls and the order, as long as
-/// it lives. This asks for `CanReturn`: the jar has no changes before, each call is fit (`JarCall::is_fit`), the site's
+/// it lives. This requires `CanReturn`: the jar has no changes before, each call is fit (`JarCall::is_fit`), the site's
 /// cookie has a name and no `;` in its path and its domain, and the client holds nothing under the empty name.
 ///
 /// Fails as [`Sessions::save`] does. The jar and the client may then have changed.
@@ -79,7 +79,7 @@ pub(crate) fn play(
     Ok(())
 }
 
-// Has the client read the response, and gives the jar of its next request.
+// Has the client read the response, and returns the jar of its next request.
 fn next_jar(
     alloc: Global,
     client: &mut Client,

@@ -10,7 +10,7 @@ use std::env;
 use std::hash::RandomState;
 use std::process::ExitCode;
 
-// The one argument, the moment.
+// The one argument, the time.
 fn argument(rt: &HostRuntime) -> Result<String, RunError> {
     let Ok(mut arguments) = env::args(rt) else {
         return Err(RunError::BadMoment);
@@ -22,8 +22,8 @@ fn argument(rt: &HostRuntime) -> Result<String, RunError> {
     }
 }
 
-// Plays the session. The input is a stranger's, so names are hashed with keys that are drawn. The moment is looked at
-// before that, so a bad one has its own fault even when no keys can be drawn.
+// Plays the session. The input is a stranger's, so names are hashed with keys that are drawn. The time is checked
+// before that, so a bad one has its own error even if no keys can be drawn.
 fn play(rt: &HostRuntime, moment: &str) -> Result<(), RunError>
     ensures { moment_of moment.now ≡ None → result ≡ Err refusal.BadMoment }
 {

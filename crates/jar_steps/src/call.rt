@@ -23,7 +23,7 @@ impl Call {
         Some(Call { child, verb, words })
     }
 
-    /// The call's cookie, or none where the words say none. That of a forced removal has only its name.
+    /// Returns the call's cookie, or `None` if the words say none. The cookie of a forced removal has only its name.
     pub fn cookie(self) -> Option<Cookie<'static>> {
         cookie_words::cookie(self.words)
     }

@@ -11,7 +11,7 @@ pub fn counts(jar: &CookieJar) -> (usize, usize) {
     (jar.delta().count(), jar.iter().count())
 }
 
-// Whether the counts are those of the words, as in `1 2`.
+// Whether the jar has the counts that the words say, as in `1 2`.
 fn are_counts(jar: &CookieJar, words: &str) -> Option<bool> {
     let (changes, shown) = words.split_once(' ')?;
     Some(counts(jar) == (changes.parse().ok()?, shown.parse().ok()?))

@@ -6,7 +6,7 @@ use cookie::prefix::{Host, Secure};
 use cookie::{ChildJar, Cookie, CookieJar, JarError, Key, PrivateJarMut, Storing};
 use rand_core::TryRng;
 
-/// Makes the call with the cookie on a child jar that draws nothing, a removal at the moment of the rows.
+/// Makes the call with the cookie on a child jar that draws nothing, a removal at the time of the rows.
 pub fn make_on<S: Storing>(
     jar: &mut ChildJar<'_, S>,
     verb: Verb,
@@ -20,7 +20,7 @@ pub fn make_on<S: Storing>(
     }
 }
 
-// The same on a private one, with a nonce whose bytes are all that one, or else with one that is drawn.
+// Makes it on a private child jar, with a nonce whose bytes are all `byte`, or else with a nonce that is drawn.
 fn make_private<R: TryRng>(
     jar: &mut PrivateJarMut<'_>,
     verb: Verb,
@@ -38,7 +38,7 @@ fn make_private<R: TryRng>(
     }
 }
 
-// The same on the jar itself.
+// Makes it on the jar itself.
 fn make_plain(jar: &mut CookieJar, verb: Verb, cookie: Cookie<'static>) -> Result<(), JarError> {
     match verb {
         Verb::AddOriginal => return jar.add_original(cookie),
@@ -50,8 +50,8 @@ fn make_plain(jar: &mut CookieJar, verb: Verb, cookie: Cookie<'static>) -> Resul
     Ok(())
 }
 
-/// Makes the call on the jar or on the child jar of the key. A removal is at the moment of the rows, and a nonce that
-/// the call doesn't say is drawn of the generator. Words that say no cookie, and a call that child jars don't have, are
+/// Makes the call on the jar or on the child jar of the key. A removal is at the time of the rows, and a nonce that the
+/// call doesn't say is drawn from the generator. Words that say no cookie, and a call that child jars don't have, are
 /// refused as too long.
 pub fn make<R: TryRng>(
     call: Call,

@@ -1,7 +1,7 @@
 use rand_core::TryRng;
 use std::fmt;
 
-/// A generator that gives this many bytes, each 7, and then fails. It says nothing of its draws.
+/// A generator that returns this many bytes, each 7, and then fails. Its draws have no contract.
 #[derive(Drop)]
 pub struct Sevens {
     pub left: usize,

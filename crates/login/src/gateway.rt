@@ -41,7 +41,7 @@ impl Gateway {
     }
 }
 
-/// Reads the request from the environment and the standard input, or `None` where it can't be read.
+/// Reads the request from the environment and the standard input, or returns `None` if it can't be read.
 pub fn read(rt: &HostRuntime) -> Result<Option<Gateway>> {
     let Some(form) = form(rt)? else {
         return Ok(None);
@@ -74,12 +74,12 @@ fn is_secure(rt: &HostRuntime) -> Result<bool> {
     }
 }
 
-// Whether each byte is a visible ASCII character, so that the text can stand in a header.
+// Whether each byte is a visible ASCII character, so that the text can be part of a header.
 fn is_path(text: &str) -> bool {
     text.as_bytes().iter().all(|byte| byte.is_ascii_graphic())
 }
 
-// The variable, empty where it isn't set, or `None` where it is no text.
+// The variable, empty if it isn't set, or `None` if it is no text.
 fn text(rt: &HostRuntime, name: &str) -> Result<Option<String>> {
     match env::var(rt, name) {
         Ok(text) => Ok(Some(text)),
@@ -89,7 +89,7 @@ fn text(rt: &HostRuntime, name: &str) -> Result<Option<String>> {
     }
 }
 
-// The variable's bytes, which needn't be UTF-8: none where it isn't set.
+// The variable's bytes, which needn't be UTF-8: none if it isn't set.
 fn bytes(rt: &HostRuntime, name: &str) -> Result<Vec<u8>> {
     let mut bytes = vec![in rt.alloc(); 0; 256]?;
     for _ in 0..usize::BITS {
@@ -108,7 +108,7 @@ fn bytes(rt: &HostRuntime, name: &str) -> Result<Vec<u8>> {
     Err(AllocError.into())
 }
 
-// The content, or `None` where it is too long or ends too early.
+// The content, or `None` if it is too long or ends too early.
 fn form(rt: &HostRuntime) -> Result<Option<Vec<u8>>> {
     let Some(length) = length(rt)? else {
         return Ok(None);
@@ -120,7 +120,7 @@ fn form(rt: &HostRuntime) -> Result<Option<Vec<u8>>> {
     Ok(Some(form))
 }
 
-// The length of the content, or `None` where that is no number or too long.
+// The length of the content, or `None` if the variable is no number or the length is too long.
 fn length(rt: &HostRuntime) -> Result<Option<usize>> {
     let Some(text) = text(rt, "CONTENT_LENGTH")? else {
         return Ok(None);

@@ -65,7 +65,7 @@ fn serve(rt: &HostRuntime) -> Result<()> {
     }
 }
 
-// Writes a response, without its page where it answers HEAD (RFC 3875 4.3.3).
+// Writes a response, without its page if it answers HEAD (RFC 3875 4.3.3).
 fn write(rt: &HostRuntime, response: &Response, base: &str, is_head: bool) -> Result<()> {
     let text = if is_head {
         response.head(rt.alloc(), base)?

@@ -5,7 +5,7 @@ use cookie_session::KeyRing;
 use login_core::User;
 use std::{env, fs};
 
-/// The keys: the first 64 bytes of each file that LOGIN_KEY names. The names stand between colons, the newest first.
+/// The keys: the first 64 bytes of each file that LOGIN_KEY names. The names are separated by colons, the newest first.
 pub fn keys(rt: &HostRuntime) -> Result<KeyRing> {
     let paths = env::var(rt, "LOGIN_KEY").context("LOGIN_KEY")?;
     let mut oldest_first = paths.as_str().rsplit(':');

@@ -17,7 +17,7 @@ use std::alloc::{AllocError, Global};
 use std::hash::RandomState;
 
 /// Sends the requests to the site, one after the other, from a client that holds nothing at first, and returns their
-/// pages. The client sends the cookies that it holds (RFC 6265 5.4), and reads those of each response (5.3).
+/// pages. The client sends the cookies that it holds (RFC 6265 5.4), and reads the cookies of each response (5.3).
 ///
 /// A page greets a user exactly if the last login or logout that was accepted was that user's login, and neither the
 /// lifetime nor the idle time is over. The message of a login or a logout is shown on the next such page, and once. The
@@ -43,7 +43,7 @@ pub fn browse<R: TryRng>(
     Ok(pages)
 }
 
-// Sends one request with the client's cookies, and has the client read those of the response.
+// Sends one request with the client's cookies, and has the client read the cookies of the response.
 fn send<R: TryRng>(
     alloc: Global,
     state: RandomState,

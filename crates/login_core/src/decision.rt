@@ -28,7 +28,7 @@ use std::hash::RandomState;
 /// Answers a request at the time `now` in UTC. The keys of `state` were drawn, so that nobody can choose names that
 /// make the jar slow. `rng` must be a cryptographic generator.
 ///
-/// Memory aside, it fails only where `Sessions::save` fails for the session that the request saves. A request that
+/// Out of memory aside, it fails only if `Sessions::save` fails for the session that the request saves. A request that
 /// saves none draws nothing from the generator.
 pub fn answer<R: TryRng>(
     alloc: Global,
@@ -38,18 +38,19 @@ pub fn answer<R: TryRng>(
     now: DateTime,
     rng: &mut R,
 ) -> Result<Response, SessionError>
-    // A user is greeted exactly where the request carries a session that is open and has that user.
+    // A user is greeted exactly if the request carries a session that is open and has that user.
     ensures greeted { IfOk result (λ response. (user : List ℕ)
         → (greeted response.page ≡ Some user) ↔ IsGreeted site.now request.now now user) }
 
-    // The page and the session that is saved are those of the request, and the `Set-Cookie` fields tell of that session.
+    // The page and the saved session follow from the request, and the `Set-Cookie` fields are the delta of the jar that
+    // this session was saved in.
     ensures answers { IfOk result (λ response. (saved : Option SessionState) × (jar : JarState)
         × IsPlan site.now request.now now response.page saved
         × Saves (λ nonce. R.may_fill rng.old nonce rng.new) site.now.sessions now saved
         (jar_for (readable request.now.cookies.now)) jar
         × AreDeltaTextsOnce jar.delta (map string_bytes response.cookies.items)) }
 
-    // Unless memory runs out, it fails as the session that the request saves is refused.
+    // Unless out of memory, it fails as the session that the request saves is refused.
     ensures fails { ¬ (result ≡ Err refusal.OutOfMemory)
         → (page : Page) × (saved : Option SessionState)
         × IsPlan site.now request.now now page saved

@@ -15,10 +15,10 @@ pub struct Credentials {
     pub password: String,
 }
 
-/// The form's user and password, if it has both. Of two fields of a name the first counts, and bytes that aren't UTF-8
-/// count as U+FFFD.
+/// Reads the form's user and password, if it has both. Of two fields with one name the first counts, and bytes that
+/// aren't UTF-8 count as U+FFFD.
 ///
-/// Fails only when memory runs out.
+/// Fails only if out of memory.
 pub fn read_credentials(alloc: Global, form: &[u8]) -> Result<Option<Credentials>, AllocError>
     ensures { IfOk result (λ found. option_map credential_texts found ≡ credentials_of form.now) }
 {
@@ -43,7 +43,7 @@ fn field(alloc: Global, form: &[u8], name: &str) -> Result<Option<String>, Alloc
     Ok(None)
 }
 
-// Whether these bytes stand for the text.
+// Whether these bytes decode to the text.
 fn stands_for(alloc: Global, bytes: &[u8], text: &str) -> Result<bool, AllocError>
     ensures { IfOk result (λ is_text. is_text ≡ bytes_eq (form_text bytes.now) text.now) }
 {
@@ -51,7 +51,7 @@ fn stands_for(alloc: Global, bytes: &[u8], text: &str) -> Result<bool, AllocErro
     Ok(found.as_str() == text)
 }
 
-// The text that these bytes stand for.
+// The text that these bytes decode to.
 fn form_text(alloc: Global, bytes: &[u8]) -> Result<String, AllocError>
     ensures { IfOk result (λ text. string_bytes text ≡ form_text bytes.now) }
 {

@@ -11,8 +11,8 @@ pub const IDLE: u32 = 1800;
 /// What the site has beside a request.
 #[derive(Clone, Copy)]
 pub struct LoginSite<'a> {
-    /// How it keeps its sessions: its keys, its cookie as `session_cookie` gives it, and its limits, as `LIFETIME` and
-    /// `IDLE`.
+    /// How it keeps its sessions: its keys, its cookie as `session_cookie` returns it, and its limits, as `LIFETIME`
+    /// and `IDLE`.
     pub sessions: Sessions<'a>,
     /// Who may log in.
     pub users: &'a [User],

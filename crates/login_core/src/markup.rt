@@ -33,10 +33,10 @@ const LINK: &[u8] = b"<p><a href=\"";
 
 const LINK_END: &[u8] = b"/\">To the home page</a></p>\n";
 
-/// The page as HTML, in UTF-8, with each text from outside escaped. `base` is the path of the program, to which the
-/// links and forms lead.
+/// Writes the page as HTML, in UTF-8, with each text from outside escaped. `base` is the path of the program, to which
+/// the links and forms lead.
 ///
-/// Fails only when memory runs out.
+/// Fails only if out of memory.
 pub fn html(alloc: Global, base: &str, page: &Page) -> Result<Vec<u8>, AllocError>
     ensures { IfOk result (λ text. text.items ≡ html_of base.now page.now) }
 {
@@ -46,7 +46,7 @@ pub fn html(alloc: Global, base: &str, page: &Page) -> Result<Vec<u8>, AllocErro
     Ok(text)
 }
 
-// What this page has after what each begins with.
+// The content of this page, after the beginning that all pages share.
 fn push_main(alloc: Global, text: &mut Vec<u8>, base: &str, page: &Page) -> Result<(), AllocError>
     ensures { OnOk result (text.new.items ≡ text.old.items ++ main_html base.now page.now) }
 {

@@ -21,10 +21,10 @@ pub struct Response {
 }
 
 impl Response {
-    /// The response's fields and the empty line, as a CGI program writes them (RFC 3875 6.2.1). `base` is the path of
-    /// the program, which stands in `Location` as it is: without a line break, which nobody checks here.
+    /// Writes the response's fields and the empty line, as a CGI program does (RFC 3875 6.2.1). `base` is the path of
+    /// the program. It is in `Location` as it is, so it must have no line break, which isn't checked here.
     ///
-    /// Fails only when memory runs out.
+    /// Fails only if out of memory.
     pub fn head(&self, alloc: Global, base: &str) -> Result<Vec<u8>, AllocError>
         ensures { IfOk result (λ text. text.items ≡ head_of base.now self.now) }
     {
@@ -33,9 +33,9 @@ impl Response {
         Ok(text)
     }
 
-    /// The response as a CGI program writes it: its fields, an empty line, and the page. `base` is as in `head`.
+    /// Writes the response as a CGI program does: its fields, an empty line, and the page. `base` is as in `head`.
     ///
-    /// Fails only when memory runs out.
+    /// Fails only if out of memory.
     pub fn text(&self, alloc: Global, base: &str) -> Result<Vec<u8>, AllocError>
         ensures { IfOk result (λ text. text.items ≡ response_text base.now self.now) }
     {

@@ -1,4 +1,4 @@
-//! Which page a request asks for.
+//! Which page a request is for.
 ghost use Rattle.std.specs.Prelude.{◌≡◌};
 ghost use Rattle.login_core.specs.Routes.{route_of};
 
@@ -15,8 +15,8 @@ pub enum Route {
     LogOut,
 }
 
-/// The page that a request asks for, or why there is none: `NotFound` at another path, and at another method `OnlyGet`
-/// or `OnlyPost` (RFC 9110 15.5.5, 15.5.6). HEAD is another method here: hand it in as GET.
+/// Returns the page that a request is for, or why there is none: `NotFound` at another path, and `OnlyGet` or
+/// `OnlyPost` at another method (RFC 9110 15.5.5, 15.5.6). HEAD is another method here: pass it in as GET.
 pub fn find_route(method: &str, path: &str) -> Result<Route, Refusal>
     ensures { result ≡ route_of method.now path.now }
 {

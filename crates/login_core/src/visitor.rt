@@ -19,7 +19,7 @@ pub struct Visitor {
 
 /// Reads what the session says, if there is one.
 ///
-/// Fails only out of memory.
+/// Fails only if out of memory.
 pub fn read_visitor(alloc: Global, session: Option<&Session>) -> Result<Visitor, AllocError>
     ensures { IfOk result (IsVisitor (option_map (λ s. s.now) session.entry)) }
 {
@@ -65,7 +65,7 @@ fn visits_of(alloc: Global, session: Option<&Session>) -> Result<u64, AllocError
     }
 }
 
-// One more than the number that the text shows, or 1 where it shows none.
+// One more than the number that the text shows, or 1 if it shows none.
 fn one_more(text: &str) -> u64
     ensures { (number : ℕ) → number + 1 < 2 ^ 64 → text.now ≡ decimal number
         → result ≡ number + 1 }
@@ -73,7 +73,7 @@ fn one_more(text: &str) -> u64
     number_of(text).saturating_add(1)
 }
 
-// The number that the text shows, or 0 where it shows none.
+// The number that the text shows, or 0 if it shows none.
 fn number_of(text: &str) -> u64
     ensures { (number : ℕ) → number < 2 ^ 64 → text.now ≡ decimal number → result ≡ number }
 {

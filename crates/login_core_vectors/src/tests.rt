@@ -19,7 +19,7 @@ fn greeted(page: &Page) -> Option<&str> {
     }
 }
 
-// The row with each word in braces replaced by what it stands for.
+// The row with each word in braces replaced by its meaning.
 fn spelled(alloc: Global, row: &str) -> Result<String, AllocError> {
     let mut text = String::from_str(alloc, row)?;
     for line in words::WORDS.lines() {
@@ -52,7 +52,8 @@ fn is_step_right(response: &Response, text: &str, step: &str) -> bool {
     }
 }
 
-// Whether the response is as the steps say, sets as many cookies, and greets nobody where they say nothing.
+// Whether the response is as the steps say, sets the number of cookies that they say, and greets nobody if they say
+// nothing.
 fn is_answered(alloc: Global, response: &Response, steps: &str) -> Option<bool> {
     let text = response.text(alloc, "/cgi-bin/login.cgi").ok()?;
     let text = std::str::from_utf8(&text).ok()?;
@@ -68,10 +69,10 @@ fn is_answered(alloc: Global, response: &Response, steps: &str) -> Option<bool> 
 }
 
 // Whether the row's request is answered as it says: `plain GET / | cookies a=b | is 200 | has Hello`. It goes to a site
-// of the users `ann` and `<b>bo</b>`: a method and a path, after `plain` where the connection isn't secure, and
-// `cookies`, where each letter is one byte, and `form`. The answer has the status (`is`), the user who is greeted
-// (`greets`), the text of each `Set-Cookie` field (`sets`), and a part or a line of the response's text (`has`, `line`),
-// but not another part (`lacks`).
+// of the users `ann` and `<b>bo</b>`: a method and a path, after `plain` if the connection isn't secure, and `cookies`,
+// where each letter is one byte, and `form`. The answer has the status (`is`), the user who is greeted (`greets`), the
+// text of each `Set-Cookie` field (`sets`), and a part or a line of the response's text (`has`, `line`), but not
+// another part (`lacks`).
 fn is_right(alloc: Global, state: RandomState, row: &str) -> Option<bool> {
     let row = spelled(alloc, row).ok()?;
     let (head, steps) = row.as_str().split_once(" | ")?;

@@ -67,7 +67,7 @@ impl<P: Prefix> Storing for Prefixer<P> {
 }
 
 impl CookieJar {
-    /// The jar through a prefix, to look cookies up. It takes no memory.
+    /// Views the jar through a prefix, to look cookies up. It doesn't allocate.
     pub fn prefixed<'a, P: Prefix>(&'a self, _prefix: P) -> PrefixedJar<'a, P>
         ensures { result ≡ self.now }
     {
@@ -77,7 +77,8 @@ impl CookieJar {
         }
     }
 
-    /// The jar through a prefix, to look cookies up and to change it. It takes no memory.
+    /// Views the jar through a prefix, to look cookies up and to change it. It doesn't allocate.
+    /// Example: `add_for_team` in crates/cookie_examples/src/team.rt.
     pub fn prefixed_mut<'a, P: Prefix>(&'a mut self, _prefix: P) -> PrefixedJarMut<'a, P>
         ensures same { Changes result self.entry }
         ensures value { jar_of result ≡ self.old }

@@ -3,7 +3,7 @@ ghost use Rattle.std.specs.Prelude.{◌≡◌};
 
 use std::marker::Model;
 
-/// What stands before names. Contracts see it as its text.
+/// The text before the names. Contracts see it as its text.
 #[derive(Debug, Drop)]
 pub struct NamePrefix(pub &'static str);
 

@@ -36,9 +36,9 @@ pub(crate) fn half_of(bytes: &[u8]) -> [u8; 32]
 
 /// Sixty-four secret bytes: the first half signs, the second half encrypts. Contracts see them as a list.
 ///
-/// A key is only as safe as its bytes are random: they must come from a cryptographic generator, or from a master
-/// key that does. Under one key at most 2^32 random nonces may be drawn (SP 800-38D 8.3). Keys, signatures and tags
-/// are compared to their last byte, wherever they differ. A key that is let go isn't wiped from memory.
+/// A key is only as safe as its bytes are random: they must come from a cryptographic generator, or from a master key
+/// that does. Under one key at most 2^32 random nonces may be drawn (SP 800-38D 8.3). Keys, signatures and tags are
+/// compared to their last byte, wherever they differ. A key that is dropped isn't wiped from memory.
 #[derive(Drop)]
 pub struct Key {
     bytes: [u8; KEY_LENGTH],
@@ -58,7 +58,7 @@ impl Model for Key {
 }
 
 impl Key {
-    // The key of these bytes, with what each half gives by itself.
+    // The key of these bytes, with a `Mac` of its first half and a `Gcm` of its second half.
     fn of(bytes: &[u8; KEY_LENGTH]) -> Key
         ensures { result ≡ bytes.now }
     {
@@ -69,9 +69,10 @@ impl Key {
         }
     }
 
-    /// The key of the first 64 bytes.
+    /// Makes a key of the first 64 bytes.
     ///
-    /// The caller sees to it that there are as many, and that they are random; `try_from` takes any number.
+    /// The caller must make sure that there are at least 64, and that they are random. `try_from` takes any number of
+    /// bytes.
     pub fn from(key: &[u8]) -> Key
         requires { key_length ≤ length key.now }
         ensures { result ≡ key_bytes key.now }
@@ -81,8 +82,8 @@ impl Key {
         Key::of(&bytes)
     }
 
-    /// The key of the first 64 bytes, which must be random. Fails exactly where there are fewer, with
-    /// `KeyError::TooShort`.
+    /// Makes a key of the first 64 bytes, which must be random. Fails with `KeyError::TooShort` exactly if there are
+    /// fewer.
     pub fn try_from(key: &[u8]) -> Result<Key, KeyError>
         ensures ok { key_length ≤ length key.now → result ≡ Ok (key_bytes key.now) }
         ensures too_short { length key.now < key_length
@@ -94,11 +95,10 @@ impl Key {
         Ok(Key::from(key))
     }
 
-    /// The key derived from a master key, by the whole of it (RFC 5869 2.3). The same master key always gives the
-    /// same key.
+    /// Derives a key from the whole of a master key (RFC 5869 2.3). The same master key always makes the same key.
     ///
-    /// The caller sees to it that the master key has at least 32 bytes, and that they are random; `try_derive_from`
-    /// takes any number.
+    /// The caller must make sure that the master key has at least 32 bytes, and that they are random. `try_derive_from`
+    /// takes any number of bytes.
     pub fn derive_from(master_key: &[u8]) -> Key
         requires { master_length ≤ length master_key.now }
         ensures { result ≡ derived_key master_key.now }
@@ -106,8 +106,8 @@ impl Key {
         Key::of(&expand64(master_key, KEY_INFO))
     }
 
-    /// The key derived from a master key, by the whole of it (RFC 5869 2.3). The master key must be random. Fails
-    /// exactly where it has fewer than 32 bytes, with `KeyError::MasterTooShort`.
+    /// Derives a key from the whole of a master key (RFC 5869 2.3). The master key must be random. Fails with
+    /// `KeyError::MasterTooShort` exactly if it has fewer than 32 bytes.
     pub fn try_derive_from(master_key: &[u8]) -> Result<Key, KeyError>
         ensures ok { master_length ≤ length master_key.now
             → result ≡ Ok (derived_key master_key.now) }
@@ -120,7 +120,8 @@ impl Key {
         Ok(Key::derive_from(master_key))
     }
 
-    /// The key of the next 64 bytes of a generator, by one draw. `rng` must be a cryptographic generator.
+    /// Makes a key of the next 64 bytes of a generator, by one draw. `rng` must be a cryptographic generator.
+    /// Example: `session` in crates/cookie_examples/src/show.rt.
     pub fn generate<R: Rng>(rng: &mut R) -> Key
         ensures { (result, R.stream rng.new) ≡ fill_bytes key_length (R.stream rng.old) }
     {
@@ -129,8 +130,9 @@ impl Key {
         Key::of(&bytes)
     }
 
-    /// The key of 64 bytes that one draw from a generator gave, or `None` where it failed. `rng` must be a
+    /// Makes a key of 64 bytes from one draw from a generator, or returns `None` if the draw failed. `rng` must be a
     /// cryptographic generator.
+    /// Example: `new_key` in crates/cookie_examples/src/runtime.rt.
     pub fn try_generate<R: TryRng>(rng: &mut R) -> Option<Key>
         ensures drawn { IfSome result (λ key. R.may_fill rng.old key rng.new) }
         ensures failed { IfNone result R.Error }
@@ -183,7 +185,7 @@ impl Key {
     }
 }
 
-/// It takes no memory, so it never fails.
+/// It doesn't allocate, so it never fails.
 impl Clone for Key {
     ghost is_clone = { λ key copy. copy ≡ key };
 
@@ -198,7 +200,7 @@ impl Clone for Key {
     }
 }
 
-/// Equal where all 64 bytes are. They are compared to the last one, wherever they differ.
+/// Two keys are equal if all 64 bytes are. The bytes are compared to the last one, wherever they differ.
 impl PartialEq for Key {
     ghost eq = { bytes_eq };
 

@@ -70,7 +70,7 @@ impl Sealer {
         }
     }
 
-    // The cookie with its value sealed under its name and a nonce that one draw gives.
+    // The cookie with its value sealed under its name and a nonce from one draw.
     fn encrypt<R: TryRng>(
         &self,
         alloc: Global,
@@ -116,7 +116,8 @@ impl Sealer {
 }
 
 impl CookieJar {
-    /// The jar through a key that encrypts, to look cookies up. It takes no memory. The key must be random.
+    /// Views the jar through a key that encrypts, to look cookies up. It doesn't allocate. The key must be random.
+    /// Example: `user_of` in crates/cookie_examples/src/session.rt.
     pub fn private<'a>(&'a self, key: &Key) -> PrivateJar<'a>
         ensures { result ≡ record { jar = self.now; key = encryption_half key.now } }
     {
@@ -126,8 +127,9 @@ impl CookieJar {
         }
     }
 
-    /// The jar through a key that encrypts, to look cookies up and to change it. It takes no memory. The key must be
-    /// random.
+    /// Views the jar through a key that encrypts, to look cookies up and to change it. It doesn't allocate. The key
+    /// must be random.
+    /// Example: `sign_in` in crates/cookie_examples/src/session.rt.
     pub fn private_mut<'a>(&'a mut self, key: &Key) -> PrivateJarMut<'a>
         ensures same { Changes result self.entry }
         ensures value { jar_of result ≡ self.old }
@@ -160,24 +162,25 @@ impl CookieJar {
 }
 
 impl<'a> PrivateJar<'a> {
-    /// A copy of the cookie that the jar shows under `name`, with the value that was sealed. There is no answer
-    /// where the jar's value isn't sealed under the key and the name.
+    /// Returns a copy of the cookie that the jar shows under `name`, with the value that was sealed. Returns `None` if
+    /// the jar's value isn't sealed under the key and the name.
     ///
     /// Fails only with `JarError::OutOfMemory`.
+    /// Example: `user_of` in crates/cookie_examples/src/session.rt.
     pub fn get(&self, name: &str) -> Result<Option<Cookie<'static>>, JarError>
         ensures answers { Gives refusal.OutOfMemory result (λ answer.
             AnswersExactly (IsSealingOf self.now.key) (view self.now.jar name.now)
             (option_map (λ c. c.fields) answer)) }
 
-        // The value is a text of its own.
+        // The value is an owned string.
         ensures raw { Gives refusal.OutOfMemory result (λ answer.
             IfSome answer (λ c. c.raw.value ≡ None)) }
     {
         self.jar.get_decrypted(&self.sealer, name)
     }
 
-    /// The cookie with the value that was sealed. There is no answer where its value isn't sealed under the key and
-    /// its name.
+    /// Returns the cookie with the value that was sealed, or `None` if its value isn't sealed under the key and its
+    /// name.
     ///
     /// Fails only with `JarError::OutOfMemory`.
     pub fn decrypt(&self, cookie: Cookie<'static>) -> Result<Option<Cookie<'static>>, JarError>
@@ -185,15 +188,15 @@ impl<'a> PrivateJar<'a> {
             AnswersExactly (IsSealingOf self.now.key) (Some cookie.entry.fields)
             (option_map (λ c. c.fields) answer)) }
 
-        // Only the value changes of what the cookie lends: it is a text of its own.
+        // Of what the cookie borrows, only the value changes: it is an owned string.
         ensures raw { Gives refusal.OutOfMemory result (λ answer.
             IfSome answer (λ c. c.raw ≡ record cookie.entry.raw { value = None })) }
     {
         Ok(self.sealer.decrypt(self.jar.allocator(), cookie)?)
     }
-    /// The cookie with its value encrypted under the key and its name, as `PrivateJarMut::add` stores it. The jar isn't
-    /// changed. One draw of twelve bytes from `rng` gives the nonce. `rng` must be a cryptographic generator, and under
-    /// one key at most 2^32 nonces may be drawn (SP 800-38D 8.3).
+    /// Returns the cookie with its value encrypted under the key and its name, as `PrivateJarMut::add` stores it. The
+    /// jar isn't changed. The nonce is one draw of twelve bytes from `rng`. `rng` must be a cryptographic generator,
+    /// and under one key at most 2^32 nonces may be drawn (SP 800-38D 8.3).
     ///
     /// Fails with `TooLong` if the name has more than 2^61 - 1 bytes or the value more than 2^36 - 32, and then draws
     /// nothing. Else fails with `Generator` if the draw failed, and with `OutOfMemory`.
@@ -208,8 +211,8 @@ impl<'a> PrivateJar<'a> {
         self.sealer.encrypt(self.jar.allocator(), cookie, rng)
     }
 
-    /// The cookie with its value encrypted under the key, its name and the nonce. The jar isn't changed. No two values
-    /// may be encrypted under one key and one nonce, and under one key at most 2^32 random nonces may be drawn
+    /// Returns the cookie with its value encrypted under the key, its name and the nonce. The jar isn't changed. No two
+    /// values may be encrypted under one key and one nonce, and under one key at most 2^32 random nonces may be drawn
     /// (SP 800-38D 8.3).
     ///
     /// Fails with `TooLong` if the name has more than 2^61 - 1 bytes or the value more than 2^36 - 32, else only with
@@ -227,8 +230,8 @@ impl<'a> PrivateJar<'a> {
 }
 
 impl<'a> PrivateJarMut<'a> {
-    /// A copy of the cookie that the jar shows under `name`, with the value that was sealed. There is no answer
-    /// where the jar's value isn't sealed under the key and the name.
+    /// Returns a copy of the cookie that the jar shows under `name`, with the value that was sealed. Returns `None` if
+    /// the jar's value isn't sealed under the key and the name.
     ///
     /// Fails only with `JarError::OutOfMemory`.
     pub fn get(&self, name: &str) -> Result<Option<Cookie<'static>>, JarError>
@@ -236,15 +239,15 @@ impl<'a> PrivateJarMut<'a> {
             AnswersExactly (IsSealingOf (key_of self.now)) (view (jar_of self.now) name.now)
             (option_map (λ c. c.fields) answer)) }
 
-        // The value is a text of its own.
+        // The value is an owned string.
         ensures raw { Gives refusal.OutOfMemory result (λ answer.
             IfSome answer (λ c. c.raw.value ≡ None)) }
     {
         self.jar.get_decrypted(&self.storing, name)
     }
 
-    /// The cookie with the value that was sealed. There is no answer where its value isn't sealed under the key and
-    /// its name.
+    /// Returns the cookie with the value that was sealed, or `None` if its value isn't sealed under the key and its
+    /// name.
     ///
     /// Fails only with `JarError::OutOfMemory`.
     pub fn decrypt(&self, cookie: Cookie<'static>) -> Result<Option<Cookie<'static>>, JarError>
@@ -252,20 +255,19 @@ impl<'a> PrivateJarMut<'a> {
             AnswersExactly (IsSealingOf (key_of self.now)) (Some cookie.entry.fields)
             (option_map (λ c. c.fields) answer)) }
 
-        // Only the value changes of what the cookie lends: it is a text of its own.
+        // Of what the cookie borrows, only the value changes: it is an owned string.
         ensures raw { Gives refusal.OutOfMemory result (λ answer.
             IfSome answer (λ c. c.raw ≡ record cookie.entry.raw { value = None })) }
     {
         Ok(self.storing.decrypt(self.jar.allocator(), cookie)?)
     }
 
-    /// Adds an original cookie, with its value sealed under its name and a nonce that one draw of twelve bytes from
-    /// `rng` gives. `rng` must be a cryptographic generator, and under one key at most 2^32 nonces may be drawn
-    /// (SP 800-38D 8.3).
+    /// Adds an original cookie, with its value sealed under its name and a nonce. The nonce is one draw of twelve bytes
+    /// from `rng`. `rng` must be a cryptographic generator, and under one key at most 2^32 nonces may be drawn (SP
+    /// 800-38D 8.3).
     ///
-    /// Fails with `TooLong` where the name has more than 2^61 - 1 bytes or the value more than 2^36 - 32, and then
-    /// draws nothing; else with `Generator` where the draw failed; else with `OutOfMemory`. It then leaves the jar
-    /// as it was.
+    /// Fails with `TooLong` if the name has more than 2^61 - 1 bytes or the value more than 2^36 - 32, and then draws
+    /// nothing. Else fails with `Generator` if the draw failed, and with `OutOfMemory`. The jar is then as it was.
     pub fn add_original<R: TryRng>(
         &mut self,
         cookie: Cookie<'static>,
@@ -278,18 +280,18 @@ impl<'a> PrivateJarMut<'a> {
         self.jar.add_original(original)
     }
 
-    /// Adds a cookie, with its value sealed under its name and a nonce that one draw of twelve bytes from `rng`
-    /// gives. A `get` of its name then gives its name and value. `rng` must be a cryptographic generator, and under
-    /// one key at most 2^32 nonces may be drawn (SP 800-38D 8.3).
+    /// Adds a cookie, with its value sealed under its name and a nonce. A `get` of its name then returns its name and
+    /// value. The nonce is one draw of twelve bytes from `rng`. `rng` must be a cryptographic generator, and under one
+    /// key at most 2^32 nonces may be drawn (SP 800-38D 8.3).
     ///
-    /// Fails with `TooLong` where the name has more than 2^61 - 1 bytes or the value more than 2^36 - 32, and then
-    /// draws nothing; else with `Generator` where the draw failed; else with `OutOfMemory`. It then leaves the jar
-    /// as it was.
+    /// Fails with `TooLong` if the name has more than 2^61 - 1 bytes or the value more than 2^36 - 32, and then draws
+    /// nothing. Else fails with `Generator` if the draw failed, and with `OutOfMemory`. The jar is then as it was.
+    /// Example: `sign_in` in crates/cookie_examples/src/session.rt.
     pub fn add<R: TryRng>(&mut self, cookie: Cookie<'static>, rng: &mut R) -> Result<(), JarError>
         ensures outcome { IsDrawnAddition Add (λ nonce. R.may_fill rng.old nonce rng.new)
             (rng.new ≡ rng.old) R.Error cookie.entry.fields self.old self.new result }
 
-        // A look-up now gives the name and the value.
+        // A look-up now returns the name and the value.
         ensures shown { IfOk result (λ _.
             AnswersPair (IsSealingOf (key_of self.new))
             (view (jar_of self.new) cookie.entry.fields.name) cookie.entry.fields) }
@@ -301,8 +303,8 @@ impl<'a> PrivateJarMut<'a> {
     /// Adds an original cookie, with its value sealed under its name and the nonce. No two values may be sealed
     /// under one key and one nonce, and under one key at most 2^32 random nonces may be drawn (SP 800-38D 8.3).
     ///
-    /// Fails with `TooLong` where the name has more than 2^61 - 1 bytes or the value more than 2^36 - 32, else with
-    /// `OutOfMemory` alone. It then leaves the jar as it was.
+    /// Fails with `TooLong` if the name has more than 2^61 - 1 bytes or the value more than 2^36 - 32, else only with
+    /// `OutOfMemory`. The jar is then as it was.
     pub fn add_original_with_nonce(
         &mut self,
         cookie: Cookie<'static>,
@@ -315,12 +317,12 @@ impl<'a> PrivateJarMut<'a> {
         self.jar.add_original(original)
     }
 
-    /// Adds a cookie, with its value sealed under its name and the nonce. A `get` of its name then gives its name
-    /// and value. No two values may be sealed under one key and one nonce, and under one key at most 2^32 random
-    /// nonces may be drawn (SP 800-38D 8.3).
+    /// Adds a cookie, with its value sealed under its name and the nonce. A `get` of its name then returns its name and
+    /// value. No two values may be sealed under one key and one nonce, and under one key at most 2^32 random nonces may
+    /// be drawn (SP 800-38D 8.3).
     ///
-    /// Fails with `TooLong` where the name has more than 2^61 - 1 bytes or the value more than 2^36 - 32, else with
-    /// `OutOfMemory` alone. It then leaves the jar as it was.
+    /// Fails with `TooLong` if the name has more than 2^61 - 1 bytes or the value more than 2^36 - 32, else only with
+    /// `OutOfMemory`. The jar is then as it was.
     pub fn add_with_nonce(
         &mut self,
         cookie: Cookie<'static>,
@@ -328,7 +330,7 @@ impl<'a> PrivateJarMut<'a> {
     ) -> Result<(), JarError>
         ensures outcome { IsSealedAddition Add nonce cookie.entry.fields self.old self.new result }
 
-        // A look-up now gives the name and the value.
+        // A look-up now returns the name and the value.
         ensures shown { IfOk result (λ _.
             AnswersPair (IsSealingOf (key_of self.new))
             (view (jar_of self.new) cookie.entry.fields.name) cookie.entry.fields) }
@@ -338,10 +340,11 @@ impl<'a> PrivateJarMut<'a> {
         self.jar.add(added)
     }
 
-    /// Removes the cookie of that name, at the date and time `now` in UTC. Where there is an original of that
-    /// name, the delta gets a cookie that tells the client to drop it, with this cookie's path and domain.
+    /// Removes the cookie of that name, at the date and time `now` in UTC. If there is an original of that name, the
+    /// delta gets a cookie that tells the client to drop it, with this cookie's path and domain.
     ///
-    /// Fails only with `JarError::OutOfMemory`, where there is such an original, and then leaves the jar as it was.
+    /// Fails only with `JarError::OutOfMemory`, and only if there is such an original. It then leaves the jar as it
+    /// was.
     pub fn remove(&mut self, cookie: Cookie<'static>, now: DateTime) -> Result<(), JarError>
         ensures gives { Gives refusal.OutOfMemory result (λ _.
             jar_of self.new ≡ after (Remove cookie.entry.fields now) (jar_of self.old)) }
@@ -354,7 +357,7 @@ impl<'a> PrivateJarMut<'a> {
     }
 }
 
-// Twelve bytes that one draw gives, to seal the cookie with.
+// Twelve bytes from one draw, to seal the cookie with.
 fn nonce_for<R: TryRng>(cookie: &Cookie<'_>, rng: &mut R) -> Result<[u8; 12], JarError>
     ensures drawn { IfOk result (λ nonce. R.may_fill rng.old nonce rng.new) }
     ensures within { OnOk result (CanSeal cookie.now.fields) }

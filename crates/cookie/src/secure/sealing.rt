@@ -32,7 +32,7 @@ pub(crate) fn can_seal(cookie: &Cookie<'_>) -> bool
     cookie.name().len() <= LONGEST_NAME && cookie.value().len() <= LONGEST_VALUE
 }
 
-// The cookie with its value sealed under its name. It then stands for that value.
+// The cookie with its value sealed under its name. The new value is a sealing of the old one.
 pub(crate) fn seal<'c>(
     alloc: Global,
     cipher: &Gcm,
@@ -50,7 +50,7 @@ pub(crate) fn seal<'c>(
     Ok(cookie)
 }
 
-// The cookie with the value that its own is a sealing of, where it is one.
+// The cookie with the value that its own is a sealing of, if it is one.
 pub(crate) fn decrypt<'c>(
     alloc: Global,
     cipher: &Gcm,
@@ -127,7 +127,7 @@ fn unseal(alloc: Global, cipher: &Gcm, name: &str, text: &str) -> Result<Option<
     }
 }
 
-// The bytes that the text is the padded base64 of, if it is that of any.
+// The bytes whose padded base64 is the text, or `None` if there are none.
 fn decode(alloc: Global, text: &str) -> Result<Option<Vec<u8>>, AllocError>
     ensures exact { IfOk result (λ answer.
         (b : List ℕ) → IsBytes b

@@ -83,7 +83,7 @@ impl Storing for Signer {
 }
 
 impl CookieJar {
-    /// The jar through a key that signs, to look cookies up. It takes no memory. The key must be random.
+    /// Views the jar through a key that signs, to look cookies up. It doesn't allocate. The key must be random.
     pub fn signed<'a>(&'a self, key: &Key) -> SignedJar<'a>
         ensures { result ≡ record { jar = self.now; key = signing_half key.now } }
     {
@@ -93,8 +93,8 @@ impl CookieJar {
         }
     }
 
-    /// The jar through a key that signs, to look cookies up and to change it. It takes no memory. The key must be
-    /// random.
+    /// Views the jar through a key that signs, to look cookies up and to change it. It doesn't allocate. The key must
+    /// be random.
     pub fn signed_mut<'a>(&'a mut self, key: &Key) -> SignedJarMut<'a>
         ensures same { Changes result self.entry }
         ensures value { jar_of result ≡ self.old }
@@ -123,8 +123,8 @@ impl CookieJar {
 }
 
 impl<'a> SignedJar<'a> {
-    /// A copy of the cookie that the jar shows under `name`, with the value that was signed. There is no answer
-    /// where the jar's value isn't signed under the key and the name.
+    /// Returns a copy of the cookie that the jar shows under `name`, with the value that was signed. Returns `None` if
+    /// the jar's value isn't signed under the key and the name.
     ///
     /// Fails only with `JarError::OutOfMemory`.
     pub fn get(&self, name: &str) -> Result<Option<Cookie<'static>>, JarError>
@@ -132,15 +132,15 @@ impl<'a> SignedJar<'a> {
             AnswersExactly (IsSigningOf self.now.key) (view self.now.jar name.now)
             (option_map (λ c. c.fields) answer)) }
 
-        // The value is a text of its own.
+        // The value is an owned string.
         ensures raw { Gives refusal.OutOfMemory result (λ answer.
             IfSome answer (λ c. c.raw.value ≡ None)) }
     {
         self.jar.get_verified(&self.mac, name)
     }
 
-    /// The cookie with the value that was signed. There is no answer where its value isn't signed under the key
-    /// and its name.
+    /// Returns the cookie with the value that was signed, or `None` if its value isn't signed under the key and its
+    /// name.
     ///
     /// Fails only with `JarError::OutOfMemory`.
     pub fn verify(&self, cookie: Cookie<'static>) -> Result<Option<Cookie<'static>>, JarError>
@@ -148,7 +148,7 @@ impl<'a> SignedJar<'a> {
             AnswersExactly (IsSigningOf self.now.key) (Some cookie.entry.fields)
             (option_map (λ c. c.fields) answer)) }
 
-        // Only the value changes of what the cookie lends: it is a text of its own.
+        // Of what the cookie borrows, only the value changes: it is an owned string.
         ensures raw { Gives refusal.OutOfMemory result (λ answer.
             IfSome answer (λ c. c.raw ≡ record cookie.entry.raw { value = None })) }
 
@@ -160,8 +160,8 @@ impl<'a> SignedJar<'a> {
 }
 
 impl<'a> SignedJarMut<'a> {
-    /// A copy of the cookie that the jar shows under `name`, with the value that was signed. There is no answer
-    /// where the jar's value isn't signed under the key and the name.
+    /// Returns a copy of the cookie that the jar shows under `name`, with the value that was signed. Returns `None` if
+    /// the jar's value isn't signed under the key and the name.
     ///
     /// Fails only with `JarError::OutOfMemory`.
     pub fn get(&self, name: &str) -> Result<Option<Cookie<'static>>, JarError>
@@ -169,15 +169,15 @@ impl<'a> SignedJarMut<'a> {
             AnswersExactly (IsSigningOf (key_of self.now)) (view (jar_of self.now) name.now)
             (option_map (λ c. c.fields) answer)) }
 
-        // The value is a text of its own.
+        // The value is an owned string.
         ensures raw { Gives refusal.OutOfMemory result (λ answer.
             IfSome answer (λ c. c.raw.value ≡ None)) }
     {
         self.jar.get_verified(&self.storing.mac, name)
     }
 
-    /// The cookie with the value that was signed. There is no answer where its value isn't signed under the key
-    /// and its name.
+    /// Returns the cookie with the value that was signed, or `None` if its value isn't signed under the key and its
+    /// name.
     ///
     /// Fails only with `JarError::OutOfMemory`.
     pub fn verify(&self, cookie: Cookie<'static>) -> Result<Option<Cookie<'static>>, JarError>
@@ -185,7 +185,7 @@ impl<'a> SignedJarMut<'a> {
             AnswersExactly (IsSigningOf (key_of self.now)) (Some cookie.entry.fields)
             (option_map (λ c. c.fields) answer)) }
 
-        // Only the value changes of what the cookie lends: it is a text of its own.
+        // Of what the cookie borrows, only the value changes: it is an owned string.
         ensures raw { Gives refusal.OutOfMemory result (λ answer.
             IfSome answer (λ c. c.raw ≡ record cookie.entry.raw { value = None })) }
 

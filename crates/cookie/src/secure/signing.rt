@@ -41,7 +41,7 @@ pub(crate) fn sign<'c>(
     Ok(cookie)
 }
 
-// What stands after the signature in a value, where it is signed.
+// The part of a signed value after the signature. `None` if the value isn't signed.
 fn unsign<'v>(mac: &Mac, name: &str, value: &'v str) -> Option<&'v str>
     ensures { (v : List ℕ)
         → (option_copied result ≡ Some v) ↔ (value.now ≡ signing mac.now name.now v) }
@@ -56,7 +56,7 @@ fn unsign<'v>(mac: &Mac, name: &str, value: &'v str) -> Option<&'v str>
     }
 }
 
-// The cookie with the value that its own is the signing of, where it is one.
+// The cookie with the value that its own is the signing of, if it is one.
 pub(crate) fn verify<'c>(
     alloc: Global,
     mac: &Mac,

@@ -1,4 +1,4 @@
-//! Jars and clients against a second body of the jar, over requests that are drawn.
+//! Jars and clients against a second implementation of the jar, over requests that are drawn.
 use super::exchanges::{are_accepted, requests};
 use call_steps::{Draws, Entries, FlatJar, Tables};
 use cookie::CookieJar;
@@ -31,7 +31,7 @@ fn is_held(client: &Client, held: &Entries<'_>) -> bool {
     names.all(|name| client.get(name) == held.find(name).and_then(|entry| entry.value()))
 }
 
-// Makes the request's calls on a flat jar, has a plain client follow it, and answers whether the same came of them.
+// Makes the request's calls on a flat jar, has a plain client follow it, and returns whether the same came of them.
 fn is_alike<'c>(held: &mut Entries<'c>, calls: &'c [JarCall<'_>], one: &Played) -> Option<bool> {
     let mut flat = FlatJar::new(*held.list.allocator());
     for entry in &held.list {
@@ -55,7 +55,7 @@ fn are_alike(alloc: Global, lists: &[Vec<JarCall<'_>>], pick: &[usize]) -> Optio
     Some(lists.len() == played.len())
 }
 
-// The same of up to four lists of up to 23 calls, which are drawn.
+// Whether up to four lists of up to 23 calls, which are drawn, come to the same.
 fn is_next_alike(alloc: Global, draws: &mut Draws) -> Option<bool> {
     let pick = [draws.next() as usize, draws.next() as usize];
     let mut lists = Vec::new(alloc);

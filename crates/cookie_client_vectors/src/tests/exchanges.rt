@@ -1,5 +1,5 @@
-//! Rows on a jar and a client that follows it: `replay` makes calls on a jar alone, `mirror` has a client follow them,
-//! and `rounds` plays requests.
+//! Rows on a jar and a client that follows it: `replay` makes calls on a jar without a client, `mirror` has a client
+//! follow them, and `rounds` plays requests.
 use super::rows::{form_of, is_right};
 use call_steps::calls_of;
 use cookie::{Cookie, CookieJar, Key};
@@ -9,9 +9,9 @@ use jar_steps::{Look, shown_value, test_key};
 use jiff::civil::DateTime;
 use std::alloc::{AllocError, Global};
 
-// The calls of each list, the client's header after it (`*` where it isn't looked at), and what the last jar and its
+// The calls of each list, the client's header after it (`*` if it isn't looked at), and what the last jar and its
 // client show then. A signed value's header is from Python's `hmac`. A list of `replay` is made on the jar that the one
-// before leaves, and its client is told nothing.
+// before leaves, and its client reads nothing.
 const ROWS: &str = "\
 replay calls are made in order on the jar handed in: [original o=1 | add gone=1] [add gone=2 | reset | \
     original p=1 | original f=1 | add n=1 | add n=2 | remove o | remove absent | force f] -> [] [] -> counts 2 2 | \
@@ -76,7 +76,7 @@ pub(super) fn are_accepted(outcomes: &[bool], count: usize) -> bool {
     outcomes.len() == count && !outcomes.contains(&false)
 }
 
-/// Whether the client has this header, or any where a `*` is wanted.
+/// Whether the client has this header, or any if a `*` is wanted.
 pub(super) fn has_header(client: &Client, wanted: &str) -> bool {
     matches!(client.header(), Ok(header) if wanted == "*" || header.as_str() == wanted)
 }
@@ -195,8 +195,8 @@ pub(super) fn is_followed(alloc: Global, row: &'static str, order: usize) -> Opt
     Some(is_shown && have_headers(&played, &lists, headers))
 }
 
-// Nothing tells with which number of `pick` a request begins, so each `pick`, longer than the first delta or not, has
-// to give the same.
+// Nothing says at which number of `pick` a request begins, so each `pick`, longer than the first delta or not, has to
+// make the same client.
 #[test]
 fn no_order_makes_another_client(rt: HostRuntime) {
     for order in 0..79 {

@@ -18,7 +18,7 @@ fn jar_of(alloc: Global, count: usize) -> Option<CookieJar> {
     Some(jar)
 }
 
-// Takes the texts out of the list one by one, and answers whether they are these, in this order.
+// Takes the texts out of the list one by one, and returns whether they are these, in this order.
 fn is_plain_order(left: &mut Vec<String>, pick: &[usize], wanted: &[String]) -> bool {
     for (place, text) in wanted.iter().enumerate() {
         let number = pick.get(place).copied().unwrap_or(0);

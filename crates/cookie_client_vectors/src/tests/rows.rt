@@ -4,8 +4,8 @@ use jar_steps::moment;
 use jiff::civil::DateTime;
 use std::alloc::Global;
 
-/// The form that a title begins with, and the moment of the rows, or for one such as `mirror50` the beginning of the
-/// year 50.
+/// The form that a title begins with, and the time of the rows, or for one such as `mirror50` the beginning of the year
+/// 50.
 pub(super) fn form_of(title: &str) -> (&str, DateTime) {
     let (word, _) = title.split_once(' ').unwrap_or((title, ""));
     match word.strip_suffix("50") {
@@ -14,7 +14,7 @@ pub(super) fn form_of(title: &str) -> (&str, DateTime) {
     }
 }
 
-/// Whether what the row says is so, with texts read in that order. `None` where it says nothing.
+/// Whether what the row says is so, with texts read in that order. `None` if the row says nothing.
 pub(super) fn is_right(alloc: Global, row: &'static str, order: usize) -> Option<bool> {
     let (form, now) = form_of(row);
     let (_, rest) = row.split_once(' ')?;
@@ -40,8 +40,8 @@ fn rows_are_right(rt: HostRuntime) {
     }
 }
 
-// Each of them says what isn't so, or nothing, in the order of the forms: of a call, of a jar alone, of a jar or its
-// client, of requests, of a client alone, of orders, of a fault.
+// Each of them says what isn't so, or nothing, in the order of the forms: of a call, of a jar without a client, of a
+// jar or its client, of requests, of a client without a jar, of orders, of a fault.
 const WRONG_ROWS: &str = "\
 judge one: [add a=1] -> fit
 judge one: [add a=1] -> unfit change
@@ -94,7 +94,7 @@ fault input -> 1 Output cookiejar: input or output failed
 mirror50 one: [add a=1; Expires=0060-01-01T00:00:00] -> [] -> shows a=1
 judge50 one: [add a=1; Expires=0040-01-01T00:00:00] -> fit change";
 
-// The same of a session, with a bar between them.
+// Sessions that say what isn't so, with a bar between them.
 const WRONG_SESSIONS: &str = "\
 run a=1 -> Cookie: a=2\n|\
 run a=1\nadd b=2 -> Cookie: a=1; b=2\n|\

@@ -41,7 +41,7 @@ run \n  -> cookiejar: bad line 2";
 // The drawn keys of a hash, if there are any.
 type Keys = Option<RandomState>;
 
-// Whether a session at the moment has the text, or was asked wrongly and has the text of that.
+// Whether a session at the time has the text, or is refused for bad input and prints the text.
 fn comes_to(alloc: Global, keys: Keys, moment: &str, mut input: &[u8], wanted: &str) -> bool {
     let mut written = Vec::new(alloc);
     let outcome = match keys {
@@ -54,7 +54,7 @@ fn comes_to(alloc: Global, keys: Keys, moment: &str, mut input: &[u8], wanted: &
     }
 }
 
-/// Whether the session has the text that stands after it, or is refused with it.
+/// Whether the session has the text after it in the row, or is refused with that text.
 pub(super) fn has_text(alloc: Global, keys: Keys, row: &str) -> Option<bool> {
     let (input, wanted) = row.split_once(" -> ")?;
     Some(comes_to(alloc, keys, MOMENT, input.as_bytes(), wanted))
@@ -85,7 +85,7 @@ fn moments_are_of_the_year_100_or_later(rt: HostRuntime) {
     }
 }
 
-// A bad moment is told though the input is bad too, and an input that isn't UTF-8 though a line is bad.
+// A bad time is reported even if the input is bad too, and an input that isn't UTF-8 even if a line is bad.
 #[test]
 fn faults_are_told_in_their_order(rt: HostRuntime) {
     let (bad_input, bad_moment) = ("cookiejar: bad input", "cookiejar: bad moment");

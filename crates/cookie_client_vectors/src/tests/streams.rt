@@ -5,7 +5,7 @@ use cookie_client::run;
 use std::alloc::{AllocError, Global};
 use std::io::{self, Read, Write};
 
-// A reader that gives its text by one byte a call, and fails after this many calls.
+// A reader that returns its text by one byte a call, and fails after this many calls.
 #[derive(Drop)]
 struct FailingReader<'t> {
     text: &'t [u8],
@@ -69,7 +69,7 @@ name=val; x=%C3%A9\nadd a=1; Path=/; Secure\nadd b=2%3B; HttpOnly\nremove name\n
 const CHANGES_TEXT: &[u8] = b"\
 Set-Cookie: c=3\nSet-Cookie: x=; Max-Age=0; Expires=Tue, 21 Oct 2014 07:28:00 GMT\nCookie: c=3; name=val\n";
 
-// A session: its moment, its input, and after how many calls its reader fails, which gives a byte a call.
+// A session: its time, its input, and after how many calls its reader fails, which returns a byte a call.
 type Session<'t> = (&'t str, &'t [u8], usize);
 
 // Whether a session comes to the outcome, such as `Err(Input)`, and leaves the bytes in the writer.
@@ -102,7 +102,7 @@ fn a_failed_read_writes_nothing(rt: HostRuntime) {
     assert!(rt; is_unwritten(rt.alloc(), ("", INPUT, 0), "Err(BadMoment)"));
 }
 
-// A writer that takes no byte is told, too.
+// A writer that takes no byte is reported, too.
 #[test]
 fn a_failed_write_leaves_a_beginning(rt: HostRuntime) {
     let (session, end) = ((MOMENT, CHANGES, usize::MAX), CHANGES_TEXT.len());
@@ -119,7 +119,7 @@ fn a_failed_write_leaves_a_beginning(rt: HostRuntime) {
     assert!(rt; leaves(session, unmoved, b"", "Err(Output)"));
 }
 
-// Sessions that are refused, each with its moment and its outcome.
+// Sessions that are refused, each with its time and its outcome.
 const REFUSED: [(&str, &[u8], &str); 9] = [
     (MOMENT, b"x=1\nadd a=1\nadd bar", "Err(BadLine(3))"),
     (MOMENT, b"x=1\nadd a=1\nadd %FF=1", "Err(BadLine(3))"),

@@ -81,7 +81,8 @@ fn numbered(alloc: Global, start: usize, count: usize) -> Result<String, AllocEr
     Ok(field)
 }
 
-// How many cookies the jar, whose hash has drawn keys, has of a request of this many fields, each of as many cookies.
+// How many cookies the jar, whose hash has drawn keys, has of a request of this many fields, each of `in_field`
+// cookies.
 fn count_of(alloc: Global, state: RandomState, fields: usize, in_field: usize) -> Option<usize> {
     let mut headers = HeaderMap::new(alloc);
     for index in 0..fields {

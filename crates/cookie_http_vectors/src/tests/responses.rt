@@ -91,7 +91,7 @@ fn full_map(alloc: Global, names: usize) -> Option<HeaderMap> {
 }
 
 // Whether a map with this many names, to which a jar with these changes is appended twice, has these fields then, or is
-// full each time where there are none.
+// full each time if there are none.
 fn takes(alloc: Global, names: usize, changes: &[&'static str], fields: &[&str]) -> Option<bool> {
     let mut headers = full_map(alloc, names)?;
     let mut jar = CookieJar::new(alloc);
@@ -118,7 +118,7 @@ fn a_full_map_is_told(rt: HostRuntime) {
     assert!(rt; takes(rt.alloc(), 24_575, &["a"], &["a=1", "a=1"]) == Some(true));
 }
 
-// Whether the response of a jar whose original was removed as it was set has this field alone.
+// Whether the response of a jar whose original was removed as it was set has only this field.
 fn is_removed(alloc: Global, field: &str) -> Option<bool> {
     let set = CookieBuilder::new("a", "1").path("/shop");
     let set = set.domain("example.com").build();
@@ -138,7 +138,7 @@ fn a_removal_names_path_and_domain(rt: HostRuntime) {
     assert!(rt; is_removed(rt.alloc(), field) == Some(true));
 }
 
-// Whether the response to the request, whose jar hashes with drawn keys, has the change alone.
+// Whether the response to the request, whose jar hashes with drawn keys, has only the change.
 fn is_answered(alloc: Global, state: RandomState, request: &HeaderMap) -> Result<bool, Fail> {
     let mut response = HeaderMap::new(alloc);
     let mut jar = with_headers(CookieJar::with_hasher(alloc, state), request)?;

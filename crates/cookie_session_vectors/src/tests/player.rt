@@ -8,7 +8,7 @@ use jiff::SignedDuration;
 use jiff::civil::DateTime;
 use std::alloc::Global;
 
-// As many bytes as rows draw.
+// The number of bytes that are enough for what rows draw.
 const AMPLE: usize = 1_000;
 
 /// A site, the jar of a request, the time, and a session.
@@ -168,7 +168,7 @@ impl Player {
         Some(())
     }
 
-    // Does a step on the session, and answers whether it is right.
+    // Does a step on the session, and returns whether it is right.
     fn is_own_right(&mut self, word: &str, rest: &'static str) -> bool {
         match word {
             "at" => self.set_time(rest).is_some(),
@@ -215,7 +215,7 @@ impl Player {
         }
     }
 
-    /// Plays steps, and answers whether each is right.
+    /// Plays steps, and returns whether each is right.
     pub(super) fn are_right(&mut self, steps: &'static str) -> bool {
         for step in steps.split(" | ") {
             if !self.is_right(step) {

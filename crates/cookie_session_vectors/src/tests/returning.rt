@@ -40,7 +40,7 @@ fn outcome(opened: Option<Opened>) -> &'static str {
     }
 }
 
-// What comes back if the client reads the texts in the order that `pick` asks for.
+// What comes back if the client reads the texts in the order of `pick`.
 fn over_texts(
     alloc: Global,
     calls: &[JarCall<'_>],

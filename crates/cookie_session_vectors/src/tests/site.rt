@@ -79,7 +79,7 @@ impl Site {
         }
     }
 
-    /// Does a step on the site, and answers whether it is right; `None` if the word is none of a site's.
+    /// Does a step on the site, and returns whether it is right; `None` if the word is none of a site's.
     pub(super) fn is_right(&mut self, word: &str, rest: &'static str) -> Option<bool> {
         Some(match word {
             "site" => self.set_cookie(rest).is_some(),

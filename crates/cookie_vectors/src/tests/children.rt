@@ -1,4 +1,4 @@
-//! What child jars answer: of a prefix, also of the tests' own, or of the key.
+//! What child jars return: of a prefix, also of the tests' own, or of the key.
 use super::player::Player;
 use super::prefixes::{self, Bare, Team};
 use super::{sealing, secrets};
@@ -9,7 +9,7 @@ use jar_steps::{Call, make_on};
 
 type Answer = Result<Option<Cookie<'static>>, JarError>;
 
-/// What the child jar answers, and the one that can be changed.
+/// What the child jar returns, and the one that can be changed.
 pub(super) type Answers = (Answer, Answer);
 
 fn prefixed<P: Prefix + Copy>(jar: &mut CookieJar, prefix: P, name: &str) -> Answers {
@@ -46,7 +46,7 @@ pub(super) fn open(player: &mut Player, kind: &str, cookie: Cookie<'static>) -> 
     }
 }
 
-// Whether the answer is a cookie with all fields of the wanted one, or none where none is wanted.
+// Whether the return value is a cookie with all fields of the wanted one, or `None` if none is wanted.
 fn is_answer(answer: &Answer, wanted: &Option<Cookie<'static>>) -> bool {
     match (answer, wanted) {
         (Ok(Some(cookie)), Some(wanted)) => is(cookie, wanted),
@@ -59,7 +59,7 @@ fn are(answers: &Answers, wanted: &Option<Cookie<'static>>) -> bool {
     is_answer(&answers.0, wanted) && is_answer(&answers.1, wanted)
 }
 
-// Whether both answers lend these parts of the text that was read.
+// Whether both cookies borrow these parts of the text that was read.
 fn are_lent(answers: &Answers, parts: &str) -> bool {
     match answers {
         (Ok(Some(one)), Ok(Some(two))) => lends(one, parts) && lends(two, parts),
@@ -82,7 +82,7 @@ fn opens(player: &mut Player, kind: &str, row: &'static str) -> Option<bool> {
     Some(are(&answers, &Some(wanted)))
 }
 
-// Whether what they answer under the name, and make of the stored cookie, lends these parts, as in `a a|-|/|-`.
+// Whether what they return under the name, and make of the stored cookie, borrows these parts, as in `a a|-|/|-`.
 fn are_all_lent(player: &mut Player, kind: &str, row: &str) -> Option<bool> {
     let (name, parts) = row.split_once(' ')?;
     let answers = get(player, kind, name);
@@ -109,7 +109,7 @@ fn is_made(player: &mut Player, step: &'static str) -> Option<bool> {
     Some(make_on(&mut player.jar.prefixed_mut(Team), call.verb, cookie).is_ok())
 }
 
-/// Answers whether the child jar shows or makes what it has to, or makes a call on it that `jar_steps` doesn't have.
+/// Returns whether the child jar shows or makes what it has to, or makes a call on it that `jar_steps` doesn't have.
 pub(super) fn play(player: &mut Player, kind: &str, step: &'static str) -> Option<bool> {
     let (verb, rest) = step.split_once(' ')?;
     match verb {

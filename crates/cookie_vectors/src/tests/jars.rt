@@ -72,7 +72,7 @@ fn is_read(alloc: Global, jar: &mut CookieJar, verb: &str, text: &str) -> Option
     Some(true)
 }
 
-/// Makes a call on the jar, or answers whether it shows what it has to.
+/// Makes a call on the jar, or returns whether it shows what it has to.
 pub(super) fn play(player: &mut Player, verb: &str, rest: &'static str) -> Option<bool> {
     let (alloc, jar) = (player.alloc, &mut player.jar);
     match verb {

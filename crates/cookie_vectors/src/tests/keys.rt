@@ -34,8 +34,8 @@ fn derived(bytes: &[u8]) -> Option<Result<Key, KeyError>> {
     }
 }
 
-// What a call makes of bytes: the number of the bytes, how many of them are those from 0 up, where the others are 255,
-// and the key in base64 or the refusal. Only the first 64 bytes are a key. What HKDF's expansion derives was worked out by
+// What a call makes of bytes: the number of the bytes, how many of them count up from 0 (the others are 255), and the
+// key in base64 or the refusal. Only the first 64 bytes are a key. What HKDF's expansion derives was worked out by
 // Python's hmac; all halves differ, and one master key has more than the 64 bytes that HMAC takes as they are.
 const ROWS: &str = "\
 take 64 64: AAECAwQFBgcICQoLDA0ODxAREhMUFRYXGBkaGxwdHh8gISIjJCUmJygpKissLS4vMDEyMzQ1Njc4OTo7PD0+Pw==
@@ -51,7 +51,7 @@ derive 32 0: C+rz1hFfouLszIWZYFqbQfSnc+kBTufb4T0sdeGzP0mbQQZrQGnxsb7WqDnhRWdOiCz
 draw 5 0: BgAAAAcAAAAIAAAACQAAAAoAAAALAAAADAAAAA0AAAAOAAAADwAAABAAAAARAAAAEgAAABMAAAAUAAAAFQAAAA==
 draw 5 1: FgAAABcAAAAYAAAAGQAAABoAAAAbAAAAHAAAAB0AAAAeAAAAHwAAACAAAAAhAAAAIgAAACMAAAAkAAAAJQAAAA==";
 
-// The key that is drawn of the generator that counts from the seed, once so many are drawn.
+// The key that is drawn from the generator that counts from the seed, after this many keys were drawn.
 fn drawn(seed: u32, earlier: usize) -> Key {
     let mut rng = Counting(seed);
     for _ in 0..earlier {

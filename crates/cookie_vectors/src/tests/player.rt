@@ -5,7 +5,7 @@ use cookie::{CookieJar, JarError, Key};
 use jar_steps::{Call, Child, Look, Sevens, Verb, make, test_key};
 use std::alloc::Global;
 
-/// A jar, the key of its child jars, and the generator that they draw of.
+/// A jar, the key of its child jars, and the generator that they draw from.
 #[derive(Drop)]
 pub(super) struct Player {
     pub(super) alloc: Global,
@@ -30,7 +30,7 @@ impl Player {
         Some(true)
     }
 
-    // Sets the key: `zero`, or a seed, of whose generator it is drawn.
+    // Sets the key: `zero`, or a seed, from whose generator it is drawn.
     fn set_key(&mut self, word: &str) -> Option<bool> {
         if word == "zero" {
             self.key = Key::from(&[0; 64]);
@@ -41,7 +41,7 @@ impl Player {
         Some(true)
     }
 
-    // Makes a call that draws of a generator that fails after this many bytes, as in `12 private add a=2`.
+    // Makes a call that draws from a generator that fails after this many bytes, as in `12 private add a=2`.
     fn is_made_before_failure(&mut self, words: &'static str) -> Option<bool> {
         let (left, step) = words.split_once(' ')?;
         let left = left.parse().ok()?;
@@ -49,7 +49,7 @@ impl Player {
         Some(make(call, &mut self.jar, &self.key, &mut Sevens { left }).is_ok())
     }
 
-    // Whether the jar tells of a generator that fails after too few bytes for a nonce, however many.
+    // Whether the jar reports a generator that fails after too few bytes for a nonce, however many.
     fn is_refused(&mut self, verb: Verb, words: &'static str) -> bool {
         let child = Some(Child::Private(None));
         let call = Call { child, verb, words };
@@ -75,7 +75,7 @@ impl Player {
         Some(are_refused && before == self.debugged()?)
     }
 
-    // Does a step that `jar_steps` doesn't have, and answers whether it is right.
+    // Does a step that `jar_steps` doesn't have, and returns whether it is right.
     fn play_own(&mut self, step: &'static str) -> Option<bool> {
         let (word, rest) = step.split_once(' ').unwrap_or((step, ""));
         match word {
@@ -99,7 +99,7 @@ impl Player {
         }
     }
 
-    /// Plays steps, and answers whether each is right, as in `key zero | signed add a=1 | signed shows a=1`.
+    /// Plays steps, and returns whether each is right, as in `key zero | signed add a=1 | signed shows a=1`.
     pub(super) fn are_right(&mut self, steps: &'static str) -> bool {
         for step in steps.split(" | ") {
             if !self.is_right(step) {

@@ -65,7 +65,7 @@ fn made<P: Prefix>(alloc: Global, verb: &str, text: &'static str) -> Option<Cook
     }
 }
 
-// Whether that has all these fields and lends these parts of its text, as in `a=1; Path=/ lends a|1|-|-`.
+// Whether it has all these fields and borrows these parts of its text, as in `a=1; Path=/ lends a|1|-|-`.
 fn is_made<P: Prefix>(alloc: Global, verb: &str, text: &'static str, wanted: &str) -> Option<bool> {
     let (words, parts) = wanted.split_once(" lends ")?;
     let cookie = made::<P>(alloc, verb, text)?;
@@ -82,7 +82,7 @@ fn makes<P: Prefix>(alloc: Global, verb: &str, rest: &'static str) -> Option<boo
     }
 }
 
-/// The same of the prefix of the child jar.
+/// Whether the prefix of the child jar begins so, or makes what it has to.
 pub(super) fn play(alloc: Global, kind: &str, verb: &str, rest: &'static str) -> Option<bool> {
     match kind {
         "host" => makes::<Host>(alloc, verb, rest),

@@ -4,7 +4,8 @@ use cookie::{Cookie, JarError};
 use cookie_words::is;
 use jar_steps::Sevens;
 
-// Whether the answer is the cookie of `a=1; Path=/ -> TEXT` with that text as its value, and nothing else of it changed.
+// Whether the return value is the cookie of `a=1; Path=/ -> TEXT` with that text as its value, and nothing else
+// changed.
 fn is_sealed(answer: &Result<Cookie<'static>, JarError>, row: &'static str) -> Option<bool> {
     let (words, value) = row.split_once(" -> ")?;
     let mut wanted = cookie_words::cookie(words)?;
@@ -50,7 +51,7 @@ fn is_refused(player: &Player, words: &'static str) -> Option<bool> {
     Some(true)
 }
 
-/// Answers whether the player's private jar encrypts what it has to.
+/// Returns whether the player's private jar encrypts what it has to.
 pub(super) fn play(player: &mut Player, verb: &str, rest: &'static str) -> Option<bool> {
     match verb {
         "seals" => seals(player, rest),

@@ -11,7 +11,7 @@ fn damage(alloc: Global, value: &str, place: usize, length: usize, other: &str) 
     format!(in alloc; "{front}{other}{back}").ok()
 }
 
-// Whether the cookie of the words is opened with the value where that is its own, and isn't where it is damaged.
+// Whether the cookie of the words is opened with the value if the value is its own, and isn't if it is damaged.
 fn is_found(player: &mut Player, kind: &str, words: &'static str, value: String) -> Option<bool> {
     let mut cookie = cookie_words::cookie(words)?;
     let is_whole = value.as_str() == cookie.value();
@@ -27,7 +27,7 @@ fn is_found(player: &mut Player, kind: &str, words: &'static str, value: String)
 // newline, and a character of two bytes.
 const OTHERS: &str = "|A|!|_| |=|\n|\u{e9}";
 
-/// Whether the cookie is opened, and isn't with a text put in, in the place of one character, or in that of the rest.
+/// Whether the cookie is opened, and isn't with a text put in, in place of one character, or in place of the rest.
 pub(super) fn is_brittle(player: &mut Player, kind: &str, words: &'static str) -> Option<bool> {
     let (_, value) = words.split_once('=')?;
     for other in OTHERS.split('|') {

@@ -43,7 +43,7 @@ fn shown(page: &Page) -> (&str, &str) {
 }
 
 // The idle time is half an hour. At its end a session is over (RFC 7519 4.1.4). What the client held before is there
-// again where the clock goes back.
+// again if the clock goes back.
 const SHOWN: [(&str, &str); 8] = [
     ("-", "-"),
     ("ann", "You are logged in."),

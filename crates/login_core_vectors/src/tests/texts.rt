@@ -32,7 +32,7 @@ a&b | Hello, a&amp;b.<
 é | Hello, é.<
  | Hello, .<";
 
-// What Python's `html.escape` gives.
+// What Python's `html.escape` returns.
 #[test]
 fn names_are_escaped(rt: HostRuntime) {
     for row in NAMES.lines() {
@@ -41,7 +41,7 @@ fn names_are_escaped(rt: HostRuntime) {
     assert!(rt; is_escaped(rt.alloc(), "a&b | Hello, a&b.<") == Some(false));
 }
 
-// Whether the response's fields stand before its page, when a user goes out.
+// Whether the response's fields are before its page, when a user goes out.
 fn are_fields_first(alloc: Global, state: RandomState) -> Option<bool> {
     let request = Request {
         method: "POST",

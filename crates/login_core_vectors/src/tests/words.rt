@@ -1,4 +1,4 @@
-//! What words of the rows stand for.
+//! What words of the rows mean.
 
 /// Cookies of requests, and, after `=`, texts of `Set-Cookie` fields, as tools/login-rows prints them. Each holds a
 /// session: `{ann}` of a user who logged in a minute ago and whose session was saved half a minute ago, `{ann 41}` with
