@@ -259,19 +259,34 @@ static cookie_answer end_session(const text *in, uint8_t *out, size_t length) {
     return cookie_session_end(&settings, (uint64_t)n[2], out, length);
 }
 
-/* Why a browser refuses a cookie: the row's last numbers are the step and the lengths of its sentence and its section. */
+/* Whether the places have these lengths, and are one right after the other; or all are 0. */
+static int are_joined(const cookie_place *places, int count, const long long *lengths, int are_there) {
+    size_t end = 0;
+    for (int i = 0; i < count; i++) {
+        if (places[i].start != (are_there ? end : 0) || places[i].length != (size_t)lengths[i])
+            return 0;
+        end += places[i].length;
+    }
+    return 1;
+}
+
+/* What a browser makes of a cookie: the row's last numbers are the step, the lengths of the texts, and what is stored. */
 static cookie_answer explain(const text *in, uint8_t *out, size_t length) {
-    long long flags[4], told[3];
-    numbers_in(in[2], 4, flags);
-    numbers_in(in[5], 3, told);
+    long long n[5], told[13];
+    numbers_in(in[2], 5, n);
+    numbers_in(in[5], 13, told);
     cookie_request request = {in[0].bytes, in[0].length, in[1].bytes, in[1].length,
-                              flags[0] == 1, flags[1] == 1, flags[2] == 1, flags[3] == 1};
-    cookie_explanation why = cookie_explain(&request, IN(3), IN(4), out, length);
-    size_t end = (size_t)told[1];
-    if (why.refusal != (uint32_t)told[0] || why.sentence.start != 0 || why.sentence.length != end
-        || why.section.start != end || why.section.length != (size_t)told[2])
-        fault("another refusal");
-    return (cookie_answer){why.status, why.section.start + why.section.length};
+                              n[0] == 1, n[1] == 1, n[2] == 1, n[3] == 1};
+    cookie_explanation why = cookie_explain(&request, IN(3), IN(4), (uint64_t)n[4], out, length);
+    cookie_stored it = why.stored;
+    const cookie_place refused[] = {why.sentence, why.section}, stored[] = {it.name, it.value, it.domain, it.path};
+    const long long rest[] = {(long long)it.lifetime, it.same_site,  it.is_persistent,
+                              it.is_host_only,        it.is_secure, it.is_http_only};
+    int is_stored = why.status <= COOKIE_BUFFER_TOO_SHORT && why.refusal == 0;
+    if (why.refusal != (uint32_t)told[0] || !are_joined(refused, 2, told + 1, why.refusal != 0)
+        || !are_joined(stored, 4, told + 3, is_stored) || memcmp(rest, told + 7, sizeof rest) != 0)
+        fault("another explanation");
+    return (cookie_answer){why.status, why.section.start + why.section.length + it.path.start + it.path.length};
 }
 
 static cookie_answer call(const char *name, const text *in, uint8_t *out, size_t length) {

@@ -3,6 +3,7 @@ import ctypes
 import datetime
 import doctest
 import http.cookies
+import itertools
 import pathlib
 import re
 import subprocess
@@ -107,13 +108,19 @@ def played(call, inputs, length):
 
 
 def play_explain(inputs, out, length):
-    """Why a browser refuses a cookie: the row's last numbers are the step and the lengths of its sentence and section."""
-    host, path, flags, listed, text, told = inputs
-    request = explain.Request(host, len(host), path, len(path), *(flag == b"1" for flag in flags.split()))
-    why = explain.EXPLAIN(request, listed or None, len(listed), text or None, len(text), out, length)
-    if [why.refusal, why.sentence.length, why.section.length] != numbers_in(told, 3):
-        faults.append(f"another refusal: {inputs}")
-    return library.Answer(why.status, why.section.start + why.section.length)
+    """What a browser makes of a cookie: the row's last numbers are the step, the lengths of the texts, and what is stored."""
+    host, path, numbers, listed, text, told = inputs
+    *flags, now = numbers_in(numbers, 5)
+    request = explain.Request(host, len(host), path, len(path), *(flag == 1 for flag in flags))
+    why = explain.EXPLAIN(request, listed or None, len(listed), text or None, len(text), now, out, length)
+    it = why.stored
+    places = [why.sentence, why.section] if why.refusal else [it.name, it.value, it.domain, it.path]
+    ends = list(itertools.accumulate(place.length for place in places))
+    lengths = [place.length for place in (why.sentence, why.section, it.name, it.value, it.domain, it.path)]
+    rest = [it.lifetime, it.same_site, it.is_persistent, it.is_host_only, it.is_secure, it.is_http_only]
+    if [why.refusal, *lengths, *rest] != numbers_in(told, 13) or [place.start for place in places] != [0, *ends[:-1]]:
+        faults.append(f"another explanation: {inputs}")
+    return library.Answer(why.status, ends[-1])
 
 
 def play_session(call, inputs, out, length):
@@ -243,22 +250,25 @@ def use_sessions(key):
 
 
 def use_explain():
-    """What `python -m deomigal explain` says is what the program cookie_explain says in its stored run, but for removals,
-    since the program knows what is stored."""
+    """What `python -m deomigal explain` says is what the program cookie_explain says in its stored run. But Python knows no
+    cookie that an earlier line has set, so none is removed."""
     crate = pathlib.Path(__file__).resolve().parent.parent.parent / "crates/cookie_explain"
     url, _, now, _, suffixes = (crate / "args").read_text().splitlines()
     command = [sys.executable, "-m", "deomigal", "explain", url, "--now", now, "--suffixes", crate / "data" / suffixes]
     lines = (crate / "stdin").read_bytes() + b"Set-Cookie: a=1; SameSite=Lax\n"
     printed = subprocess.run(command, input=lines, capture_output=True, check=True).stdout.decode().splitlines()
     wanted = (crate / "stdout").read_text().splitlines()[:-1]
-    removals = ["removes what is stored as: " + line.partition("stored: " if "nothing" in line else "removed: ")[2]
-                for line in wanted if line.startswith("remove")]
-    assert printed[:-1] == [line for line in wanted if not line.startswith("remove")] + removals
+    nothing = "removes nothing, since no such cookie is stored: "
+    assert printed[:-1] == [re.sub("^removed: ", nothing, line) for line in wanted]
     assert subprocess.run([*command[:4], "ftp://a.b"], input=b"", capture_output=True).returncode == 2
     assert explain.refusal("http://a.example/", "a=1; Secure").step == "InsecureConnection"
     assert explain.refusal("http://localhost/", "a=1; Secure") is None
     assert explain.refusal("https://a.example/", "a=1", is_cross_site=True).step == "CrossSite"
     assert explain.explain("https://[::1]/", "=v; Domain=") == "stored: =v; for [::1] only; path /; until the browser closes"
+    now = datetime.datetime(9999, 12, 30, 21, 59, 59, 999999)
+    last = "stored: a=1; for a.example only; path /; until Fri, 31 Dec 9999 23:59:59 GMT"
+    assert explain.explain("https://a.example/", "a=1; Max-Age=34560000", now=now) == last
+    assert explain.verdict("https://a.example/", "a=1; SameSite=Lax", now=now).same_site == "Lax"
     assert explain.explain("https://a.example/x/", b"v\xff; Path=y").startswith("stored: =v\ufffd; for a.example only; path /x;")
 
 
@@ -317,6 +327,7 @@ def use():
                          (lambda: deomigal.Sessions([key], "a", 60, 0), errors.Over),
                          (lambda: deomigal.Sessions([key], "a", 60, 60).open("", now=2**40), errors.NoDate),
                          (lambda: deomigal.Sessions([key], "a", 60, 60).open("", now=-1), errors.NoDate),
+                         (lambda: explain.verdict("https://a.b", "a=1", now=datetime.datetime.max), errors.NoDate),
                          (lambda: deomigal.Jar().add("a"), errors.MissingPair)):
         try:
             wrong()

@@ -108,11 +108,26 @@ struct Request {
 }
 
 #[repr(C)]
+struct Stored {
+    name: Place,
+    value: Place,
+    domain: Place,
+    path: Place,
+    lifetime: u64,
+    same_site: u32,
+    is_persistent: bool,
+    is_host_only: bool,
+    is_secure: bool,
+    is_http_only: bool,
+}
+
+#[repr(C)]
 struct Explanation {
     status: u32,
     refusal: u32,
     sentence: Place,
     section: Place,
+    stored: Stored,
 }
 
 type Text = *const u8;
@@ -140,7 +155,7 @@ unsafe extern "C" {
     fn cookie_jar_get(jar: &mut Jar, name: Text, name_length: usize, out: *mut u8, out_length: usize) -> Answer;
     fn cookie_jar_delta(jar: &mut Jar, out: *mut u8, out_length: usize) -> Answer;
     fn cookie_jar_free(jar: &mut Jar);
-    fn cookie_explain(request: &Request, list: Text, list_length: usize, text: Text, text_length: usize, out: *mut u8, out_length: usize) -> Explanation;
+    fn cookie_explain(request: &Request, list: Text, list_length: usize, text: Text, text_length: usize, now: u64, out: *mut u8, out_length: usize) -> Explanation;
     fn cookie_session_open(settings: &SessionSettings, header: Text, header_length: usize, now: u64, out: *mut u8, out_length: usize) -> OpenedSession;
     fn cookie_session_save(settings: &SessionSettings, header: Text, header_length: usize, texts: Text, texts_length: usize, renew: bool, now: u64, nonce: Text, nonce_length: usize, out: *mut u8, out_length: usize) -> Answer;
     fn cookie_session_end(settings: &SessionSettings, now: u64, out: *mut u8, out_length: usize) -> Answer;
@@ -274,9 +289,19 @@ fn play_session(name: &str, inputs: &[Vec<u8>], out: *mut u8, length: usize) -> 
     }
 }
 
-/// Why a browser refuses a cookie: the row's last numbers are the step and the lengths of its sentence and its section.
+/// The lengths of texts whose places are one right after the other; or else all are 0.
+fn lengths_of(places: &[Place], are_there: bool) -> Vec<i64> {
+    let mut end = 0;
+    for place in places {
+        assert_eq!(place.start, if are_there { end } else { 0 }, "another place");
+        end += place.length;
+    }
+    places.iter().map(|place| place.length as i64).collect()
+}
+
+/// What a browser makes of a cookie: the row's last numbers are the step, the lengths of the texts, and what is stored.
 fn explain(inputs: &[Vec<u8>], out: *mut u8, length: usize) -> Answer {
-    let (n, [host, path]) = (numbers_in(&inputs[2], 4), [&inputs[0], &inputs[1]]);
+    let (n, [host, path]) = (numbers_in(&inputs[2], 5), [&inputs[0], &inputs[1]]);
     let request = Request {
         host: host.as_ptr(),
         host_length: host.len(),
@@ -288,11 +313,16 @@ fn explain(inputs: &[Vec<u8>], out: *mut u8, length: usize) -> Answer {
         is_top_level: n[3] == 1,
     };
     let (list, text) = (&inputs[3], &inputs[4]);
-    let why = unsafe { cookie_explain(&request, place(list), list.len(), place(text), text.len(), out, length) };
-    let told = [why.refusal as i64, why.sentence.length as i64, why.section.length as i64];
-    assert_eq!(told[..], numbers_in(&inputs[5], 3)[..], "another refusal");
-    assert_eq!((why.sentence.start, why.section.start), (0, why.sentence.length), "another place");
-    Answer { status: why.status, length: why.section.start + why.section.length }
+    let why = unsafe { cookie_explain(&request, place(list), list.len(), place(text), text.len(), n[4] as u64, out, length) };
+    let it = &why.stored;
+    let length = why.section.start + why.section.length + it.path.start + it.path.length;
+    let mut told = vec![why.refusal as i64];
+    told.extend(lengths_of(&[why.sentence, why.section], why.refusal != 0));
+    told.extend(lengths_of(&[it.name, it.value, it.domain, it.path], why.status <= 1 && why.refusal == 0));
+    told.extend([it.lifetime as i64, i64::from(it.same_site)]);
+    told.extend([it.is_persistent, it.is_host_only, it.is_secure, it.is_http_only].map(i64::from));
+    assert_eq!(told, numbers_in(&inputs[5], 13), "another explanation");
+    Answer { status: why.status, length }
 }
 
 fn call(name: &str, inputs: &[Vec<u8>], out: *mut u8, length: usize) -> Answer {

@@ -1,20 +1,34 @@
--- Why a browser refuses a cookie, for C.
-use Rattle.std.proofs.Common.{◌≡◌, ℕ, List, [], Option, Some, None, Ok, inl, refl, sym, ap, subst, ◌∙◌}
-use Rattle.std.specs.Prelude.{pos}
+-- What a browser makes of a cookie, for C.
+use Rattle.std.proofs.Common.{◌≡◌, ℕ, ℤ, pos, ◌+ℤ◌, ◌-ℤ◌, ◌*ℤ◌, List, [], Bool, true, false, cond, Option, Some, None, Ok, inl, refl, sym, ap, subst, ◌∙◌, arith}
+use Rattle.std.specs.Prelude.{Result, int_lt}
 use Rattle.jiff.specs.Types.{DateTime}
+use Rattle.jiff.specs.Words.{IsCivilNanos, IsDurationNanos, civil_nanos}
+use Rattle.jiff.proofs.Family.{civil_nanos_range}
+use Rattle.jiff.proofs.SpanFacts.{signed_arith}
 use Rattle.cookie_browser.specs.Received.{ReceivedView}
 use Rattle.cookie_browser.specs.Request.{RequestView}
-use Rattle.cookie_browser.specs.Storage.{KeptView, first_refusal, kept_as, refusal_by_connection, refusal_by_prefix, unless_refused, verdict, verdict_on}
+use Rattle.cookie_browser.specs.Storage.{KeptView, earlier_of, first_refusal, kept_as, kept_until, refusal_by_connection, refusal_by_prefix, seconds_after, unless_refused, verdict, verdict_on}
 use Rattle.cookie_browser.specs.SuffixList.{rules_of}
 use Rattle.cookie_browser.specs.Suffixes.{HasSameElements, Rule}
 use Rattle.cookie_browser.specs.declared.refusal.Refusal.{Refusal}
-use Rattle.cookie_c.specs.Explanations.{Explains, IsExplained, refusal_in, request_of}
+use Rattle.cookie_c.specs.ExplanationParts.{IsDraftOf}
+use Rattle.cookie_c.specs.Explanations.{Explains, IsExplained, request_of}
+use Rattle.cookie_c.specs.Sites.{IsAtSecond}
+use Rattle.cookie_c.specs.declared.explanation.Draft.{Draft}
 use Rattle.cookie_c.specs.declared.explanation.Explanation.{Explanation}
 use Rattle.cookie_c.specs.declared.explanation.Request.{Request}
 
-refusal_unless : (why : Option Refusal) (new : KeptView) → refusal_in (unless_refused why new) ≡ why
-refusal_unless None new = refl
-refusal_unless (Some why) new = refl
+-- what is left until a date, or until the limit, has a duration
+pub left_fits : (now : DateTime) (expires : Option DateTime) (end : ℤ) → Some end ≡ kept_until now None expires → IsDurationNanos (end -ℤ civil_nanos now)
+left_fits now None end is = cc
+left_fits now (Some moment) end is =
+    let e : end ≡ earlier_of (civil_nanos moment) (seconds_after now 34560000) = cc in
+    subst (λ n. IsDurationNanos (n -ℤ civil_nanos now)) (sym e)
+    (by (civil_nanos now) (civil_nanos moment) (int_lt (civil_nanos moment) (seconds_after now 34560000)) (civil_nanos_range now) (civil_nanos_range moment))
+  where
+    by : (n a : ℤ) (b : Bool) → IsCivilNanos n → IsCivilNanos a → IsDurationNanos (cond b a (n +ℤ pos 34560000 *ℤ pos 1000000000) -ℤ n)
+    by n a true within after = omega (arith, signed_arith, within.0, within.1, after.0, after.1)
+    by n a false within after = omega (arith, signed_arith)
 
 module _ (rules : List Rule) (request : RequestView) (now : DateTime) (cookie : ReceivedView) where
   -- a refusal doesn't depend on the two times
@@ -23,17 +37,17 @@ module _ (rules : List Rule) (request : RequestView) (now : DateTime) (cookie : 
   unfolding refusal_by_connection refusal_by_prefix
   timeless = refl
 
-  -- the first refusal of a cookie without its times is that of the verdict
-  pub refusal_on_received : (why : Option Refusal) (kept : KeptView) → kept ≡ record (kept_as rules request now cookie) { expiry = None; last_access = pos 0 }
-      → why ≡ first_refusal rules request [] cookie kept → why ≡ refusal_in (verdict_on rules request now [] (Ok cookie))
-  refusal_on_received why kept is first =
-      first ∙ ap (first_refusal rules request [] cookie) is ∙ timeless
-      ∙ sym (refusal_unless (first_refusal rules request [] cookie (kept_as rules request now cookie)) (kept_as rules request now cookie))
+  -- the verdict by the first refusal of a cookie without its times
+  pub verdict_by : (why : Option Refusal) (kept : KeptView) → kept ≡ record (kept_as rules request now cookie) { expiry = None; last_access = pos 0 }
+      → why ≡ first_refusal rules request [] cookie kept → unless_refused why (kept_as rules request now cookie) ≡ verdict_on rules request now [] (Ok cookie)
+  verdict_by why kept is first =
+      ap (λ o. unless_refused o (kept_as rules request now cookie)) (first ∙ ap (first_refusal rules request [] cookie) is ∙ timeless)
 
--- the refusal that was found explains the text
-pub explained : (request : Request) (list text : List ℕ) (rules : List Rule) (seen : RequestView) (why : Option Refusal) (answer : Explanation)
-    (old new : List ℕ) → HasSameElements rules (rules_of list) → seen ≡ request_of request
-    → ((now : DateTime) → why ≡ refusal_in (verdict rules seen now [] text)) → Explains why answer old new
-    → IsExplained request list text answer old new
-explained request list text rules seen why answer old new same is first explains =
-    inl (rules, same, λ now. subst (λ o. Explains o answer old new) (first now ∙ ap (λ s. refusal_in (verdict rules s now [] text)) is) explains)
+-- the draft of the verdict explains the text
+pub explained : (request : Request) (list text : List ℕ) (second : ℕ) (rules : List Rule) (now : DateTime) (seen : RequestView) (draft : Draft)
+    (answer : Explanation) (old new : List ℕ) → HasSameElements rules (rules_of list) → IsAtSecond second now → seen ≡ request_of request
+    → IsDraftOf now (verdict rules seen now [] text) draft
+    → ((time : DateTime) (outcome : Result KeptView Refusal) → IsDraftOf time outcome draft → Explains time outcome answer old new)
+    → IsExplained request list text second answer old new
+explained request list text second rules now seen draft answer old new same at is made gives =
+    inl (rules, now, same, at, gives now (verdict rules (request_of request) now [] text) (subst (λ s. IsDraftOf now (verdict rules s now [] text) draft) is made))

@@ -2,6 +2,7 @@ pub mod Answers
 pub mod Codes
 pub mod Dates
 pub mod Decoded
+pub mod ExplanationParts
 pub mod Explanations
 pub mod Held
 pub mod Jars

@@ -5,7 +5,7 @@ mod nonce;
 pub(crate) mod open;
 pub(crate) mod save;
 mod site;
-mod time;
+pub(crate) mod time;
 
 /// How a site keeps its sessions: one encrypted cookie holds a session.
 #[repr(C)]

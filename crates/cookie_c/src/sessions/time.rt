@@ -9,7 +9,7 @@ use jiff::tz::Offset;
 const LAST_SECOND: u64 = 253402207200;
 
 // The time in UTC that many seconds after 1970-01-01 00:00:00, if it is a date.
-pub(super) fn time_at(second: u64) -> Option<DateTime>
+pub(crate) fn time_at(second: u64) -> Option<DateTime>
     ensures { MatchOption result (last_second < second)
         (λ time. (second ≤ last_second) × IsAtSecond second time) }
 {
