@@ -68,7 +68,7 @@ class OpenedSession(ctypes.Structure):
     ]
 
 
-# The shared object stands beside this file; the variable COOKIE_C names another one.
+# The shared object is beside this file; the variable COOKIE_C names another one.
 LIBRARY = ctypes.CDLL(os.environ.get("COOKIE_C", str(pathlib.Path(__file__).parent / "libcookie_c.so")))
 TEXT: list[Any] = [ctypes.c_char_p, ctypes.c_size_t]
 HANDLE: list[Any] = [ctypes.POINTER(Handle)]
@@ -128,14 +128,14 @@ def arguments_of(inputs: tuple[Any, ...]) -> list[Any]:
 
 
 def done(function: Callable[..., Any], *inputs: Any) -> None:
-    """Makes a call that gives no text."""
+    """Makes a call that returns no text."""
     status = function(*arguments_of(inputs))
     if status != DONE:
         raise error_of(status)
 
 
 def told(function: Callable[..., Any], *inputs: Any, room: int = 256) -> tuple[Any, bytes]:
-    """The answer of a call, and its bytes; where the first buffer is too short, it is called again with one that fits."""
+    """What a call returns, and its bytes. If the first buffer is too short, it is called again with one that fits."""
     arguments = arguments_of(inputs)
     while True:
         buffer = ctypes.create_string_buffer(room)
@@ -146,7 +146,7 @@ def told(function: Callable[..., Any], *inputs: Any, room: int = 256) -> tuple[A
 
 
 def given(function: Callable[..., Any], *inputs: Any, room: int = 256) -> bytes:
-    """The bytes that a call gives."""
+    """The bytes that a call returns."""
     answer, text = told(function, *inputs, room=room)
     if answer.status != DONE:
         raise error_of(answer.status, answer.length)
@@ -154,7 +154,7 @@ def given(function: Callable[..., Any], *inputs: Any, room: int = 256) -> bytes:
 
 
 def decoded(function: Callable[..., Any], *inputs: Any, room: int = 256) -> tuple[Any, bytes]:
-    """The answer of a call that decodes, and its buffer; where the first is too short, it is called again."""
+    """What a call that decodes returns, and its buffer. If the first is too short, it is called again."""
     arguments = arguments_of(inputs)
     while True:
         buffer = ctypes.create_string_buffer(room)
@@ -165,7 +165,7 @@ def decoded(function: Callable[..., Any], *inputs: Any, room: int = 256) -> tupl
 
 
 def read(function: Callable[..., Any], none: type[CookieError], *inputs: Any) -> str | None:
-    """The text that a call gives, or None where it is refused as `none`."""
+    """The text that a call returns, or None if it is refused as `none`."""
     try:
         return given(function, *inputs).decode()
     except none:
@@ -173,7 +173,7 @@ def read(function: Callable[..., Any], none: type[CookieError], *inputs: Any) ->
 
 
 def text_at(text: bytes, place: Place) -> str:
-    """What stands at the place."""
+    """The text at the place."""
     return text[place.start : place.start + place.length].decode()
 
 

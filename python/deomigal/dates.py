@@ -26,7 +26,7 @@ def numbers_of(moment: datetime.datetime) -> tuple[int, int, int, int, int, int]
 
 
 def read_date(text: str | bytes) -> datetime.datetime | None:
-    """The date and time in UTC that the text gives in one of four forms (RFC 6265 4.1.1), or None.
+    """Reads the text as a date and time in UTC, in one of four forms (RFC 6265 4.1.1). Returns None if it isn't one.
 
     >>> read_date("Wed, 21 Oct 2015 07:28:00 GMT")
     datetime.datetime(2015, 10, 21, 7, 28, tzinfo=datetime.timezone.utc)

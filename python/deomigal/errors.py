@@ -45,13 +45,13 @@ class BadNonce(CookieError):
 
 
 class NotSigned(CookieError):
-    """The value isn't signed under the key and the name. `verify` answers None instead."""
+    """The value isn't signed under the key and the name. `verify` returns None instead."""
 
     status = 7
 
 
 class NotSealed(CookieError):
-    """The value isn't sealed under the key and the name. `open_sealed` answers None instead."""
+    """The value isn't sealed under the key and the name. `open_sealed` returns None instead."""
 
     status = 8
 
@@ -69,7 +69,7 @@ class NoDate(CookieError):
 
 
 class BadMoment(CookieError):
-    """The moment isn't a date of the year 100 or later."""
+    """The time isn't a date of the year 100 or later."""
 
     status = 11
 
@@ -115,25 +115,25 @@ class NoJar(CookieError):
 
 
 class NotFound(CookieError):
-    """The jar shows no cookie of that name. `Jar.get` answers None instead."""
+    """The jar has no cookie of that name. `Jar.get` returns None instead."""
 
     status = 18
 
 
 class BadAttribute(CookieError):
-    """A number of the attributes says nothing."""
+    """An attribute has an undefined value."""
 
     status = 19
 
 
 class NoSession(CookieError):
-    """The request has no session that is open. `Sessions.open` returns a new one instead."""
+    """The request has no open session. `Sessions.open` returns a new one instead."""
 
     status = 20
 
 
 class BadPrefix(CookieError):
-    """The cookie lacks what a browser asks of the prefix of its name (RFC 6265bis 4.1.3)."""
+    """The cookie lacks what a browser requires for the prefix of its name (RFC 6265bis 4.1.3)."""
 
     status = 21
 

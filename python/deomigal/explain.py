@@ -171,7 +171,7 @@ def explain(
 
 
 def second_of(now: datetime.datetime | None) -> int:
-    """The whole seconds since 1970 in UTC; those of the clock without a time. A time without a zone counts as UTC."""
+    """The time in whole seconds since 1970 in UTC, by default the clock's. A time without a zone counts as UTC."""
     now = now or datetime.datetime.now(datetime.timezone.utc)
     return int(now.replace(microsecond=0, tzinfo=now.tzinfo or datetime.timezone.utc).timestamp())
 

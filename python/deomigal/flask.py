@@ -47,7 +47,7 @@ class SessionInterface(FlaskSessionInterface):
     from the application's SECRET_KEY and SECRET_KEY_FALLBACKS, of which each has at least 32 bytes.
 
     A session is over PERMANENT_SESSION_LIFETIME after its start, and `idle` seconds after it was last saved, if `idle`
-    is given. `clock` gives the time, in seconds since 1970.
+    is given. `clock` returns the time, in seconds since 1970.
     """
 
     session_class = FlaskSession

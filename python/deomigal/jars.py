@@ -43,9 +43,9 @@ class Jar:
         done(JAR_ADD, self.handle, text)
 
     def remove(self, name: str, moment: datetime.datetime | None = None, path: str = "", domain: str = "") -> None:
-        """Removes the cookie of that name, now or at the moment.
+        """Removes the cookie of that name, now or at the time `moment`.
 
-        The client is told to drop the one that was set with this path and this domain. A browser keeps any other.
+        The client gets a cookie that drops the one set with this path and this domain. A browser keeps any other.
         """
         moment = moment or datetime.datetime.now(datetime.timezone.utc)
         done(JAR_REMOVE_SCOPED, self.handle, print_date(moment), name, path, domain)
@@ -62,7 +62,7 @@ class Jar:
         return value
 
     def __contains__(self, name: str) -> bool:
-        """Whether the jar shows a cookie of that name."""
+        """Whether the jar has a cookie of that name."""
         return self.get(name) is not None
 
     def delta(self) -> list[str]:
@@ -75,7 +75,7 @@ class Jar:
 
 
 def run(moment: str | datetime.datetime, text: str) -> str:
-    """What the program `cookiejar` writes at the moment, for the input.
+    """What the program `cookiejar` writes at the time `moment`, for the input.
 
     >>> run("Wed, 21 Oct 2015 07:28:00 GMT", "name=value\\nadd a=1\\n")
     'Set-Cookie: a=1\\nCookie: a=1; name=value\\n'

@@ -36,7 +36,7 @@ class Session(MutableMapping[str, str]):
 
     @property
     def is_new(self) -> bool:
-        """Whether the request has no session that is open."""
+        """Whether the request has no open session."""
         return self.place is None
 
     def renew(self) -> None:
@@ -126,7 +126,7 @@ class Sessions:
         return Session(int(time.time() if now is None else now))
 
     def open(self, header: str | bytes, now: float | None = None) -> Session:
-        """The session in a request's `Cookie` header, or a new one if there is none that is open.
+        """The session in a request's `Cookie` header, or a new one if none is open.
 
         There is none if the site's cookie is missing, isn't encrypted under one of the keys, or is over. `now` is in
         seconds since 1970; without it the clock's time counts.
@@ -180,7 +180,7 @@ class Sessions:
 
 
 def seconds(session: Session) -> int:
-    """The second of the session's request. One before 1970 is refused as one past the year 9999 is."""
+    """The second of the session's request. A second before 1970 is refused, as one past the year 9999 is."""
     if not 0 <= session.now < 2**64:
         raise error_of(NoDate.status)
     return session.now

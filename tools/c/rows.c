@@ -38,7 +38,7 @@ static void fault(const char *what) {
     faults++;
 }
 
-/* Memory of that length, with a page behind it that mustn't be touched. */
+/* Memory of that length, with a page after it that mustn't be touched. */
 static uint8_t *at_edge(size_t length) {
     if (length == 0)
         return NULL;
@@ -85,7 +85,7 @@ static uint32_t status_named(const char *name) {
     exit(2);
 }
 
-/* The numbers of a row's text; zeros where it has none. */
+/* The numbers of a row's text, or zeros if it has none. */
 static void numbers_in(text list, int count, long long *numbers) {
     char copy[400] = {0}, *rest = copy;
     memcpy(copy, list.bytes == NULL ? (const uint8_t *)"" : list.bytes, list.length < 399 ? list.length : 399);
@@ -107,7 +107,7 @@ static void numbers_of(text date, int numbers[6]) {
         exit(2);
 }
 
-/* Whether the step of a jar's row is this word; then the text behind the word and a blank is left. A text that is empty
+/* Whether the step of a jar's row is this word; then the text after the word and a blank is left. A text that is empty
  * is a null pointer. */
 static int is_step(const char *word, text step, text *rest) {
     size_t length = strlen(word);
@@ -121,7 +121,7 @@ static int is_step(const char *word, text step, text *rest) {
 
 static int compare_lines(const void *one, const void *other) { return strcmp(*(char *const *)one, *(char *const *)other); }
 
-/* Puts the lines into their order, since a delta's may stand in any. */
+/* Puts the lines into their order, since a delta's may be in any. */
 static void sort_lines(uint8_t *bytes, size_t length) {
     char copy[4096], *lines[100], *rest = copy;
     size_t count = 0, at = 0;
@@ -186,7 +186,7 @@ static cookie_answer play_step(cookie_jar *jar, text step, uint8_t *out, size_t 
     exit(2);
 }
 
-/* The steps of a jar's row on a handle: each but the last is done, and the last one's answer is the row's. */
+/* The steps of a jar's row on a handle: each but the last is done, and the last one returns what the row has. */
 static cookie_answer play_jar(const text *steps, uint8_t *out, size_t length) {
     cookie_jar jar = {0};
     cookie_answer answer = {COOKIE_DONE, 0};
@@ -335,7 +335,7 @@ static void look_at(const uint8_t *out, size_t length, text wanted) {
         }
 }
 
-/* The call with a buffer of that length: its answer, the bytes given, and no other byte changed. */
+/* The call with a buffer of that length: what it returns, the bytes that it writes, and no other byte changed. */
 static void play(const char *name, const text *in, size_t length, uint32_t status, size_t number, text wanted) {
     uint8_t *out = at_edge(length);
     if (length > 0)
@@ -449,8 +449,8 @@ static void play_decoded(const char *name, const text *in, uint32_t status, text
     }
 }
 
-/* A text signed, verified, sealed and opened in a buffer that the inputs lie in too. The header forbids it; the answer is
- * counted, and nothing beyond the buffer may change. */
+/* A text signed, verified, sealed and opened in a buffer that the inputs lie in too. The header forbids it. The right
+ * results are counted, and nothing beyond the buffer may change. */
 static void overlap(void) {
     static const uint8_t name[] = "session", value[] = "anna";
     int right = 0, tried = 0;
@@ -492,7 +492,7 @@ static void overlap(void) {
         fault("an overlapping buffer has another answer");
 }
 
-/* What a handle's jar shows at three names, and its delta. */
+/* What a handle's jar has under three names, and its delta. */
 static size_t look(cookie_jar *jar, uint8_t *out, size_t length) {
     static const char *const names[] = {"a", "n", "name"};
     size_t used = 0;
@@ -539,7 +539,7 @@ static void starve(void) {
 }
 
 /* The calls that decode, with each of their requests for memory refused in turn: then they say so and write nothing.
- * Where there is no escape they make none. */
+ * If there is no escape they make none. */
 static void starve_decoding(void) {
     static const uint8_t escaped[] = "a%20b=c%3D; Path=/", plain[] = "a=b; Path=/%20";
     int refused = 0;

@@ -21,7 +21,7 @@ faults = []
 
 
 def numbers_in(text, count):
-    """The numbers of a row's text; so many zeros where it has none."""
+    """The numbers of a row's text, or the same number of zeros if it has none."""
     return [int(number) for number in text.split()] or [0] * count
 
 
@@ -46,7 +46,7 @@ def numbers_of_pair(pair):
 
 
 def step(handle, text, out, length):
-    """Plays a step of a jar's row: its word, a blank and its text, which is null where it is empty."""
+    """Plays a step of a jar's row: its word, a blank and its text, which is null if it is empty."""
     word, _, rest = text.partition(b" ")
     cuts = {b"remove": 1, b"scoped": 3}.get(word, 0)
     rest = [part for value in rest.split(b"\n", cuts) for part in (value or None, len(value))]
@@ -76,12 +76,12 @@ def play_jar(steps, out, length):
 
 
 def in_order(text):
-    """The text with its lines in their order, since a delta's may stand in any."""
+    """The text with its lines in their order, since a delta's may be in any."""
     return b"\n".join(sorted(text.split(b"\n")[:-1]) + [b""])
 
 
 def played(call, inputs, length):
-    """Status, number and buffer, where the buffer has that length and is null where that is 0."""
+    """Status, number and buffer, with a buffer that has that length, and is null if that is 0."""
     buffer = ctypes.create_string_buffer(b"\xa5" * (length + 1), length + 1)
     out = ctypes.cast(buffer, ctypes.c_char_p) if length else None
     if call == "jar":
@@ -146,7 +146,7 @@ def check(number, call, inputs, length, status, count, text):
 
 
 def decoded(call, inputs, length):
-    """Status, numbers and buffer of a call that decodes, where the buffer is null where its length is 0."""
+    """Status, numbers and buffer of a call that decodes, with a buffer that is null if its length is 0."""
     buffer = ctypes.create_string_buffer(b"\xa5" * (length + 1), length + 1)
     out = ctypes.cast(buffer, ctypes.c_char_p) if length else None
     text = inputs[0] or None, len(inputs[0])
@@ -273,7 +273,7 @@ def use_explain():
 
 
 def use():
-    """Uses of the package, whose answers are the round trip or Python's own."""
+    """Uses of the package, whose results are the round trip or Python's own."""
     key = deomigal.derive_key(bytes(range(32)))
     text = deomigal.sign(key, "session", "café")
     assert deomigal.verify(key, "session", text) == "café"

@@ -223,7 +223,7 @@ fn play_jar(steps: &[Vec<u8>], out: *mut u8, length: usize) -> Answer {
     answer
 }
 
-/// Puts the lines of a delta into their order, since they may stand in any.
+/// Puts the lines of a delta into their order, since they may be in any.
 fn in_order(text: &[u8]) -> Vec<u8> {
     let mut lines: Vec<&[u8]> = text.split_inclusive(|byte| *byte == b'\n').collect();
     lines.sort();
@@ -358,7 +358,7 @@ fn call(name: &str, inputs: &[Vec<u8>], out: *mut u8, length: usize) -> Answer {
     }
 }
 
-/// Whether the call with a buffer of that length answers so, gives the text and changes nothing behind it.
+/// Whether the call with a buffer of that length returns this, writes the text and changes nothing after it.
 fn is_right(name: &str, inputs: &[Vec<u8>], length: usize, wanted: Answer, text: &[u8]) -> bool {
     let mut buffer = vec![0xa5; length];
     let out = if length == 0 { ptr::null_mut() } else { buffer.as_mut_ptr() };
@@ -387,7 +387,7 @@ fn start_of(text: &[u8]) -> Text {
     if text.is_empty() { ptr::null() } else { text.as_ptr() }
 }
 
-/// The numbers of a row's text; so many zeros where it has none.
+/// The numbers of a row's text, or the same number of zeros if it has none.
 fn numbers_in(text: &[u8], count: usize) -> Vec<i64> {
     if text.is_empty() {
         return vec![0; count];
@@ -432,8 +432,8 @@ fn is_reading(text: &[u8], status: u32, wanted: &[u8]) -> bool {
     reading.status == status && numbers_of_reading(reading) == numbers_in(wanted, 23)
 }
 
-/// Whether the call that decodes, with a buffer of that length, has this status and these numbers, gives the text and
-/// changes nothing behind it.
+/// Whether the call that decodes, with a buffer of that length, has this status and these numbers, writes the text and
+/// changes nothing after it.
 fn is_decoded(name: &str, inputs: &[Vec<u8>], length: usize, status: u32, text: &[u8]) -> bool {
     let mut buffer = vec![0xa5; length];
     let out = if length == 0 { ptr::null_mut() } else { buffer.as_mut_ptr() };

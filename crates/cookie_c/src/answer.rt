@@ -1,16 +1,17 @@
-//! What a call answers that has a text for its caller.
+//! The return value of a call that has a text for its caller.
 ghost use Rattle.std.specs.Prelude.{◌≡◌};
 ghost use Rattle.cookie_c.specs.Answers.{IsGiven, IsTold};
 
 use crate::status::Status;
 
-/// What came of a call that has a text for its caller's buffer.
+/// The return value of a call that has a text for its caller's buffer.
 #[repr(C)]
 #[derive(Clone, Copy)]
 pub struct Answer {
     /// The number of a `Status`.
     pub status: u32,
-    /// How many bytes the text has, whether they had room or not; the number of the line at `Status::BadLine`; else 0.
+    /// The number of bytes of the text, whether they had room or not. At `Status::BadLine` it is the number of the
+    /// line, at `Status::TooLarge` the size of the cookie, and else 0.
     pub length: usize,
 }
 

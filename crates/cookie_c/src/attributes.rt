@@ -16,21 +16,21 @@ use jiff::SignedDuration;
 #[repr(C)]
 #[derive(Clone, Copy)]
 pub struct Attributes {
-    /// Whether scripts are kept from it: 0 where that is unset, 1 where it is true, 2 where it is false.
+    /// Whether scripts are kept from it: 0 if that is unset, 1 if it is true, 2 if it is false.
     pub http_only: u32,
-    /// Whether it is for secure connections only, as a number of that kind.
+    /// Whether it is for secure connections only, numbered in the same way.
     pub secure: u32,
-    /// Whether it is kept apart for each top-level site, as a number of that kind.
+    /// Whether it is kept apart for each top-level site, numbered in the same way.
     pub partitioned: u32,
-    /// To which requests from other sites it is sent: 0 where that is unset, 1 for `Strict`, 2 for `Lax`, 3 for `None`.
+    /// To which requests from other sites it is sent: 0 if that is unset, 1 for `Strict`, 2 for `Lax`, 3 for `None`.
     pub same_site: u32,
-    /// 1 where it has a path, else 0.
+    /// 1 if it has a path, else 0.
     pub has_path: u32,
-    /// 1 where it has a domain, else 0.
+    /// 1 if it has a domain, else 0.
     pub has_domain: u32,
-    /// 1 where it has an age, else 0.
+    /// 1 if it has an age, else 0.
     pub has_max_age: u32,
-    /// 1 where it has an expiry, else 0.
+    /// 1 if it has an expiry, else 0.
     pub has_expires: u32,
     /// The age in whole seconds.
     pub max_age: i64,

@@ -17,7 +17,7 @@ use std::alloc::Global;
 #[repr(C)]
 #[derive(Clone, Copy)]
 pub struct Moment {
-    /// The number of a `Status`. Where that isn't `Status::Done` the other fields are 0.
+    /// The number of a `Status`. If it isn't `Status::Done`, the other fields are 0.
     pub status: u32,
     /// The year, from -9999 to 9999.
     pub year: i16,
@@ -63,9 +63,9 @@ impl Moment {
     }
 }
 
-/// The date and time that the text stands for, by the four forms of `read_date`. It doesn't allocate.
+/// Reads the text as a date and time in UTC, in one of the four forms of `read_date`. It doesn't allocate.
 ///
-/// Refuses a text that isn't UTF-8, and then one that is no date.
+/// Refuses a text that isn't UTF-8, and then one that isn't a date.
 #[unsafe(no_mangle)]
 pub extern "C" fn cookie_read_date(text: &[u8]) -> Moment
     ensures { result ≡ moment_in text.now }
@@ -79,10 +79,10 @@ pub extern "C" fn cookie_read_date(text: &[u8]) -> Moment
     }
 }
 
-/// The date and time in UTC as `Wed, 21 Oct 2015 07:28:00 GMT` (RFC 9110 5.6.7, `IMF-fixdate`), for the buffer. A year
-/// below 1000 has as many digits as it needs, and one below 0 a sign, which that form doesn't have.
+/// Prints the date and time in UTC as `Wed, 21 Oct 2015 07:28:00 GMT` (RFC 9110 5.6.7, `IMF-fixdate`), for the buffer.
+/// A year below 1000 has only the digits that it needs, and a year below 0 has a sign, which that form doesn't have.
 ///
-/// Refuses numbers that no date and time has; else it fails only when memory runs out.
+/// Refuses numbers that aren't a date and time. Else it fails only when memory runs out.
 #[unsafe(no_mangle)]
 pub extern "C" fn cookie_print_date(
     alloc: Global,

@@ -17,13 +17,13 @@ use crate::status::Status;
 use cookie::{Cookie, Layout};
 use std::alloc::Global;
 
-/// The cookie that the text is read as, as `Cookie::parse_encoded` reads it. The name and the value, decoded, are for
-/// the buffer, the value right after the name, and their places are those there; the path and the domain stand in the
-/// text. Where the buffer is too short for both, nothing is written, and all but the status, which is
-/// `Status::BufferTooShort`, is as it would be.
+/// Reads the text of a `Set-Cookie` header as a cookie and decodes its name and value, as `Cookie::parse_encoded` does.
+/// It writes the name to the buffer, and the value right after it; their places are in the buffer. The places of the
+/// path and the domain are in the text. If the buffer is too short for both, nothing is written, and the status is
+/// `Status::BufferTooShort`; all else is as it would be with room for both.
 ///
-/// Refuses as `cookie_read` does, and then a name or a value whose bytes, decoded, aren't UTF-8. It takes memory only
-/// where the name or the value has an escape, and may then run out of it.
+/// Refuses as `cookie_read` does, and then a name or a value whose bytes, decoded, aren't UTF-8. It allocates, and may
+/// run out of memory, only if the name or the value has an escape.
 #[unsafe(no_mangle)]
 pub extern "C" fn cookie_read_decoded(alloc: Global, text: &[u8], out: &mut [u8]) -> Reading
     ensures not_utf8 { ¬ IsUtf8 text.now
@@ -39,13 +39,13 @@ pub extern "C" fn cookie_read_decoded(alloc: Global, text: &[u8], out: &mut [u8]
     }
 }
 
-/// The next pair of a header, from the offset `from` on (RFC 6265 4.2.1), as `Cookie::split_parse_encoded` reads it. A
-/// piece that is UTF-8 and white space only is skipped. The name and the value, decoded, are for the buffer, the value
-/// right after the name, and their places are those there. Where the buffer is too short for both, nothing is written,
-/// and all but the status, which is `Status::BufferTooShort`, is as it would be.
+/// Reads the next pair of a header, from the offset `from` on (RFC 6265 4.2.1), and decodes it, as
+/// `Cookie::split_parse_encoded` does. A piece that is UTF-8 and white space only is skipped. It writes the name to the
+/// buffer, and the value right after it; their places are in the buffer. If the buffer is too short for both, nothing
+/// is written, and the status is `Status::BufferTooShort`; all else is as it would be with room for both.
 ///
 /// Refuses as `cookie_next_pair` does, and then a name or a value whose bytes, decoded, aren't UTF-8. It allocates, and
-/// may run out of memory, only where the name or the value has an escape.
+/// may run out of memory, only if the name or the value has an escape.
 #[unsafe(no_mangle)]
 pub extern "C" fn cookie_next_pair_decoded(
     alloc: Global,
@@ -68,7 +68,7 @@ pub extern "C" fn cookie_next_pair_decoded(
     }
 }
 
-// The cookie that the text of this layout is, decoded.
+// The cookie in the text, which has this layout, decoded.
 fn give_cookie(alloc: Global, text: &str, layout: Layout, out: &mut [u8]) -> Reading
     requires place { IsLayoutIn text.now layout }
     requires value { cookie_of false text.now ≡ Some (layout_record text.now layout) }
@@ -88,7 +88,7 @@ fn give_cookie(alloc: Global, text: &str, layout: Layout, out: &mut [u8]) -> Rea
     }
 }
 
-// The pair that a piece's text is, decoded.
+// The pair in a piece's text, decoded.
 fn give_next(alloc: Global, text: &str, next: usize, out: &mut [u8]) -> Pair
     ensures { (piece : HeaderPiece) → text.now ≡ trim piece.bytes → next ≡ rest_after piece
         → IsDecodedPairOf piece result out.old out.new }

@@ -85,12 +85,12 @@ pub struct Explanation {
     pub stored: Stored,
 }
 
-/// What a browser that stores no cookie yet makes of the value of a `Set-Cookie` header (RFC 6265bis). If a step
-/// refuses it, one sentence on that is for the buffer, and right after it the title of the step's section. Else the
-/// name, the value, the domain and the path of the stored cookie are for the buffer. If the buffer is too short for
-/// all, nothing is written, and all but the status, which is `Status::BufferTooShort`, is as it would be. `list` is the
-/// text of the list of publicsuffix.org. If it is empty, exactly the domains of one label are public suffixes. `now` is
-/// the time in seconds since 1970 in UTC.
+/// Explains what a browser that stores no cookie yet makes of the value of a `Set-Cookie` header (RFC 6265bis). If a
+/// step refuses it, one sentence on that is for the buffer, and right after it the title of the step's section. Else
+/// the name, the value, the domain and the path of the stored cookie are for the buffer. If the buffer is too short for
+/// all, nothing is written, and the status is `Status::BufferTooShort`; all else is as it would be with room for all.
+/// `list` is the text of the list of publicsuffix.org. If it is empty, exactly the domains of one label are public
+/// suffixes. `now` is the time in seconds since 1970 in UTC.
 ///
 /// Refuses a time after 9999-12-30 22:00:00. It may also run out of memory.
 #[unsafe(no_mangle)]
@@ -136,7 +136,7 @@ impl Request<'_> {
 }
 
 impl Explanation {
-    // That of nothing.
+    // What a refused call returns: it explains nothing.
     fn none(why: Status) -> Explanation
         ensures { result ≡ unexplained why }
     {
@@ -169,7 +169,7 @@ impl Stored {
     }
 }
 
-/// An answer, with the texts that are for the buffer.
+/// An explanation, with the texts that are for the buffer.
 #[derive(Drop)]
 struct Draft {
     answer: Explanation,
@@ -198,7 +198,7 @@ impl Draft {
         }
     }
 
-    // The same of a received cookie, with its domain in lower case.
+    // What a browser without cookies makes of a received cookie, given its domain in lower case.
     fn of_received<'x>(
         alloc: Global,
         suffixes: &Suffixes,
@@ -219,7 +219,7 @@ impl Draft {
         }
     }
 
-    // The answer, with its texts for the buffer.
+    // The explanation, with its texts for the buffer.
     fn give(self, out: &mut [u8]) -> Explanation
         ensures { (time : CivilDateTime) (outcome : ResultOf KeptView RefusalValue)
             → IsDraftOf time outcome self → Explains time outcome result out.old out.new }
@@ -231,7 +231,7 @@ impl Draft {
         }
     }
 
-    // That of a refusal.
+    // The draft of a refusal.
     fn of_refusal(alloc: Global, why: Refusal) -> Result<Draft, AllocError>
         ensures { (time : CivilDateTime) → IfOk result (IsDraftOf time (Err why)) }
     {
@@ -245,7 +245,7 @@ impl Draft {
         Ok(Draft { answer, texts })
     }
 
-    // That of a stored cookie with these attributes.
+    // The draft of a stored cookie with these attributes.
     fn of_stored(
         alloc: Global,
         cookie: &KeptCookie<'_>,
@@ -279,7 +279,7 @@ impl Draft {
     }
 }
 
-// Appends the text. Its place is that in the longer text.
+// Appends the text, and returns its place in the longer text.
 fn push(texts: &mut Vec<u8>, text: &[u8]) -> Result<Place, AllocError>
     ensures place { IfOk result (λ place. place ≡ place_at (length texts.old.items) text.now) }
     ensures text { OnOk result (texts.new.items ≡ texts.old.items ++ text.now) }

@@ -8,7 +8,8 @@ use crate::answer::Answer;
 use crate::status::Status;
 use cookie::Key;
 
-/// The 64 bytes of the key derived from a master key, by the whole of it (RFC 5869 2.3). It doesn't allocate.
+/// Derives the 64 bytes of a key from a master key, of which all bytes count (RFC 5869 2.3), for the buffer. It doesn't
+/// allocate.
 ///
 /// Refuses a master key of fewer than 32 bytes.
 #[unsafe(no_mangle)]

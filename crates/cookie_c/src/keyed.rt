@@ -1,4 +1,4 @@
-//! A key and two texts, as C hands them in.
+//! A key and two texts, as C passes them in.
 ghost use Rattle.std.specs.Prelude.{◌≡◌, ℕ, List, Some, None, MatchResult, option_map};
 ghost use Rattle.cookie.specs.Keys.{key_bytes};
 ghost use Rattle.cookie.specs.Jar.{view};
@@ -39,7 +39,7 @@ impl<'a> Keyed<'a> {
     }
 }
 
-// The value that the jar shows under the name, for the buffer.
+// The value of the jar's cookie of that name, for the buffer.
 pub(crate) fn give_value(jar: &CookieJar, name: &str, out: &mut [u8]) -> Answer
     ensures { (value : List ℕ) → option_map (λ c. c.value) (view jar.now name.now) ≡ Some value
         → IsGiven value result out.old out.new }

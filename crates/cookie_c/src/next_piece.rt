@@ -4,7 +4,7 @@ ghost use Rattle.cookie_c.specs.NextPiece.{IsNextPiece};
 
 use cookie::Span;
 
-/// The next piece of a header, but for blank ones, and where the rest begins.
+/// The next piece of a header, skipping blank ones, and where the rest begins.
 #[derive(Clone, Copy)]
 pub(crate) enum NextPiece<'h> {
     /// There is none.
@@ -13,7 +13,7 @@ pub(crate) enum NextPiece<'h> {
     Other {
         next: usize,
     },
-    /// Its text without white space at its ends, and how many bytes stand before that.
+    /// Its text without white space at its ends, and the number of bytes before that text.
     Text {
         text: &'h str,
         start: usize,

@@ -12,7 +12,7 @@ use std::alloc::Global;
 #[repr(C)]
 #[derive(Clone, Copy)]
 pub struct OpenedSession {
-    /// The number of a `Status`. If that is neither `Status::Done` nor `Status::BufferTooShort`, the other fields are 0.
+    /// The number of a `Status`. If it is neither `Status::Done` nor `Status::BufferTooShort`, the other fields are 0.
     pub status: u32,
     /// How many bytes the form of its texts has, whether they had room or not.
     pub length: usize,

@@ -13,11 +13,11 @@ use cookie::Layout;
 #[repr(C)]
 #[derive(Clone, Copy)]
 pub struct Pair {
-    /// The number of a `Status`. Where that is neither `Status::Done` nor `Status::BufferTooShort` the places are 0.
+    /// The number of a `Status`. If it is neither `Status::Done` nor `Status::BufferTooShort`, the places are 0.
     pub status: u32,
-    /// Where the name stands.
+    /// Where the name is.
     pub name: Place,
-    /// Where the value stands.
+    /// Where the value is.
     pub value: Place,
     /// Where the rest of the header begins; 0 at `Status::NoPair`.
     pub next: usize,
@@ -53,11 +53,11 @@ impl Pair {
     }
 }
 
-/// The next pair of a header, from the offset `from` on (RFC 6265 4.2.1), read as `Cookie::split_parse` reads it. A
-/// piece that is UTF-8 and white space only is skipped. It doesn't allocate.
+/// Reads the next pair of a header, from the offset `from` on (RFC 6265 4.2.1), as `Cookie::split_parse` does. A piece
+/// that is UTF-8 and white space only is skipped. It doesn't allocate.
 ///
 /// Refuses a piece that isn't UTF-8, one with no `=`, and one with an empty name. `next` is the offset after the piece
-/// and its semicolon, also where the piece is refused. Without a further piece the status is `Status::NoPair`.
+/// and its semicolon, even if the piece is refused. If there is no further piece, the status is `Status::NoPair`.
 #[unsafe(no_mangle)]
 pub extern "C" fn cookie_next_pair(header: &[u8], from: usize) -> Pair
     ensures no_pair { next_piece header.now from ≡ None → result ≡ refused_pair status.NoPair 0 }

@@ -4,18 +4,18 @@ ghost use Rattle.cookie_c.specs.Places.{no_place, place_behind};
 
 use cookie::Span;
 
-/// Where a text stands in another one.
+/// Where a text is in another one.
 #[repr(C)]
 #[derive(Clone, Copy)]
 pub struct Place {
-    /// How many bytes stand before it.
+    /// The number of bytes before it.
     pub start: usize,
-    /// How many bytes it has.
+    /// The number of its bytes.
     pub length: usize,
 }
 
 impl Place {
-    // That of no text.
+    // The place of no text.
     pub(crate) fn none() -> Place
         ensures { result ≡ no_place }
     {
@@ -25,7 +25,7 @@ impl Place {
         }
     }
 
-    // That of a span of a text that stands after this many bytes.
+    // The place of a span in a text that begins at the offset `start`.
     pub(crate) fn behind(start: usize, span: Span) -> Place
         requires forward { span.start ≤ span.end }
         requires fits { start + span.end < 2 ^ 64 }

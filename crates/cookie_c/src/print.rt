@@ -19,11 +19,11 @@ use jiff::SignedDuration;
 use jiff::civil::DateTime;
 use std::alloc::{AllocError, Global};
 
-/// The cookie of these parts as a `Set-Cookie` header has it, for the buffer: its name and value escaped, or as they
-/// are. Path and domain count where the attributes say that there is one, and so do age and expiry.
+/// Prints the cookie of these parts as the value of a `Set-Cookie` header, for the buffer. Its name and value are
+/// escaped, or as they are. Path, domain, age and expiry count only if the attributes say that there is one.
 ///
-/// Refuses a number that says nothing, then an expiry that no date and time has, and then a name, a value, a path or a
-/// domain that isn't UTF-8; else it fails only when memory runs out.
+/// Refuses an attribute with an undefined value, then an expiry whose numbers aren't a date and time, and then a name,
+/// a value, a path or a domain that counts and isn't UTF-8. Else it fails only when memory runs out.
 #[unsafe(no_mangle)]
 pub extern "C" fn cookie_print(
     alloc: Global,
@@ -125,7 +125,7 @@ fn utf8(text: &[u8]) -> Result<&str, Status>
     }
 }
 
-// The text, where the number says that there is one, if it is UTF-8.
+// The text, if the number says that there is one. It has to be UTF-8 then.
 fn part(number: u32, text: &[u8]) -> Result<Option<&str>, Status>
     ensures { MatchResult result
         (λ part. (number ≡ 1 → IsUtf8 text.now)
@@ -217,7 +217,7 @@ fn same_site(number: u32) -> Option<SameSite>
     }
 }
 
-// The age, where the number says that there is one.
+// The age, if the number says that there is one.
 fn age(numbers: &Attributes) -> Option<SignedDuration>
     ensures { option_map signed_nanos result
         ≡ option_of numbers.now.has_max_age (nanos_of_seconds numbers.now.max_age) }
@@ -229,7 +229,7 @@ fn age(numbers: &Attributes) -> Option<SignedDuration>
     }
 }
 
-// The expiry, where the number says that there is one.
+// The expiry, if the number says that there is one.
 fn expiry(numbers: &Attributes) -> Result<Option<Expiration>, Status>
     ensures { MatchResult result
         (λ expiry. HasDate numbers.now

@@ -12,20 +12,20 @@ use crate::place::Place;
 use crate::status::Status;
 use cookie::{Layout, Span};
 
-/// A cookie that was read from a text, whose name and value, decoded, may stand in a buffer.
+/// A cookie that was read from a text. Its decoded name and value may be in a buffer.
 #[repr(C)]
 #[derive(Clone, Copy)]
 pub struct Reading {
-    /// The number of a `Status`. Where that is neither `Status::Done` nor `Status::BufferTooShort` the places are 0,
-    /// and no attribute is set.
+    /// The number of a `Status`. If it is neither `Status::Done` nor `Status::BufferTooShort`, the places are 0, and no
+    /// attribute is set.
     pub status: u32,
-    /// Where the name stands.
+    /// Where the name is.
     pub name: Place,
-    /// Where the value stands.
+    /// Where the value is.
     pub value: Place,
-    /// Where the path stands, if it has one.
+    /// Where the path is, if it has one.
     pub path: Place,
-    /// Where the domain stands without one leading dot, if it has one.
+    /// Where the domain is, without one leading dot, if it has one.
     pub domain: Place,
     /// Its attributes.
     pub attributes: Attributes,
@@ -61,7 +61,7 @@ impl Reading {
     }
 }
 
-/// The cookie that the text is read as, as `Cookie::parse` reads it. It doesn't allocate.
+/// Reads the text of a `Set-Cookie` header as a cookie, as `Cookie::parse` does. It doesn't allocate.
 ///
 /// Refuses a text that isn't UTF-8, then one with no `=` in its first piece, up to a `;`, and then one with an empty
 /// name.

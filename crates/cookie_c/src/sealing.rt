@@ -18,12 +18,12 @@ use crate::status::Status;
 use cookie::{Cookie, CookieJar, JarError};
 use std::alloc::Global;
 
-/// The value as a private jar stores it under the name: the base64 of nonce, encrypted value and tag. The key is that
-/// of `cookie_sign`. The nonce has twelve random bytes: no two values may be sealed under one key and one nonce, and
-/// under one key at most 2^32 random nonces may be drawn (SP 800-38D 8.3).
+/// Seals the value as a private jar stores it under the name, for the buffer: the base64 of nonce, encrypted value and
+/// tag. The key is as for `cookie_sign`. The nonce has twelve random bytes: no two values may be sealed under one key
+/// and one nonce, and under one key at most 2^32 random nonces may be drawn (SP 800-38D 8.3).
 ///
-/// Refuses a short key, and then a name or a value that isn't UTF-8, then another nonce, and then a name of more than
-/// 2^61 - 1 bytes or a value of more than 2^36 - 32; else it fails only when memory runs out.
+/// Refuses a short key, and then a name or a value that isn't UTF-8, then a nonce of another length, and then a name of
+/// more than 2^61 - 1 bytes or a value of more than 2^36 - 32. Else it fails only when memory runs out.
 #[tactic(auto, using(crate::proofs::KeyedLemmas::refused_only))]
 #[unsafe(no_mangle)]
 pub extern "C" fn cookie_seal(
@@ -52,10 +52,11 @@ pub extern "C" fn cookie_seal(
     }
 }
 
-/// The value that the text is a sealing of under the name, for the buffer. The key is that of `cookie_sign`.
+/// Opens a text that was sealed as `cookie_seal` does, under the same key and name. The value that was sealed is for
+/// the buffer.
 ///
 /// Refuses a short key, and then a name or a text that isn't UTF-8, and then a text that isn't sealed under the key and
-/// the name; else it fails only when memory runs out.
+/// the name. Else it fails only when memory runs out.
 #[tactic(auto, using(crate::proofs::KeyedLemmas::refused_only, crate::proofs::ReadBackLemmas::read_some, crate::proofs::ReadBackLemmas::read_none, crate::proofs::ReadBackLemmas::read_memory))]
 #[unsafe(no_mangle)]
 pub extern "C" fn cookie_open(
@@ -120,7 +121,7 @@ fn sealed_jar(alloc: Global, keyed: &Keyed<'_>, nonce: [u8; 12]) -> Result<Cooki
     Ok(jar)
 }
 
-// The cookie with the value that the text is a sealing of, if it is one.
+// The cookie with the value that was sealed, if the text is a sealed value.
 fn opened_cookie(alloc: Global, keyed: &Keyed<'_>) -> Result<Option<Cookie<'static>>, JarError>
     ensures { Gives refusal.OutOfMemory result (λ answer.
         AnswersExactly (IsSealingOf (encryption_half keyed.now.key))

@@ -28,15 +28,15 @@ impl RandomSource for Seed {
     }
 }
 
-/// The text that the program `cookiejar` writes for the moment and the input: for each cookie of the jar's delta a line
-/// `Set-Cookie: ..`, and then the line `Cookie: ..` of a client that read them. The first line of the input is the
-/// value of a `Cookie` header; each later one that isn't empty begins with `add `, `remove ` or `force `, or is
-/// `reset`. The moment is a date in UTC of the year 100 or later. The two seeds are random; the jar hashes names with
-/// them.
+/// Runs a session. It writes to the buffer what the program `cookiejar` writes for the time and the input: for each
+/// cookie of the jar's delta a line `Set-Cookie: ..`, and then the line `Cookie: ..` of a client that read them. The
+/// first line of the input is the value of a `Cookie` header. Each later line that isn't empty begins with `add `,
+/// `remove ` or `force `, or is `reset`. `moment` is a date in UTC of the year 100 or later. The two seeds are random;
+/// the jar hashes names with them.
 ///
-/// Refuses a moment that is no such date, whatever memory there is. Then it refuses an input that isn't UTF-8, and then
-/// the first bad line, counted from 1, with its number for length; else it fails only when memory runs out, which may
-/// also be told in the place of these two.
+/// Refuses a `moment` that isn't such a date, whatever memory there is. Then it refuses an input that isn't UTF-8, and
+/// then the first bad line: the length is the line's number, counted from 1. Else it fails only when memory runs out,
+/// which it may also report in place of these two refusals.
 #[unsafe(no_mangle)]
 pub extern "C" fn cookie_run(
     alloc: Global,

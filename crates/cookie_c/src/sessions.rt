@@ -22,6 +22,6 @@ pub struct SessionSettings<'a> {
     pub idle: u32,
     /// A random number: the names of a request's cookies are hashed with it.
     pub seed: u64,
-    /// Another random number for that.
+    /// Another random number, for the same hash.
     pub other_seed: u64,
 }

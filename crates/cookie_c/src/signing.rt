@@ -18,10 +18,10 @@ use crate::status::Status;
 use cookie::{Cookie, CookieJar, JarError};
 use std::alloc::Global;
 
-/// The value as a signed jar stores it under the name: 44 characters of signature, and the value. The key has at least
-/// 64 random bytes, of which the first 64 count.
+/// Signs the value as a signed jar stores it under the name, for the buffer: 44 characters of signature, and the value.
+/// The key has at least 64 random bytes, of which the first 64 count.
 ///
-/// Refuses a shorter key, and then a name or a value that isn't UTF-8; else it fails only when memory runs out.
+/// Refuses a shorter key, and then a name or a value that isn't UTF-8. Else it fails only when memory runs out.
 #[tactic(auto, using(crate::proofs::KeyedLemmas::refused_only))]
 #[unsafe(no_mangle)]
 pub extern "C" fn cookie_sign(
@@ -46,10 +46,11 @@ pub extern "C" fn cookie_sign(
     }
 }
 
-/// The value that the text is the signing of under the name, for the buffer. The key is that of `cookie_sign`.
+/// Verifies a text that was signed as `cookie_sign` does, under the same key and name. The value that was signed is for
+/// the buffer.
 ///
 /// Refuses a short key, and then a name or a text that isn't UTF-8, and then a text that isn't signed under the key and
-/// the name; else it fails only when memory runs out.
+/// the name. Else it fails only when memory runs out.
 #[tactic(auto, using(crate::proofs::KeyedLemmas::refused_only, crate::proofs::ReadBackLemmas::read_some, crate::proofs::ReadBackLemmas::read_none, crate::proofs::ReadBackLemmas::read_memory))]
 #[unsafe(no_mangle)]
 pub extern "C" fn cookie_verify(
@@ -88,7 +89,7 @@ fn signed_jar(alloc: Global, keyed: &Keyed<'_>) -> Result<CookieJar, JarError>
     Ok(jar)
 }
 
-// The cookie with the value that the text is the signing of, if it is one.
+// The cookie with the value that was signed, if the text is a signed value.
 fn verified_cookie(alloc: Global, keyed: &Keyed<'_>) -> Result<Option<Cookie<'static>>, JarError>
     ensures { Gives refusal.OutOfMemory result (λ answer.
         AnswersExactly (IsSigningOf (signing_half keyed.now.key))

@@ -1,8 +1,8 @@
-//! What a call came to.
+//! How a call ended.
 
 use cookie::ParseError;
 
-/// What a call came to, by a number that no later version gives another meaning.
+/// How a call ended. No later version changes the meaning of a number.
 #[derive(Clone, Copy)]
 pub enum Status {
     /// The call did what was asked.
@@ -25,11 +25,11 @@ pub enum Status {
     NotSealed = 8,
     /// The name or the value is too long to be sealed.
     TooLong = 9,
-    /// The text is no date, or there is no such date.
+    /// The text isn't a date, or there is no such date.
     NoDate = 10,
-    /// The moment is no date of the year 100 or later.
+    /// The time isn't a date of the year 100 or later.
     BadMoment = 11,
-    /// A line asks for no call; its number, from 1, stands in the length.
+    /// A line isn't a call. The length is the line's number, counted from 1.
     BadLine = 12,
     /// The text has no `=` in its first piece, up to a `;`.
     MissingPair = 13,
@@ -41,17 +41,17 @@ pub enum Status {
     NoPair = 16,
     /// The handle has no jar.
     NoJar = 17,
-    /// The jar shows no cookie of the name.
+    /// The jar has no cookie of that name.
     NotFound = 18,
-    /// A number of the attributes says nothing.
+    /// An attribute has an undefined value.
     BadAttribute = 19,
-    /// The request has no session that is open.
+    /// The request has no open session.
     NoSession = 20,
-    /// The cookie lacks what a browser asks of the prefix of its name.
+    /// The cookie lacks what a browser requires for the prefix of its name.
     BadPrefix = 21,
     /// The session would be over as soon as it is saved: a limit is 0.
     Over = 22,
-    /// The cookie's name and value have more than 4,096 bytes; the length is their number.
+    /// The cookie's name and value have more than 4,096 bytes. The length is the number of these bytes.
     TooLarge = 23,
 }
 

@@ -1,5 +1,5 @@
-//! Calls whose answers come from elsewhere: rows of `tools/c/rows.tsv`, with a buffer that fits and one that is a byte
-//! too short.
+//! Calls whose return values come from elsewhere: rows of `tools/c/rows.tsv`, with a buffer that fits and one that is a
+//! byte too short.
 mod decoded;
 mod explanations;
 mod jars;
@@ -55,7 +55,8 @@ fn play(alloc: Global, call: &str, words: &str, out: &mut [u8]) -> Option<Answer
     })
 }
 
-// Whether the call answers so, in a buffer that has room to spare, and tells the text's length where a byte is wanting.
+// Whether the call returns this in a buffer with room to spare, and reports the text's length in one that is a byte too
+// short.
 fn is_right(alloc: Global, row: &str) -> Option<bool> {
     let (call, words, wanted) = parts(row)?;
     let (mut out, mut short) = ([0xa5; 128], [0xa5; 128]);

@@ -37,10 +37,10 @@ pub extern "C" fn cookie_jar_new(alloc: Global, seed: u64, other_seed: u64, jar:
     Status::Done.code()
 }
 
-/// Adds the cookies of a `Cookie` header's value as originals, decoded (RFC 6265 5.4). A piece that is no cookie is
-/// skipped.
+/// Adds the cookies in the value of a `Cookie` header as originals, decoded (RFC 6265 5.4). A piece that isn't a cookie
+/// is skipped.
 ///
-/// Refuses a handle without a jar, and then a header that isn't UTF-8; else it fails only when memory runs out. After a
+/// Refuses a handle without a jar, and then a header that isn't UTF-8. Else it fails only when memory runs out. After a
 /// refusal the jar is as before.
 #[tactic(auto, using(crate::proofs::JarLemmas::at_none, crate::proofs::JarLemmas::at_some))]
 #[unsafe(no_mangle)]
@@ -55,10 +55,10 @@ pub extern "C" fn cookie_jar_add_originals(alloc: Global, jar: &mut Jar, header:
     answer.code()
 }
 
-/// Adds the cookie that the text of a `Set-Cookie` header is, decoded (RFC 6265 5.2), in the place of the one that the
-/// jar shows under its name.
+/// Adds the cookie in the text of a `Set-Cookie` header, decoded (RFC 6265 5.2), in place of the jar's cookie of that
+/// name.
 ///
-/// Refuses a handle without a jar, and then as `cookie_read_decoded` does; else it fails only when memory runs out.
+/// Refuses a handle without a jar, and then as `cookie_read_decoded` does. Else it fails only when memory runs out.
 /// After a refusal the jar is as before.
 #[tactic(auto, using(crate::proofs::JarLemmas::at_none, crate::proofs::JarLemmas::at_some))]
 #[unsafe(no_mangle)]
@@ -73,11 +73,11 @@ pub extern "C" fn cookie_jar_add(alloc: Global, jar: &mut Jar, text: &[u8]) -> u
     answer.code()
 }
 
-/// Removes the cookie of the name, at a moment that is a date in UTC by the four forms of `read_date`. Where there is
-/// an original of the name, the delta gets a cookie that tells the client to drop it, without path and domain.
+/// Removes the cookie of that name. `moment` is the time in UTC, in one of the four forms of `read_date`. If there is
+/// an original of that name, the delta gets a cookie that tells the client to drop it, without path and domain.
 ///
-/// Refuses a handle without a jar, then a moment or a name that isn't UTF-8, and then a moment that is no date; else it
-/// fails only when memory runs out. After a refusal the jar is as before.
+/// Refuses a handle without a jar, then a `moment` or a name that isn't UTF-8, and then a `moment` that isn't a date.
+/// Else it fails only when memory runs out. After a refusal the jar is as before.
 #[tactic(auto, using(crate::proofs::JarLemmas::at_none, crate::proofs::JarLemmas::at_some))]
 #[unsafe(no_mangle)]
 pub extern "C" fn cookie_jar_remove(alloc: Global, jar: &mut Jar, moment: &[u8], name: &[u8]) -> u32
@@ -92,11 +92,11 @@ pub extern "C" fn cookie_jar_remove(alloc: Global, jar: &mut Jar, moment: &[u8],
     answer.code()
 }
 
-/// Removes the cookie of the name, as `cookie_jar_remove` does, but tells the client to drop the one that was set with
+/// Removes the cookie of that name, as `cookie_jar_remove` does, but tells the client to drop the one that was set with
 /// this path and this domain. An empty path or domain is none, and one leading dot of the domain doesn't count.
 ///
-/// Refuses a handle without a jar, then a moment, a name, a path or a domain that isn't UTF-8, and then a moment that
-/// isn't a date. It may also run out of memory. After a refusal the jar is as before.
+/// Refuses a handle without a jar, then a `moment`, a name, a path or a domain that isn't UTF-8, and then a `moment`
+/// that isn't a date. It may also run out of memory. After a refusal the jar is as before.
 #[tactic(auto, using(crate::proofs::JarLemmas::at_none, crate::proofs::JarLemmas::at_some))]
 #[unsafe(no_mangle)]
 pub extern "C" fn cookie_jar_remove_scoped(
@@ -206,7 +206,7 @@ fn remove_scoped(
     remove_at(alloc, jar, moment, scoped_cookie(name, path, domain))
 }
 
-// The cookie of the name, with the path and the domain where they aren't empty.
+// The cookie of the name, with the path and the domain that aren't empty.
 fn scoped_cookie<'t>(name: &'t str, path: &'t str, domain: &'t str) -> Cookie<'t>
     ensures { result.fields ≡ scoped_record name.now path.now domain.now }
 {
@@ -220,7 +220,7 @@ fn scoped_cookie<'t>(name: &'t str, path: &'t str, domain: &'t str) -> Cookie<'t
     cookie
 }
 
-// Removes the cookie, at the date and time that the text stands for.
+// Removes the cookie, at the date and time in the text.
 fn remove_at(alloc: Global, jar: &mut CookieJar, moment: &str, cookie: Cookie<'_>) -> Status
     ensures no_date { date_of moment.now ≡ None → IsKept status.NoDate result jar.old jar.new }
     ensures removed { (now : DateTime) → date_of moment.now ≡ Some now

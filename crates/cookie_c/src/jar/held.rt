@@ -9,8 +9,8 @@ use std::alloc::Global;
 use std::marker::Model;
 use std::ptr::null_mut;
 
-/// A jar on the heap, or none. C keeps the pointer, and neither follows nor copies it. One that is dropped gives no
-/// memory back: its jar is taken first.
+/// A jar on the heap, or none. C keeps the pointer, and neither follows nor copies it. Dropping it frees no memory: its
+/// jar is taken out first.
 #[repr(C)]
 #[derive(Drop)]
 pub struct Held {

@@ -5,7 +5,7 @@ ghost use Rattle.std.specs.Box.Ownership.{box_owns};
 use std::alloc::Allocator;
 use std::marker::Model;
 
-/// The pointer of a box, with who gave its memory. It owns what the box owned.
+/// The pointer of a box, with the box's allocator. It owns what the box owned.
 pub(crate) struct RawBox<T, A: Allocator> {
     pub(crate) at: *mut T,
     pub(crate) alloc: A,

@@ -1,4 +1,4 @@
-//! The calls that give a text of a jar in a handle.
+//! The calls that return a text of a jar in a handle.
 ghost use Rattle.std.specs.Prelude.{◌≡◌, ◌++◌, IfOk, OnOk, codes, true, false, string_bytes};
 ghost use Rattle.cookie.specs.Text.{cookie_text};
 ghost use Rattle.cookie_c.specs.Jars.{HasLines, IsDeltaGiven, IsShown, OfJar};
@@ -9,9 +9,9 @@ use crate::status::Status;
 use cookie::{Cookie, CookieJar};
 use std::alloc::{AllocError, Global};
 
-/// The value of the cookie that the jar shows under the name, for the buffer. The jar is as before.
+/// The value of the jar's cookie of that name, for the buffer. The jar is as before.
 ///
-/// Refuses a handle without a jar, then a name that isn't UTF-8, and then one under which the jar shows no cookie. It
+/// Refuses a handle without a jar, then a name that isn't UTF-8, and then a name of which the jar has no cookie. It
 /// doesn't allocate.
 #[tactic(auto, using(crate::proofs::JarLemmas::of_none, crate::proofs::JarLemmas::of_some))]
 #[unsafe(no_mangle)]
@@ -32,10 +32,10 @@ pub extern "C" fn cookie_jar_get(
     answer
 }
 
-/// A line `Set-Cookie: ..` for each cookie of the jar's delta, for the buffer: each cookie's encoded text (RFC 6265
-/// 4.1.1), in any order, with a line feed at its end. The jar is as before.
+/// A line `Set-Cookie: ..` for each cookie of the jar's delta, for the buffer: the cookie's encoded text (RFC 6265
+/// 4.1.1), with a line feed at its end. The lines are in any order. The jar is as before.
 ///
-/// Refuses a handle without a jar; else it fails only when memory runs out.
+/// Refuses a handle without a jar. Else it fails only when memory runs out.
 #[tactic(auto, using(crate::proofs::JarLemmas::of_none, crate::proofs::JarLemmas::of_some))]
 #[unsafe(no_mangle)]
 pub extern "C" fn cookie_jar_delta(alloc: Global, jar: &mut Jar, out: &mut [u8]) -> Answer

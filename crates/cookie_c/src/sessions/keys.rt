@@ -6,10 +6,10 @@ use cookie::Key;
 use cookie_session::KeyRing;
 use std::alloc::{AllocError, Global};
 
-// How many bytes a key has.
+// The number of bytes of a key.
 const KEY_LENGTH: usize = 64;
 
-// Whether the bytes are those of one key or more.
+// Whether the bytes are one key or more.
 pub(super) fn has_keys(bytes: &[u8]) -> bool
     ensures { IsTrue result ↔ HasKeys bytes.now }
 {

@@ -1,10 +1,10 @@
-//! A nonce that C passes in, as a generator that gives it.
+//! A nonce that C passes in, as an RNG that returns it.
 ghost use Rattle.std.specs.Prelude.{◌≡◌, ◌≢◌, length, IfSome, IfNone};
 
 use rand_core::TryRng;
 use std::convert::Infallible;
 
-/// A generator whose draws of twelve bytes give these. It says nothing of other draws.
+/// An RNG whose draws of twelve bytes return these bytes. Other draws aren't specified.
 #[derive(Drop)]
 pub(super) struct Nonce {
     pub(super) bytes: [u8; 12],

@@ -17,12 +17,12 @@ use jiff::civil::DateTime;
 use std::alloc::{AllocError, Global};
 use std::hash::RandomState;
 
-/// The session of a request, with the place of the key that opened it. Its texts are for the buffer, as a form in byte
-/// order of the names (URL Standard 5.2). `header` is the value of the request's `Cookie` header: a piece of it that
-/// isn't UTF-8 or isn't a cookie is skipped. `now` is the time in seconds since 1970 in UTC.
+/// Opens the session of a request, and returns the place of the key that opened it. The session's texts are for the
+/// buffer, as a form in byte order of the names (URL Standard 5.2). `header` is the value of the request's `Cookie`
+/// header. A piece of it that isn't UTF-8 or isn't a cookie is skipped. `now` is the time in seconds since 1970 in UTC.
 ///
-/// Refuses settings and a time that aren't those of a site (`IsUnusable`), and then a request without a session that is
-/// open. It may also run out of memory.
+/// Refuses unusable settings or an unusable time (`IsUnusable`), and then a request without an open session. It may
+/// also run out of memory.
 #[unsafe(no_mangle)]
 pub extern "C" fn cookie_session_open(
     alloc: Global,

@@ -23,14 +23,14 @@ use cookie_session::{Session, SessionError, Sessions};
 use jiff::civil::DateTime;
 use std::alloc::{AllocError, Global};
 
-/// Saves a session with the texts of a form (URL Standard 5.1): the value of the `Set-Cookie` header that sets its
-/// cookie, for the buffer, encrypted under the newest key. With `renew` a session is saved that starts now. Without it,
-/// it is the session of the request, as `cookie_session_open` finds it, whose lifetime goes on. The nonce has twelve
-/// random bytes: under one key no nonce may be used twice, and at most 2^32 may be drawn (SP 800-38D 8.3). `now` is the
-/// time in seconds since 1970 in UTC.
+/// Saves a session with the texts of a form (URL Standard 5.1). The value of the `Set-Cookie` header that sets its
+/// cookie, encrypted under the newest key, is for the buffer. If `renew` is true, the session starts now. If it is
+/// false, the session is the request's, as `cookie_session_open` finds it, and its lifetime goes on. The nonce has
+/// twelve random bytes: under one key no nonce may be used twice, and at most 2^32 may be drawn (SP 800-38D 8.3). `now`
+/// is the time in seconds since 1970 in UTC.
 ///
-/// Refuses another nonce, then settings and a time that aren't those of a site (`IsUnusable`), and then a request without
-/// a session that is open, unless `renew` is true. It then fails as `Sessions::save` does, with the size in bytes of a
+/// Refuses a nonce of another length, then unusable settings or an unusable time (`IsUnusable`), and then a request
+/// without an open session, unless `renew` is true. It then fails as `Sessions::save` does, with the size in bytes of a
 /// cookie that is too large. It may also run out of memory.
 #[unsafe(no_mangle)]
 pub extern "C" fn cookie_session_save(
@@ -69,11 +69,11 @@ pub extern "C" fn cookie_session_save(
     }
 }
 
-/// Ends a session: the value of the `Set-Cookie` header that has the client drop the site's cookie, with the path and the
-/// domain that the site sets, for the buffer. A copy of the cookie stays open until the session's limits. `now` is the
-/// time in seconds since 1970 in UTC.
+/// Ends a session. The value of the `Set-Cookie` header that has the client drop the site's cookie, with the path and
+/// the domain that the site sets, is for the buffer. A copy of the cookie stays open until the session's limits. `now`
+/// is the time in seconds since 1970 in UTC.
 ///
-/// Refuses settings and a time that aren't those of a site (`IsUnusable`). It may also run out of memory.
+/// Refuses unusable settings or an unusable time (`IsUnusable`). It may also run out of memory.
 #[unsafe(no_mangle)]
 pub extern "C" fn cookie_session_end(
     alloc: Global,
@@ -182,7 +182,7 @@ fn save_in(
     sessions.save(alloc, jar, session, time, &mut nonce)
 }
 
-// The text of the cookie that the jar shows under the name.
+// The text of the jar's cookie of that name.
 fn shown_text(alloc: Global, jar: &CookieJar, name: &str) -> Result<String, SessionError>
     ensures { MatchResult result
         (λ text. option_map (cookie_text true false) (view jar.now name.now)

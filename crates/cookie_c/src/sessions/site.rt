@@ -1,4 +1,4 @@
-//! The site that C's settings stand for, at a time.
+//! The site of C's settings, at a time.
 ghost use Rattle.std.specs.Prelude.{◌≡◌, ◌⊎◌, MatchResult, Some, true};
 ghost use Rattle.cookie.specs.CookieOf.{cookie_of};
 ghost use Rattle.cookie.specs.declared.ParseError.{ParseError as ParseErrorValue};
@@ -75,7 +75,7 @@ impl Site {
     }
 }
 
-// The cookie that the text of a `Set-Cookie` header is, decoded, or why the text is refused.
+// The cookie in the text of a `Set-Cookie` header, decoded, or why the text is refused.
 fn read_cookie(alloc: Global, text: &str) -> Result<Cookie<'static>, Status>
     ensures { MatchResult result
         (λ cookie. cookie_of true text.now ≡ Some cookie.fields)

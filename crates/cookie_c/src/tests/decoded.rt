@@ -1,10 +1,11 @@
-//! Reading, with decoding and without. The answers are by hand from RFC 6265 4.2.1 and 5.2, RFC 3629 and RFC 3986 2.1.
+//! Reading, with decoding and without. The expected values are by hand from RFC 6265 4.2.1 and 5.2, RFC 3629 and RFC
+//! 3986 2.1.
 use super::rows::holds;
 use crate::decoded::{cookie_next_pair_decoded, cookie_read_decoded};
 use crate::pair::cookie_next_pair;
 use crate::place::Place;
 
-// Whether a name of this length and a value stand as this text in a buffer, one right after the other.
+// Whether a name of this length and a value are in a buffer as this text, one right after the other.
 fn are_at(name: Place, value: Place, length: usize, text: &[u8]) -> bool {
     (name.start, name.length, value.start) == (0, length, length)
         && length.saturating_add(value.length) == text.len()

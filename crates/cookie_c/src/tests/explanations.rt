@@ -1,6 +1,6 @@
-//! What a browser makes of a cookie. Chromium refuses or stores each of the texts of the first rows, and the step is the
-//! first one that RFC 6265bis has for its reason, as in `cookie_browser_vectors`. What is stored is by hand from RFC
-//! 6265bis, with dates of RFC 6265 3.1 and RFC 9110 5.6.7.
+//! What a browser makes of a cookie. Chromium refuses or stores each of the texts of the first rows, and the step is
+//! the first one that RFC 6265bis has for its reason, as in `cookie_browser_vectors`. What is stored is by hand from
+//! RFC 6265bis, with dates of RFC 6265 3.1 and RFC 9110 5.6.7.
 use super::rows::{holds, parts, word};
 use crate::explanation::{Request, Stored, cookie_explain};
 use std::alloc::Global;
@@ -110,7 +110,7 @@ fn a_short_buffer_tells_of_the_refusal(rt: HostRuntime) {
     assert!(rt; (why.status, why.refusal) == (1, 2));
 }
 
-// Whether the cookie and its texts in the buffer are those of the row.
+// Whether the cookie and its texts in the buffer match the row.
 fn is_cookie(stored: &Stored, out: &[u8], wanted: &str) -> Option<bool> {
     let mut words = wanted.split('|');
     let mut end: usize = 0;
@@ -172,7 +172,7 @@ fn a_short_buffer_tells_of_the_cookie(rt: HostRuntime) {
     assert!(rt; why.status == 0 && holds(&out, b"nva.com/dir"));
 }
 
-// The last second that counts, which is that of sessions.
+// The last second that counts, as for sessions.
 #[test]
 fn a_time_out_of_range_is_refused(rt: HostRuntime) {
     let (mut out, request) = ([0xa5; 64], request("https", b"a.com"));

@@ -67,7 +67,7 @@ get name -> 18
 delta -> 0 Set-Cookie: name=; Max-Age=0; Expires=Tue, 21 Oct 2014 07:28:00 GMT\\x0a
 free -> 0";
 
-// What the call on the handle answers: a status only, if it changes the jar.
+// What the call on the handle returns: only a status, if it changes the jar.
 fn play(alloc: Global, jar: &mut Jar, call: &str, words: &str, out: &mut [u8]) -> Option<Answer> {
     let (first, name) = (word(alloc, words, 0)?, word(alloc, words, 1)?);
     let (path, domain) = (word(alloc, words, 2)?, word(alloc, words, 3)?);

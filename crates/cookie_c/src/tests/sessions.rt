@@ -75,7 +75,7 @@ fn settings_named(name: &str) -> Option<SessionSettings<'static>> {
     })
 }
 
-// The words are the settings, the second after 2015-10-21 07:28:00 in UTC, and then what the call takes more.
+// The words are the settings, the second after 2015-10-21 07:28:00 in UTC, and then the call's other arguments.
 const ROWS: &str = "\
 open site|0|a=1; __Host-session=BwcHBwcHBwcHBwcHxr3ptyQiF+vjHTi0H/EZJ4ojpl9zfz1zVvp2m7gKpdda/GN0JOW7CAb5HSsyRy3XRjls00uYx1eOORdattff -> 0 user=ann
 open site|599|\\xff; __Host-session=BwcHBwcHBwcHBwcH+87bgnza0NNt/2ANl/RT/5OYs+1cWykqbkddgNcgZph4GPC2+e2fmNc4TOHWXxYPrjkfa+QaBvmpqJ4rPxGC; x -> 0 user=ann
