@@ -1,7 +1,7 @@
 //! Names that were chosen to collide in a jar of `CookieJar::new`: a jar with drawn keys, and its clone, find each of them
 //! without going over the others.
 //!
-//! Such a jar goes over half of the names at each look-up. Here that takes about fifty times as long as to hash with keys.
+//! Such a jar goes over half of the names at each look-up. Here that takes about twenty times as long as to hash with keys.
 //! `tools/performance/names.py` says how the names are chosen. The same look-ups are timed several times on a jar of each
 //! kind, and the least times are compared, so that a pause of the machine changes no answer.
 use cookie::{Cookie, CookieJar};
@@ -13,7 +13,7 @@ use std::time::{Clock, Duration, Instant};
 // What each name begins with, and then come eight digits.
 const FRONT: &str = "0000000000042547nf8XT7Lr";
 
-const NAMES: u32 = 1_000;
+const NAMES: u32 = 400;
 
 fn chosen(alloc: Global, number: u32) -> Option<Cookie<'static>> {
     let name = format!(in alloc; "{FRONT}{number:08}").ok()?;
