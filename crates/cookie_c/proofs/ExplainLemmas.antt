@@ -14,9 +14,9 @@ use Rattle.cookie_browser.specs.declared.refusal.Refusal.{Refusal}
 use Rattle.cookie_c.specs.ExplanationParts.{IsDraftOf}
 use Rattle.cookie_c.specs.Explanations.{Explains, IsExplained, request_of}
 use Rattle.cookie_c.specs.Sites.{IsAtSecond}
-use Rattle.cookie_c.specs.declared.explanation.Draft.{Draft}
+use Rattle.cookie_c.specs.declared.explanation.draft.Draft.{Draft}
 use Rattle.cookie_c.specs.declared.explanation.Explanation.{Explanation}
-use Rattle.cookie_c.specs.declared.explanation.Request.{Request}
+use Rattle.cookie_c.specs.declared.explanation.request.Request.{Request}
 
 -- what is left until a date, or until the limit, has a duration
 pub left_fits : (now : DateTime) (expires : Option DateTime) (end : ℤ) → Some end ≡ kept_until now None expires → IsDurationNanos (end -ℤ civil_nanos now)

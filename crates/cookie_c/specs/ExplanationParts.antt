@@ -4,7 +4,7 @@ use Rattle.jiff.specs.Types.{DateTime}
 use Rattle.cookie_browser.specs.Storage.{KeptView}
 use Rattle.cookie_browser.specs.declared.refusal.Refusal.{Refusal}
 use Rattle.cookie_c.specs.Explanations.{answer_to, texts_of}
-use Rattle.cookie_c.specs.declared.explanation.Draft.{Draft}
+use Rattle.cookie_c.specs.declared.explanation.draft.Draft.{Draft}
 
 -- they are those of the verdict at that time
 abbrev pub IsDraftOf : DateTime → Result KeptView Refusal → Draft → Type 0

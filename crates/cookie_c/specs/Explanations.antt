@@ -17,8 +17,8 @@ use Rattle.cookie_c.specs.Codes.{code_of}
 use Rattle.cookie_c.specs.Places.{no_place}
 use Rattle.cookie_c.specs.Sites.{IsAtSecond}
 use Rattle.cookie_c.specs.declared.explanation.Explanation.{Explanation}
-use Rattle.cookie_c.specs.declared.explanation.Request.{Request}
-use Rattle.cookie_c.specs.declared.explanation.Stored.{Stored}
+use Rattle.cookie_c.specs.declared.explanation.request.Request.{Request}
+use Rattle.cookie_c.specs.declared.explanation.stored.Stored.{Stored}
 use Rattle.cookie_c.specs.declared.place.Place.{Place}
 use Rattle.cookie_c.specs.declared.status.Status.{Status}
 use Rattle.cookie_c.specs.declared.status.Status.TheVariants as status

@@ -6,7 +6,7 @@ use Rattle.cookie_browser.specs.Storage.{kept_until}
 use Rattle.cookie_session.specs.Seconds.{from_zero}
 use Rattle.cookie_c.specs.Explanations.{seconds_until}
 use Rattle.cookie_c.proofs.ExplainLemmas.{left_fits}
-use Rattle.cookie_c.proofs.explanation.lifetime.Goals as goal
+use Rattle.cookie_c.proofs.explanation.draft.lifetime.Goals as goal
 
 pub sub-requires : goal.sub-requires
 sub-requires c =

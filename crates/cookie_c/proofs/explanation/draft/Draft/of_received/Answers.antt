@@ -7,7 +7,7 @@ use Rattle.cookie_browser.specs.RefusedCode.{kept_view, request_view}
 use Rattle.cookie_browser.specs.Storage.{KeptView, kept_until}
 use Rattle.cookie_c.specs.ExplanationParts.{IsDraftOf}
 use Rattle.cookie_c.proofs.ExplainLemmas.{verdict_by}
-use Rattle.cookie_c.proofs.explanation.Draft.of_received.Goals as goal
+use Rattle.cookie_c.proofs.explanation.draft.Draft.of_received.Goals as goal
 
 pub returns-in-Some : goal.returns-in-Some
 returns-in-Some c =

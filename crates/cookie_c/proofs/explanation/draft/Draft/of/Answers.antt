@@ -3,7 +3,7 @@ use Rattle.std.specs.Prelude.{IfOk}
 use Rattle.cookie_browser.specs.RefusedCode.{request_view}
 use Rattle.cookie_browser.specs.Storage.{verdict_on}
 use Rattle.cookie_c.specs.ExplanationParts.{IsDraftOf}
-use Rattle.cookie_c.proofs.explanation.Draft.of.Goals as goal
+use Rattle.cookie_c.proofs.explanation.draft.Draft.of.Goals as goal
 
 pub returns-in_ok-domain-in-Ok : goal.returns-in_ok-domain-in-Ok
 returns-in_ok-domain-in-Ok c =
