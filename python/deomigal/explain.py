@@ -59,7 +59,7 @@ class Stored(NamedTuple):
     """A cookie as a browser stores it, with name and value as the header has them.
 
     `lifetime` is how many seconds it lives from now, at most 400 days. It is None if the cookie lives until the browser
-    closes, and 0 if it is over at once. `same_site` is "Strict", "Lax", "None", or None if nothing is set.
+    closes, and 0 if no whole second is left. `same_site` is "Strict", "Lax", "None", or None if nothing is set.
     """
 
     name: str
