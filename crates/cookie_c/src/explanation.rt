@@ -8,15 +8,14 @@ mod draft;
 mod request;
 mod stored;
 
-pub use request::Request;
-pub use stored::Stored;
-
 use crate::place::Place;
 use crate::sessions::time::time_at;
 use crate::status::Status;
 use cookie_browser::Suffixes;
 use draft::Draft;
+pub use request::Request;
 use std::alloc::Global;
+pub use stored::Stored;
 
 /// What a browser makes of a cookie.
 #[repr(C)]
