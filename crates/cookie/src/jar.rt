@@ -54,7 +54,8 @@ impl Model for CookieJar {
 }
 
 impl CookieJar {
-    /// Makes a jar with no cookie. It doesn't allocate.
+    /// Makes a jar with no cookie. It doesn't allocate. Its hash is fixed: if strangers choose the names, use
+    /// `with_hasher`.
     ///
     /// After any changes, each of its two maps has under each name what looking back through the changes finds.
     /// Example: `jar_of_user` in crates/cookie_examples/src/show.rt.

@@ -41,7 +41,7 @@ impl TextMap {
         }
     }
 
-    /// The text at `name`.
+    /// The text at `name`, or `None` if there is none.
     pub fn get(&self, name: &str) -> Option<&str>
         ensures { option_copied result ≡ get self.now name.now }
     {

@@ -21,13 +21,13 @@ kept_after_responses rules (response ∷ responses) store =
     kept_after_responses rules responses
     (kept_after_text rules response.site response.now response.text store)
 
--- each comes at that time or later, none before the one that it follows, and all before the look
+-- each comes at that time or later, none before the one that it follows, and none after the look
 abbrev pub AreFrom : ℤ → List Response → DateTime → Type 0
 AreFrom time [] now = time ≤ℤ civil_nanos now
 AreFrom time (response ∷ responses) now =
     (time ≤ℤ civil_nanos response.now) × AreFrom (civil_nanos response.now) responses now
 
--- none comes before the one that it follows, and all come before the look
+-- none comes before the one that it follows, and none after the look
 abbrev pub AreInOrder : List Response → DateTime → Type 0
 AreInOrder [] now = Unit {0}
 AreInOrder (response ∷ responses) now = AreFrom (civil_nanos response.now) responses now

@@ -27,7 +27,8 @@ pub record IsHostBound (rules : List Rule) (site : RequestView) (now : DateTime)
   pub scope : scope_of kept ≡ host_scope site
   pub secure : kept.is_secure_only ≡ true
 
--- So it is of what the jar with the prefix `__Host-` stores, and of what tells the agent to drop it, if it isn't too long.
+-- So it is, at a site that is at home, of what the jar with the prefix `__Host-` stores, and of what tells the agent to
+-- drop it, if it isn't too long.
 abbrev pub AreHostBound : List Rule → RequestView → Type 0
 AreHostBound rules site =
     IsAtHome site → (now : DateTime) (cookie : Record)
@@ -45,7 +46,8 @@ pub record IsSecured (cookie : Record) : Type 0 where
   pub is : received (cookie_text true false cookie) ≡ Ok read
   pub secure : read.attributes.secure ≡ true
 
--- So it is of what the jar with the prefix `__Secure-` stores, and of what tells the agent to drop it.
+-- So it is of what the jar with the prefix `__Secure-` stores, and of what tells the agent to drop it, if it is
+-- receivable.
 abbrev pub AreSecured : Type 0
 AreSecured =
     (cookie : Record) → IsReceivable (conforming_cookie secure_prefix secure_cookie cookie)

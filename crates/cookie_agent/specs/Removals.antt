@@ -21,9 +21,9 @@ IsMissed site now text before after =
     → All (λ c. is_same_cookie c cookie ≡ false) before.cookies
     → (name : List ℕ) → seen site now after.cookies name ≡ seen site now before.cookies name
 
--- If a browser with these rules stored the text of a cookie at the site, once and whatever it had stored, and the
--- connection is secure or no secure-only cookie of that name is stored, then after the text of the cookie's removal no
--- such cookie is stored.
+-- If a browser with these rules stored the text of a receivable cookie at the site, once and whatever it had stored,
+-- and the connection is secure or no secure-only cookie of that name is stored, then after the text of the cookie's
+-- removal no such cookie is stored.
 abbrev pub IsRemovedAsSet : RequestView → DateTime → List ℕ → AgentView → AgentView → Type 0
 IsRemovedAsSet site now text before after =
     (set : Record) (moment : DateTime) → text ≡ cookie_text true false (removal moment set)

@@ -39,8 +39,8 @@ pub record IsVisited (before : AgentView) (request : AgentRequest) (visited : Vi
   -- its agent is the one before, which read the delta's texts in some order
   pub read : (texts : List (List ℕ)) × AreDeltaTexts visited.jar.delta texts
       × (visited.agent ≡ agent_after_texts request.site.now request.moment texts before)
-  -- if each accepted call is as planned, then whatever the order and the repetition of the delta's texts, each header
-  -- that is then sent to the site is read as what the jar shows
+  -- if what is stored and each accepted call are as planned, then whatever the order and the repetition of the delta's
+  -- texts, each header that is then sent to the site is read as what the jar shows
   pub agrees : (plans : Name → PlanView) → IsOurStore plans before.cookies
       → ArePlanned before.rules plans request visited
       → (texts : List (List ℕ)) → AreDeltaTexts visited.jar.delta texts
@@ -48,7 +48,7 @@ pub record IsVisited (before : AgentView) (request : AgentRequest) (visited : Vi
       → IsHeader request.site.now request.moment
       (agent_after_texts request.site.now request.moment texts before).cookies header
       → SiteAgrees visited.jar header
-  -- and what is stored stays so
+  -- and what is stored stays as planned
   pub ours : (plans : Name → PlanView) → IsOurStore plans before.cookies
       → ArePlanned before.rules plans request visited → IsOurStore plans visited.agent.cookies
 

@@ -62,8 +62,9 @@ impl<'r> Agent<'r> {
         }
     }
 
-    /// What the agent makes of the text of a `Set-Cookie` header of the site's response at the time `now`: the cookie
-    /// that it would store, or the first step that refuses it (RFC 6265bis, Storage Model). Fails only if out of memory.
+    /// What the agent makes of the text of a `Set-Cookie` header of the site's response at the time `now` in UTC: the
+    /// cookie that it would store, or the first step that refuses it (RFC 6265bis, The Set-Cookie Header Field, Storage
+    /// Model). Fails only if out of memory.
     pub fn verdict(&self, site: &Site, text: &[u8], now: DateTime) -> Result<Verdict, AllocError>
         ensures { IfOk result (λ verdict.
             verdict_result verdict ≡ agent_verdict self.now site.now now text.now) }
@@ -106,7 +107,7 @@ impl<'r> Agent<'r> {
         Ok(Verdict::Stored(StoredCookie::of(self.alloc, &new, expiry, now)?))
     }
 
-    /// Reads the text of a `Set-Cookie` header of the site's response at the time `now`: does what
+    /// Reads the text of a `Set-Cookie` header of the site's response at the time `now` in UTC: does what
     /// [`verdict`](Agent::verdict) says. Returns the refusal, or `None` if the cookie is stored.
     ///
     /// The cookie takes the place of the one with its name, domain, host-only flag and path, or comes last. Nothing is
@@ -138,14 +139,14 @@ impl<'r> Agent<'r> {
         }
     }
 
-    /// Drops the cookies that are expired at the time `now`.
+    /// Drops the cookies that are expired at the time `now` in UTC.
     pub fn evict(&mut self, now: DateTime)
         ensures { self.new ≡ record self.old { cookies = lasting now self.old.cookies } }
     {
         drop_expired(&mut self.cookies, now);
     }
 
-    /// The value of the `Cookie` header of an http request to the site at the time `now` (RFC 6265bis, Retrieval
+    /// The value of the `Cookie` header of an http request to the site at the time `now` in UTC (RFC 6265bis, Retrieval
     /// Algorithm): longer paths first, and the earlier creation first among equals. Fails only if out of memory.
     /// Example: `next_header` in crates/cookie_examples/src/agents.rt.
     pub fn header(&self, site: &Site, now: DateTime) -> Result<Vec<u8>, AllocError>
@@ -175,8 +176,8 @@ impl<'r> Agent<'r> {
         Ok(header)
     }
 
-    /// Drops what is expired at the time `now`, and then the cookies above the limits, as RFC 6265bis orders them
-    /// (Storage Model). First, of each domain with too many cookies, those that aren't secure-only go before the
+    /// Drops what is expired at the time `now` in UTC, and then the cookies above the limits, as RFC 6265bis orders
+    /// them (Storage Model). First, of each domain with too many cookies, those that aren't secure-only go before the
     /// others. Then, if there are too many cookies in all, cookies of any domain go. If the order leaves a choice, the
     /// cookie with the earliest last access goes.
     ///

@@ -43,9 +43,9 @@ impl Plan {
         Plan { scope, is_secure }
     }
 
-    /// Whether the cookie, as a jar stores it, may be added in a response of the site at the time `now`: it has a name,
-    /// an agent without cookies stores its text as planned, and sends it to the site at once. Fails only if out of
-    /// memory.
+    /// Whether the cookie, as a jar stores it, may be added in a response of the site at the time `now` in UTC: it has
+    /// a name, an agent without cookies stores its text as planned, and sends it to the site at once. Fails only if out
+    /// of memory.
     pub fn fits_addition(
         &self,
         alloc: Global,
@@ -68,9 +68,9 @@ impl Plan {
         }
     }
 
-    /// Whether the cookie may be removed in a response of the site at the time `now`. `removal` is what the client
-    /// receives: the cookie after [`make_removal`](cookie::Cookie::make_removal). It has a name, and an agent without
-    /// cookies stores its text as planned, and expired. Fails only if out of memory.
+    /// Whether the cookie may be removed in a response of the site at the time `now` in UTC. `removal` is what the
+    /// client receives: the cookie after [`make_removal`](cookie::Cookie::make_removal). It has a name, and an agent
+    /// without cookies stores its text as planned, and expired. Fails only if out of memory.
     pub fn fits_removal(
         &self,
         alloc: Global,

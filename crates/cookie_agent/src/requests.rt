@@ -18,10 +18,11 @@ use std::alloc::{AllocError, Global};
 /// Makes the requests in order with one user agent, which stores nothing at first and has these rules of public
 /// suffixes.
 ///
-/// Each request sends the agent's header. Its jar is new, with the header's cookies, split and decoded, as its
-/// originals. The calls are made on it as by `replay`. The encoded texts of its delta come back as the response, which
-/// the agent reads. The text that is read as the i-th is number `pick[i]` of the texts that are left, modulo their
-/// count, or number 0 after `pick` has ended. Fails only if out of memory outside the calls.
+/// Each request sends the agent's header; what is sent keeps its last access, as with [`Agent::header`]. Its jar is
+/// new, with the header's cookies, split and decoded, as its originals; a header that isn't UTF-8 counts as empty. The
+/// calls are made on it as by `replay`. The encoded texts of its delta come back as the response, which the agent
+/// reads. The text that is read as the i-th is number `pick[i]` of the texts that are left, modulo their count, or
+/// number 0 after `pick` has ended. Fails only if out of memory outside the calls.
 pub fn visits<'r>(
     alloc: Global,
     suffixes: &'r Suffixes,

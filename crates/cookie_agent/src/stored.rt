@@ -103,7 +103,7 @@ impl StoredCookie {
         self.expiry
     }
 
-    /// When it was last stored, or sent by [`retrieve`](crate::Agent::retrieve).
+    /// When it was last stored, or sent by [`retrieve`](crate::Agent::retrieve), in UTC.
     pub fn last_access(&self) -> DateTime
         ensures { civil_nanos result ≡ self.now.last_access }
     {
@@ -131,7 +131,7 @@ impl StoredCookie {
         self.lasts(now) && self.as_kept().is_same(&other.as_kept())
     }
 
-    /// Whether it is sent to the site at the time `now` (RFC 6265bis, Retrieval Algorithm).
+    /// Whether it is sent to the site at the time `now` in UTC (RFC 6265bis, Retrieval Algorithm).
     pub fn is_sent(&self, site: &Site, now: DateTime) -> bool
         ensures { result ≡ is_sent site.now now self.now }
     {

@@ -57,7 +57,8 @@ abbrev pub printed_moment : Option Expiration → Option DateTime
 printed_moment (Some (expiration.DateTime moment)) = cookie_date_of (moment_text moment)
 printed_moment _ = None
 
--- what the text is received as: the name and the value escaped, and the attributes as they were
+-- what the text is received as: the name and the value escaped, the age in whole seconds from zero to the limit, the
+-- expiry as its text is read, `Secure` if it is printed, and the other attributes as they were
 abbrev pub printed_as : Record → ReceivedView
 printed_as cookie =
     record {

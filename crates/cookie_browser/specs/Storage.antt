@@ -105,7 +105,8 @@ is_foreign request [] = false
 is_foreign request (byte ∷ bytes) =
     not (is_in_domain request.host request.is_address (byte ∷ bytes))
 
--- the stored cookie is secure-only, has the new one's name, and is sent with it to some request
+-- the stored cookie is secure-only and has the new one's name, its domain is the new one's, above it or below it, and
+-- its path is the new one's or above it
 abbrev pub is_overlaid : RequestView → KeptView → KeptView → Bool
 is_overlaid request new old =
     bytes_eq old.name new.name

@@ -15,7 +15,7 @@ use cookie_date::read_cookie_date;
 use jiff::civil::DateTime;
 
 /// The attributes of a received cookie (RFC 6265bis, The Set-Cookie Header Field). The last attribute of a name counts,
-/// but an `Expires` or a `Max-Age` that can't be read is passed over.
+/// but an `Expires` or a `Max-Age` that can't be read is passed over, and so is a value of more than 1024 bytes.
 #[derive(Clone, Copy)]
 pub struct ReceivedAttributes<'t> {
     /// The age in seconds, from 0 to 400 days.

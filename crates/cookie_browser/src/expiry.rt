@@ -38,8 +38,8 @@ fn limited(moment: DateTime, now: DateTime) -> Expiry
 }
 
 impl Expiry {
-    /// When a cookie with these attributes expires that is stored at the time `now`. `Max-Age` goes before `Expires`, and
-    /// neither is more than 400 days off (RFC 6265bis, Cookie Lifetime Limits).
+    /// When a cookie with these attributes expires that is stored at the time `now`, which is in UTC. `Max-Age` goes
+    /// before `Expires`, and neither is more than 400 days off (RFC 6265bis, Cookie Lifetime Limits).
     pub fn of(attributes: &ReceivedAttributes<'_>, now: DateTime) -> Expiry
         ensures { expiry_time result
             ≡ kept_until now attributes.now.max_age attributes.now.expires }
@@ -53,7 +53,7 @@ impl Expiry {
         }
     }
 
-    /// Whether it is after the time `now`.
+    /// Whether it is after the time `now`, which is in UTC. The end of the session always is.
     pub fn lasts(self, now: DateTime) -> bool
         ensures { result ≡ lasts (expiry_time self) now }
     {

@@ -23,8 +23,8 @@ pub enum Refusal {
     ForeignDomain,
     /// `Secure` came over an insecure connection (Storage Model).
     InsecureConnection,
-    /// The cookie came over an insecure connection, without `Secure`. A stored `Secure` cookie of the same name would
-    /// be sent along with it (Storage Model).
+    /// The cookie came over an insecure connection, without `Secure`. A stored `Secure` cookie has the same name, a
+    /// domain that is its domain, above it or below it, and a path that is its path or above it (Storage Model).
     OverlaysSecure,
     /// The cookie came without `SameSite=None`, for a request of another site that is no top-level navigation
     /// (Storage Model).
@@ -33,8 +33,8 @@ pub enum Refusal {
     NoneWithoutSecure,
     /// The name begins with `__Secure-`, and `Secure` is missing (Storage Model).
     SecurePrefix,
-    /// The name begins with `__Host-`, and the cookie has a domain, lacks `Secure`, or has a path other than `/`
-    /// (Storage Model).
+    /// The name begins with `__Host-`, and the cookie lacks `Secure`, lacks a `Path`, has a path other than `/`, or has
+    /// a domain (Storage Model).
     HostPrefix,
     /// There is no name, and the value begins with `__Secure-` or `__Host-` (Storage Model).
     NamelessPrefix,

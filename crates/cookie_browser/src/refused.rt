@@ -223,8 +223,8 @@ fn is_nameless_prefix(received: &Received<'_>) -> bool
         && (has_secure_prefix(received.value) || has_host_prefix(received.value))
 }
 
-/// Returns the first step that refuses a received cookie, or `None` if the browser stores it (RFC 6265bis, Storage
-/// Model).
+/// Returns the first step that refuses a received cookie, or `None` if none does (RFC 6265bis, Storage Model). An
+/// expired cookie that isn't refused, as with `Max-Age=0`, removes the stored one.
 ///
 /// `store` has the cookies that the browser holds and that aren't expired. `domain` is the result of
 /// `received.attributes.bare_domain()` in lower case. `new` is the cookie as the browser would store it.

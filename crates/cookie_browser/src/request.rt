@@ -22,6 +22,7 @@ pub struct BrowserRequest<'s> {
 }
 
 /// Whether the host is the domain, or is no address and ends in a dot and the domain (RFC 6265bis, Domain Matching).
+/// Both are in lower case.
 pub fn is_in_domain(host: &[u8], is_address: bool, domain: &[u8]) -> bool
     ensures { result ≡ is_in_domain host.now is_address domain.now }
 {
@@ -47,8 +48,8 @@ pub fn is_under_path(request: &[u8], cookie: &[u8]) -> bool
     cookie.ends_with(b"/") || request[cookie.len()..].starts_with(b"/")
 }
 
-/// The path of a cookie that is set at this path without one: up to the last `/`, without it, or `/` (RFC 6265bis, Paths
-/// and Path-Match).
+/// The path of a cookie that is set at this path without one: up to the last `/`, without it, or `/` (RFC 6265bis,
+/// Paths and Path-Match).
 pub fn folder_of(path: &[u8]) -> &[u8]
     ensures { result.now ≡ folder_of path.now }
 {

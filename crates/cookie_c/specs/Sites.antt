@@ -47,7 +47,7 @@ pub record CanBeSite (settings : SessionSettings) (second : ℕ) : Type 0 where
   pub keys : HasKeys settings.keys.now
   pub text : IsUtf8 settings.cookie.now
 
--- why the settings are refused, if they aren't those of a site: the time comes first, then the keys, and then the cookie
+-- why the settings are refused: the time comes first, then the keys, and then the cookie; or memory ran out
 abbrev pub IsUnusable : SessionSettings → ℕ → Status → Type 0
 IsUnusable settings second why =
     ((why ≡ status.NoDate) × (last_second < second))
@@ -58,7 +58,8 @@ IsUnusable settings second why =
     × IsDecodingRefusal settings.cookie.now error × (why ≡ refusal_status error))
     ⊎ (CanBeSite settings second × (why ≡ status.OutOfMemory)))))
 
--- the settings are those of a site, of which this holds at that time, or the call is refused for what they lack
+-- the settings are those of a site, of which this holds at that time, or the call is refused for what they lack or out
+-- of memory
 abbrev pub AtSite : SessionSettings → ℕ → (Sessions → DateTime → Type 0) → (Status → Type 0)
     → Type 0
 AtSite settings second Holds Refuses =

@@ -21,7 +21,7 @@ pub use stored::Stored;
 #[repr(C)]
 #[derive(Clone, Copy)]
 pub struct Explanation {
-    /// The number of a `Status`.
+    /// The number of a `Status`. If it is neither `Status::Done` nor `Status::BufferTooShort`, all else is 0.
     pub status: u32,
     /// 0 if the browser stores the cookie, and else the number of the step that refuses it: of `Refusal`, from 1 on.
     pub refusal: u32,

@@ -8,7 +8,7 @@ without_return [] = []
 without_return (c ∷ []) = if c == 13 then [] else c ∷ []
 without_return (c ∷ d ∷ cs) = c ∷ without_return (d ∷ cs)
 
--- the lines of a text, each ended by a newline, which the last one needn't have
+-- the texts between a text's newlines, without one carriage return at the end; after a last newline one more, empty
 abbrev pub lines_of : List ℕ → List (List ℕ)
 lines_of text = map without_return (slice_split (λ b. b == 10) text)
 

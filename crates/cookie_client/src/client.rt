@@ -103,10 +103,10 @@ impl Client {
         Ok(())
     }
 
-    /// Reads the text of a `Set-Cookie` header at the time `now` in UTC (RFC 6265 5.3), and returns whether it is a
-    /// cookie. A cookie that is live ([`is_live`]) sets its name to its value, one that isn't drops its name, and a
-    /// text that is no cookie changes nothing. Fails only with `ClientError::OutOfMemory`, and then the client is as
-    /// before.
+    /// Reads the text of a `Set-Cookie` header at the time `now` in UTC, as by `Cookie::parse_encoded`, and returns
+    /// whether it is a cookie. A cookie that is live ([`is_live`]) sets its name to its value, one that isn't drops its
+    /// name, and a text that is no cookie changes nothing. Domain, path and `Secure` don't count, unlike in RFC 6265
+    /// 5.3. Fails only with `ClientError::OutOfMemory`, and then the client is as before.
     pub fn read(&mut self, text: &str, now: DateTime) -> Result<bool, ClientError>
         ensures gives { Gives refusal.OutOfMemory result (λ is_cookie.
             (self.new ≡ after_text now text.now self.old)

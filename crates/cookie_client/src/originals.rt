@@ -19,7 +19,8 @@ use cookie::CookieJar;
 use std::alloc::Global;
 
 /// Makes the calls as `replay` does, and has the client hold the value of each original that an accepted call adds, as
-/// the jar stores it. So if the client held nothing before, it now holds the value of each name's last original.
+/// the jar stores it. So if the client held nothing before, it now holds, for each name, the value of the last original
+/// that an accepted call added.
 ///
 /// It reads nothing of the jar's delta. A call that is refused is an outcome and no failure. Fails only with
 /// `ClientError::OutOfMemory`. Then some of the calls may have been made, so discard the jar and the client.

@@ -247,7 +247,8 @@ fn answer(alloc: Global, jar: CookieJar, now: DateTime, bytes: &[u8]) -> Result<
 ///
 /// Line 1 of the input is the value of a `Cookie` header, which may be empty: its cookies are the jar's originals and
 /// what the client holds. Each further line is a call: `add TEXT` with the text of a `Set-Cookie` header, `remove
-/// NAME`, `force NAME` or `reset`. An empty line is no call. The output is a line `Set-Cookie: TEXT` for each cookie of
+/// NAME`, `force NAME` or `reset`. NAME is taken without white space around it, and one carriage return at a line's end
+/// is left out. An empty line is no call. The output is a line `Set-Cookie: TEXT` for each cookie of
 /// the jar's delta, in byte order of the names, and then the line `Cookie: HEADER` of the client that has read them
 /// (RFC 6265 4.1, 5.3, 5.4).
 ///

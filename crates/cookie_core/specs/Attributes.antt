@@ -1,5 +1,5 @@
--- What the attributes of a cookie set (RFC 6265 5.2.1 to 5.2.6; `samesite` and `partitioned` as RFC 6265bis 5.4 and
--- its drafts have them). A piece is the text between two semicolons.
+-- What the attributes of a cookie set (RFC 6265 5.2.1 to 5.2.6; `samesite`: RFC 6265bis 5.6.7; `partitioned`:
+-- draft-cutler-httpbis-partitioned-cookies). A piece is the text between two semicolons.
 use Rattle.std.specs.Prelude.{◌≡◌, ◌≢◌, ℕ, ◌*ℤ◌, ℤ, pos, min, eqb, drop, List, [], ◌∷◌, ◌++◌, All, Option, Some, None, Bool, true, if◌then◌else◌, codes, option_map}
 use Rattle.std.specs.Char.{is_ascii_digit}
 use Rattle.std.specs.List.{list_all, starts_with}

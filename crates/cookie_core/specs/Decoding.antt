@@ -40,7 +40,7 @@ pub record IsFaultOf (bytes : List ℕ) (at : ℕ) (len : Option ℕ) : Type 0 w
 abbrev pub blamed_text : List ℕ → List ℕ → List ℕ
 blamed_text name value = if is_utf8 (unescape name) then unescape value else unescape name
 
--- a refusal to decode names the first fault of the name or of the value, as they stand in the text
+-- a refusal to decode names the first fault in the decoded bytes of the name, or else of the value
 abbrev pub NamesFault : List ℕ → ParseError → Type 0
 NamesFault text (refusal.Utf8Error error) =
     (cookie : Record) × (cookie_of false text ≡ Some cookie)

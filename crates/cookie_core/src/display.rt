@@ -170,8 +170,8 @@ fn write_cookie<W: fmt::Write>(
 /// The attributes are printed in this order, each if it is set: `HttpOnly`, `SameSite`, `Partitioned`, `Secure`,
 /// `Path`, `Domain`, `Max-Age` in whole seconds, `Expires` in whole seconds of UTC. A flag that is false isn't printed.
 /// `Secure` is printed if it is set to true, if the cookie is partitioned, and, unless it is set to false, if
-/// `SameSite` is `None` (RFC 6265bis 4.1.2). Path and domain are printed as they are: docs/DIFFERENCES.md says what
-/// they mustn't hold.
+/// `SameSite` is `None` (RFC 6265bis 4.1.2). Path and domain are printed as they are, and so are name and value unless
+/// they are escaped: docs/DIFFERENCES.md says what they mustn't hold.
 #[derive(Drop)]
 pub struct Display<'a, 'c> {
     cookie: &'a Cookie<'c>,
@@ -216,7 +216,7 @@ impl<'a, 'c> Display<'a, 'c> {
         }
     }
 
-    /// The text, in a `String` that reserves its room at once. Only escapes make it grow.
+    /// The text, in a `String` that reserves its room at once. Escapes make it grow, and an age of over 14 digits may.
     ///
     /// Fails only if out of memory.
     /// Example: `pair_text` in crates/cookie_examples/src/printing.rt.
@@ -268,6 +268,7 @@ impl<'c> Cookie<'c> {
     }
 
     /// The cookie as a `Cookie` header has it: its name and value as they are, without its attributes (RFC 6265 4.2.1).
+    /// A `;`, CR or LF in them is printed too.
     pub fn stripped(&self) -> Display<'_, 'c>
         ensures { result
             ≡ record { fields = self.now.fields; is_encoded = false; is_stripped = true } }
@@ -290,7 +291,7 @@ impl<'a, 'c> fmt::Display for Display<'a, 'c> {
 }
 
 /// Prints the cookie as a `Set-Cookie` header has it, with its name and value as they are, and with the attributes in
-/// the order of [`Display`].
+/// the order of [`Display`]. A `;`, CR or LF in a text is printed too.
 impl<'c> fmt::Display for Cookie<'c> {
     ghost output = { λ c. Some (cookie_text false false c.fields) };
 

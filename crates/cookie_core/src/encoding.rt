@@ -58,7 +58,8 @@ pub fn encode(text: &str) -> EncodedText<'_>
     EncodedText { text }
 }
 
-/// Prints each byte that a name or a value can't hold as `%` and two upper-case hexadecimal digits.
+/// Prints each control, each space, each byte past ASCII and each of "#%(),/:;<=>?@[\]^`{|} as `%` and two upper-case
+/// hexadecimal digits, and each other byte as it is.
 impl<'a> fmt::Display for EncodedText<'a> {
     ghost output = { λ text. Some (escape text) };
 

@@ -15,7 +15,7 @@ pub enum ParseError {
     MissingPair,
     /// The name is empty.
     EmptyName,
-    /// The decoded name, or the decoded value, isn't UTF-8.
+    /// The decoded name, or else the decoded value, isn't UTF-8. The fault's place counts decoded bytes.
     Utf8Error(Utf8Error),
     /// There was no memory for an owned string.
     OutOfMemory,

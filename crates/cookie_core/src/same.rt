@@ -5,7 +5,7 @@ ghost use Rattle.cookie_core.specs.Same.{same_pair, same_flags, same_place, same
 
 use crate::cookie::Cookie;
 
-/// Equal in all attributes but `SameSite`. The path and the domain are compared ignoring ASCII case.
+/// Equal in name, value and all attributes but `SameSite`. The path and the domain are compared ignoring ASCII case.
 impl<'c> PartialEq for Cookie<'c> {
     ghost eq = { same_cookie };
 

@@ -9,7 +9,7 @@ use std::fmt;
 pub enum SameSite {
     /// To requests of the cookie's own site only.
     Strict,
-    /// To a navigation from another site too.
+    /// To a top-level navigation from another site too, if its method is safe, as `GET` is.
     Lax,
     /// To every request.
     None,

@@ -104,7 +104,7 @@ found_fields found = do
   year ← found.year
   Some (fields_of (pos year) month day time)
 
--- the date-time of the fields, in a year of two digits that is completed (steps 3 and 4), if the calendar and a clock
+-- the date-time of the fields, in a year from 0 to 99 that is completed (steps 3 and 4), if the calendar and a clock
 -- have it, and it isn't before 1601 (steps 5 and 6)
 abbrev pub date_of_found : Fields → Option DateTime
 date_of_found fields = do

@@ -16,11 +16,10 @@ const FIRST_YEAR: i16 = 1601;
 
 /// The date-time in UTC, in whole seconds, that a browser reads in the text of an `Expires` attribute (RFC 6265 5.1.1).
 ///
-/// The text is split at its delimiters. The first token that reads as a time is the time. Of the other tokens, the
-/// first that reads as a day is the day, the first that reads as a month the month, and the first that reads as a year
-/// the year. Tokens that read as none of these are skipped, as weekdays and time zones are. A year of two digits is
-/// completed to one from 1970 to 2069. Returns `None` if one of the four is missing, if the year is before 1601, or if
-/// there is no such date or time.
+/// The text is split at its delimiters. Each token is taken as the time, else as the day, else as the month, else as
+/// the year, if it reads as one that isn't found yet. Else it is skipped, as weekdays and time zones are. A year from 0
+/// to 99 is completed to one from 1970 to 2069. Returns `None` if one of the four is missing, if the year is before
+/// 1601, or if there is no such date or time.
 pub fn read_cookie_date(text: &[u8]) -> Option<DateTime>
     ensures value { result ≡ Tokens.cookie_date_of text.now }
     ensures grammar { IsGrammar }

@@ -8,8 +8,8 @@ use cookie_browser::Suffixes;
 use jiff::civil::DateTime;
 use std::alloc::{AllocError, Global};
 
-/// The `Cookie` header that a user agent sends a site right after the site's response with this `Set-Cookie` text
-/// (RFC 6265bis). `now` is in UTC.
+/// The `Cookie` header that a user agent without other cookies sends a site right after the site's response with this
+/// `Set-Cookie` text (RFC 6265bis). `now` is in UTC.
 pub fn next_header<'r>(
     alloc: Global,
     suffixes: &'r Suffixes,

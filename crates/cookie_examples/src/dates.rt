@@ -5,7 +5,7 @@ ghost use Rattle.cookie_date.specs.Moments.{date_of, days_later};
 use cookie_date::{days_after, read_date};
 use jiff::civil::DateTime;
 
-/// A week after the date in a header, if the text is a date. Both are in UTC.
+/// A week after the date in a header, or the calendar's end, if the text is a date. Both are in UTC.
 pub fn week_after(text: &str) -> Option<DateTime>
     ensures { result ≡ option_map (λ date. days_later date (pos 7)) (date_of text.now) }
 {

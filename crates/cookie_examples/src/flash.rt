@@ -6,8 +6,8 @@ use cookie::{Cookie, CookieJar, JarError};
 use jiff::civil::DateTime;
 use std::alloc::Global;
 
-/// Takes the message of the cookie `flash`, which is gone afterwards, from the client too. `now` is in UTC. After an
-/// error the jar is as before.
+/// Takes the message of the cookie `flash`. The jar shows none afterwards, and a client drops one that was set with
+/// `Path=/` and no domain. `now` is in UTC. After an error the jar is as before.
 pub fn take_flash(
     alloc: Global,
     jar: &mut CookieJar,

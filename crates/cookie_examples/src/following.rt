@@ -17,8 +17,8 @@ fn are_fit(calls: &[JarCall<'_>], now: DateTime) -> bool
     calls.iter().all(|call| call.is_fit(now))
 }
 
-/// Makes calls on a new jar, and has a client follow it, unless one of them is unfit. At each name that no call removes
-/// by force the client then holds the value that the jar shows.
+/// Makes calls on a new jar, and has a client follow it. At each name that no call removes by force the client then
+/// holds the value that the jar shows. Returns `None` if one of the calls is unfit. `now` is in UTC.
 pub fn follow(
     alloc: Global,
     calls: &[JarCall<'_>],

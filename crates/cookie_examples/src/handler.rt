@@ -10,8 +10,7 @@ use jiff::civil::DateTime;
 use rand_core::TryRng;
 use std::alloc::Global;
 
-/// Logs the user in, or out if there is none, at the time `now` in UTC. A login keeps the texts of the session before.
-/// After an error the jar is as before.
+/// Logs the user in, or out if there is none, at the time `now` in UTC. After an error the jar is as before.
 pub fn handle<R: TryRng>(
     alloc: Global,
     sessions: &Sessions<'_>,

@@ -30,8 +30,8 @@ pub fn remove_as_set(
     Ok(())
 }
 
-/// A removal that a browser passes over, one that it obeys, and one that it obeys at every path of the host, each of a
-/// cookie that is added first. `now` is in UTC.
+/// If the request had the cookies, a browser at `/account/mail` passes over the first removal, and obeys the second and
+/// the third. In a jar without these originals a removal only drops the addition. `now` is in UTC.
 pub fn remove_in_scope(jar: &mut CookieJar, now: DateTime) -> Result<(), JarError> {
     jar.add(CookieBuilder::new("name", "1").path("/").build())?;
 

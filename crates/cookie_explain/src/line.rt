@@ -3,7 +3,7 @@
 const FIELD: &[u8] = b"set-cookie:";
 
 /// The value of the `Set-Cookie` field that the line is: what follows `Set-Cookie:`, in any case, or all of it; without
-/// white space around it (RFC 9110 5.5).
+/// ASCII white space around it.
 pub fn field_value(line: &[u8]) -> &[u8] {
     let line = line.trim_ascii();
     match line.get(..FIELD.len()) {

@@ -4,8 +4,8 @@ use cookie_agent::{RequestContext, Site};
 use std::alloc::Global;
 use url::{Host, Url};
 
-// Whether browsers count an `http` connection to the host as secure, since it doesn't leave the machine (RFC 6265bis,
-// Retrieval Algorithm).
+// Whether browsers count the host as secure over `http`, since it is this machine (RFC 6265bis, Retrieval Algorithm).
+// Of its addresses only these two count here.
 fn is_loopback(host: &str) -> bool {
     host == "localhost" || host.ends_with(".localhost") || host == "127.0.0.1" || host == "[::1]"
 }

@@ -41,7 +41,7 @@ abbrev pub AllFitFields : FinMap name_cmp Marked → Type 0
 AllFitFields delta =
     (name : Name) (entry : Marked) → get delta name ≡ Some entry → FitsField entry.cookie
 
--- the map has as many names as it can count, and no `Set-Cookie` field, or it can't count this many more values
+-- for one field or more the map has 24,576 names, and no `Set-Cookie` field; or it can't count this many more values
 abbrev pub LacksRoom : ℕ → Entries FieldValue → Type 0
 LacksRoom n m =
     ((0 < n) × ¬ (ContainsKey m (codes "set-cookie")) × (24576 ≤ length m))

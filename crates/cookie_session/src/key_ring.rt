@@ -124,9 +124,9 @@ impl KeyRing {
         Ok(None)
     }
 
-    /// Adds a cookie to the jar, with its value encrypted under the newest key and its name. `get` finds it after the
-    /// keys rotated too. The nonce is one draw of twelve bytes from `rng`. `rng` must be a cryptographic generator, and
-    /// under one key at most 2^32 nonces may be drawn (SP 800-38D 8.3).
+    /// Adds a cookie to the jar, with its value encrypted under the newest key and its name. `get` finds it as long as
+    /// the ring has this key. The nonce is one draw of twelve bytes from `rng`. `rng` must be a cryptographic
+    /// generator, and under one key at most 2^32 nonces may be drawn (SP 800-38D 8.3).
     ///
     /// Fails with `TooLong` if the name has more than 2^61 - 1 bytes or the value more than 2^36 - 32, and then draws
     /// nothing. Else fails with `Generator` if the draw failed, and with `OutOfMemory`. The jar is then as it was.

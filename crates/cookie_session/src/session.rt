@@ -67,14 +67,15 @@ impl Session {
         self.started
     }
 
-    /// When it was last saved, in seconds since 1970 in UTC.
+    /// When it was last saved before it was opened, or else when it started or was renewed, in seconds since 1970 in
+    /// UTC. `save` doesn't change it.
     pub fn seen(&self) -> u64
         ensures { result ≡ self.now.seen }
     {
         self.seen
     }
 
-    /// Returns the text at `name`.
+    /// Returns the text at `name`, or `None` if there is none.
     /// Example: `print_visitor` in crates/cookie_examples/src/show.rt.
     pub fn get(&self, name: &str) -> Option<&str>
         ensures { option_copied result ≡ get self.now.texts name.now }
@@ -119,8 +120,8 @@ impl Session {
         self.seen = second;
     }
 
-    /// Its texts as a form, `name=value&name=value`, in byte order of the names (URL Standard 5.2). `with_form` reads it
-    /// back.
+    /// Its texts as a form, `name=value&name=value`, in byte order of the names (URL Standard 5.2). `with_form` reads
+    /// it back.
     ///
     /// Fails only if out of memory.
     pub fn to_form(&self, alloc: Global) -> Result<String, AllocError>

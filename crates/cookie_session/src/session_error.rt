@@ -13,9 +13,10 @@ pub enum SessionError {
     /// Memory ran out.
     OutOfMemory,
     /// The name of the site's cookie begins with `__Host-` or `__Secure-`, and the cookie lacks what a browser requires
-    /// of such a name (RFC 6265bis 4.1.3): no browser would store it.
+    /// of such a name (RFC 6265bis 4.1.3). `Secure` must be set itself, though `Partitioned` and `SameSite=None` print
+    /// it too.
     Prefix,
-    /// The session's lifetime is over, or it starts after now.
+    /// Saved now, the session wouldn't live: its lifetime is over, it starts after now, or the site's `idle` is 0.
     Over,
     /// The cookie's name and value have this many bytes as they are printed: more than the 4,096 that a browser takes
     /// (RFC 6265bis 5.7).

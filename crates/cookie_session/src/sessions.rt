@@ -32,7 +32,8 @@ const MOST_BYTES: usize = 4096;
 pub struct Sessions<'a> {
     /// The keys. The newest encrypts, and each of them decrypts.
     pub keys: &'a KeyRing,
-    /// The cookie with the name and the attributes that the site sets. Its value, `Max-Age` and `Expires` don't count.
+    /// The cookie with the name and the attributes that the site sets. Its name isn't empty. Its value, `Max-Age` and
+    /// `Expires` don't count.
     pub cookie: &'a Cookie<'static>,
     /// The seconds that a session lives after its start, however it is used.
     pub lifetime: u32,
@@ -43,7 +44,7 @@ pub struct Sessions<'a> {
 impl<'a> Sessions<'a> {
     /// Opens the session of a request, at the time `now` in UTC, and returns it with the place of the key that opened
     /// it. It is the session whose text was encrypted in the cookie of the site's name, under a key of the ring, if the
-    /// session lives.
+    /// session lives. Returns `None` if there is no such session.
     ///
     /// Fails only with `JarError::OutOfMemory`.
     /// Example: `handle` in crates/cookie_examples/src/handler.rt.
@@ -82,10 +83,11 @@ impl<'a> Sessions<'a> {
     /// twelve bytes from `rng`. `rng` must be a cryptographic generator, and under one key at most 2^32 nonces may be
     /// drawn (SP 800-38D 8.3).
     ///
-    /// Fails with `Prefix` if the site's cookie lacks what a browser requires of its name. Else fails with `Over` if
-    /// the session doesn't live at that time. Else fails with `TooLong` if its text is past the cipher's limits. In
-    /// these cases nothing is drawn. Else fails with `Generator` if the draw failed, with `TooLarge` if a browser
-    /// wouldn't store the cookie, and with `OutOfMemory`. The jar is then as it was.
+    /// Fails with `Prefix` if the site's cookie lacks what a browser requires of its name. Else fails with `Over` if,
+    /// saved at that time, the session wouldn't live: its lifetime is over, it starts after `now`, or `idle` is 0. Else
+    /// fails with `TooLong` if its text is past the cipher's limits. In these cases nothing is drawn. Else fails with
+    /// `Generator` if the draw failed, with `TooLarge` if name and value have more than 4,096 bytes as printed, and
+    /// with `OutOfMemory`. The jar is then as it was.
     /// Example: `handle` in crates/cookie_examples/src/handler.rt.
     pub fn save<R: TryRng>(
         &self,
@@ -99,7 +101,7 @@ impl<'a> Sessions<'a> {
             × R.may_fill rng.old nonce rng.new
             × (jar.new ≡ after (Add (saved_cookie self.now nonce now session.now)) jar.old)) }
 
-        // A browser stores it.
+        // A browser takes its size and its prefix.
         ensures fits { OnOk result (IfSome (view jar.new self.now.cookie.now.fields.name)
             (λ cookie. browser_length cookie ≤ most_bytes)) }
         ensures meets { OnOk result (meets_prefix self.now.cookie.now.fields ≡ true) }

@@ -39,8 +39,8 @@ pub struct Returned {
 /// The next request opens the session that was saved, with the newest key, whatever the calls, as long as it lives.
 /// This requires `CanReturn`, as `save_and_return` does.
 ///
-/// Fails as [`Sessions::save`] does, and with `Http(InvalidValue)` if a cookie of the response doesn't fit a field. The
-/// jar and the client may then have changed.
+/// Fails with `Session` and the error of [`Sessions::save`], with `Http(InvalidValue)` if a cookie of the response
+/// doesn't fit a field, and out of memory with either. The jar and the client may then have changed.
 pub fn save_over_headers<R: TryRng>(
     alloc: Global,
     sessions: &Sessions<'_>,

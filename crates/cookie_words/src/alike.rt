@@ -7,8 +7,8 @@ fn are_flags_alike(cookie: &Cookie<'_>, other: &Cookie<'_>) -> bool {
         && cookie.same_site() == other.same_site()
 }
 
-/// Whether every field is alike, also those that `==` of cookies doesn't compare: the same-site rule, the case of the
-/// path and the parts of a second.
+/// Whether every field is alike, also what `==` of cookies doesn't compare: the same-site rule, and the case of the
+/// path and the domain.
 pub fn is(cookie: &Cookie<'_>, other: &Cookie<'_>) -> bool {
     cookie.name_value() == other.name_value()
         && cookie.path() == other.path()

@@ -21,7 +21,7 @@ pub record Standing : Type 0 where
   pub started : ℕ
   pub seen : ℕ
 
--- in this second neither limit is over: at its end a limit is over (RFC 7519 4.1.4)
+-- it has begun by this second, and neither limit is over: at its end a limit is over (RFC 7519 4.1.4)
 abbrev pub is_within : Sessions → ℕ → Standing → Bool
 is_within sessions now standing =
     nat_le standing.started now

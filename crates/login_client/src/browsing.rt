@@ -19,11 +19,12 @@ use std::hash::RandomState;
 /// Sends the requests to the site, one after the other, from a client that holds nothing at first, and returns their
 /// pages. The client sends the cookies that it holds (RFC 6265 5.4), and reads the cookies of each response (5.3).
 ///
-/// A page greets a user exactly if the last login or logout that was accepted was that user's login, and neither the
-/// lifetime nor the idle time is over. The message of a login or a logout is shown on the next such page, and once. The
-/// times may come in any order. The site's cookie must have a name, and no `;` in its path and its domain.
+/// The home page greets a user exactly if the last login or logout that was accepted was that user's login, isn't in a
+/// later second than the request, and neither the lifetime nor the idle time is over. No other page greets. The message
+/// of a login or a logout is shown on the first home page after it at such a time, and once. The times may come in any
+/// order. The site's cookie must have a name, and no `;` in its path and its domain.
 ///
-/// Fails at the first request at which `answer` fails.
+/// Fails at the first request at which `answer` fails, or if out of memory.
 pub fn browse<R: TryRng>(
     alloc: Global,
     state: RandomState,

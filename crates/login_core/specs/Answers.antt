@@ -90,7 +90,7 @@ pub record FailsToSave {T : Type 0} (IsDrawn : List ℕ → Type 0) (CanFail : T
       → (most_bytes < size) × (nonce : List ℕ) × IsNonce nonce × IsDrawn nonce
       × (size ≡ browser_length (saved_cookie sessions nonce now session))
 
--- how a call fails that saves the session, if there is one: with none it doesn't
+-- how a call fails that saves the session, if there is one: with none only out of memory
 abbrev pub FailsFor : {T : Type 0} → (List ℕ → Type 0) → Type 0 → Sessions → DateTime
     → Option SessionState → Result T SessionError → Type 0
 FailsFor IsDrawn CanFail sessions now None result =
@@ -98,7 +98,7 @@ FailsFor IsDrawn CanFail sessions now None result =
 FailsFor IsDrawn CanFail sessions now (Some session) result =
     FailsToSave IsDrawn CanFail sessions now session result
 
--- there is a session to save, and nothing but the generator, the cookie's size or memory keeps it from that
+-- there is a session to save, it lives, and the cipher can take its text
 abbrev pub Draws : Sessions → DateTime → Option SessionState → Type 0
 Draws sessions now None = ⊥
 Draws sessions now (Some session) =

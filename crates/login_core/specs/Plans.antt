@@ -53,7 +53,7 @@ Shows found page saved =
 abbrev pub Refuses : Refusal → Page → Option SessionState → Type 0
 Refuses refusal page saved = (page ≡ Refused refusal) × (saved ≡ None)
 
--- the visitor is sent to the home page with this session, of which nothing was before
+-- the visitor is sent to the home page with this session
 abbrev pub Moves : SessionState → Page → Option SessionState → Type 0
 Moves session page saved = (page ≡ Moved) × (saved ≡ Some session)
 

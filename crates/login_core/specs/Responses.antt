@@ -1,4 +1,4 @@
--- The text of a response (RFC 3875 6.2.1).
+-- The text of a response (RFC 3875 6.2.1 and 6.2.4).
 use Rattle.std.specs.Prelude.{ℕ, List, [], ◌++◌, codes, string_bytes}
 use Rattle.std.specs.List.{flat_map}
 use Rattle.login_core.specs.Html.{html_of}

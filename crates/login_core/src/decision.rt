@@ -38,7 +38,8 @@ pub fn answer<R: TryRng>(
     now: DateTime,
     rng: &mut R,
 ) -> Result<Response, SessionError>
-    // A user is greeted exactly if the request carries a session that is open and has that user.
+    // A user is greeted exactly if the request is for the home page and carries a session that is open and has that
+    // user.
     ensures greeted { IfOk result (λ response. (user : List ℕ)
         → (greeted response.page ≡ Some user) ↔ IsGreeted site.now request.now now user) }
 

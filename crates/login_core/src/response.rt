@@ -22,7 +22,8 @@ pub struct Response {
 
 impl Response {
     /// Writes the response's fields and the empty line, as a CGI program does (RFC 3875 6.2.1). `base` is the path of
-    /// the program. It is in `Location` as it is, so it must have no line break, which isn't checked here.
+    /// the program. It is in `Location` as it is, where 6.2.4 requires an absolute URI, so it must have no line break,
+    /// which isn't checked here.
     ///
     /// Fails only if out of memory.
     pub fn head(&self, alloc: Global, base: &str) -> Result<Vec<u8>, AllocError>

@@ -104,7 +104,8 @@ impl CookieJar {
 }
 
 impl<'a, P: Prefix> PrefixedJar<'a, P> {
-    /// A copy of the cookie that the jar shows under the name with the prefix, without the prefix.
+    /// A copy of the cookie that the jar shows under the name with the prefix, without the prefix. `None` if there is
+    /// none.
     ///
     /// Fails only with `JarError::OutOfMemory`.
     pub fn get(&self, name: &str) -> Result<Option<Cookie<'static>>, JarError>
@@ -116,7 +117,8 @@ impl<'a, P: Prefix> PrefixedJar<'a, P> {
 }
 
 impl<'a, P: Prefix> PrefixedJarMut<'a, P> {
-    /// A copy of the cookie that the jar shows under the name with the prefix, without the prefix.
+    /// A copy of the cookie that the jar shows under the name with the prefix, without the prefix. `None` if there is
+    /// none.
     ///
     /// Fails only with `JarError::OutOfMemory`.
     pub fn get(&self, name: &str) -> Result<Option<Cookie<'static>>, JarError>

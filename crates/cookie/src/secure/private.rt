@@ -163,7 +163,7 @@ impl CookieJar {
 
 impl<'a> PrivateJar<'a> {
     /// Returns a copy of the cookie that the jar shows under `name`, with the value that was sealed. Returns `None` if
-    /// the jar's value isn't sealed under the key and the name.
+    /// there is no such cookie, or its value isn't sealed under the key and the name.
     ///
     /// Fails only with `JarError::OutOfMemory`.
     /// Example: `user_of` in crates/cookie_examples/src/session.rt.
@@ -231,7 +231,7 @@ impl<'a> PrivateJar<'a> {
 
 impl<'a> PrivateJarMut<'a> {
     /// Returns a copy of the cookie that the jar shows under `name`, with the value that was sealed. Returns `None` if
-    /// the jar's value isn't sealed under the key and the name.
+    /// there is no such cookie, or its value isn't sealed under the key and the name.
     ///
     /// Fails only with `JarError::OutOfMemory`.
     pub fn get(&self, name: &str) -> Result<Option<Cookie<'static>>, JarError>

@@ -124,7 +124,7 @@ impl CookieJar {
 
 impl<'a> SignedJar<'a> {
     /// Returns a copy of the cookie that the jar shows under `name`, with the value that was signed. Returns `None` if
-    /// the jar's value isn't signed under the key and the name.
+    /// there is no such cookie, or its value isn't signed under the key and the name.
     ///
     /// Fails only with `JarError::OutOfMemory`.
     pub fn get(&self, name: &str) -> Result<Option<Cookie<'static>>, JarError>
@@ -161,7 +161,7 @@ impl<'a> SignedJar<'a> {
 
 impl<'a> SignedJarMut<'a> {
     /// Returns a copy of the cookie that the jar shows under `name`, with the value that was signed. Returns `None` if
-    /// the jar's value isn't signed under the key and the name.
+    /// there is no such cookie, or its value isn't signed under the key and the name.
     ///
     /// Fails only with `JarError::OutOfMemory`.
     pub fn get(&self, name: &str) -> Result<Option<Cookie<'static>>, JarError>

@@ -126,8 +126,8 @@ impl<'c> Cookie<'c> {
         self.expires = None;
     }
 
-    /// Makes it a cookie that a client keeps for twenty years: its age is 7,300 days, and its expiry is 7,300 days
-    /// after `now`, which is in UTC.
+    /// Makes it a cookie that a client is to keep for twenty years: its age is 7,300 days, and its expiry is 7,300 days
+    /// after `now`, which is in UTC, or the calendar's end. Browsers keep it for 400 days (RFC 6265bis 5.5).
     pub fn make_permanent(&mut self, now: DateTime)
         ensures fields { self.new.fields ≡ permanent now self.old.fields }
         ensures raw { self.new.raw ≡ self.old.raw }
