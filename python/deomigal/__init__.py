@@ -10,6 +10,7 @@ Texts are `str` and keys are `bytes`. A call that is refused raises an exception
 >>> verify(key, "other", sign(key, "session", "ann")) is None
 True
 """
+from . import errors, explain
 from .cookies import decoded_pairs, pairs, print_cookie, read_cookie, read_decoded_cookie
 from .dates import print_date, read_date
 from .errors import CookieError
@@ -19,6 +20,7 @@ from .sessions import Session, Sessions
 
 __version__ = "0.1.0"
 __all__ = [
-    "CookieError", "Jar", "Session", "Sessions", "decoded_pairs", "derive_key", "open_sealed", "pairs", "print_cookie",
-    "print_date", "read_cookie", "read_date", "read_decoded_cookie", "run", "seal", "sign", "verify",
+    "CookieError", "Jar", "Session", "Sessions", "decoded_pairs", "derive_key", "errors", "explain", "open_sealed",
+    "pairs", "print_cookie", "print_date", "read_cookie", "read_date", "read_decoded_cookie", "run", "seal", "sign",
+    "verify",
 ]

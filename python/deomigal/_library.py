@@ -112,7 +112,13 @@ SESSION_END = declare("session_end", SETTINGS + [ctypes.c_uint64] + TEXT, Answer
 
 
 def bytes_of(text: str | bytes) -> bytes:
-    return text.encode() if isinstance(text, str) else bytes(text)
+    """The text's bytes. A lone surrogate stands for a byte that isn't UTF-8, and its bytes aren't either."""
+    return text.encode("utf-8", "surrogatepass") if isinstance(text, str) else bytes(text)
+
+
+def header_of(header: str | bytes | None) -> bytes:
+    """The bytes of a request's `Cookie` header, none if it has none."""
+    return b"" if header is None else bytes_of(header)
 
 
 def arguments_of(inputs: tuple[Any, ...]) -> list[Any]:
@@ -164,8 +170,8 @@ def decoded(function: Callable[..., Any], *inputs: Any, room: int = 256) -> tupl
         room = answer.value.start + answer.value.length
 
 
-def read(function: Callable[..., Any], none: type[CookieError], *inputs: Any) -> str | None:
-    """The text that a call returns, or None if it is refused as `none`."""
+def read(function: Callable[..., Any], none: tuple[type[CookieError], ...], *inputs: Any) -> str | None:
+    """The text that a call returns, or None if it is refused as one of `none`."""
     try:
         return given(function, *inputs).decode()
     except none:

@@ -6,13 +6,16 @@ import datetime
 from ._library import DONE, PRINT_DATE, READ_DATE, Moment, bytes_of, given
 from .errors import NoDate, error_of
 
+# The first second that `datetime` has.
+FIRST = datetime.datetime(1, 1, 1, tzinfo=datetime.timezone.utc)
+
 
 def date_of(moment: Moment) -> datetime.datetime | None:
-    """The date and time in UTC, or None. `datetime` has no year below 1: such a date raises `ValueError`."""
-    if moment.status == NoDate.status:
-        return None
-    if moment.status != DONE:
+    """The date and time in UTC, or None if there is none. `datetime` has no year below 1, so that is None too."""
+    if moment.status not in (DONE, NoDate.status):
         raise error_of(moment.status)
+    if moment.status == NoDate.status or moment.year < 1:
+        return None
     return datetime.datetime(
         moment.year, moment.month, moment.day, moment.hour, moment.minute, moment.second, tzinfo=datetime.timezone.utc
     )
@@ -26,7 +29,9 @@ def numbers_of(moment: datetime.datetime) -> tuple[int, int, int, int, int, int]
 
 
 def read_date(text: str | bytes) -> datetime.datetime | None:
-    """Reads the text as a date and time in UTC, in one of four forms (RFC 6265 4.1.1). Returns None if it isn't one.
+    """Reads the text as a date and time in UTC, in one of four forms (RFC 9110 5.6.7, RFC 6265 5.1.1).
+
+    Returns None if it isn't one, or if its year is below 1. Raises `NotUtf8`.
 
     >>> read_date("Wed, 21 Oct 2015 07:28:00 GMT")
     datetime.datetime(2015, 10, 21, 7, 28, tzinfo=datetime.timezone.utc)

@@ -164,4 +164,4 @@ def error_of(status: int, number: int = 0) -> CookieError:
         return BadLine(f"line {number} isn't a call", number=number)
     if error is TooLarge:
         return TooLarge(f"the cookie's name and value have {number} bytes, and a browser stores 4096", size=number)
-    return error((error.__doc__ or "").split(". ")[0].rstrip("."))
+    return error((error.__doc__ or error.__name__).split(". ")[0].rstrip("."))

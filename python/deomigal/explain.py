@@ -8,6 +8,7 @@ from typing import NamedTuple
 from urllib.parse import urlsplit
 
 from ._library import DONE, TEXT, Place, bytes_of, declare
+from .cookies import RULES
 from .dates import print_date
 from .errors import error_of
 
@@ -16,8 +17,6 @@ STEPS = (
     "ControlCharacter", "TooLong", "Empty", "NonAsciiDomain", "PublicSuffix", "ForeignDomain", "InsecureConnection",
     "OverlaysSecure", "CrossSite", "NoneWithoutSecure", "SecurePrefix", "HostPrefix", "NamelessPrefix",
 )
-# What `SameSite` comes to, in the order of the numbers in cookie.h.
-RULES = (None, "Strict", "Lax", "None")
 # The last second that has a date, since 1970.
 LAST = 253402300799
 # More than a sentence and a title have.

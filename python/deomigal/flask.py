@@ -1,6 +1,8 @@
 """Sessions for Flask in one encrypted cookie, over `deomigal.sessions`. The application keeps its code:
 
-    app.session_interface = deomigal.flask.SessionInterface(idle=1800)
+    from deomigal.flask import SessionInterface
+
+    app.session_interface = SessionInterface(idle=1800)
 
 `flask.session` is a dict as before. Each of its values is saved as a text of its own, in Flask's tagged JSON.
 """
@@ -61,10 +63,11 @@ class SessionInterface(FlaskSessionInterface):
     def sessions(self, app: Flask) -> Sessions:
         """The sessions of the application, by its keys and its settings as they are now."""
         lifetime = int(app.permanent_session_lifetime.total_seconds())
+        same_site = self.get_cookie_samesite(app)
         attributes = {
             "path": self.get_cookie_path(app), "domain": self.get_cookie_domain(app),
             "secure": self.get_cookie_secure(app), "http_only": self.get_cookie_httponly(app),
-            "same_site": self.get_cookie_samesite(app), "partitioned": app.config.get("SESSION_COOKIE_PARTITIONED", False),
+            "same_site": same_site and same_site.title(), "partitioned": app.config.get("SESSION_COOKIE_PARTITIONED", False),
         }
         secrets = self.keys or [app.secret_key, *(app.config.get("SECRET_KEY_FALLBACKS") or ())]
         settings = (secrets, self.get_cookie_name(app), lifetime, lifetime if self.idle is None else self.idle, attributes)

@@ -2,19 +2,21 @@
 from __future__ import annotations
 
 import datetime
+import threading
 
 from ._library import (
-    JAR_ADD, JAR_ADD_ORIGINALS, JAR_DELTA, JAR_FREE, JAR_GET, JAR_NEW, JAR_REMOVE_SCOPED, RUN, Handle, done, given, read,
-    seeds,
+    JAR_ADD, JAR_ADD_ORIGINALS, JAR_DELTA, JAR_FREE, JAR_GET, JAR_NEW, JAR_REMOVE_SCOPED, RUN, Handle, done, given,
+    header_of, read, seeds,
 )
 from .dates import print_date
 from .errors import NotFound
 
 
 class Jar:
-    """A jar whose originals are the cookies in a `Cookie` header. `with Jar(header) as jar` frees it at the end.
+    """A jar whose originals are the cookies in a `Cookie` header, decoded. `with Jar(header) as jar` frees it at last.
 
-    It is looked up as `http.cookies.SimpleCookie` is, but `jar[name]` is the value itself. It can't be iterated.
+    Pieces of the header that aren't cookies or UTF-8 are left out. A jar is looked up as `http.cookies.SimpleCookie`
+    is, but `jar[name]` is the value itself. It can't be iterated. Threads may share it.
 
     >>> with Jar("lang=en") as jar:
     ...     jar.add("theme=dark; Path=/")
@@ -24,10 +26,12 @@ class Jar:
 
     __iter__ = None
 
-    def __init__(self, header: str | bytes = "") -> None:
+    def __init__(self, header: str | bytes | None = None) -> None:
         self.handle = Handle()
+        # Only one call at a time may use the handle.
+        self.lock = threading.Lock()
         done(JAR_NEW, *seeds(), self.handle)
-        done(JAR_ADD_ORIGINALS, self.handle, header)
+        done(JAR_ADD_ORIGINALS, self.handle, readable(header_of(header)))
 
     def __enter__(self) -> Jar:
         return self
@@ -39,20 +43,28 @@ class Jar:
         self.close()
 
     def add(self, text: str) -> None:
-        """Adds the cookie in a `Set-Cookie` header's value."""
-        done(JAR_ADD, self.handle, text)
+        """Adds the cookie in a `Set-Cookie` header's value.
+
+        Its path and domain aren't escaped: refuse line breaks and `;` in those that come from outside. Raises
+        `MissingPair`, `EmptyName`, `BadEscape` or `NotUtf8`.
+        """
+        with self.lock:
+            done(JAR_ADD, self.handle, text)
 
     def remove(self, name: str, moment: datetime.datetime | None = None, path: str = "", domain: str = "") -> None:
         """Removes the cookie of that name, now or at the time `moment`.
 
-        The client gets a cookie that drops the one set with this path and this domain. A browser keeps any other.
+        If the request sent the name, the client gets a cookie that drops the one set with this path and this domain. A
+        browser keeps any other.
         """
         moment = moment or datetime.datetime.now(datetime.timezone.utc)
-        done(JAR_REMOVE_SCOPED, self.handle, print_date(moment), name, path, domain)
+        with self.lock:
+            done(JAR_REMOVE_SCOPED, self.handle, print_date(moment), name, path, domain)
 
     def get(self, name: str) -> str | None:
         """The value of the cookie of that name, or None."""
-        return read(JAR_GET, NotFound, self.handle, name)
+        with self.lock:
+            return read(JAR_GET, (NotFound,), self.handle, name)
 
     def __getitem__(self, name: str) -> str:
         """The value of the cookie of that name, or `KeyError`."""
@@ -67,15 +79,24 @@ class Jar:
 
     def delta(self) -> list[str]:
         """The lines `Set-Cookie: ..` for the jar's changes, in any order."""
-        return given(JAR_DELTA, self.handle).decode().split("\n")[:-1]
+        with self.lock:
+            return given(JAR_DELTA, self.handle).decode().split("\n")[:-1]
 
     def close(self) -> None:
         """Frees the jar. All other calls raise `NoJar` from then on."""
-        JAR_FREE(self.handle)
+        with self.lock:
+            JAR_FREE(self.handle)
+
+
+def readable(header: bytes) -> bytes:
+    """The header without the pieces that aren't UTF-8."""
+    return b";".join(piece for piece in header.split(b";") if piece.decode(errors="replace").encode() == piece)
 
 
 def run(moment: str | datetime.datetime, text: str) -> str:
     """What the program `cookiejar` writes at the time `moment`, for the input.
+
+    Raises `BadMoment`, `BadLine` or `NotUtf8`.
 
     >>> run("Wed, 21 Oct 2015 07:28:00 GMT", "name=value\\nadd a=1\\n")
     'Set-Cookie: a=1\\nCookie: a=1; name=value\\n'

@@ -7,7 +7,7 @@ import time
 from typing import Iterator, MutableMapping, Sequence
 from urllib.parse import parse_qsl, urlencode
 
-from ._library import DONE, SESSION_END, SESSION_OPEN, SESSION_SAVE, Settings, given, seeds, told
+from ._library import DONE, SESSION_END, SESSION_OPEN, SESSION_SAVE, Settings, given, header_of, seeds, told
 from .cookies import print_cookie
 from .errors import KeyTooShort, NoDate, NoSession, error_of
 
@@ -77,7 +77,8 @@ class Sessions:
 
     `keys` are the site's keys, each of at least 64 random bytes, the newest first. The newest encrypts, and each of them
     decrypts. A session is over `lifetime` seconds after its start, and `idle` seconds after it was last saved. `name` and
-    the arguments after the limits are the cookie's. Settings that no session could be saved with are refused at once.
+    the arguments after the limits are the cookie's. Settings that no session could be saved with are refused at once,
+    and a limit past 32 bits with `OverflowError`.
 
     >>> from deomigal import derive_key
     >>> keys = [derive_key(b"a master key of at least 32 bytes")]
@@ -125,11 +126,11 @@ class Sessions:
         """
         return Session(int(time.time() if now is None else now))
 
-    def open(self, header: str | bytes, now: float | None = None) -> Session:
-        """The session in a request's `Cookie` header, or a new one if none is open.
+    def open(self, header: str | bytes | None, now: float | None = None) -> Session:
+        """The session in a request's `Cookie` header, which is None if there is none, or a new one if none is open.
 
-        There is none if the site's cookie is missing, isn't encrypted under one of the keys, or is over. `now` is in
-        seconds since 1970; without it the clock's time counts.
+        None is open if the site's cookie is missing, isn't encrypted under one of the keys, or is over; of several with
+        its name the last counts. `now` is in seconds since 1970; without it the clock's time counts.
 
         >>> from deomigal import derive_key
         >>> sessions = Sessions([derive_key(b"a master key of at least 32 bytes")], "session", 12 * 3600, 1800)
@@ -138,7 +139,7 @@ class Sessions:
         (False, True)
         """
         session = self.start(now)
-        header = header.encode("utf-8", "replace") if isinstance(header, str) else header
+        header = header_of(header)
         answer, form = told(SESSION_OPEN, self.settings, header, seconds(session), room=ROOM)
         if answer.status == DONE:
             session.started, session.seen, session.place = answer.started, answer.seen, answer.place
@@ -152,7 +153,7 @@ class Sessions:
         """The value of the `Set-Cookie` header that saves the session, encrypted under the newest key.
 
         Save at each request, so that the idle time counts from it. Raises `TooLarge` if a browser wouldn't store the
-        cookie: there is room for about 2,800 bytes of texts.
+        cookie: there is room for about 2,800 bytes of texts, in which a letter outside ASCII counts six or more.
 
         >>> from deomigal import derive_key
         >>> from deomigal.errors import TooLarge

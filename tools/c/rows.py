@@ -1,4 +1,5 @@
 """Plays rows.tsv through the library by ctypes, and some uses of the package `deomigal`."""
+import concurrent.futures
 import ctypes
 import datetime
 import doctest
@@ -249,6 +250,16 @@ def use_sessions(key):
     assert deomigal.read_cookie(sessions.end(now))[2]["max_age"] == 0
 
 
+def use_threads():
+    """Four threads look names up in one jar, and change it."""
+    with deomigal.Jar("lang=en") as jar, concurrent.futures.ThreadPoolExecutor(4) as threads:
+        for number in range(4):
+            threads.submit(lambda number=number: [jar.add(f"a{number}={turn}") for turn in range(2000)])
+        assert all(threads.map(lambda _: jar["lang"] == "en", range(8000)))
+        threads.shutdown()
+        assert sorted(jar.delta()) == [f"Set-Cookie: a{number}=1999" for number in range(4)]
+
+
 def use_explain():
     """What `python -m deomigal explain` says is what the program cookie_explain says in its stored run. But Python knows no
     cookie that an earlier line has set, so none is removed."""
@@ -284,7 +295,8 @@ def use():
     moment = datetime.datetime(2015, 10, 21, 7, 28, tzinfo=datetime.timezone.utc)
     assert deomigal.print_date(moment) == "Wed, 21 Oct 2015 07:28:00 GMT"
     assert deomigal.read_date("Wed, 21 Oct 2015 07:28:00 GMT") == moment
-    assert deomigal.read_date("yesterday") is None
+    assert deomigal.read_date("yesterday") is None and deomigal.read_date("Thu, 15 Mar -44 12:00:00 GMT") is None
+    assert deomigal.read_cookie("a=1; Expires=29 Feb -4 00:00:00 GMT")[2] == {"expires": dates.FIRST}
     assert deomigal.run(moment, "name=val\nadd a=1\n") == "Set-Cookie: a=1\nCookie: a=1; name=val\n"
     assert list(deomigal.pairs("name=value; caf\u00e9 = 1;; x")) == [("name", "value"), ("caf\u00e9", "1")]
     name, value, attributes = deomigal.read_cookie("a = 1; Path=/; Secure; Max-Age=90; SameSite=lax; Domain=.b.c")
@@ -298,6 +310,12 @@ def use():
     assert list(deomigal.decoded_pairs("a%20b=c%3D; x; y=%ff; z=1")) == [("a b", "c="), ("z", "1")]
     assert list(deomigal.decoded_pairs("a=" + "%C3%A9" * 400)) == [("a", "\u00e9" * 400)]
     assert deomigal.read_decoded_cookie("a=%20; Path=/%20") == ("a", " ", {"path": "/%20"})
+    assert list(deomigal.pairs(None)) == list(deomigal.decoded_pairs(None)) == []
+    assert list(deomigal.pairs("a=1; b=\udcff")) == list(deomigal.decoded_pairs("b=\udcff; a=1")) == [("a", "1")]
+    assert deomigal.verify(key, "s", "\udcff") is None and deomigal.open_sealed(key, "s", b"\xff") is None
+    with deomigal.Jar(None) as jar, deomigal.Jar(b"lang=en; x=\xff; y=1") as other:
+        assert jar.get("lang") is None and (other["lang"], other.get("x"), other["y"]) == ("en", None, "1")
+    use_threads()
     with deomigal.Jar("name=val; n=x%20y") as jar:
         jar.add("a=1; Path=/")
         assert jar.get("a") == "1" and jar.get("n") == "x y" and jar.get("b") is None
@@ -317,6 +335,8 @@ def use():
                          (lambda: deomigal.sign(key, "a", b"\xff"), errors.NotUtf8),
                          (lambda: deomigal.run(moment, "\nnonsense"), errors.BadLine),
                          (lambda: deomigal.print_cookie("a", "1", path=b"\xff"), errors.NotUtf8),
+                         (lambda: deomigal.print_cookie("a", "1", same_site="lax"), errors.BadAttribute),
+                         (lambda: deomigal.read_date("\udcff"), errors.NotUtf8),
                          (lambda: deomigal.read_decoded_cookie("a=%ff"), errors.BadEscape),
                          (lambda: jar.get("a"), errors.NoJar),
                          (lambda: deomigal.Sessions([], "a", 60, 60), errors.KeyTooShort),
