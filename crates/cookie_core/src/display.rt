@@ -18,7 +18,7 @@ use std::marker::Model;
 // for an age and a date.
 const FLAGS_ROOM: usize = 64;
 
-const LIFETIME_ROOM: usize = 64;
+const LIFETIME_ROOM: usize = 70;
 
 // Writes a flag's text, if it is shown.
 fn write_flag<W: fmt::Write>(f: &mut fmt::Formatter<W>, text: &str, is_shown: bool) -> fmt::Result
@@ -216,7 +216,7 @@ impl<'a, 'c> Display<'a, 'c> {
         }
     }
 
-    /// The text, in a `String` that reserves its room at once. Escapes make it grow, and an age of over 14 digits may.
+    /// The text, in a `String` that reserves its room at once. Only escapes make it grow.
     ///
     /// Fails only if out of memory.
     /// Example: `pair_text` in crates/cookie_examples/src/printing.rt.
