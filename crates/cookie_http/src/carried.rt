@@ -1,5 +1,9 @@
 //! A jar's response, and the request of the client that read it.
-ghost use Rattle.std.specs.Prelude.{IfOk, IsErrOf};
+ghost use Rattle.std.specs.Prelude.{◌≡◌, ◌∷◌, [], None, IfOk, OnOk, IsErrOf, codes};
+ghost use Rattle.std.specs.FinMap.{get};
+ghost use Rattle.cookie.specs.Memory.{Gives};
+ghost use Rattle.cookie_client.specs.Client.{ReadsBack, header_text};
+ghost use Rattle.http_header.specs.FieldValue.{plain_value};
 ghost use Rattle.cookie_http.specs.Carried.{HasUnfitDelta, IsCarried};
 ghost use Rattle.cookie_http.specs.declared.http_error.HttpError.TheVariants as refusal;
 
@@ -43,8 +47,7 @@ pub fn exchange(alloc: Global, calls: &[JarCall<'_>], now: DateTime) -> Result<E
     let mut response = HeaderMap::new(alloc);
     append_delta(alloc, &jar, &mut response)?;
     read_response(&mut client, &response, now)?;
-    let mut request = HeaderMap::new(alloc);
-    request.append("cookie", cookie_of_client(&client)?)?;
+    let request = request_of(alloc, &client)?;
     let next = jar_from_headers(alloc, &request)?;
     Ok(Exchanged {
         played: Played {
@@ -56,4 +59,15 @@ pub fn exchange(alloc: Global, calls: &[JarCall<'_>], now: DateTime) -> Result<E
         request,
         next,
     })
+}
+
+// The client's request: one `Cookie` field.
+fn request_of(alloc: Global, client: &Client) -> Result<HeaderMap, HttpError>
+    ensures gives { Gives refusal.OutOfMemory result (λ request. request
+        ≡ (codes "cookie", plain_value (header_text client.now) ∷ []) ∷ []) }
+    ensures reads_back { OnOk result (get client.now [] ≡ None → ReadsBack client.now) }
+{
+    let mut request = HeaderMap::new(alloc);
+    request.append("cookie", cookie_of_client(client)?)?;
+    Ok(request)
 }

@@ -1,5 +1,5 @@
 -- The texts of a refusal to save a session, and which one it is of a jar's refusal.
-use Rattle.std.specs.Prelude.{ℕ, List, ◌++◌, codes}
+use Rattle.std.specs.Prelude.{ℕ, List, ◌++◌, codes, ⊤}
 use Rattle.std.specs.Fmt.{decimal}
 use Rattle.cookie.specs.declared.jar_error.JarError.{JarError}
 use Rattle.cookie.specs.declared.jar_error.JarError.TheVariants as jar_refusal
@@ -23,3 +23,12 @@ abbrev pub refusal_of : JarError → SessionError
 refusal_of jar_refusal.OutOfMemory = refusal.OutOfMemory
 refusal_of jar_refusal.TooLong = refusal.TooLong
 refusal_of jar_refusal.Generator = refusal.Generator
+
+-- a refusal before the session's cookie is encrypted
+abbrev pub IsBareRefusal : SessionError → Type 0
+IsBareRefusal refusal.OutOfMemory = ⊤
+IsBareRefusal refusal.Prefix = ⊤
+IsBareRefusal refusal.Over = ⊤
+IsBareRefusal (refusal.TooLarge count) = ⊥
+IsBareRefusal refusal.TooLong = ⊥
+IsBareRefusal refusal.Generator = ⊥

@@ -1,13 +1,14 @@
 //! The sessions of a site.
-ghost use Rattle.std.specs.Prelude.{◌≡◌, ◌↔◌, ◌<◌, ◌≤◌, ◌-◌, ◌+◌, min, true, ℕ, List, Some, Err, IfOk, IfSome, OnOk, OnErr, string_bytes};
+ghost use Rattle.std.specs.Prelude.{◌≡◌, ◌↔◌, ◌<◌, ◌≤◌, ◌-◌, ◌+◌, min, true, ℕ, List, Some, Err, IfErr, IfOk, IfSome, OnOk, OnErr, string_bytes};
 ghost use Rattle.cookie.specs.Jar.{Add, Remove, after, view};
 ghost use Rattle.cookie.specs.Memory.{Gives};
 ghost use Rattle.cookie.specs.Record.{IsCookie};
 ghost use Rattle.cookie.specs.Sealing.{CanSeal, IsNonce};
 ghost use Rattle.cookie.specs.declared.jar_error.JarError.TheVariants as jar_refusal;
 ghost use Rattle.cookie_session.specs.Seconds.{second_of};
-ghost use Rattle.cookie_session.specs.Session.{SessionState, seen_at};
+ghost use Rattle.cookie_session.specs.Session.{IsSession, SessionState, seen_at};
 ghost use Rattle.cookie_session.specs.Sessions.{CanSave, HoldsOne, IsOpen, IsStored, bare_cookie, meets_prefix, saved_cookie, session_cookie};
+ghost use Rattle.cookie_session.specs.SessionError.{IsBareRefusal};
 ghost use Rattle.cookie_session.specs.Size.{browser_length, most_bytes};
 ghost use Rattle.cookie_session.specs.declared.session_error.SessionError.TheVariants as refusal;
 
@@ -33,7 +34,7 @@ pub struct Sessions<'a> {
     /// The keys. The newest encrypts, and each of them decrypts.
     pub keys: &'a KeyRing,
     /// The cookie with the name and the attributes that the site sets. Its name isn't empty. Its value, `Max-Age` and
-    /// `Expires` don't count.
+    /// `Expires` don't count. With `SameSite=None` but not `Secure` no browser keeps it (RFC 6265bis 5.7).
     pub cookie: &'a Cookie<'static>,
     /// The seconds that a session lives after its start, however it is used.
     pub lifetime: u32,
@@ -126,7 +127,8 @@ impl<'a> Sessions<'a> {
             → (¬ (CanSeal (bare_cookie self.now now session.now)))
             ↔ (result ≡ Err refusal.TooLong) }
         ensures within { OnOk result (CanSeal (bare_cookie self.now now session.now)) }
-        ensures undrawn { ¬ (CanSave self.now now session.now
+        ensures undrawn { ¬ ((meets_prefix self.now.cookie.now.fields ≡ true)
+            × CanSave self.now now session.now
             × CanSeal (bare_cookie self.now now session.now)) → rng.new ≡ rng.old }
         ensures failed { result ≡ Err refusal.Generator → R.Error }
         ensures too_large { (size : ℕ) → result ≡ Err (refusal.TooLarge size)
@@ -137,15 +139,7 @@ impl<'a> Sessions<'a> {
         // After any refusal the jar is as it was.
         ensures err { OnErr result (jar.new ≡ jar.old) }
     {
-        if !meets_prefix(self.cookie) {
-            return Err(SessionError::Prefix);
-        }
-        let second = second_of(now);
-        if !session.is_alive(self.lifetime, self.idle, second, second) {
-            return Err(SessionError::Over);
-        }
-        let text = session.text_at(alloc, second)?;
-        let cookie = self.cookie_with(alloc, text, self.time_left(session.started(), second))?;
+        let cookie = self.bare_cookie(alloc, session, now)?;
         let sealed = jar.private(self.keys.newest()).encrypt(cookie, rng)?;
         let size = browser_length(alloc, &sealed)?;
         if size > MOST_BYTES {
@@ -167,6 +161,34 @@ impl<'a> Sessions<'a> {
         ensures err { OnErr result (jar.new ≡ jar.old) }
     {
         jar.remove(self.cookie.clone(alloc)?, now)
+    }
+
+    // The cookie of a session that is saved at the time `now`, before it is encrypted.
+    fn bare_cookie(
+        &self,
+        alloc: Global,
+        session: &Session,
+        now: DateTime,
+    ) -> Result<Cookie<'static>, SessionError>
+        ensures ok { IfOk result (λ cookie. cookie.fields ≡ bare_cookie self.now now session.now) }
+        ensures session { OnOk result (IsSession (seen_at (second_of now) session.now)) }
+        ensures meets { OnOk result (meets_prefix self.now.cookie.now.fields ≡ true) }
+        ensures lives { OnOk result (CanSave self.now now session.now) }
+        ensures prefix { (¬ (meets_prefix self.now.cookie.now.fields ≡ true))
+            ↔ (result ≡ Err refusal.Prefix) }
+        ensures over { meets_prefix self.now.cookie.now.fields ≡ true
+            → (¬ (CanSave self.now now session.now)) ↔ (result ≡ Err refusal.Over) }
+        ensures others { IfErr result IsBareRefusal }
+    {
+        if !meets_prefix(self.cookie) {
+            return Err(SessionError::Prefix);
+        }
+        let second = second_of(now);
+        if !session.is_alive(self.lifetime, self.idle, second, second) {
+            return Err(SessionError::Over);
+        }
+        let text = session.text_at(alloc, second)?;
+        Ok(self.cookie_with(alloc, text, self.time_left(session.started(), second))?)
     }
 
     // The seconds that a session lives that was saved now.

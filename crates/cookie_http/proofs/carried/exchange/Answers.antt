@@ -1,11 +1,7 @@
-use Rattle.std.proofs.Common.{◌≡◌, ℕ, true, codes, List, [], map, Err, refl, sym, ap, subst, ◌∙◌}
+use Rattle.std.proofs.Common.{◌≡◌, ℕ, List, [], Err, refl, ap, subst, ◌∙◌}
 use Rattle.std.specs.FinMap.{empty}
 use Rattle.std.specs.List.{AllZip}
 use Rattle.jiff.specs.Types.{DateTime}
-use Rattle.http_header.specs.HeaderMap.{append}
-use Rattle.http_header.specs.declared.map.HeaderMapError.TheVariants as full
-use Rattle.cookie.specs.CookieOf.{cookie_of}
-use Rattle.cookie.specs.Header.{header_texts}
 use Rattle.cookie.specs.DeltaTexts.{AreDeltaTexts}
 use Rattle.cookie.specs.History.{after_all, originals_of}
 use Rattle.cookie.specs.Jar.{JarState, empty_jar}
@@ -22,7 +18,7 @@ use Rattle.cookie_http.specs.Fields.{set_cookie_texts}
 use Rattle.cookie_http.specs.Response.{AddsDelta}
 use Rattle.cookie_http.specs.declared.http_error.HttpError.TheVariants as refusal
 use Rattle.cookie_http.proofs.CarriedLemmas.{are_carried, carried}
-use Rattle.cookie_http.proofs.ResponseLemmas.{empty_takes, gives_memory, memory_not_full, memory_not_invalid, refused_same}
+use Rattle.cookie_http.proofs.ResponseLemmas.{refused_same}
 use Rattle.cookie_http.proofs.carried.exchange.Goals as goal
 
 -- the calls, and a client that read these texts of the delta
@@ -44,15 +40,15 @@ returns-clause-carried c =
     let p : Played = record { jar = c.replay_told.new.jar; client = c.read_response.new.client; outcomes = c.in_ok-outcomes.outcomes } in
     let adds : AddsDelta p.jar.delta [] response =
     subst (λ before. AddsDelta p.jar.delta before response) c.new-response.ensures c.in_ok-append_delta.ensures.ok in
-    let sent = c.in_ok-cookie_of_client in
+    let sent = c.in_ok-request in
     carried now calls
-    (record { played = p; response = response; request = c.append.new.self; next = c.in_ok-next.next })
+    (record { played = p; response = response; request = sent.request; next = c.in_ok-next.next })
     (exchange_by now calls p (set_cookie_texts response) c.new-jar.result c.new-client.result c.new-jar.ensures.empty c.new-client.ensures
     replayed.outcomes replayed.jar (are_carried p.jar.delta response adds) (c.in_ok-read_response.ensures.gives ∙ ap (after_texts now (set_cookie_texts response)) replayed.client))
     adds
-    (c.in_ok-append.ensures.ok ∙ (λ i. append (c.new-request.ensures i) (codes "cookie") (sent.ensures.text i)))
+    sent.ensures.gives
     c.in_ok-next.ensures
-    (λ unnamed. ap (λ value. map (cookie_of true) (header_texts value.bytes)) (sym sent.ensures.text) ∙ sent.ensures.reads_back unnamed)
+    sent.ensures.reads_back
 
 pub returns-in_err-append_delta-clause-invalid : goal.returns-in_err-append_delta-clause-invalid
 returns-in_err-append_delta-clause-invalid c invalid =
@@ -68,15 +64,3 @@ returns-in_err-append_delta-clause-invalid c invalid =
     exchange_by now calls p (delta_texts jar) c.new-jar.result c.new-client.result c.new-jar.ensures.empty c.new-client.ensures
     replayed.outcomes replayed.jar (are_texts jar) (ap (after_texts now (delta_texts jar)) replayed.client) in
     (p, is, c.append_delta.ensures.invalid.0 (c.in_err-append_delta.was ∙ ap Err same))
-
-pub returns-in_err-append-clause-invalid : goal.returns-in_err-append-clause-invalid
-returns-in_err-append-clause-invalid c invalid =
-    let taken = λ (refused : c.append.result ≡ Err full.MaxSizeReached). empty_takes c.new-request.result (codes "cookie") c.new-request.ensures (c.append.ensures.full.0 refused) in
-    absurd (memory_not_invalid c.from_residual-in_err-append.result (λ _. Unit {0})
-    (gives_memory c.append.result c.from_residual-in_err-append.result c.in_err-append.field-0.0 (λ _. Unit {0}) c.in_err-append.was taken c.from_residual-in_err-append.ensures.1) invalid)
-
-pub returns-in_err-append-clause-room : goal.returns-in_err-append-clause-room
-returns-in_err-append-clause-room c many =
-    let taken = λ (refused : c.append.result ≡ Err full.MaxSizeReached). empty_takes c.new-request.result (codes "cookie") c.new-request.ensures (c.append.ensures.full.0 refused) in
-    memory_not_full c.from_residual-in_err-append.result (λ _. Unit {0})
-    (gives_memory c.append.result c.from_residual-in_err-append.result c.in_err-append.field-0.0 (λ _. Unit {0}) c.in_err-append.was taken c.from_residual-in_err-append.ensures.1) many

@@ -1,11 +1,11 @@
-use Rattle.std.proofs.Common.{◌≡◌, ◌≤◌, string_bytes, ap, subst, ◌∙◌}
+use Rattle.std.proofs.Common.{◌≡◌, ◌≤◌, ap, subst, ◌∙◌}
 use Rattle.cookie.specs.KeyedJars.{KeyedJar}
 use Rattle.cookie.specs.Keys.{encryption_half}
 use Rattle.cookie.specs.Record.{IsCookie, Record}
 use Rattle.cookie.specs.Sealing.{IsSealingOf}
 use Rattle.cookie_session.specs.KeyRing.{newest}
 use Rattle.cookie_session.specs.Seconds.{second_of}
-use Rattle.cookie_session.specs.Session.{IsSessionText, SessionState, seen_at, session_text}
+use Rattle.cookie_session.specs.Session.{SessionState, seen_at, session_text}
 use Rattle.cookie_session.specs.Size.{browser_length, most_bytes}
 use Rattle.cookie_session.proofs.SaveLemmas.{shown_is, shown_stored}
 use Rattle.cookie_session.proofs.sessions.Sessions.save.Goals as goal
@@ -15,7 +15,7 @@ returns-clause-fits g c =
     let (nonce, is_nonce, drawn, is) = c.in_ok-sealed.ensures.ok in
     let sealed = c.in_ok-sealed.sealed.fields in
     let name = c.args.self.now.cookie.now.fields.name in
-    let named : sealed.name ≡ name = ap (λ (r : Record). r.name) is.fields ∙ ap (λ (r : Record). r.name) c.in_ok-cookie.ensures in
+    let named : sealed.name ≡ name = ap (λ (r : Record). r.name) is.fields ∙ ap (λ (r : Record). r.name) c.in_ok-cookie.ensures.ok in
     shown_is sealed name named c.args.jar.now c.add.new.self c.in_ok-add.ensures.gives (λ cookie. browser_length cookie ≤ most_bytes)
     (subst (λ n. n ≤ most_bytes) c.in_ok-size.ensures.length c.if-size-gt-MOST_BYTES.false)
 
@@ -24,7 +24,7 @@ returns-clause-cookie g c =
     let (nonce, is_nonce, drawn, is) = c.in_ok-sealed.ensures.ok in
     let sealed = c.in_ok-sealed.sealed.fields in
     let name = c.args.self.now.cookie.now.fields.name in
-    let named : sealed.name ≡ name = ap (λ (r : Record). r.name) is.fields ∙ ap (λ (r : Record). r.name) c.in_ok-cookie.ensures in
+    let named : sealed.name ≡ name = ap (λ (r : Record). r.name) is.fields ∙ ap (λ (r : Record). r.name) c.in_ok-cookie.ensures.ok in
     shown_is sealed name named c.args.jar.now c.add.new.self c.in_ok-add.ensures.gives IsCookie c.in_ok-size.ensures.cookie
 
 pub returns-clause-opens : goal.returns-clause-opens
@@ -35,11 +35,9 @@ returns-clause-opens g c =
     let sealed = c.in_ok-sealed.sealed.fields in
     let cookie = c.in_ok-cookie.cookie.fields in
     let name = site.cookie.now.fields.name in
-    let named : sealed.name ≡ name = ap (λ (r : Record). r.name) is.fields ∙ ap (λ (r : Record). r.name) c.in_ok-cookie.ensures in
-    let text : IsSessionText (string_bytes c.in_ok-text.text) saved =
-    subst (λ n. IsSessionText (string_bytes c.in_ok-text.text) (seen_at n c.args.session.now)) c.second_of-second.ensures.value c.in_ok-text.ensures in
-    let value : cookie.value ≡ session_text saved = ap (λ (r : Record). r.value) c.in_ok-cookie.ensures ∙ text.written in
+    let named : sealed.name ≡ name = ap (λ (r : Record). r.name) is.fields ∙ ap (λ (r : Record). r.name) c.in_ok-cookie.ensures.ok in
+    let value : cookie.value ≡ session_text saved = ap (λ (r : Record). r.value) c.in_ok-cookie.ensures.ok in
     let key : c.private.result.key ≡ encryption_half (newest site.keys.now) =
     ap (λ (k : KeyedJar). k.key) c.private.ensures ∙ ap encryption_half c.newest.ensures.value in
-    shown_stored sealed name named c.args.jar.now c.add.new.self c.in_ok-add.ensures.gives site saved text.session c.newest.ensures.some
+    shown_stored sealed name named c.args.jar.now c.add.new.self c.in_ok-add.ensures.gives site saved c.in_ok-cookie.ensures.session c.newest.ensures.some
     (subst (IsSealingOf (encryption_half (newest site.keys.now)) sealed) value (subst (λ k. IsSealingOf k sealed cookie.value) key is.stands))
