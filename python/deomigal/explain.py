@@ -19,6 +19,7 @@ STEPS = (
 )
 # The last second that has a date, since 1970.
 LAST = 253402300799
+LOOPBACK = ipaddress.ip_network("127.0.0.0/8"), ipaddress.ip_network("::1")
 # More than a sentence and a title have.
 ROOM = 1000
 
@@ -81,6 +82,13 @@ class Address(NamedTuple):
     is_secure: bool
 
 
+def is_loopback(host: str, number: ipaddress.IPv4Address | ipaddress.IPv6Address | None) -> bool:
+    """Whether the host, whose IP address is the number if it is one, is this machine."""
+    if number is None:
+        return f".{host.removesuffix('.')}".endswith(".localhost")
+    return any(number in network for network in LOOPBACK)
+
+
 def address_of(url: str) -> Address:
     """The address of a URL. Raises `ValueError` if the URL isn't one of http or https, or its host isn't in ASCII."""
     parts = urlsplit(url)
@@ -90,13 +98,13 @@ def address_of(url: str) -> Address:
     if not host.isascii():
         raise ValueError("the host isn't in ASCII: write it in Punycode")
     try:
-        is_address = bool(ipaddress.ip_address(host))
+        number = ipaddress.ip_address(host)
     except ValueError:
-        is_address = False
+        number = None
     # Browsers count a connection that doesn't leave the machine as secure.
-    is_local = host in ("localhost", "127.0.0.1", "::1") or host.endswith(".localhost")
+    is_secure = parts.scheme == "https" or is_loopback(host, number)
     shown = f"[{host}]" if ":" in host else host
-    return Address(shown, parts.path or "/", is_address, parts.scheme == "https" or is_local)
+    return Address(shown, parts.path or "/", number is not None, is_secure)
 
 
 def verdict(

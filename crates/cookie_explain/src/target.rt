@@ -4,26 +4,32 @@ use cookie_agent::{RequestContext, Site};
 use std::alloc::Global;
 use url::{Host, Url};
 
-// Whether browsers count the host as secure over `http`, since it is this machine (RFC 6265bis, Retrieval Algorithm).
-// Of its addresses only these two count here.
-fn is_loopback(host: &str) -> bool {
-    host == "localhost" || host.ends_with(".localhost") || host == "127.0.0.1" || host == "[::1]"
+// Whether the host is this machine. Browsers count it as secure, over `http` too (RFC 6265bis, Retrieval Algorithm).
+fn is_loopback(host: &Host<&str>) -> bool {
+    match host {
+        Host::Domain(name) => {
+            let name = name.strip_suffix(".").unwrap_or(*name);
+            name == "localhost" || name.ends_with(".localhost")
+        }
+        Host::Ipv4(address) => address.is_loopback(),
+        Host::Ipv6(address) => address.is_loopback(),
+    }
 }
 
 /// The site of the address, for a request that another site's page made, or for one of its own.
 pub fn site(alloc: Global, address: &str, is_cross_site: bool) -> Result<Site> {
     let url = Url::parse(alloc, address).context("the address is no URL")?;
-    let Some(host) = url.host_str() else {
+    let (Some(host), Some(text)) = (url.host(), url.host_str()) else {
         bail!("the address has no host");
     };
     let is_secure = match url.scheme() {
         "https" => true,
-        "http" => is_loopback(host),
+        "http" => is_loopback(&host),
         _ => bail!("the address is neither https nor http"),
     };
-    let site = match url.host() {
-        Some(Host::Domain(_)) => Site::new(alloc, host, url.path(), is_secure)?,
-        _ => Site::of_address(alloc, host, url.path(), is_secure)?,
+    let site = match host {
+        Host::Domain(_) => Site::new(alloc, text, url.path(), is_secure)?,
+        _ => Site::of_address(alloc, text, url.path(), is_secure)?,
     };
     Ok(site.with_context(context(is_cross_site)))
 }
