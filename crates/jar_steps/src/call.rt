@@ -1,5 +1,6 @@
 use crate::child::Child;
 use crate::verb::Verb;
+use crate::words;
 use cookie::Cookie;
 
 /// A call on a jar, as a plain value that is read once.
@@ -25,6 +26,6 @@ impl Call {
 
     /// Returns the call's cookie, or `None` if the words say none. The cookie of a forced removal has only its name.
     pub fn cookie(self) -> Option<Cookie<'static>> {
-        cookie_words::cookie(self.words)
+        words::cookie(self.words)
     }
 }

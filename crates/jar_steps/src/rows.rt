@@ -1,5 +1,6 @@
 use cookie::Key;
 use jiff::civil::DateTime;
+use std::alloc::Global;
 
 /// The time of most rows, 2015-10-21 07:28:00 in UTC.
 pub fn moment() -> DateTime {
@@ -17,4 +18,14 @@ const TEST_KEY: [u8; 64] = [
 /// The key of the rows on signed and private values.
 pub fn test_key() -> Key {
     Key::from(&TEST_KEY)
+}
+
+/// The bytes of the letters, each of which is one byte.
+pub fn bytes_of(alloc: Global, letters: &str) -> Option<Vec<u8>> {
+    let mut bytes = Vec::new(alloc);
+    for letter in letters.chars() {
+        let byte = u8::try_from(letter as u32).ok()?;
+        bytes.push(byte).ok()?;
+    }
+    Some(bytes)
 }

@@ -6,6 +6,7 @@ mod site;
 mod texts;
 mod words;
 
+use jar_steps::bytes_of;
 use login_core::{Page, Request, Response};
 use site::Site;
 use std::alloc::{AllocError, Global};
@@ -78,10 +79,7 @@ fn is_right(alloc: Global, state: RandomState, row: &str) -> Option<bool> {
     let (head, steps) = row.as_str().split_once(" | ")?;
     let plain = head.strip_prefix("plain ");
     let (method, path) = plain.unwrap_or(head).split_once(' ')?;
-    let mut cookies = Vec::new(alloc);
-    for letter in part(steps, "cookies ").unwrap_or("").chars() {
-        cookies.push(u8::try_from(letter as u32).ok()?).ok()?;
-    }
+    let cookies = bytes_of(alloc, part(steps, "cookies ").unwrap_or(""))?;
     let request = Request {
         method,
         path,

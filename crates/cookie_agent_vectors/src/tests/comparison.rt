@@ -3,10 +3,10 @@ use super::at;
 use super::plain_agent::{PlainAgent, Spot};
 use super::sites::site_of;
 use super::stores::suffixes;
-use call_steps::{Draws, Tables};
 use cookie_agent::{Agent, AgentRequest, Site, Visited, visits};
 use cookie_browser::Suffixes;
 use cookie_client::JarCall;
+use jar_steps::{Draws, Tables};
 use std::alloc::Global;
 
 const NAMES: &str = "a|b|a b|";

@@ -1,7 +1,7 @@
 //! A second body of the user agent over plain values (RFC 6265bis).
-use call_steps::{Entry, FlatJar};
 use cookie::{Cookie, CookieJar};
 use cookie_client::JarCall;
+use jar_steps::{Entry, FlatJar};
 use std::alloc::{AllocError, Global};
 
 /// Where and when a request goes, with the host in lower case and the folder of the path, worked by hand.

@@ -2,9 +2,8 @@
 use super::at;
 use super::sites::site_of;
 use super::stores::{is_sent, suffixes};
-use call_steps::calls_of;
 use cookie_agent::{Agent, AgentRequest, Visited, visit};
-use jar_steps::{Look, test_key};
+use jar_steps::{Look, calls_of, test_key};
 use std::alloc::Global;
 
 pub(super) const ROWS: &str = "\

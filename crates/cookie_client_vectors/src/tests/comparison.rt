@@ -1,9 +1,8 @@
 //! Jars and clients against a second implementation of the jar, over requests that are drawn.
 use super::exchanges::{are_accepted, requests};
-use call_steps::{Draws, Entries, FlatJar, Tables};
 use cookie::CookieJar;
 use cookie_client::{Client, JarCall, Played, replay, rounds};
-use jar_steps::moment;
+use jar_steps::{Draws, Entries, FlatJar, Tables, moment};
 use std::alloc::Global;
 
 const NAMES: &str = "a|b|c|id|A||\u{e9}|a b";

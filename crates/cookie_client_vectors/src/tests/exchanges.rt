@@ -1,11 +1,9 @@
 //! Rows on a jar and a client that follows it: `replay` makes calls on a jar without a client, `mirror` has a client
 //! follow them, and `rounds` plays requests.
 use super::rows::{form_of, is_right};
-use call_steps::calls_of;
 use cookie::{Cookie, CookieJar, Key};
 use cookie_client::{Client, ClientRequest, JarCall, Played, mirror, replay, rounds};
-use cookie_words::is;
-use jar_steps::{Look, shown_value, test_key};
+use jar_steps::{Look, calls_of, is, shown_value, test_key};
 use jiff::civil::DateTime;
 use std::alloc::{AllocError, Global};
 
@@ -131,11 +129,10 @@ fn lists_of<'k>(alloc: Global, key: &'k Key, lists: &'static str) -> Option<Vec<
 // What the jar comes to, which no client follows.
 fn replayed(alloc: Global, jar: &mut CookieJar, calls: &[JarCall<'_>]) -> Option<Played> {
     let outcomes = replay(alloc, jar, calls).ok()?;
-    let client = Client::new(alloc);
     let jar = jar.clone().ok()?;
     Some(Played {
         jar,
-        client,
+        client: Client::new(alloc),
         outcomes,
     })
 }

@@ -1,6 +1,6 @@
 //! The statuses and texts of faults, and how errors and kinds are printed under each flag of a formatter.
 use cookie_client::{ClientError, PrefixKind, RunError};
-use cookie_words::{debugs, prints};
+use jar_steps::{debugs, prints};
 use std::alloc::Global;
 
 // Faults, and for each its status, the name of its variant and its text.

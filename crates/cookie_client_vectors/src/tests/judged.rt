@@ -1,6 +1,6 @@
 //! Which calls are fit, so that a client can follow them, and which are changes.
-use call_steps::call_of;
-use jar_steps::test_key;
+use cookie_client::JarCall;
+use jar_steps::{call_of, test_key};
 use jiff::civil::DateTime;
 use std::alloc::Global;
 
@@ -42,13 +42,18 @@ judge an original with a key: [signed original a=1] -> fit
 judge a removal with a key: [private0 remove] -> unfit change
 judge50 an expiry of two digits: [add a=1; Expires=0060-01-01T00:00:00] -> fit change";
 
+// Whether the call is fit, and a change, as the words say.
+fn is_said(call: &JarCall<'_>, now: DateTime, words: &str) -> bool {
+    let fit = if call.is_fit(now) { "fit" } else { "unfit" };
+    let change = if call.is_change() { " change" } else { "" };
+    words.strip_prefix(fit) == Some(change)
+}
+
 /// Whether the row's call is fit, and a change, as it says: `title: [add a=1] -> fit change`.
 pub(super) fn is_judged(alloc: Global, now: DateTime, row: &'static str) -> Option<bool> {
     let (_, told) = row.split_once(": [")?;
-    let (step, wanted) = told.split_once("] -> ")?;
+    let (step, words) = told.split_once("] -> ")?;
     let key = test_key();
     let call = call_of(alloc, &key, step)?;
-    let fit = if call.is_fit(now) { "fit" } else { "unfit" };
-    let change = if call.is_change() { " change" } else { "" };
-    Some(wanted.strip_prefix(fit) == Some(change))
+    Some(is_said(&call, now, words))
 }

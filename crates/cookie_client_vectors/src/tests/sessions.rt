@@ -1,8 +1,7 @@
 //! Sessions of the program, over bytes in memory.
 use super::MOMENT;
 use cookie_client::{moment_of, run, run_with_hasher};
-use cookie_words::prints;
-use jar_steps::moment;
+use jar_steps::{moment, prints};
 use jiff::civil::DateTime;
 use std::alloc::Global;
 use std::hash::RandomState;

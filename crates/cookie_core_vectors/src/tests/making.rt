@@ -36,7 +36,7 @@ fn a_day_after(moment: Option<DateTime>) -> Expiration {
     Expiration::from_option(moment).map(|moment| days_after(moment, 1))
 }
 
-// Changes the cookie as the words say: a field of `cookie_words`, or such as `no Path`, `own Path=/`, `name b`.
+// Changes the cookie as the words say: a field of `jar_steps`, or such as `no Path`, `own Path=/`, `name b`.
 fn change<'c>(alloc: Global, cookie: &mut Cookie<'c>, words: &'c str) -> Option<()> {
     let (verb, rest) = words.split_once(' ').unwrap_or((words, ""));
     match verb {
@@ -47,7 +47,7 @@ fn change<'c>(alloc: Global, cookie: &mut Cookie<'c>, words: &'c str) -> Option<
         "permanent" => cookie.make_permanent(read_date(rest)?),
         "removal" => cookie.make_removal(read_date(rest)?),
         "day-after" => cookie.set_expires(a_day_after(read_date(rest))),
-        _ => return cookie_words::set(cookie, words),
+        _ => return jar_steps::set(cookie, words),
     }
     Some(())
 }

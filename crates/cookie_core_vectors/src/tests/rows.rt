@@ -3,7 +3,7 @@
 use super::making::{builder, made};
 use super::showing::Look;
 use cookie_core::{Cookie, SplitCookies};
-use cookie_words::prints;
+use jar_steps::prints;
 use std::alloc::Global;
 
 // Whether the text is read so by each call that leaves its escapes.

@@ -1,6 +1,6 @@
 //! What is seen of a cookie or of a refusal.
 use cookie_core::{Cookie, Expiration, ParseError};
-use cookie_words::{is, lends, prints};
+use jar_steps::{is, lends, prints};
 use jiff::civil::DateTime;
 use std::alloc::{AllocError, Global};
 
@@ -38,7 +38,7 @@ pub(super) fn has(cookie: &Cookie<'_>, words: &str) -> bool {
         Some(expiry) => is_expiry(expiry, moment),
         None => moment.is_none(),
     };
-    is_agreed && matches!(cookie_words::cookie(words), Some(wanted) if is(cookie, &wanted))
+    is_agreed && matches!(jar_steps::cookie(words), Some(wanted) if is(cookie, &wanted))
 }
 
 // Whether these are the pair without the quotes of its value, and the value by its own call.

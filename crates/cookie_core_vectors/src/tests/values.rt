@@ -1,6 +1,6 @@
 //! Expirations, same-site rules and refusals as values, and the texts of other values.
 use cookie_core::{Cookie, DateText, Expiration, ParseError, SameSite, encode};
-use cookie_words::{debugs, is_cloned, prints};
+use jar_steps::{debugs, is_cloned, prints};
 use jiff::civil::{DateTime, datetime};
 use std::alloc::Global;
 use std::fmt::Debug;

@@ -2,9 +2,8 @@
 use super::rows::{fields_of, has_values};
 use cookie::{Cookie, CookieBuilder, CookieJar};
 use cookie_http::{HttpError, append_delta, remove_as_set, with_headers};
-use cookie_words::{debugs, prints};
 use http_header::{HeaderMap, HeaderName, HeaderValue};
-use jar_steps::moment;
+use jar_steps::{debugs, moment, prints};
 use std::alloc::Global;
 use std::hash::RandomState;
 use std::test::Fail;
@@ -79,13 +78,19 @@ fn a_response_has_these_fields(rt: HostRuntime) {
     assert!(rt; is_pair_printed(rt.alloc(), wrong) == Some(false));
 }
 
+// Adds a field of its own for the number.
+fn put_numbered(alloc: Global, headers: &mut HeaderMap, number: usize) -> Option<()> {
+    let name = format!(in alloc; "x-{number}").ok()?;
+    let name = HeaderName::from_bytes(alloc, name.as_bytes()).ok()?;
+    headers.append(name, HeaderValue::from_static("1")).ok()?;
+    Some(())
+}
+
 // A map with this many names.
 fn full_map(alloc: Global, names: usize) -> Option<HeaderMap> {
     let mut headers = HeaderMap::new(alloc);
     for number in 0..names {
-        let text = format!(in alloc; "x-{number}").ok()?;
-        let name = HeaderName::from_bytes(alloc, text.as_bytes()).ok()?;
-        headers.append(name, HeaderValue::from_static("1")).ok()?;
+        put_numbered(alloc, &mut headers, number)?;
     }
     Some(headers)
 }
@@ -155,16 +160,18 @@ fn a_response_has_the_changes_alone(rt: HostRuntime) -> Result<(), Fail> {
     Ok(())
 }
 
+// Whether the refusal is printed as the text, and by `Debug` as the name.
+fn is_printed(alloc: Global, refusal: &HttpError, text: &str, name: &str) -> bool {
+    prints(alloc, refusal, text) && debugs(alloc, refusal, name)
+}
+
 #[test]
 fn no_flag_changes_a_refusal(rt: HostRuntime) {
-    let value = "a cookie's path or domain is no attribute value";
-    let fields = "too many header fields";
-    for (refusal, text, name) in [
-        (HttpError::OutOfMemory, "out of memory", "OutOfMemory"),
-        (HttpError::InvalidValue, value, "InvalidValue"),
-        (HttpError::TooManyFields, fields, "TooManyFields"),
-    ] {
-        assert!(rt; prints(rt.alloc(), &refusal, text) && debugs(rt.alloc(), &refusal, name));
-        assert!(rt; !prints(rt.alloc(), &refusal, name) && !debugs(rt.alloc(), &refusal, text));
-    }
+    let (alloc, value) = (rt.alloc(), HttpError::InvalidValue);
+    let text = "a cookie's path or domain is no attribute value";
+    assert!(rt; is_printed(alloc, &value, text, "InvalidValue"));
+    assert!(rt; !prints(alloc, &value, "InvalidValue") && !debugs(alloc, &value, text));
+    let (memory, full) = (HttpError::OutOfMemory, HttpError::TooManyFields);
+    assert!(rt; is_printed(alloc, &memory, "out of memory", "OutOfMemory"));
+    assert!(rt; is_printed(alloc, &full, "too many header fields", "TooManyFields"));
 }

@@ -2,8 +2,7 @@
 use super::site::Site;
 use cookie::{Cookie, CookieJar, JarError};
 use cookie_session::{Session, SessionError};
-use cookie_words::is;
-use jar_steps::{Call, Look, Sevens, make, moment, test_key};
+use jar_steps::{Call, Look, Sevens, is, make, moment, test_key};
 use jiff::SignedDuration;
 use jiff::civil::DateTime;
 use std::alloc::Global;
@@ -127,7 +126,7 @@ impl Player {
 
     // Adds a cookie under the newest key, by a generator of that many bytes.
     fn keep(&mut self, words: &'static str, left: usize) -> Option<Result<(), JarError>> {
-        let cookie = cookie_words::cookie(words)?;
+        let cookie = jar_steps::cookie(words)?;
         let keys = self.site.sessions().keys;
         Some(keys.add(&mut self.jar, cookie, &mut Sevens { left }))
     }
@@ -135,7 +134,7 @@ impl Player {
     // Whether the key at that place opens a cookie with these fields, as `1 theme=dark; Path=/`.
     fn finds(&self, words: &'static str) -> Option<bool> {
         let (place, words) = words.split_once(' ')?;
-        let wanted = cookie_words::cookie(words)?;
+        let wanted = jar_steps::cookie(words)?;
         let found = self.site.sessions().keys.get(&self.jar, wanted.name());
         let opening = found.ok()??;
         Some(place.parse() == Ok(opening.place) && is(&opening.cookie, &wanted))

@@ -1,11 +1,10 @@
 //! A session that a client brings back with its next request, as texts and over header maps.
 use super::site::Site;
-use call_steps::calls_of;
 use cookie::CookieJar;
 use cookie_client::{Client, JarCall};
 use cookie_session::{Opened, Session};
 use cookie_session_client::{save_and_return, save_over_headers};
-use jar_steps::{Sevens, moment, test_key};
+use jar_steps::{Sevens, calls_of, moment, test_key};
 use jiff::SignedDuration;
 use jiff::civil::DateTime;
 use std::alloc::Global;

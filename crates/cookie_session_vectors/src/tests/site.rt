@@ -30,7 +30,7 @@ impl Site {
         Some(Site {
             alloc,
             keys: KeyRing::new(alloc, test_key()).ok()?,
-            cookie: cookie_words::cookie(COOKIE)?,
+            cookie: jar_steps::cookie(COOKIE)?,
             lifetime: 1200,
             idle: 600,
         })
@@ -46,7 +46,7 @@ impl Site {
     }
 
     fn set_cookie(&mut self, words: &'static str) -> Option<()> {
-        self.cookie = cookie_words::cookie(words)?;
+        self.cookie = jar_steps::cookie(words)?;
         Some(())
     }
 

@@ -4,8 +4,7 @@ use super::prefixes::{self, Bare, Team};
 use super::{sealing, secrets};
 use cookie::prefix::{Host, Prefix, Secure};
 use cookie::{Cookie, CookieJar, JarError};
-use cookie_words::{is, lends};
-use jar_steps::{Call, make_on};
+use jar_steps::{Call, is, lends, make_on};
 
 type Answer = Result<Option<Cookie<'static>>, JarError>;
 
@@ -68,7 +67,7 @@ fn are_lent(answers: &Answers, parts: &str) -> bool {
 }
 
 fn shows(player: &mut Player, kind: &str, words: &'static str) -> Option<bool> {
-    let wanted = cookie_words::cookie(words)?;
+    let wanted = jar_steps::cookie(words)?;
     let answers = get(player, kind, wanted.name());
     Some(are(&answers, &Some(wanted)))
 }
@@ -76,9 +75,9 @@ fn shows(player: &mut Player, kind: &str, words: &'static str) -> Option<bool> {
 // Whether they open it with this value, as in `a=1; Path=/ -> 2`, and change nothing else.
 fn opens(player: &mut Player, kind: &str, row: &'static str) -> Option<bool> {
     let (words, value) = row.split_once(" -> ")?;
-    let mut wanted = cookie_words::cookie(words)?;
+    let mut wanted = jar_steps::cookie(words)?;
     wanted.set_value(value);
-    let answers = open(player, kind, cookie_words::cookie(words)?)?;
+    let answers = open(player, kind, jar_steps::cookie(words)?)?;
     Some(are(&answers, &Some(wanted)))
 }
 
@@ -116,7 +115,7 @@ pub(super) fn play(player: &mut Player, kind: &str, step: &'static str) -> Optio
         "shows" => shows(player, kind, rest),
         "lacks" => Some(are(&get(player, kind, rest), &None)),
         "opens" => opens(player, kind, rest),
-        "refuses" => Some(are(&open(player, kind, cookie_words::cookie(rest)?)?, &None)),
+        "refuses" => Some(are(&open(player, kind, jar_steps::cookie(rest)?)?, &None)),
         "parse" => add_text(player, kind, rest),
         "lends" => are_all_lent(player, kind, rest),
         "seals" | "seals-under" | "unsealable" if kind == "private" => {

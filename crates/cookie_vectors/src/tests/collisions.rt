@@ -7,22 +7,23 @@
 use cookie::{Cookie, CookieJar};
 use std::alloc::Global;
 use std::hash::RandomState;
+use std::ops::Range;
 use std::test::Fail;
 use std::time::{Clock, Duration, Instant};
 
-// What each name begins with, and then come eight digits.
+// What each name begins with, and then come any eight digits.
 const FRONT: &str = "0000000000042547nf8XT7Lr";
 
-const NAMES: u32 = 400;
+const NAMES: Range<u32> = 10_000_000..10_000_400;
 
 fn chosen(alloc: Global, number: u32) -> Option<Cookie<'static>> {
-    let name = format!(in alloc; "{FRONT}{number:08}").ok()?;
+    let name = format!(in alloc; "{FRONT}{number}").ok()?;
     Some(Cookie::new_owned(name, String::new(alloc)))
 }
 
 // The jar with an original and an addition of each name.
 fn filled(alloc: Global, mut jar: CookieJar) -> Option<CookieJar> {
-    for number in 0..NAMES {
+    for number in NAMES {
         jar.add_original(chosen(alloc, number)?).ok()?;
         jar.add(chosen(alloc, number)?).ok()?;
     }

@@ -1,8 +1,7 @@
 //! Refusals and keys as values, and texts under the flags of a formatter, by the rules of `std::fmt`.
 use cookie::prefix::{Host, Prefix, Secure};
 use cookie::{CookieBuilder, CookieJar, Error, Expiration, JarError, Key, KeyError, ParseError};
-use cookie_words::{debugs, is_cloned, prints};
-use jar_steps::test_key;
+use jar_steps::{debugs, is_cloned, prints, test_key};
 use std::alloc::Global;
 
 const TOO_LONG: &str = "the value or name is too long to seal";

@@ -1,8 +1,7 @@
 //! What a jar holds, and what the walks over it meet.
 use super::player::Player;
 use cookie::{Cookie, CookieJar};
-use cookie_words::is;
-use jar_steps::counts;
+use jar_steps::{bytes_of, counts, is};
 use std::alloc::Global;
 use std::mem;
 
@@ -43,22 +42,13 @@ fn is_cloned(jar: &mut CookieJar, words: &str) -> Option<bool> {
 
 fn is_lent(jar: &CookieJar, words: &str) -> Option<bool> {
     let (name, parts) = words.split_once(' ')?;
-    Some(cookie_words::lends(jar.get(name)?, parts))
+    Some(jar_steps::lends(jar.get(name)?, parts))
 }
 
 // Whether the original under the name, whatever covers it, has the value, as in `a=1`.
 fn is_original(jar: &CookieJar, words: &str) -> Option<bool> {
     let (name, value) = words.split_once('=')?;
     Some(jar.original(name)?.value() == value)
-}
-
-// The bytes of the letters, each of which is one byte.
-fn bytes_of(alloc: Global, letters: &str) -> Option<Vec<u8>> {
-    let mut bytes = Vec::new(alloc);
-    for letter in letters.chars() {
-        bytes.push(u8::try_from(letter as u32).ok()?).ok()?;
-    }
-    Some(bytes)
 }
 
 // Adds the originals of a header, or of the bytes of a field.
@@ -76,8 +66,8 @@ fn is_read(alloc: Global, jar: &mut CookieJar, verb: &str, text: &str) -> Option
 pub(super) fn play(player: &mut Player, verb: &str, rest: &'static str) -> Option<bool> {
     let (alloc, jar) = (player.alloc, &mut player.jar);
     match verb {
-        "changed" => Some(has(jar, true, &cookie_words::cookie(rest)?)),
-        "meets" => Some(has(jar, false, &cookie_words::cookie(rest)?)),
+        "changed" => Some(has(jar, true, &jar_steps::cookie(rest)?)),
+        "meets" => Some(has(jar, false, &jar_steps::cookie(rest)?)),
         "clone" => is_cloned(jar, rest),
         "parse" => Some(is_added(jar, false, rest)),
         "parse-original" => Some(is_added(jar, true, rest)),

@@ -1,7 +1,7 @@
 //! Two prefixes of the tests' own, and what a prefix makes of names and cookies.
 use cookie::Cookie;
 use cookie::prefix::{Host, NamePrefix, Prefix, Prefixing, Secure};
-use cookie_words::{is, lends};
+use jar_steps::{is, lends};
 use std::alloc::Global;
 
 /// A prefix of the tests' own: a cookie that is kept from scripts.
@@ -69,7 +69,7 @@ fn made<P: Prefix>(alloc: Global, verb: &str, text: &'static str) -> Option<Cook
 fn is_made<P: Prefix>(alloc: Global, verb: &str, text: &'static str, wanted: &str) -> Option<bool> {
     let (words, parts) = wanted.split_once(" lends ")?;
     let cookie = made::<P>(alloc, verb, text)?;
-    Some(is(&cookie, &cookie_words::cookie(words)?) && lends(&cookie, parts))
+    Some(is(&cookie, &jar_steps::cookie(words)?) && lends(&cookie, parts))
 }
 
 // Whether the prefix begins so, or makes of a name or of a text's cookie what it has to.

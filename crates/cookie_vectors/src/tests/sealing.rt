@@ -1,14 +1,13 @@
 //! Cookies that a private jar encrypts without adding them.
 use super::player::Player;
 use cookie::{Cookie, JarError};
-use cookie_words::is;
-use jar_steps::Sevens;
+use jar_steps::{Sevens, is};
 
 // Whether the return value is the cookie of `a=1; Path=/ -> TEXT` with that text as its value, and nothing else
 // changed.
 fn is_sealed(answer: &Result<Cookie<'static>, JarError>, row: &'static str) -> Option<bool> {
     let (words, value) = row.split_once(" -> ")?;
-    let mut wanted = cookie_words::cookie(words)?;
+    let mut wanted = jar_steps::cookie(words)?;
     wanted.set_value(value);
     match answer {
         Ok(cookie) => Some(is(cookie, &wanted)),
@@ -19,7 +18,7 @@ fn is_sealed(answer: &Result<Cookie<'static>, JarError>, row: &'static str) -> O
 // The cookie of such a row.
 fn cookie(row: &'static str) -> Option<Cookie<'static>> {
     let (words, _) = row.split_once(" -> ")?;
-    cookie_words::cookie(words)
+    jar_steps::cookie(words)
 }
 
 // Whether it is encrypted so under the next nonce of the generator.
@@ -42,7 +41,7 @@ fn seals_under(player: &Player, words: &'static str) -> Option<bool> {
 fn is_refused(player: &Player, words: &'static str) -> Option<bool> {
     let private = player.jar.private(&player.key);
     for left in 0..12usize {
-        let cookie = cookie_words::cookie(words)?;
+        let cookie = jar_steps::cookie(words)?;
         let answer = private.encrypt(cookie, &mut Sevens { left });
         if answer.err() != Some(JarError::Generator) {
             return Some(false);

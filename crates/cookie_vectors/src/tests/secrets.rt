@@ -13,7 +13,7 @@ fn damage(alloc: Global, value: &str, place: usize, length: usize, other: &str) 
 
 // Whether the cookie of the words is opened with the value if the value is its own, and isn't if it is damaged.
 fn is_found(player: &mut Player, kind: &str, words: &'static str, value: String) -> Option<bool> {
-    let mut cookie = cookie_words::cookie(words)?;
+    let mut cookie = jar_steps::cookie(words)?;
     let is_whole = value.as_str() == cookie.value();
     cookie.set_value_owned(value);
     let answers = open(player, kind, cookie)?;

@@ -1,7 +1,7 @@
 //! The texts of responses, and the names of values that have a `Debug`. No value that holds a key, a password or a
 //! visitor has one.
 use super::site::Site;
-use cookie_words::debugs;
+use jar_steps::debugs;
 use login_core::{Page, Refusal, Request, Route, Visitor, html};
 use std::alloc::Global;
 use std::hash::RandomState;

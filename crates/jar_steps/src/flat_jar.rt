@@ -1,8 +1,8 @@
 //! A second implementation of the jar: two lists, in which a name is found by going over all of them, without a
 //! contract.
+use crate::look::{counts, shown_value};
 use cookie::{Cookie, CookieJar};
 use cookie_client::JarCall;
-use jar_steps::{counts, shown_value};
 use std::alloc::{AllocError, Global};
 
 /// A cookie, or one that tells a client to drop its name.

@@ -1,9 +1,9 @@
 //! Calls that are drawn from a fixed seed.
 use crate::calls::own_call;
+use crate::verb::Verb;
+use crate::words::set;
 use cookie::Cookie;
 use cookie_client::JarCall;
-use cookie_words::set;
-use jar_steps::Verb;
 use std::alloc::Global;
 
 /// What calls are drawn from: texts with bars between them. A text that is listed twice is drawn twice as often.
@@ -39,16 +39,20 @@ impl Draws {
         texts.split('|').nth(place).unwrap_or("")
     }
 
-    fn call(&mut self, alloc: Global, tables: Tables) -> Option<JarCall<'static>> {
-        let verb = Verb::parse(self.text(tables.verbs))?;
-        let mut cookie = Cookie::new(self.text(tables.names), self.text(tables.values));
-        for fields in tables.fields {
+    fn cookie(&mut self, of: Tables) -> Option<Cookie<'static>> {
+        let mut cookie = Cookie::new(self.text(of.names), self.text(of.values));
+        for fields in of.fields {
             let field = self.text(*fields);
             if !field.is_empty() {
                 set(&mut cookie, field)?;
             }
         }
-        own_call(alloc, verb, cookie)
+        Some(cookie)
+    }
+
+    fn call(&mut self, alloc: Global, of: Tables) -> Option<JarCall<'static>> {
+        let verb = Verb::parse(self.text(of.verbs))?;
+        own_call(alloc, verb, self.cookie(of)?)
     }
 
     /// Draws fewer calls than that number.

@@ -1,4 +1,4 @@
-use cookie_core::{Cookie, Expiration, SameSite, read_date};
+use cookie::{Cookie, Expiration, SameSite, read_date};
 use jiff::SignedDuration;
 
 fn flag(word: &str) -> Option<bool> {

@@ -1,4 +1,4 @@
-use cookie_core::Cookie;
+use cookie::Cookie;
 
 fn are_flags_alike(cookie: &Cookie<'_>, other: &Cookie<'_>) -> bool {
     cookie.secure() == other.secure()

@@ -1,7 +1,11 @@
 //! Calls as values.
+use crate::call::Call;
+use crate::child::Child;
+use crate::rows::moment;
+use crate::verb::Verb;
+use crate::words;
 use cookie::{Cookie, Key};
 use cookie_client::{ChildCall, JarCall, PrefixKind};
-use jar_steps::{Call, Child, Verb, moment};
 use jiff::civil::DateTime;
 use std::alloc::Global;
 
@@ -46,7 +50,7 @@ pub fn own_call(alloc: Global, verb: Verb, cookie: Cookie<'static>) -> Option<Ja
 /// The call that the step says. `earlier a=1` is a removal at the earliest time.
 pub fn call_of<'k>(alloc: Global, key: &'k Key, step: &'static str) -> Option<JarCall<'k>> {
     if let Some(words) = step.strip_prefix("earlier ") {
-        return Some(JarCall::Remove(cookie_words::cookie(words)?, DateTime::MIN));
+        return Some(JarCall::Remove(words::cookie(words)?, DateTime::MIN));
     }
     let call = Call::parse(step)?;
     let cookie = cookie_of(alloc, call)?;
