@@ -1,6 +1,6 @@
 -- What the uses promise, in the words of a web application.
 use Rattle.std.specs.Prelude.{◌≡◌, true, false, ℕ, List, map, Option, Some, codes, ◌++◌, length, option_map}
-use Rattle.std.specs.FinMap.{get}
+use Rattle.std.specs.FinMap.{get, insert}
 use Rattle.jiff.specs.Types.{DateTime}
 use Rattle.cookie.specs.AnswersExactly.{IsStoredFor}
 use Rattle.cookie.specs.Jar.{JarState, Name, view}
@@ -11,7 +11,7 @@ use Rattle.cookie.specs.Text.{cookie_text}
 use Rattle.cookie.specs.Walk.{Walks}
 use Rattle.cookie_session.specs.Seconds.{second_of}
 use Rattle.cookie_session.specs.Session.{SessionState}
-use Rattle.cookie_session.specs.Sessions.{IsStored}
+use Rattle.cookie_session.specs.Sessions.{IsOpen, IsStored}
 use Rattle.cookie_session.specs.declared.sessions.Sessions.{Sessions}
 
 -- the cookie that the response sets or drops at a name
@@ -41,3 +41,14 @@ IsLoggedIn site jar now user =
     (session : SessionState) × (session.started ≡ second_of now)
     × (get session.texts (codes "user") ≡ Some user)
     × IsStored site (view jar site.cookie.now.fields.name) session
+
+-- of a session that was open it stores each other text
+abbrev pub KeepsTexts : Sessions → JarState → JarState → DateTime → List ℕ → Type 0
+KeepsTexts site before after now user =
+    (place : ℕ) (session : SessionState)
+    → IsOpen site (view before site.cookie.now.fields.name) now place session
+    → IsStored site (view after site.cookie.now.fields.name) (record {
+      started = second_of now;
+      seen = second_of now;
+      texts = insert session.texts (codes "user") user;
+    })

@@ -1,5 +1,5 @@
 //! Calls as values, and a client that follows them.
-ghost use Rattle.std.specs.Prelude.{◌≡◌, ◌↔◌, false, IsTrue, IfOk, IfSome, All};
+ghost use Rattle.std.specs.Prelude.{◌≡◌, ◌↔◌, false, IsTrue, IfOk, IfSome, IsNone, All};
 ghost use Rattle.std.specs.FinMap.{get};
 ghost use Rattle.cookie.specs.History.{is_forced};
 ghost use Rattle.cookie.specs.Jar.{Name, view};
@@ -24,9 +24,11 @@ pub fn follow(
     calls: &[JarCall<'_>],
     now: DateTime,
 ) -> Result<Option<Played>, ClientError>
-    ensures { IfOk result (λ answer. IfSome answer (λ played. (name : Name)
+    ensures agrees { IfOk result (λ answer. IfSome answer (λ played. (name : Name)
         → is_forced name (changes_of played.outcomes.items calls.now) ≡ false
         → get played.client name ≡ value_of (view played.jar name))) }
+    ensures unfit { IfOk result (λ answer.
+        IsNone answer ↔ ¬ (All (IsFitCall now) calls.now)) }
 {
     if are_fit(calls, now) {
         Ok(Some(mirror(alloc, calls, &[], now)?))

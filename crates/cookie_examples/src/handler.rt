@@ -2,7 +2,7 @@
 ghost use Rattle.std.specs.Prelude.{◌≡◌, None, IfSome, OnOk, OnErr};
 ghost use Rattle.std.specs.Option.{option_copied};
 ghost use Rattle.cookie.specs.Jar.{Remove, after};
-ghost use Rattle.cookie_examples.specs.Words.{IsLoggedIn};
+ghost use Rattle.cookie_examples.specs.Words.{IsLoggedIn, KeepsTexts};
 
 use cookie::CookieJar;
 use cookie_session::{Session, SessionError, Sessions};
@@ -10,7 +10,8 @@ use jiff::civil::DateTime;
 use rand_core::TryRng;
 use std::alloc::Global;
 
-/// Logs the user in, or out if there is none, at the time `now` in UTC. After an error the jar is as before.
+/// Logs the user in, or out if there is none, at the time `now` in UTC. A login starts the session anew, and keeps its
+/// other texts. After an error the jar is as before.
 pub fn handle<R: TryRng>(
     alloc: Global,
     sessions: &Sessions<'_>,
@@ -21,6 +22,8 @@ pub fn handle<R: TryRng>(
 ) -> Result<(), SessionError>
     ensures logs_in { IfSome (option_copied user.entry) (λ name.
         OnOk result (IsLoggedIn sessions.now jar.new now name)) }
+    ensures keeps { IfSome (option_copied user.entry) (λ name.
+        OnOk result (KeepsTexts sessions.now jar.old jar.new now name)) }
     ensures logs_out { option_copied user.entry ≡ None
         → OnOk result (jar.new ≡ after (Remove sessions.now.cookie.now.fields now) jar.old) }
     ensures err { OnErr result (jar.new ≡ jar.old) }
