@@ -52,24 +52,35 @@ fn fits_removal(
     plan.fits_removal(alloc, suffixes, site, removal, now)
 }
 
+// Whether a text's cookie, or its removal, fits the plan, as the verb says.
+fn fits(
+    alloc: Global,
+    verb: &str,
+    site: &Site,
+    is_secure: bool,
+    text: &'static str,
+) -> Option<bool> {
+    let suffixes = suffixes(alloc)?;
+    let mut cookie = Cookie::parse(text).ok()?;
+    match verb {
+        "add" => fits_addition(alloc, &suffixes, site, is_secure, &cookie, at(0)).ok(),
+        "remove" => {
+            cookie.make_removal(at(0));
+            fits_removal(alloc, &suffixes, site, is_secure, &cookie, at(0)).ok()
+        }
+        _ => None,
+    }
+}
+
 // Whether the row is right, or `None` if it says nothing.
 fn is_right(alloc: Global, row: &'static str) -> Option<bool> {
     let (asked, answer) = row.split_once(" -> ")?;
     let (verb, rest) = asked.split_once(' ')?;
     let (url, rest) = rest.split_once(' ')?;
     let (secure, text) = rest.split_once(' ')?;
-    let (site, is_secure) = (site_of(alloc, url)?, secure.parse().ok()?);
-    let suffixes = suffixes(alloc)?;
-    let mut cookie = Cookie::parse(text).ok()?;
-    let fits = match verb {
-        "add" => fits_addition(alloc, &suffixes, &site, is_secure, &cookie, at(0)).ok()?,
-        "remove" => {
-            cookie.make_removal(at(0));
-            fits_removal(alloc, &suffixes, &site, is_secure, &cookie, at(0)).ok()?
-        }
-        _ => return None,
-    };
-    Some(fits == answer.parse().ok()?)
+    let (is_secure, wanted): (bool, bool) = (secure.parse().ok()?, answer.parse().ok()?);
+    let site = site_of(alloc, url)?;
+    Some(fits(alloc, verb, &site, is_secure, text)? == wanted)
 }
 
 #[test]

@@ -46,6 +46,21 @@ fn is_shown(alloc: Global, one: &Visited<'_>, words: &'static str) -> bool {
     }
 }
 
+// Makes the agent's request, and returns whether each call was accepted, and what was sent and what its jar shows is as
+// the words say.
+fn comes_out<'r>(
+    alloc: Global,
+    agent: &mut Agent<'r>,
+    request: &AgentRequest<'_, '_>,
+    looks: &'static str,
+) -> Option<bool> {
+    let one = visit(alloc, agent, request, &[]).ok()?;
+    *agent = one.agent.clone().ok()?;
+    let is_accepted = one.outcomes.len() == request.calls.len() && !one.outcomes.contains(&false);
+    let mut looks = looks.split(" | ");
+    Some(is_accepted && looks.all(|words| is_shown(alloc, &one, words)))
+}
+
 // Makes the agent's request of a line such as `https://example.com/login 0 [add n=1 | remove m] -> [n=1] -> lacks m`:
 // where and when it is made, its calls, the header that the agent sends there after it, and what was sent and what its
 // jar shows. Returns whether it came out so, and each call was accepted.
@@ -54,6 +69,7 @@ fn is_right<'r>(alloc: Global, agent: &mut Agent<'r>, line: &'static str) -> Opt
     let (steps, told) = rest.split_once("] -> [")?;
     let (header, looks) = told.split_once(']')?;
     let (url, second) = spot.split_once(' ')?;
+    let looks = looks.strip_prefix(" -> ").unwrap_or("");
     let second = second.parse().ok()?;
     let site = site_of(alloc, url)?;
     let key = test_key();
@@ -63,12 +79,8 @@ fn is_right<'r>(alloc: Global, agent: &mut Agent<'r>, line: &'static str) -> Opt
         calls: &calls,
         moment: at(second),
     };
-    let one = visit(alloc, agent, &request, &[]).ok()?;
-    *agent = one.agent.clone().ok()?;
-    let is_accepted = one.outcomes.len() == calls.len() && !one.outcomes.contains(&false);
-    let mut looks = looks.strip_prefix(" -> ").unwrap_or("").split(" | ");
-    let are_shown = looks.all(|words| is_shown(alloc, &one, words));
-    Some(is_accepted && are_shown && is_sent(agent, &site, second, header))
+    let is_out = comes_out(alloc, agent, &request, looks)?;
+    Some(is_out && is_sent(agent, &site, second, header))
 }
 
 /// Whether the lines' requests, which one agent makes one after the other, come out as they say.

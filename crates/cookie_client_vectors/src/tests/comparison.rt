@@ -14,14 +14,22 @@ const TABLES: Tables = Tables {
     fields: &[],
 };
 
+// Makes the calls, and returns whether each was accepted.
+fn are_made(alloc: Global, jar: &mut CookieJar, calls: &[JarCall<'_>]) -> bool {
+    matches!(replay(alloc, jar, calls), Ok(outcomes) if are_accepted(&outcomes, calls.len()))
+}
+
+// Whether the jar and a clone of it are like the flat one.
+fn is_twice(flat: &FlatJar<'_>, jar: &CookieJar) -> bool {
+    flat.is_like(jar, NAMES) && matches!(jar.clone(), Ok(copy) if flat.is_like(&copy, NAMES))
+}
+
 // Whether the calls on a new jar leave it, and a clone of it, like the flat one.
 fn is_replayed_alike<'c>(alloc: Global, calls: &'c [JarCall<'_>]) -> Option<bool> {
     let mut flat: FlatJar<'c> = FlatJar::new(alloc);
     flat.replay(calls).ok()?;
     let mut jar = CookieJar::new(alloc);
-    let outcomes = replay(alloc, &mut jar, calls).ok()?;
-    let is_alike = flat.is_like(&jar, NAMES) && flat.is_like(&jar.clone().ok()?, NAMES);
-    Some(is_alike && are_accepted(&outcomes, calls.len()))
+    Some(are_made(alloc, &mut jar, calls) && is_twice(&flat, &jar))
 }
 
 // Whether the client holds the same under each name.

@@ -1,7 +1,7 @@
 //! Rows on a jar and a client that follows it: `replay` makes calls on a jar without a client, `mirror` has a client
 //! follow them, and `rounds` plays requests.
 use super::rows::{form_of, is_right};
-use cookie::{Cookie, CookieJar, Key};
+use cookie::{Cookie, CookieJar, JarError, Key};
 use cookie_client::{Client, ClientRequest, JarCall, Played, mirror, replay, rounds};
 use jar_steps::{Look, calls_of, is, shown_value, test_key};
 use jiff::civil::DateTime;
@@ -91,6 +91,11 @@ fn have_headers(played: &[Played], lists: &[Vec<JarCall<'_>>], headers: &str) ->
     played.len() == lists.len() && headers.next().is_none()
 }
 
+// Whether a child jar returned a cookie of that name and value.
+fn is_opened(answer: &Result<Option<Cookie<'_>>, JarError>, name: &str, value: &str) -> bool {
+    matches!(answer, Ok(Some(cookie)) if cookie.name_value() == (name, value))
+}
+
 // Whether the jar, or its client, shows what the step says.
 fn shows(alloc: Global, one: &Played, key: &Key, step: &'static str) -> Option<bool> {
     let (verb, rest) = step.split_once(' ')?;
@@ -98,8 +103,8 @@ fn shows(alloc: Global, one: &Played, key: &Key, step: &'static str) -> Option<b
     let (jar, client) = (&one.jar, &one.client);
     Some(match verb {
         "bare" => is(jar.get(name)?, &Cookie::new(name, value)),
-        "signed" => jar.signed(key).get(name).ok()??.name_value() == (name, value),
-        "private" => jar.private(key).get(name).ok()??.name_value() == (name, value),
+        "signed" => is_opened(&jar.signed(key).get(name), name, value),
+        "private" => is_opened(&jar.private(key).get(name), name, value),
         "follows" => client.get(name)? == shown_value(jar, name)?,
         "drops" => client.get(name).is_none(),
         _ => Look::parse(step)?.is_right(alloc, jar),
@@ -111,10 +116,11 @@ pub(super) fn requests<'c, 'k>(
     alloc: Global,
     lists: &'c [Vec<JarCall<'k>>],
 ) -> Result<Vec<ClientRequest<'c, 'k>>, AllocError> {
-    lists
-        .iter()
-        .map(|calls| ClientRequest { calls })
-        .collect(alloc)
+    let mut requests = Vec::new(alloc);
+    for calls in lists {
+        requests.push(ClientRequest { calls })?;
+    }
+    Ok(requests)
 }
 
 // The lists of calls of steps such as `add a=1] [remove a | reset`.
@@ -137,7 +143,23 @@ fn replayed(alloc: Global, jar: &mut CookieJar, calls: &[JarCall<'_>]) -> Option
     })
 }
 
-// What comes of each list of calls, by `replay` or `mirror`, or of the requests.
+// What comes of the calls, by `replay` on the jar or by `mirror`.
+fn played(
+    alloc: Global,
+    form: &str,
+    jar: &mut CookieJar,
+    calls: &[JarCall<'_>],
+    pick: &[usize],
+    now: DateTime,
+) -> Option<Played> {
+    match form {
+        "mirror" => mirror(alloc, calls, pick, now).ok(),
+        "replay" => replayed(alloc, jar, calls),
+        _ => None,
+    }
+}
+
+// What comes of each list of calls, or of the requests.
 fn play(
     alloc: Global,
     form: &str,
@@ -149,16 +171,12 @@ fn play(
         return rounds(alloc, &requests(alloc, lists).ok()?, pick, now).ok();
     }
     let mut jar = CookieJar::new(alloc);
-    let mut played = Vec::new(alloc);
+    let mut all = Vec::new(alloc);
     for calls in lists {
-        let one = match form {
-            "mirror" => mirror(alloc, calls, pick, now).ok()?,
-            "replay" => replayed(alloc, &mut jar, calls)?,
-            _ => return None,
-        };
-        played.push(one).ok()?;
+        all.push(played(alloc, form, &mut jar, calls, pick, now)?)
+            .ok()?;
     }
-    Some(played)
+    Some(all)
 }
 
 // The numbers that pick the order in which texts are read, and how many of them count. Below 72 they have each order of

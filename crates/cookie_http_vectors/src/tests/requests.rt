@@ -1,6 +1,6 @@
 //! The cookies of a request's fields, and a client that reads responses and sends requests.
 use super::rows::{fields_of, is_right, put_field, shows};
-use cookie::{Cookie, CookieJar};
+use cookie::{Cookie, CookieJar, JarError};
 use cookie_http::with_headers;
 use http_header::HeaderMap;
 use jar_steps::counts;
@@ -102,13 +102,18 @@ fn a_request_may_have_10000_cookies(rt: HostRuntime) -> Result<(), Fail> {
     Ok(())
 }
 
-// Whether a jar with two originals and a change, and what the row's request has, shows what the row says.
+// Adds two originals and a change.
+fn fill(jar: &mut CookieJar) -> Result<(), JarError> {
+    jar.add_original(Cookie::new("a", "1"))?;
+    jar.add_original(Cookie::new("z", "0"))?;
+    jar.add(Cookie::new("b", "4"))
+}
+
+// Whether a jar with these, and what the row's request has, shows what the row says.
 fn is_kept(alloc: Global, steps: &'static str) -> Option<bool> {
     let headers = fields_of(alloc, steps)?;
     let mut jar = CookieJar::new(alloc);
-    jar.add_original(Cookie::new("a", "1")).ok()?;
-    jar.add_original(Cookie::new("z", "0")).ok()?;
-    jar.add(Cookie::new("b", "4")).ok()?;
+    fill(&mut jar).ok()?;
     Some(shows(alloc, &headers, &with_headers(jar, &headers).ok()?, steps))
 }
 

@@ -1,6 +1,6 @@
 //! The `Set-Cookie` fields of a jar's delta.
 use super::rows::{fields_of, has_values};
-use cookie::{Cookie, CookieBuilder, CookieJar};
+use cookie::{Cookie, CookieBuilder, CookieJar, JarError};
 use cookie_http::{HttpError, append_delta, remove_as_set, with_headers};
 use http_header::{HeaderMap, HeaderName, HeaderValue};
 use jar_steps::{debugs, moment, prints};
@@ -95,6 +95,16 @@ fn full_map(alloc: Global, names: usize) -> Option<HeaderMap> {
     Some(headers)
 }
 
+// Whether the map is told to be full, or not, each time that the jar's changes are appended to it, twice.
+fn is_full(alloc: Global, jar: &CookieJar, headers: &mut HeaderMap, is_full: bool) -> bool {
+    let outcome = if is_full {
+        Err(HttpError::TooManyFields)
+    } else {
+        Ok(())
+    };
+    append_delta(alloc, jar, headers) == outcome && append_delta(alloc, jar, headers) == outcome
+}
+
 // Whether a map with this many names, to which a jar with these changes is appended twice, has these fields then, or is
 // full each time if there are none.
 fn takes(alloc: Global, names: usize, changes: &[&'static str], fields: &[&str]) -> Option<bool> {
@@ -103,14 +113,7 @@ fn takes(alloc: Global, names: usize, changes: &[&'static str], fields: &[&str])
     for name in changes {
         jar.add(Cookie::new(*name, "1")).ok()?;
     }
-    let is_full = fields.len() < changes.len();
-    let outcome = if is_full {
-        Err(HttpError::TooManyFields)
-    } else {
-        Ok(())
-    };
-    let is_told = append_delta(alloc, &jar, &mut headers) == outcome
-        && append_delta(alloc, &jar, &mut headers) == outcome;
+    let is_told = is_full(alloc, &jar, &mut headers, fields.len() < changes.len());
     let is_long = headers.len() == names.saturating_add(fields.len());
     Some(is_told && is_long && has_values(&headers, "set-cookie", fields))
 }
@@ -123,13 +126,18 @@ fn a_full_map_is_told(rt: HostRuntime) {
     assert!(rt; takes(rt.alloc(), 24_575, &["a"], &["a=1", "a=1"]) == Some(true));
 }
 
-// Whether the response of a jar whose original was removed as it was set has only this field.
-fn is_removed(alloc: Global, field: &str) -> Option<bool> {
+// Adds an original to the jar, and removes it as it was set.
+fn add_and_remove(alloc: Global, jar: &mut CookieJar) -> Result<(), JarError> {
     let set = CookieBuilder::new("a", "1").path("/shop");
     let set = set.domain("example.com").build();
+    jar.add_original(Cookie::new("a", "1"))?;
+    remove_as_set(alloc, jar, &set, moment())
+}
+
+// Whether the response of a jar whose original was removed as it was set has only this field.
+fn is_removed(alloc: Global, field: &str) -> Option<bool> {
     let mut jar = CookieJar::new(alloc);
-    jar.add_original(Cookie::new("a", "1")).ok()?;
-    remove_as_set(alloc, &mut jar, &set, moment()).ok()?;
+    add_and_remove(alloc, &mut jar).ok()?;
     let mut headers = HeaderMap::new(alloc);
     append_delta(alloc, &jar, &mut headers).ok()?;
     Some(has_values(&headers, "set-cookie", &[field]))
@@ -143,12 +151,17 @@ fn a_removal_names_path_and_domain(rt: HostRuntime) {
     assert!(rt; is_removed(rt.alloc(), field) == Some(true));
 }
 
+// Adds a cookie, and appends the changes.
+fn answer(alloc: Global, jar: &mut CookieJar, response: &mut HeaderMap) -> Result<(), Fail> {
+    jar.add(Cookie::new("theme", "dark"))?;
+    Ok(append_delta(alloc, jar, response)?)
+}
+
 // Whether the response to the request, whose jar hashes with drawn keys, has only the change.
 fn is_answered(alloc: Global, state: RandomState, request: &HeaderMap) -> Result<bool, Fail> {
-    let mut response = HeaderMap::new(alloc);
     let mut jar = with_headers(CookieJar::with_hasher(alloc, state), request)?;
-    jar.add(Cookie::new("theme", "dark"))?;
-    append_delta(alloc, &jar, &mut response)?;
+    let mut response = HeaderMap::new(alloc);
+    answer(alloc, &mut jar, &mut response)?;
     Ok(has_values(&response, "set-cookie", &["theme=dark"]) && response.len() == 1)
 }
 

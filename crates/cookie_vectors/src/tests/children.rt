@@ -72,22 +72,33 @@ fn shows(player: &mut Player, kind: &str, words: &'static str) -> Option<bool> {
     Some(are(&answers, &Some(wanted)))
 }
 
+// The cookie of the words, with another value.
+fn with_value(words: &'static str, value: &'static str) -> Option<Cookie<'static>> {
+    let mut cookie = jar_steps::cookie(words)?;
+    cookie.set_value(value);
+    Some(cookie)
+}
+
 // Whether they open it with this value, as in `a=1; Path=/ -> 2`, and change nothing else.
 fn opens(player: &mut Player, kind: &str, row: &'static str) -> Option<bool> {
     let (words, value) = row.split_once(" -> ")?;
-    let mut wanted = jar_steps::cookie(words)?;
-    wanted.set_value(value);
     let answers = open(player, kind, jar_steps::cookie(words)?)?;
-    Some(are(&answers, &Some(wanted)))
+    Some(are(&answers, &with_value(words, value)))
+}
+
+fn refuses(player: &mut Player, kind: &str, words: &'static str) -> Option<bool> {
+    let answers = open(player, kind, jar_steps::cookie(words)?)?;
+    Some(are(&answers, &None))
 }
 
 // Whether what they return under the name, and make of the stored cookie, borrows these parts, as in `a a|-|/|-`.
 fn are_all_lent(player: &mut Player, kind: &str, row: &str) -> Option<bool> {
     let (name, parts) = row.split_once(' ')?;
-    let answers = get(player, kind, name);
+    if !are_lent(&get(player, kind, name), parts) {
+        return Some(false);
+    }
     let stored = player.jar.get(name)?.clone(player.alloc).ok()?;
-    let opened = open(player, kind, stored)?;
-    Some(are_lent(&answers, parts) && are_lent(&opened, parts))
+    Some(are_lent(&open(player, kind, stored)?, parts))
 }
 
 // Adds a cookie that is read.
@@ -115,7 +126,7 @@ pub(super) fn play(player: &mut Player, kind: &str, step: &'static str) -> Optio
         "shows" => shows(player, kind, rest),
         "lacks" => Some(are(&get(player, kind, rest), &None)),
         "opens" => opens(player, kind, rest),
-        "refuses" => Some(are(&open(player, kind, jar_steps::cookie(rest)?)?, &None)),
+        "refuses" => refuses(player, kind, rest),
         "parse" => add_text(player, kind, rest),
         "lends" => are_all_lent(player, kind, rest),
         "seals" | "seals-under" | "unsealable" if kind == "private" => {

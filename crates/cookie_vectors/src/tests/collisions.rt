@@ -21,13 +21,13 @@ fn chosen(alloc: Global, number: u32) -> Option<Cookie<'static>> {
     Some(Cookie::new_owned(name, String::new(alloc)))
 }
 
-// The jar with an original and an addition of each name.
-fn filled(alloc: Global, mut jar: CookieJar) -> Option<CookieJar> {
+// Adds an original and a change of each name.
+fn fill(alloc: Global, jar: &mut CookieJar) -> Option<()> {
     for number in NAMES {
         jar.add_original(chosen(alloc, number)?).ok()?;
         jar.add(chosen(alloc, number)?).ok()?;
     }
-    Some(jar)
+    Some(())
 }
 
 // Whether each name is found among the changes and among the originals.
@@ -41,8 +41,8 @@ fn are_found(jar: &CookieJar) -> bool {
     true
 }
 
-// The least time of this many tries to find them all.
-fn least_time<C: Clock>(clock: &C, jar: &CookieJar, tries: u32) -> Option<Duration> {
+// The least time of this many tries to find them all, in nanoseconds.
+fn least_time<C: Clock>(clock: &C, jar: &CookieJar, tries: u32) -> Option<u128> {
     let mut least = Duration::MAX;
     for _try in 0..tries {
         let start = Instant::now(clock).ok()?;
@@ -51,18 +51,35 @@ fn least_time<C: Clock>(clock: &C, jar: &CookieJar, tries: u32) -> Option<Durati
         }
         least = least.min(start.elapsed(clock).ok()?);
     }
-    Some(least)
+    Some(least.as_nanos())
+}
+
+// The same in the jar, or its clone, once they are added to it.
+fn time_of<C: Clock>(
+    alloc: Global,
+    clock: &C,
+    mut jar: CookieJar,
+    is_clone: bool,
+    tries: u32,
+) -> Option<u128> {
+    fill(alloc, &mut jar)?;
+    if is_clone {
+        least_time(clock, &jar.clone().ok()?, tries)
+    } else {
+        least_time(clock, &jar, tries)
+    }
 }
 
 // Whether a jar with drawn keys, or its clone, finds them in a fifth of the time that one of `CookieJar::new` takes.
 fn is_fast<C: Clock>(alloc: Global, clock: &C, keys: RandomState, is_clone: bool) -> Option<bool> {
-    let slow = filled(alloc, CookieJar::new(alloc))?;
-    let slow = least_time(clock, &slow, 2)?.as_nanos();
-    let mut jar = filled(alloc, CookieJar::with_hasher(alloc, keys))?;
-    if is_clone {
-        jar = jar.clone().ok()?;
-    }
-    let time = least_time(clock, &jar, 10)?.as_nanos();
+    let slow = time_of(alloc, clock, CookieJar::new(alloc), false, 2)?;
+    let time = time_of(
+        alloc,
+        clock,
+        CookieJar::with_hasher(alloc, keys),
+        is_clone,
+        10,
+    )?;
     Some(time.saturating_mul(5) < slow)
 }
 

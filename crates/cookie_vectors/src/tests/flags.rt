@@ -104,14 +104,19 @@ partitioned: None,\n                same_site: None,\n                path: Some
 \"/a\",\n                ),\n                domain: None,\n                max_age: None,\n                \
 expires: None,\n            },\n        },\n    },\n    delta: {},\n}";
 
-// Whether a jar is shown so, in lines under `#` and in no other way under another flag.
+// The jar's texts, in lines under `#`, and in no other way under another flag.
+fn jar_texts(alloc: Global) -> Option<String> {
+    let held = JAR_IN_LINES.replace(alloc, "\n", "\n    ").ok()?;
+    format!(in alloc; "{JAR}|# {JAR_IN_LINES}|all {JAR_IN_LINES}|in {held}").ok()
+}
+
+// Whether a jar is shown so.
 fn is_jar_shown(alloc: Global) -> Option<bool> {
+    let texts = jar_texts(alloc)?;
     let mut jar = CookieJar::new(alloc);
     jar.add_original(CookieBuilder::new("o", "1").path("/a").build())
         .ok()?;
-    let held = JAR_IN_LINES.replace(alloc, "\n", "\n    ").ok()?;
-    let wanted = format!(in alloc; "{JAR}|# {JAR_IN_LINES}|all {JAR_IN_LINES}|in {held}").ok()?;
-    Some(debugs(alloc, &jar, wanted.as_str()))
+    Some(debugs(alloc, &jar, texts.as_str()))
 }
 
 #[test]

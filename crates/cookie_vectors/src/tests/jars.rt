@@ -20,6 +20,11 @@ fn has(jar: &CookieJar, is_in_delta: bool, wanted: &Cookie<'_>) -> bool {
     false
 }
 
+// The same for the cookie of the words.
+fn has_words(jar: &CookieJar, is_in_delta: bool, words: &str) -> bool {
+    matches!(jar_steps::cookie(words), Some(wanted) if has(jar, is_in_delta, &wanted))
+}
+
 // Adds a cookie that is read, as an original or as a change.
 fn is_added(jar: &mut CookieJar, is_original: bool, text: &'static str) -> bool {
     match Cookie::parse(text) {
@@ -51,14 +56,19 @@ fn is_original(jar: &CookieJar, words: &str) -> Option<bool> {
     Some(jar.original(name)?.value() == value)
 }
 
-// Adds the originals of a header, or of the bytes of a field.
+// The jar with the originals of a header, or of the bytes of a field.
+fn with_header(alloc: Global, jar: CookieJar, verb: &str, text: &str) -> Option<CookieJar> {
+    match (verb, bytes_of(alloc, text)) {
+        ("header", _) => jar.with_originals(text).ok(),
+        ("field", Some(bytes)) => jar.with_field(&bytes).ok(),
+        _ => None,
+    }
+}
+
+// Adds them to the jar.
 fn is_read(alloc: Global, jar: &mut CookieJar, verb: &str, text: &str) -> Option<bool> {
     let taken = mem::replace(jar, CookieJar::new(alloc));
-    *jar = match verb {
-        "header" => taken.with_originals(text).ok()?,
-        "field" => taken.with_field(&bytes_of(alloc, text)?).ok()?,
-        _ => return None,
-    };
+    *jar = with_header(alloc, taken, verb, text)?;
     Some(true)
 }
 
@@ -66,8 +76,8 @@ fn is_read(alloc: Global, jar: &mut CookieJar, verb: &str, text: &str) -> Option
 pub(super) fn play(player: &mut Player, verb: &str, rest: &'static str) -> Option<bool> {
     let (alloc, jar) = (player.alloc, &mut player.jar);
     match verb {
-        "changed" => Some(has(jar, true, &jar_steps::cookie(rest)?)),
-        "meets" => Some(has(jar, false, &jar_steps::cookie(rest)?)),
+        "changed" => Some(has_words(jar, true, rest)),
+        "meets" => Some(has_words(jar, false, rest)),
         "clone" => is_cloned(jar, rest),
         "parse" => Some(is_added(jar, false, rest)),
         "parse-original" => Some(is_added(jar, true, rest)),
