@@ -151,17 +151,12 @@ fn a_removal_names_path_and_domain(rt: HostRuntime) {
     assert!(rt; is_removed(rt.alloc(), field) == Some(true));
 }
 
-// Adds a cookie, and appends the changes.
-fn answer(alloc: Global, jar: &mut CookieJar, response: &mut HeaderMap) -> Result<(), Fail> {
-    jar.add(Cookie::new("theme", "dark"))?;
-    Ok(append_delta(alloc, jar, response)?)
-}
-
 // Whether the response to the request, whose jar hashes with drawn keys, has only the change.
 fn is_answered(alloc: Global, state: RandomState, request: &HeaderMap) -> Result<bool, Fail> {
-    let mut jar = with_headers(CookieJar::with_hasher(alloc, state), request)?;
     let mut response = HeaderMap::new(alloc);
-    answer(alloc, &mut jar, &mut response)?;
+    let mut jar = with_headers(CookieJar::with_hasher(alloc, state), request)?;
+    jar.add(Cookie::new("theme", "dark"))?;
+    append_delta(alloc, &jar, &mut response)?;
     Ok(has_values(&response, "set-cookie", &["theme=dark"]) && response.len() == 1)
 }
 
