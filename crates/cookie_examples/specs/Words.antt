@@ -42,7 +42,7 @@ IsLoggedIn site jar now user =
     × (get session.texts (codes "user") ≡ Some user)
     × IsStored site (view jar site.cookie.now.fields.name) session
 
--- of a session that was open it stores each other text
+-- a session that was open is stored with the user, its other texts, and its start now
 abbrev pub KeepsTexts : Sessions → JarState → JarState → DateTime → List ℕ → Type 0
 KeepsTexts site before after now user =
     (place : ℕ) (session : SessionState)

@@ -10,7 +10,7 @@ use jiff::civil::DateTime;
 use rand_core::TryRng;
 use std::alloc::Global;
 
-/// Logs the user in, or out if there is none, at the time `now` in UTC. A login starts the session anew, and keeps its
+/// Logs the user in, or out if there is none, at the time `now` in UTC. A login renews the session, which keeps its
 /// other texts. After an error the jar is as before.
 pub fn handle<R: TryRng>(
     alloc: Global,

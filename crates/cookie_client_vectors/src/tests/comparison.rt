@@ -20,7 +20,7 @@ fn are_made(alloc: Global, jar: &mut CookieJar, calls: &[JarCall<'_>]) -> bool {
 }
 
 // Whether the jar and a clone of it are like the flat one.
-fn is_twice(flat: &FlatJar<'_>, jar: &CookieJar) -> bool {
+fn are_both_like(flat: &FlatJar<'_>, jar: &CookieJar) -> bool {
     flat.is_like(jar, NAMES) && matches!(jar.clone(), Ok(copy) if flat.is_like(&copy, NAMES))
 }
 
@@ -29,7 +29,7 @@ fn is_replayed_alike<'c>(alloc: Global, calls: &'c [JarCall<'_>]) -> Option<bool
     let mut flat: FlatJar<'c> = FlatJar::new(alloc);
     flat.replay(calls).ok()?;
     let mut jar = CookieJar::new(alloc);
-    Some(are_made(alloc, &mut jar, calls) && is_twice(&flat, &jar))
+    Some(are_made(alloc, &mut jar, calls) && are_both_like(&flat, &jar))
 }
 
 // Whether the client holds the same under each name.

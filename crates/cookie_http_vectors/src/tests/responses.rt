@@ -95,8 +95,8 @@ fn full_map(alloc: Global, names: usize) -> Option<HeaderMap> {
     Some(headers)
 }
 
-// Whether the map is told to be full, or not, each time that the jar's changes are appended to it, twice.
-fn is_full(alloc: Global, jar: &CookieJar, headers: &mut HeaderMap, is_full: bool) -> bool {
+// Appends the jar's changes to the map twice, and returns whether it is full each time, or never.
+fn are_told(alloc: Global, jar: &CookieJar, headers: &mut HeaderMap, is_full: bool) -> bool {
     let outcome = if is_full {
         Err(HttpError::TooManyFields)
     } else {
@@ -113,7 +113,7 @@ fn takes(alloc: Global, names: usize, changes: &[&'static str], fields: &[&str])
     for name in changes {
         jar.add(Cookie::new(*name, "1")).ok()?;
     }
-    let is_told = is_full(alloc, &jar, &mut headers, fields.len() < changes.len());
+    let is_told = are_told(alloc, &jar, &mut headers, fields.len() < changes.len());
     let is_long = headers.len() == names.saturating_add(fields.len());
     Some(is_told && is_long && has_values(&headers, "set-cookie", fields))
 }
@@ -168,18 +168,21 @@ fn a_response_has_the_changes_alone(rt: HostRuntime) -> Result<(), Fail> {
     Ok(())
 }
 
-// Whether the refusal is printed as the text, and by `Debug` as the name.
-fn is_printed(alloc: Global, refusal: &HttpError, text: &str, name: &str) -> bool {
-    prints(alloc, refusal, text) && debugs(alloc, refusal, name)
+// Whether the refusal is printed as the text, and by `Debug` as the name, and not the other way round.
+fn is_printed(alloc: Global, refusal: HttpError, text: &str, name: &str) -> bool {
+    let is_right = prints(alloc, &refusal, text) && debugs(alloc, &refusal, name);
+    is_right && !prints(alloc, &refusal, name) && !debugs(alloc, &refusal, text)
 }
 
 #[test]
 fn no_flag_changes_a_refusal(rt: HostRuntime) {
-    let (alloc, value) = (rt.alloc(), HttpError::InvalidValue);
-    let text = "a cookie's path or domain is no attribute value";
-    assert!(rt; is_printed(alloc, &value, text, "InvalidValue"));
-    assert!(rt; !prints(alloc, &value, "InvalidValue") && !debugs(alloc, &value, text));
-    let (memory, full) = (HttpError::OutOfMemory, HttpError::TooManyFields);
-    assert!(rt; is_printed(alloc, &memory, "out of memory", "OutOfMemory"));
-    assert!(rt; is_printed(alloc, &full, "too many header fields", "TooManyFields"));
+    let value = "a cookie's path or domain is no attribute value";
+    let fields = "too many header fields";
+    for (refusal, text, name) in [
+        (HttpError::OutOfMemory, "out of memory", "OutOfMemory"),
+        (HttpError::InvalidValue, value, "InvalidValue"),
+        (HttpError::TooManyFields, fields, "TooManyFields"),
+    ] {
+        assert!(rt; is_printed(rt.alloc(), refusal, text, name), "{name}");
+    }
 }

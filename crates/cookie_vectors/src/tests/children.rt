@@ -94,11 +94,9 @@ fn refuses(player: &mut Player, kind: &str, words: &'static str) -> Option<bool>
 // Whether what they return under the name, and make of the stored cookie, borrows these parts, as in `a a|-|/|-`.
 fn are_all_lent(player: &mut Player, kind: &str, row: &str) -> Option<bool> {
     let (name, parts) = row.split_once(' ')?;
-    if !are_lent(&get(player, kind, name), parts) {
-        return Some(false);
-    }
     let stored = player.jar.get(name)?.clone(player.alloc).ok()?;
-    Some(are_lent(&open(player, kind, stored)?, parts))
+    let is_lent = are_lent(&open(player, kind, stored)?, parts);
+    Some(is_lent && are_lent(&get(player, kind, name), parts))
 }
 
 // Adds a cookie that is read.

@@ -21,8 +21,8 @@ fn has(jar: &CookieJar, is_in_delta: bool, wanted: &Cookie<'_>) -> bool {
 }
 
 // The same for the cookie of the words.
-fn has_words(jar: &CookieJar, is_in_delta: bool, words: &str) -> bool {
-    matches!(jar_steps::cookie(words), Some(wanted) if has(jar, is_in_delta, &wanted))
+fn has_words(jar: &CookieJar, is_in_delta: bool, words: &str) -> Option<bool> {
+    Some(has(jar, is_in_delta, &jar_steps::cookie(words)?))
 }
 
 // Adds a cookie that is read, as an original or as a change.
@@ -76,8 +76,8 @@ fn is_read(alloc: Global, jar: &mut CookieJar, verb: &str, text: &str) -> Option
 pub(super) fn play(player: &mut Player, verb: &str, rest: &'static str) -> Option<bool> {
     let (alloc, jar) = (player.alloc, &mut player.jar);
     match verb {
-        "changed" => Some(has_words(jar, true, rest)),
-        "meets" => Some(has_words(jar, false, rest)),
+        "changed" => has_words(jar, true, rest),
+        "meets" => has_words(jar, false, rest),
         "clone" => is_cloned(jar, rest),
         "parse" => Some(is_added(jar, false, rest)),
         "parse-original" => Some(is_added(jar, true, rest)),
