@@ -1,21 +1,18 @@
 -- The agreement of a client and a jar, carried over header maps.
-use Rattle.std.proofs.Common.{◌≡◌, ℕ, true, false, codes, List, [], ◌∷◌, map, Contains, None, Some, refl, sym, ap, subst, ◌∙◌}
+use Rattle.std.proofs.Common.{◌≡◌, ℕ, true, false, codes, List, [], ◌∷◌, map, Contains, None, refl, sym, ap, subst, ◌∙◌}
 use Rattle.std.proofs.lemmas.List.{append-nil}
 use Rattle.std.proofs.lemmas.List.Elements.{All-contains, All-weaker}
 use Rattle.std.proofs.lemmas.List.Sorted.{IsPermutation-refl}
-use Rattle.std.specs.FinMap.{FinMap, entries, get, get-empty}
+use Rattle.std.specs.FinMap.{FinMap, get, get-empty}
 use Rattle.std.specs.Str.{IsUtf8}
 use Rattle.jiff.specs.Types.{DateTime}
 use Rattle.http_header.specs.FieldValue.{FieldValue, plain_value}
 use Rattle.http_header.specs.HeaderMap.{Entries}
-use Rattle.cookie.specs.CookieOf.{cookie_of}
-use Rattle.cookie.specs.Header.{header_texts}
 use Rattle.cookie.specs.Jar.{Marked, Name, empty_jar, name_cmp, overlay, view}
-use Rattle.cookie.specs.Record.{plain}
 use Rattle.cookie.specs.Text.{cookie_text}
 use Rattle.cookie.specs.DeltaTexts.{AreDeltaTexts, IsDeltaText}
 use Rattle.cookie_client.specs.Agreement.{value_of}
-use Rattle.cookie_client.specs.Client.{Values, header_text}
+use Rattle.cookie_client.specs.Client.{ReadsBack, Values, header_text}
 use Rattle.cookie_client.specs.Exchange.{IsExchange, changes_by}
 use Rattle.cookie.specs.Originals.{jar_for, readable}
 use Rattle.cookie_client.specs.Originals.{holds_originals}
@@ -59,17 +56,12 @@ shown client header is name =
     ∙ sym (holds_header header name)
     ∙ ap (λ c. get c name) (held_again client header is)
 
--- what the client's header reads back as
-abbrev pub ReadsBack : Values → Type 0
-ReadsBack client = get client [] ≡ None
-    → map (cookie_of true) (header_texts (header_text client)) ≡ map (λ pair. Some (plain pair.0 pair.1)) (entries client)
-
 module _ (now : DateTime) (calls : List JarCall) (e : Exchanged) where
   pub carried : IsExchange now empty_jar (holds_originals (changes_by calls e.played)) calls e.played
       → AddsDelta e.played.jar.delta [] e.response
       → e.request ≡ (codes "cookie", plain_value (header_text e.played.client) ∷ []) ∷ []
       → e.next ≡ jar_for (cookie_header e.request)
-      → ReadsBack e.played.client
+      → (get e.played.client [] ≡ None → ReadsBack e.played.client)
       → IsCarried now calls e
   carried exchange response request next read =
       let delta = e.played.jar.delta in

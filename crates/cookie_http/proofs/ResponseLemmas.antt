@@ -232,12 +232,3 @@ empty_takes [] n empty (inl many) = omega (arith, many)
 empty_takes [] n empty (inr (new, inl many)) = omega (arith, many)
 empty_takes [] n empty (inr (new, inr many)) = omega (arith, many)
 empty_takes (e ∷ m) n empty refuses = cc
-
--- what fails out of memory fails with no other refusal
-pub memory_not_invalid : {T : Type 0} (r : Result T HttpError) (P : T → Type 0) → Gives refusal.OutOfMemory r P → ¬ (IsErrOf r refusal.InvalidValue)
-memory_not_invalid (Ok x) P h is = cc
-memory_not_invalid (Err e) P h is = cc
-
-pub memory_not_full : {T : Type 0} (r : Result T HttpError) (P : T → Type 0) → Gives refusal.OutOfMemory r P → ¬ (IsErrOf r refusal.TooManyFields)
-memory_not_full (Ok x) P h is = cc
-memory_not_full (Err e) P h is = cc

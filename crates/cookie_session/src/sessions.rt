@@ -170,7 +170,8 @@ impl<'a> Sessions<'a> {
         session: &Session,
         now: DateTime,
     ) -> Result<Cookie<'static>, SessionError>
-        ensures ok { IfOk result (λ cookie. cookie.fields ≡ bare_cookie self.now now session.now) }
+        ensures ok { IfOk result (λ cookie. cookie.fields
+            ≡ bare_cookie self.now now session.now) }
         ensures session { OnOk result (IsSession (seen_at (second_of now) session.now)) }
         ensures meets { OnOk result (meets_prefix self.now.cookie.now.fields ≡ true) }
         ensures lives { OnOk result (CanSave self.now now session.now) }
