@@ -1,27 +1,31 @@
 -- The pieces of a `Cookie` field, which are read one after the other.
-use Rattle.std.proofs.Common.{◌≡◌, ◌==◌, ◌<◌, ◌≤◌, ◌+◌, ◌-◌, Bool, true, false, cond, not, ℕ, List, [], ◌∷◌, ◌++◌, map, length, take, take_all, drop, length-drop, get_or, All, Some, None, refl, sym, ap, subst, ◌∙◌, arith}
+use Rattle.std.proofs.Common.{◌≡◌, ◌==◌, ◌<◌, ◌≤◌, ◌+◌, ◌-◌, Bool, true, false, cond, not, ◌&&◌, ℕ, List, [], ◌∷◌, ◌++◌, map, length, take, take_all, drop, length-drop, get_or, All, Option, Some, None, refl, sym, ap, subst, ◌∙◌, arith}
 use Rattle.std.proofs.Math.Dec.{ltb}
 use Rattle.std.proofs.Math.Seq.{take-append_seam, drop-append-add, get_or-append_seam}
-use Rattle.std.proofs.lemmas.Bool.{false_from_ne_true, ltb-true}
+use Rattle.std.proofs.lemmas.Bool.{and_parts, false_from_ne_true, ltb-true}
 use Rattle.std.proofs.lemmas.Bool.Decides.{nat_tests}
-use Rattle.std.proofs.lemmas.List.{append-nil, length-append}
+use Rattle.std.proofs.lemmas.List.{append-nil, append_assoc, length-append, nil_from_length}
 use Rattle.std.proofs.lemmas.List.Elements.{All-cons, All-filter, All-head, All-tail, filter-append, filter_map-append}
 use Rattle.std.proofs.lemmas.List.Splits.{slice_split_first, slice_split_none, join_with_byte-slice_split}
 use Rattle.std.proofs.lemmas.List.Sums.{fails_before_first}
 use Rattle.std.proofs.lemmas.Option.{none-some, same_Some}
 use Rattle.std.proofs.lemmas.Str.{IsCharBoundary-after_ascii, IsCharBoundary-before_ascii, IsUtf8-drop, IsUtf8-from_is_utf8, IsUtf8-take, is_utf8-from_IsUtf8}
-use Rattle.std.specs.List.{filter, filter_map, flat_map, join_with_byte, position, position_or_len}
+use Rattle.std.specs.List.{cons_option, filter, filter_map, flat_map, join_with_byte, list_all, position, position_or_len}
+use Rattle.std.specs.Option.{option_to_list}
 use Rattle.std.specs.Str.{IsUtf8, is_utf8, trim}
 use Rattle.cookie_core.specs.CookieOf.{cookie_of, header_cookies}
-use Rattle.cookie_core.specs.Header.{kept_texts}
+use Rattle.cookie_core.specs.Header.{joined_texts, kept_texts}
+use Rattle.cookie_core.specs.Normal.{IsNamed}
 use Rattle.cookie_core.specs.Pieces.{Lacks, pieces}
-use Rattle.cookie_core.specs.Record.{Record}
-use Rattle.cookie.specs.Jar.{JarState}
+use Rattle.cookie_core.specs.Record.{Record, plain}
+use Rattle.cookie_core.specs.SentNames.{is_named_as_sent}
+use Rattle.cookie_core.specs.Text.{cookie_text}
+use Rattle.cookie_core.proofs.HeaderLemmas.{header_form}
 use Rattle.cookie_core.proofs.JoinLemmas.{header_cookies-joined}
 use Rattle.cookie_core.proofs.PieceLemmas.{IsHeaderTexts-header_texts, IsPieces-pieces, pieces-cut}
-use Rattle.cookie.specs.FieldPieces.{cookies_of, cookies_of_piece}
-use Rattle.cookie.specs.Originals.{readable, with_originals}
-use Rattle.cookie.proofs.OriginalLemmas.{with_originals-more}
+use Rattle.cookie_core.proofs.SentHeaderLemmas.{joined_named}
+use Rattle.cookie.specs.FieldPieces.{cookies_of_piece}
+use Rattle.cookie.specs.Originals.{field_cookies, is_readable, readable}
 
 not_below : (a b : ℕ) → ltb a b ≡ false → b ≤ a
 not_below a b h = grind (arith, nat_tests)
@@ -98,56 +102,87 @@ pieces_lack t =
     let h = IsHeaderTexts-header_texts t in
     subst (All (Lacks 59)) (sym (IsPieces-pieces t h.0 h.1 h.2)) (All-cons (Lacks 59) h.0 h.1 h.2.first h.2.later)
 
-kept_pieces : (ps : List (List ℕ)) → flat_map (header_cookies true) (filter is_utf8 ps) ≡ flat_map cookies_of_piece ps
-kept_pieces [] = refl
-kept_pieces (p ∷ ps) = by (is_utf8 p) (kept_pieces ps)
+-- the cookie that a text without `;` is read as
+no_cookie : (p : List ℕ) → p ≡ [] → cookie_of true p ≡ None
+unfolding cookie_of
+no_cookie p none = ap (cookie_of true) none
+
+piece_cookie : (p : List ℕ) → Lacks 59 p → header_cookies true p ≡ option_to_list (cookie_of true (trim p))
+piece_cookie p lacks = header_cookies-piece p lacks ∙ by (is_filled (trim p)) refl
   where
-    by : (b : Bool) → flat_map (header_cookies true) (filter is_utf8 ps) ≡ flat_map cookies_of_piece ps
-        → flat_map (header_cookies true) (cond b (p ∷ filter is_utf8 ps) (filter is_utf8 ps)) ≡ cond b (header_cookies true p) [] ++ flat_map cookies_of_piece ps
-    by true later = ap (λ cookies. header_cookies true p ++ cookies) later
+    one : (o : Option Record) → cons_option o [] ≡ option_to_list o
+    one None = refl
+    one (Some c) = refl
+
+    by : (b : Bool) → is_filled (trim p) ≡ b → filter_map (cookie_of true) (cond b (trim p ∷ []) []) ≡ option_to_list (cookie_of true (trim p))
+    by true e = one (cookie_of true (trim p))
+    by false e = sym (ap option_to_list (no_cookie (trim p) (nil_from_length (trim p) (grind (arith, nat_tests)))))
+
+kept_pieces : (ps : List (List ℕ)) → All (Lacks 59) ps → flat_map (header_cookies true) (filter is_readable ps) ≡ flat_map cookies_of_piece ps
+kept_pieces [] lacks = refl
+kept_pieces (p ∷ ps) lacks = by (is_readable p) (kept_pieces ps (All-tail (Lacks 59) p ps lacks))
+  where
+    by : (b : Bool) → flat_map (header_cookies true) (filter is_readable ps) ≡ flat_map cookies_of_piece ps
+        → flat_map (header_cookies true) (cond b (p ∷ filter is_readable ps) (filter is_readable ps)) ≡ cond b (option_to_list (cookie_of true (trim p))) [] ++ flat_map cookies_of_piece ps
+    by true later =
+        ap (λ cookies. cookies ++ flat_map (header_cookies true) (filter is_readable ps)) (piece_cookie p (All-head (Lacks 59) p ps lacks))
+        ∙ ap (λ cookies. option_to_list (cookie_of true (trim p)) ++ cookies) later
     by false later = later
 
 -- a field's cookies are those of its pieces, in order
-pub cookies_of-pieces : (value : List ℕ) → cookies_of value ≡ flat_map cookies_of_piece (pieces value)
-cookies_of-pieces value =
-    header_cookies-join (filter is_utf8 (pieces value)) (All-filter is_utf8 (Lacks 59) (pieces value) (pieces_lack value)) ∙ kept_pieces (pieces value)
+pub field_cookies-pieces : (value : List ℕ) → field_cookies value ≡ flat_map cookies_of_piece (pieces value)
+field_cookies-pieces value =
+    header_cookies-join (filter is_readable (pieces value)) (All-filter is_readable (Lacks 59) (pieces value) (pieces_lack value)) ∙ kept_pieces (pieces value) (pieces_lack value)
+
+-- a piece is readable if it is UTF-8, and named as it was sent
+pub piece_readable : (piece : List ℕ) (b : Bool) → IsUtf8 piece → b ≡ is_named_as_sent piece → b ≡ is_readable piece
+piece_readable piece b utf8 named = named ∙ sym (ap (λ u. u && is_named_as_sent piece) (is_utf8-from_IsUtf8 piece utf8))
+
+pub piece_unreadable : (piece : List ℕ) → ¬ (IsUtf8 piece) → is_readable piece ≡ false
+piece_unreadable piece bad = ap (λ u. u && is_named_as_sent piece) (false_from_ne_true (is_utf8 piece) (λ e. bad (IsUtf8-from_is_utf8 piece e)))
 
 -- ---- the walk over the pieces of a field
 
--- the cookies of a piece that is UTF-8
-pub text_cookies : (piece : List ℕ) → IsUtf8 piece → header_cookies true piece ≡ cookies_of_piece piece
-text_cookies piece utf8 = sym (ap (λ b. cond b (header_cookies true piece) []) (is_utf8-from_IsUtf8 piece utf8))
-
--- and of another
-pub no_cookies : (piece : List ℕ) → ¬ (IsUtf8 piece) → [] ≡ cookies_of_piece piece
-no_cookies piece bad = sym (ap (λ b. cond b (header_cookies true piece) []) (false_from_ne_true (is_utf8 piece) (λ e. bad (IsUtf8-from_is_utf8 piece e))))
-
 -- once the first piece is read, the others are left
-pub cookies_left : (value rest : List ℕ) (end : ℕ) (start jar made : JarState) → position is_mark rest ≡ Some end
-    → made ≡ with_originals (cookies_of_piece (take end rest)) jar
-    → with_originals (flat_map cookies_of_piece (pieces rest)) jar ≡ with_originals (cookies_of value) start
-    → with_originals (flat_map cookies_of_piece (pieces (take (length rest - (end + 1)) (drop (end + 1) rest)))) made ≡ with_originals (cookies_of value) start
-cookies_left value rest end start jar made found is whole =
+pub cookies_left : (rest : List ℕ) (end : ℕ) (read made whole : List Record) → position is_mark rest ≡ Some end
+    → made ≡ read ++ cookies_of_piece (take end rest)
+    → read ++ flat_map cookies_of_piece (pieces rest) ≡ whole
+    → made ++ flat_map cookies_of_piece (pieces (take (length rest - (end + 1)) (drop (end + 1) rest))) ≡ whole
+cookies_left rest end read made whole found is all =
     let cut = pieces-Some rest end found in
     let left = drop (end + 1) rest in
-    ap (λ t. with_originals (flat_map cookies_of_piece (pieces t)) made) (take_all (length rest - (end + 1)) left (omega (arith, length-drop (end + 1) rest)))
-    ∙ ap (with_originals (flat_map cookies_of_piece (pieces left))) is
-    ∙ with_originals-more (cookies_of_piece (take end rest)) (flat_map cookies_of_piece (pieces left)) jar
-    ∙ ap (λ ps. with_originals (flat_map cookies_of_piece ps) jar) (sym cut.1)
-    ∙ whole
+    ap (λ t. made ++ flat_map cookies_of_piece (pieces t)) (take_all (length rest - (end + 1)) left (omega (arith, length-drop (end + 1) rest)))
+    ∙ ap (λ cs. cs ++ flat_map cookies_of_piece (pieces left)) is
+    ∙ append_assoc read (cookies_of_piece (take end rest)) (flat_map cookies_of_piece (pieces left))
+    ∙ ap (λ ps. read ++ flat_map cookies_of_piece ps) (sym cut.1)
+    ∙ all
 
 -- the last piece
-pub cookies_last : (value rest : List ℕ) (start jar : JarState) → position is_mark rest ≡ None
-    → with_originals (flat_map cookies_of_piece (pieces rest)) jar ≡ with_originals (cookies_of value) start
-    → with_originals (cookies_of_piece rest) jar ≡ with_originals (cookies_of value) start
-cookies_last value rest start jar none whole =
-    ap (λ cookies. with_originals cookies jar) (sym (append-nil (cookies_of_piece rest)))
-    ∙ ap (λ ps. with_originals (flat_map cookies_of_piece ps) jar) (sym (pieces-None rest none))
-    ∙ whole
+pub cookies_last : (rest : List ℕ) (read whole : List Record) → position is_mark rest ≡ None
+    → read ++ flat_map cookies_of_piece (pieces rest) ≡ whole → read ++ cookies_of_piece rest ≡ whole
+cookies_last rest read whole none all =
+    ap (λ cookies. read ++ cookies) (sym (append-nil (cookies_of_piece rest)))
+    ∙ ap (λ ps. read ++ flat_map cookies_of_piece ps) (sym (pieces-None rest none))
+    ∙ all
+
+-- ---- the pieces of a text, cut at each `;`
+
+-- the first, and those after it
+pub named-cut : (rest piece after : List ℕ) → rest ≡ piece ++ 59 ∷ after → Lacks 59 piece
+    → list_all is_named_as_sent (pieces rest) ≡ (is_named_as_sent piece && list_all is_named_as_sent (pieces after))
+named-cut rest piece after whole lacks = ap (list_all is_named_as_sent) (pieces-cut rest piece (Some after) whole lacks)
+
+-- the last
+pub named-last : (rest : List ℕ) → Lacks 59 rest → list_all is_named_as_sent (pieces rest) ≡ is_named_as_sent rest
+named-last rest lacks = ap (list_all is_named_as_sent) (pieces-cut rest rest None (sym (append-nil rest)) lacks) ∙ and_true (is_named_as_sent rest)
+  where
+    and_true : (b : Bool) → (b && true) ≡ b
+    and_true true = refl
+    and_true false = refl
 
 -- ---- a field that is UTF-8
 
-seam : (p rest : List ℕ) → IsUtf8 (p ++ 59 ∷ rest) → IsUtf8 p × IsUtf8 rest
+pub seam : (p rest : List ℕ) → IsUtf8 (p ++ 59 ∷ rest) → IsUtf8 p × IsUtf8 rest
 seam p rest utf8 =
     let t = p ++ 59 ∷ rest in
     let within : length p < length t = omega (arith, length-append p (59 ∷ rest)) in
@@ -156,15 +191,27 @@ seam p rest utf8 =
       subst IsUtf8 (drop-append-add p (59 ∷ rest) 1) (IsUtf8-drop t (length p + 1) utf8 (IsCharBoundary-after_ascii t (length p) utf8 within mark)),
     )
 
-all_utf8 : (ps : List (List ℕ)) → IsUtf8 (join_with_byte 59 ps) → filter is_utf8 ps ≡ ps
-all_utf8 [] utf8 = refl
-all_utf8 (p ∷ []) utf8 = ap (λ b. cond b (p ∷ []) []) (is_utf8-from_IsUtf8 p utf8)
-all_utf8 (p ∷ q ∷ ps) utf8 =
+all_readable : (ps : List (List ℕ)) → IsUtf8 (join_with_byte 59 ps) → list_all is_named_as_sent ps ≡ true → filter is_readable ps ≡ ps
+all_readable [] utf8 named = refl
+all_readable (p ∷ []) utf8 named =
+    let here = and_parts (is_named_as_sent p) true named in
+    ap (λ b. cond (b && is_named_as_sent p) (p ∷ []) []) (is_utf8-from_IsUtf8 p utf8) ∙ ap (λ b. cond b (p ∷ []) []) here.0
+all_readable (p ∷ q ∷ ps) utf8 named =
     let parts = seam p (join_with_byte 59 (q ∷ ps)) utf8 in
-    ap (λ b. cond b (p ∷ filter is_utf8 (q ∷ ps)) (filter is_utf8 (q ∷ ps))) (is_utf8-from_IsUtf8 p parts.0) ∙ ap (λ qs. p ∷ qs) (all_utf8 (q ∷ ps) parts.1)
+    let here = and_parts (is_named_as_sent p) (list_all is_named_as_sent (q ∷ ps)) named in
+    ap (λ b. cond (b && is_named_as_sent p) (p ∷ filter is_readable (q ∷ ps)) (filter is_readable (q ∷ ps))) (is_utf8-from_IsUtf8 p parts.0)
+    ∙ ap (λ b. cond b (p ∷ filter is_readable (q ∷ ps)) (filter is_readable (q ∷ ps))) here.0
+    ∙ ap (λ qs. p ∷ qs) (all_readable (q ∷ ps) parts.1 here.1)
 
--- it is read as it stands
-pub readable-utf8 : (value : List ℕ) → IsUtf8 value → readable value ≡ value
-readable-utf8 value utf8 =
+-- it is read as it stands, if each piece is named as it was sent
+pub readable-named : (value : List ℕ) → IsUtf8 value → list_all is_named_as_sent (pieces value) ≡ true → readable value ≡ value
+readable-named value utf8 named =
     let whole = join_with_byte-slice_split 59 value in
-    ap (join_with_byte 59) (all_utf8 (pieces value) (subst IsUtf8 (sym whole) utf8)) ∙ whole
+    ap (join_with_byte 59) (all_readable (pieces value) (subst IsUtf8 (sym whole) utf8) named) ∙ whole
+
+-- what this crate printed is read whole
+pub printed_cookies : (header : List ℕ) (cookies : List Record) → IsUtf8 header → All IsNamed cookies → header ≡ joined_texts (map (cookie_text true true) cookies)
+    → field_cookies header ≡ map (λ c. plain c.name c.value) cookies
+printed_cookies header cookies utf8 named is =
+    ap (header_cookies true) (readable-named header utf8 (ap (λ t. list_all is_named_as_sent (pieces t)) is ∙ joined_named cookies named) ∙ is)
+    ∙ header_form cookies named

@@ -40,8 +40,11 @@ pub use Rattle.cookie_core.proofs.PartLemmas
 pub use Rattle.cookie_core.proofs.PieceLemmas
 pub use Rattle.cookie_core.proofs.PieceWalkLemmas
 pub use Rattle.cookie_core.proofs.ReadingLemmas
+pub use Rattle.cookie_core.proofs.SentHeaderLemmas
+pub use Rattle.cookie_core.proofs.SentNameLemmas
 pub use Rattle.cookie_core.proofs.SpanLemmas
 pub use Rattle.cookie_core.proofs.SplitLemmas
 pub use Rattle.cookie_core.proofs.TrimLemmas
+pub use Rattle.cookie_core.proofs.WspLemmas
 pub use Rattle.cookie_crypt.proofs.GcmLemmas
 pub use Rattle.cookie_crypt.proofs.MacLemmas

@@ -47,10 +47,12 @@ pub use Rattle.cookie_core.specs.RecordCode
 pub use Rattle.cookie_core.specs.Removal
 pub use Rattle.cookie_core.specs.Same
 pub use Rattle.cookie_core.specs.SameSite
+pub use Rattle.cookie_core.specs.SentNames
 pub use Rattle.cookie_core.specs.Spans
 pub use Rattle.cookie_core.specs.SplitCookies
 pub use Rattle.cookie_core.specs.Text
 pub use Rattle.cookie_core.specs.Trim
+pub use Rattle.cookie_core.specs.Wsp
 pub use Rattle.cookie_core.specs.DateText
 pub use Rattle.cookie_core.specs.Days
 pub use Rattle.cookie_core.specs.Forms

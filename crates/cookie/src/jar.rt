@@ -5,6 +5,7 @@ ghost use Rattle.std.specs.Option.{option_map};
 ghost use Rattle.cookie_core.specs.Memory.{Gives};
 ghost use Rattle.cookie.specs.History.{LooksBack, after_all};
 ghost use Rattle.cookie.specs.Jar.{Add, AddOriginal, Change, ForceRemove, Name, Remove, ResetDelta, after, empty_jar, view};
+ghost use Rattle.cookie.specs.Originals.{with_original};
 ghost use Rattle.cookie.specs.Walk.{Walks};
 ghost use Rattle.cookie.specs.declared.jar_error.JarError.TheVariants as refusal;
 
@@ -123,6 +124,17 @@ impl CookieJar {
     {
         self.put_original(cookie)?;
         Ok(())
+    }
+
+    // Puts a cookie among the originals, if there is none of its name. On an error the jar stays as it was.
+    pub(crate) fn put_first(&mut self, cookie: Cookie<'static>) -> Result<(), AllocError>
+        ensures ok { OnOk result (self.new ≡ with_original cookie.entry.fields self.old) }
+        ensures err { OnErr result (self.new ≡ self.old) }
+    {
+        if self.original(cookie.name()).is_some() {
+            return Ok(());
+        }
+        self.put_original(cookie)
     }
 
     // Puts a cookie among the originals. On an error the jar stays as it was.

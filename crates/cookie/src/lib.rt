@@ -6,6 +6,7 @@ mod delta;
 mod delta_texts;
 mod entry;
 mod error;
+mod field;
 mod header;
 mod iter;
 mod jar;
@@ -20,9 +21,11 @@ mod text_map;
 pub use child::{ChildJar, Storing};
 pub use cookie_core::{
     Attributes, Builder, Cookie, CookieBuilder, DateText, Display, EncodedText, Expiration, Layout,
-    ParseError, SameSite, Span, SplitCookies, days_after, encode, read_date,
+    ParseError, SameSite, Span, SplitCookies, days_after, encode, is_named_as_sent, read_date,
+    trim_wsp,
 };
 pub use error::Error;
+pub use field::field_cookies;
 pub use iter::{Delta, Iter};
 pub use jar::CookieJar;
 pub use jar_error::JarError;

@@ -11,19 +11,20 @@ use Rattle.std.specs.Option.{option_to_list}
 use Rattle.std.specs.Prelude.{IsPermutation}
 use Rattle.std.specs.Str.{bytes_eq, IsUtf8}
 use mathlib.Core.Logic.{◌≢◌}
-use Rattle.cookie.specs.CookieOf.{header_cookies}
 use Rattle.cookie.specs.Escapes.{escape, unescape}
 use Rattle.cookie.specs.Header.{joined_texts}
 use Rattle.cookie.specs.Jar.{Name, view}
 use Rattle.cookie.specs.Normal.{IsNamed}
+use Rattle.cookie.specs.Originals.{field_cookies}
 use Rattle.cookie.specs.Record.{Record, plain}
 use Rattle.cookie.specs.Text.{cookie_text}
 use Rattle.cookie.proofs.EscapeTextLemmas.{escape_some, unescape-escape, utf8_is_bytes}
-use Rattle.cookie.proofs.HeaderLemmas.{header_form}
+use Rattle.cookie.proofs.FieldLemmas.{printed_cookies}
 use Rattle.cookie.proofs.LawLemmas.{joined-read}
 use Rattle.cookie_client.specs.Agreement.{value_of}
 use Rattle.cookie_agent.specs.Agreement.{IsOurs, values_of, IsSent, PlanView}
 use Rattle.cookie_agent.specs.Sent.{visible, name_part, sent_pair}
+use Rattle.cookie_agent.proofs.Utf8Lemmas.{joined_utf8}
 use Rattle.cookie_browser.specs.Storage.{KeptView, CookieStore, is_sent}
 
 -- ---- what passes a test
@@ -122,7 +123,7 @@ module _ (plans : Name → PlanView) where
       let f = texts_same cs (All-tail (IsOurs plans) c cs all) in
       cc
 
-  pub plain_same : (cs : CookieStore) → map (λ (r : Record). plain r.name r.value) (map plain_of cs) ≡ map plain_of cs
+  plain_same : (cs : CookieStore) → map (λ (r : Record). plain r.name r.value) (map plain_of cs) ≡ map plain_of cs
   plain_same [] = refl
   plain_same (c ∷ cs) = ap (λ l. plain_of c ∷ l) (plain_same cs)
 
@@ -164,6 +165,13 @@ module _ (plans : Name → PlanView) where
       by true e = ap (λ l. unescape c.value ∷ l) e
       by false e = e
 
+-- what a server reads of a header of such cookies
+pub read_as : (plans : Name → PlanView) (header : List ℕ) (cs : CookieStore) → All (IsOurs plans) cs → header ≡ joined_texts (map sent_pair cs)
+    → field_cookies header ≡ map plain_of cs
+read_as plans header cs all text =
+    printed_cookies header (map plain_of cs) (subst IsUtf8 (sym text) (joined_utf8 plans cs all)) (named_of plans cs all) (text ∙ ap joined_texts (texts_same plans cs all))
+    ∙ plain_same plans cs
+
 value_back : (o : Option Record) → ((cookie : Record) → o ≡ Some cookie → IsUtf8 cookie.value) → map unescape (option_to_list (option_map escape (value_of o))) ≡ option_to_list (value_of o)
 value_back None known = refl
 value_back (Some cookie) known = ap (λ v. v ∷ []) (unescape-escape cookie.value (utf8_is_bytes cookie.value (known cookie refl)))
@@ -172,8 +180,7 @@ pub sent : IsSent
 sent site now plans store jar header known ours mirrors h =
     let all : All (IsOurs plans) h.cookies = All-permutation (IsOurs plans) (visible site now store) h.cookies h.sent (All-filter (is_sent site now) (IsOurs plans) store ours) in
     let text : header ≡ joined_texts (map (cookie_text true true) (map plain_of h.cookies)) = h.text ∙ ap joined_texts (texts_same plans h.cookies all) in
-    let cookies : header_cookies true header ≡ map plain_of h.cookies
-    = ap (header_cookies true) text ∙ header_form (map plain_of h.cookies) (named_of plans h.cookies all) ∙ plain_same plans h.cookies in
+    let cookies : field_cookies header ≡ map plain_of h.cookies = read_as plans header h.cookies all h.text in
     record {
       read = joined-read header (map plain_of h.cookies) (named_of plans h.cookies all) text ∙ some_same plans h.cookies ∙ ap (map (λ r. Some r)) (sym cookies);
       agrees = λ name u.

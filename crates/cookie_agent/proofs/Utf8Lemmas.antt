@@ -40,12 +40,7 @@ module _ (plans : Name → PlanView) where
       IsUtf8-append (codes "; ") (sent_pair c ++ more_joined (map sent_pair cs)) (IsUtf8-from_ascii (codes "; ") (IsAscii-from_test (codes "; ") refl))
       (IsUtf8-append (sent_pair c) (more_joined (map sent_pair cs)) (pair_utf8 c (All-head (IsOurs plans) c cs all)) (more_utf8 cs (All-tail (IsOurs plans) c cs all)))
 
-  joined_utf8 : (cs : CookieStore) → All (IsOurs plans) cs → IsUtf8 (joined_texts (map sent_pair cs))
+  pub joined_utf8 : (cs : CookieStore) → All (IsOurs plans) cs → IsUtf8 (joined_texts (map sent_pair cs))
   joined_utf8 [] all = IsUtf8-nil
   joined_utf8 (c ∷ cs) all =
       IsUtf8-append (sent_pair c) (more_joined (map sent_pair cs)) (pair_utf8 c (All-head (IsOurs plans) c cs all)) (more_utf8 cs (All-tail (IsOurs plans) c cs all))
-
-  pub header_utf8 : (store : CookieStore) → IsOurStore plans store → (site : RequestView) (now : DateTime) (header : List ℕ) → IsHeader site now store header → IsUtf8 header
-  header_utf8 store ours site now header h =
-      subst IsUtf8 (sym h.text)
-      (joined_utf8 h.cookies (All-permutation (IsOurs plans) (visible site now store) h.cookies h.sent (All-filter (is_sent site now) (IsOurs plans) store ours.each)))

@@ -4,14 +4,13 @@ use Rattle.std.proofs.lemmas.List.Elements.{All-head, All-tail, All-filter}
 use Rattle.std.proofs.lemmas.List.Sorted.{All-permutation}
 use Rattle.std.proofs.lemmas.Option.{none-some, same_Some}
 use Rattle.std.specs.FinMap.{FinMap, get, get-empty}
+use Rattle.std.specs.Option.{is_some}
 use Rattle.std.specs.Str.{bytes_eq, IsUtf8}
-use Rattle.cookie.specs.CookieOf.{header_cookies}
-use Rattle.cookie.specs.Header.{joined_texts}
 use Rattle.cookie.specs.Jar.{Name, name_cmp, Marked, JarState, AddOriginal, after, empty_jar, overlay, view, Change}
 use Rattle.cookie.specs.Normal.{IsNamed}
 use Rattle.cookie.specs.Record.{Record}
-use Rattle.cookie.proofs.HeaderLemmas.{header_form}
 use Rattle.cookie.proofs.NameLemmas.{get_inserted}
+use Rattle.cookie.proofs.OriginalLemmas.{same_delta}
 use Rattle.cookie_agent.specs.Agreement.{IsOurs, IsOurStore, IsPlannedEntry, IsPlannedDelta, PlanView}
 use Rattle.cookie_agent.specs.Calls.{IsPlannedChange}
 use Rattle.cookie_client.specs.Calls.{IsKnownChange}
@@ -23,13 +22,9 @@ use Rattle.cookie.specs.History.{after_all}
 use Rattle.cookie_client.proofs.EntryLemmas.{chosen, AreEntries-empty}
 use Rattle.cookie_agent.proofs.VisitLemmas.{IsFollowable}
 use Rattle.cookie_agent.specs.Sent.{visible, IsHeader}
-use Rattle.cookie.specs.Originals.{with_originals}
+use Rattle.cookie.specs.Originals.{field_cookies, jar_for, with_original, with_originals}
 use Rattle.cookie_agent.proofs.CallLemmas.{planned_delta, originals_stay}
-use Rattle.cookie_agent.proofs.HeaderLemmas.{plain_of, named_of, texts_same, plain_same}
-
-same_delta : (cs : List Record) (jar : JarState) → (with_originals cs jar).delta ≡ jar.delta
-same_delta [] jar = refl
-same_delta (c ∷ cs) jar = same_delta cs (after (AddOriginal c) jar)
+use Rattle.cookie_agent.proofs.HeaderLemmas.{plain_of, named_of, read_as}
 
 -- the originals are those cookies
 abbrev AreNamed : JarState → Type 0
@@ -42,9 +37,16 @@ one_named c jar h all name d e = by (chosen (bytes_eq name c.name) (Some c) (get
     by (inl (same, is)) = subst IsNamed (same_Some c d is) h
     by (inr (other, is)) = all name d is
 
+given_named : (c : Record) (jar : JarState) → IsNamed c → AreNamed jar → AreNamed (with_original c jar)
+given_named c jar h all = by (is_some (get jar.originals c.name))
+  where
+    by : (b : Bool) → AreNamed (cond b jar (after (AddOriginal c) jar))
+    by true = all
+    by false = one_named c jar h all
+
 all_named : (cs : List Record) → All IsNamed cs → (jar : JarState) → AreNamed jar → AreNamed (with_originals cs jar)
 all_named [] hs jar all = all
-all_named (c ∷ cs) hs jar all = all_named cs (All-tail IsNamed c cs hs) (after (AddOriginal c) jar) (one_named c jar (All-head IsNamed c cs hs) all)
+all_named (c ∷ cs) hs jar all = all_named cs (All-tail IsNamed c cs hs) (with_original c jar) (given_named c jar (All-head IsNamed c cs hs) all)
 
 none_named : AreNamed empty_jar
 none_named name c e = absurd (none-some c (sym (get-empty name_cmp name) ∙ e))
@@ -52,15 +54,15 @@ none_named name c e = absurd (none-some c (sym (get-empty name_cmp name) ∙ e))
 -- the delta that planned changes leave, on a jar with a header's cookies as its originals
 pub planned_delta_of : (rules : List Rule) (plans : Name → PlanView) (site : RequestView) (now : DateTime) (header : List ℕ) (changes : List Change)
     → All IsKnownChange changes → All (IsPlannedChange rules site now plans) changes
-    → IsPlannedDelta rules site now plans (after_all changes (with_originals (header_cookies true header) empty_jar)).delta
+    → IsPlannedDelta rules site now plans (after_all changes (jar_for header)).delta
 planned_delta_of rules plans site now header changes known planned =
-    planned_delta rules site now plans changes (with_originals (header_cookies true header) empty_jar) known planned
-    (subst (IsPlannedDelta rules site now plans) (sym (same_delta (header_cookies true header) empty_jar)) (AreEntries-empty (IsPlannedEntry rules site now plans)))
+    planned_delta rules site now plans changes (jar_for header) known planned
+    (subst (IsPlannedDelta rules site now plans) (sym (same_delta (field_cookies header) empty_jar)) (AreEntries-empty (IsPlannedEntry rules site now plans)))
 
 module _ (rules : List Rule) (plans : Name → PlanView) (before : CookieStore) (ours : IsOurStore plans before) (site : RequestView) (now : DateTime)
     (header : List ℕ) (sent : IsHeader site now before header) (changes : List Change) (known : All IsKnownChange changes) (planned : All (IsPlannedChange rules site now plans) changes) where
   abbrev start : JarState
-  start = with_originals (header_cookies true header) empty_jar
+  start = jar_for header
 
   abbrev jar : JarState
   jar = after_all changes start
@@ -72,10 +74,8 @@ module _ (rules : List Rule) (plans : Name → PlanView) (before : CookieStore) 
   start_named =
       let every : All (IsOurs plans) sent.cookies
       = All-permutation (IsOurs plans) (visible site now before) sent.cookies sent.sent (All-filter (is_sent site now) (IsOurs plans) before ours.each) in
-      let read : header_cookies true header ≡ map plain_of sent.cookies
-      = ap (header_cookies true) (sent.text ∙ ap joined_texts (texts_same plans sent.cookies every))
-      ∙ header_form (map plain_of sent.cookies) (named_of plans sent.cookies every) ∙ plain_same plans sent.cookies in
-      all_named (header_cookies true header) (subst (All IsNamed) (sym read) (named_of plans sent.cookies every)) empty_jar none_named
+      let read : field_cookies header ≡ map plain_of sent.cookies = read_as plans header sent.cookies every sent.text in
+      all_named (field_cookies header) (subst (All IsNamed) (sym read) (named_of plans sent.cookies every)) empty_jar none_named
 
   of_entry : (entry : Marked) (original : Option Record) (c : Record) (b : Bool) → IsNamed entry.cookie → cond b None (Some entry.cookie) ≡ Some c → IsUtf8 c.value
   of_entry entry original c true h e = absurd (none-some c e)

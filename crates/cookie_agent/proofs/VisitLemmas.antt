@@ -6,18 +6,15 @@ use Rattle.std.proofs.lemmas.List.Sorted.{All-permutation}
 use Rattle.std.proofs.lemmas.Slice.Eq.{bytes_eq-Decides}
 use Rattle.std.specs.FinMap.{get, get-empty}
 use Rattle.std.specs.List.{filter}
-use Rattle.std.specs.Option.{option_to_list}
+use Rattle.std.specs.Option.{option_or, option_to_list}
 use Rattle.std.specs.Str.{bytes_eq}
 use Rattle.jiff.specs.Types.{DateTime}
-use Rattle.cookie.specs.CookieOf.{header_cookies}
 use Rattle.cookie.specs.Escapes.{escape, unescape}
-use Rattle.cookie.specs.Header.{joined_texts}
-use Rattle.cookie.specs.Jar.{Name, name_cmp, Marked, JarState, AddOriginal, after, empty_jar}
+use Rattle.cookie.specs.Jar.{Name, name_cmp, Marked, JarState, empty_jar}
 use Rattle.cookie.specs.Record.{Record}
 use Rattle.cookie.specs.Text.{cookie_text}
-use Rattle.cookie.proofs.HeaderLemmas.{header_form}
-use Rattle.cookie.proofs.NameLemmas.{get_inserted}
-use Rattle.cookie.specs.Originals.{with_originals}
+use Rattle.cookie.proofs.OriginalLemmas.{has_first}
+use Rattle.cookie.specs.Originals.{field_cookies, first_of_name, jar_for}
 use Rattle.cookie.specs.DeltaTexts.{IsDeltaText, AreDeltaTexts}
 use Rattle.cookie_client.specs.Agreement.{value_of}
 use Rattle.cookie_agent.specs.Agreement.{IsOurs, IsOurStore, IsKnownView, seen, Mirrors, values_of, IsPlannedEntry, IsPlannedDelta, SiteAgrees, PlanView}
@@ -30,7 +27,7 @@ use Rattle.cookie_agent.proofs.FollowLemmas.{alone_one, is_ours, text_stored, x,
 use Rattle.cookie_agent.proofs.KeyLemmas.{turned_test}
 use Rattle.cookie_agent.proofs.PutLemmas.{All-put}
 use Rattle.cookie_agent.proofs.StoreLemmas.{put_own, put_other}
-use Rattle.cookie_agent.proofs.HeaderLemmas.{plain_of, back, named_of, texts_same, plain_same, values_read, any_order, sent}
+use Rattle.cookie_agent.proofs.HeaderLemmas.{plain_of, back, read_as, values_read, any_order, sent}
 
 -- ---- no two cookies of one name
 
@@ -116,30 +113,20 @@ module _ (rules : List Rule) (site : RequestView) (now : DateTime) (plans : Name
 
 -- ---- the jar's originals are what the site sees
 
-abbrev first_some : Option (List ℕ) → Option (List ℕ) → Option (List ℕ)
-first_some None o = o
-first_some (Some v) o = Some v
-
-put_original : (name : Name) (c : Record) (jar : JarState) (r : Bool) → bytes_eq c.name name ≡ r
-    → value_of (get (after (AddOriginal c) jar).originals name) ≡ value_of (cond r (Some c) (get jar.originals name))
-put_original name c jar r e =
-    ap value_of (get_inserted jar.originals c.name c name ∙ ap (λ b. cond b (Some c) (get jar.originals name)) (turned_test name c.name ∙ e))
-
-original_at : (name : Name) (cs : List Record) (jar : JarState) (w : Option (List ℕ)) → values_of name cs ≡ option_to_list w
-    → value_of (get (with_originals cs jar).originals name) ≡ first_some w (value_of (get jar.originals name))
-original_at name [] jar None e = refl
-original_at name [] jar (Some v) e = cc
-original_at name (c ∷ cs) jar w e = by (original_at name cs (after (AddOriginal c) jar)) (bytes_eq c.name name) refl w e
+-- the first cookie of a name has the name's value, if there is one value
+first_value : (name : Name) (cs : List Record) (w : Option (List ℕ)) → values_of name cs ≡ option_to_list w → value_of (first_of_name name cs) ≡ w
+first_value name [] None e = refl
+first_value name [] (Some v) e = cc
+first_value name (c ∷ cs) w e = by (bytes_eq c.name name) refl w e
   where
-    by : ((w : Option (List ℕ)) → values_of name cs ≡ option_to_list w → value_of (get (with_originals cs (after (AddOriginal c) jar)).originals name) ≡ first_some w (value_of (get (after (AddOriginal c) jar).originals name)))
-        → (r : Bool) → bytes_eq c.name name ≡ r → (w : Option (List ℕ)) → map (λ (d : Record). d.value) (cond r (c ∷ filter (λ d. bytes_eq d.name name) cs) (filter (λ d. bytes_eq d.name name) cs)) ≡ option_to_list w
-        → value_of (get (with_originals cs (after (AddOriginal c) jar)).originals name) ≡ first_some w (value_of (get jar.originals name))
-    by more true f None g = cc
-    by more true f (Some v) g =
+    by : (r : Bool) → bytes_eq c.name name ≡ r → (w : Option (List ℕ))
+        → map (λ (d : Record). d.value) (cond r (c ∷ filter (λ d. bytes_eq d.name name) cs) (filter (λ d. bytes_eq d.name name) cs)) ≡ option_to_list w
+        → value_of (cond (bytes_eq name c.name) (Some c) (first_of_name name cs)) ≡ w
+    by true f None g = cc
+    by true f (Some v) g =
         let first : c.value ≡ v = cc in
-        let rest : values_of name cs ≡ [] = cc in
-        more None rest ∙ put_original name c jar true f ∙ ap Some first
-    by more false f w g = more w g ∙ ap (first_some w) (put_original name c jar false f)
+        ap (λ b. value_of (cond b (Some c) (first_of_name name cs))) (turned_test name c.name ∙ f) ∙ ap Some first
+    by false f w g = ap (λ b. value_of (cond b (Some c) (first_of_name name cs))) (turned_test name c.name ∙ f) ∙ first_value name cs w g
 
 at_most_one : (l : List (List ℕ)) → length l ≤ 1 → (o : Option (List ℕ)) × (l ≡ option_to_list o)
 at_most_one [] h = (None, refl)
@@ -160,18 +147,17 @@ values_all P cs h = All-map P (λ (c : KeptView). c.value) cs h
 -- a request: its header, and its jar, whose originals are the header's cookies and whose delta is planned
 pub record IsFollowable (rules : List Rule) (plans : Name → PlanView) (before : CookieStore) (site : RequestView) (now : DateTime) (header : List ℕ) (jar : JarState) : Type 0 where
   pub sent : IsHeader site now before header
-  pub originals : jar.originals ≡ (with_originals (header_cookies true header) empty_jar).originals
+  pub originals : jar.originals ≡ (jar_for header).originals
   pub planned : IsPlannedDelta rules site now plans jar.delta
   pub known : IsKnownView jar
 
 module _ (rules : List Rule) (plans : Name → PlanView) (before : CookieStore) (ours : IsOurStore plans before) (site : RequestView) (now : DateTime)
     (header : List ℕ) (jar : JarState) (is : IsFollowable rules plans before site now header jar) where
-  cookies_read : header_cookies true header ≡ map plain_of is.sent.cookies
+  cookies_read : field_cookies header ≡ map plain_of is.sent.cookies
   cookies_read =
       let every : All (IsOurs plans) is.sent.cookies
       = All-permutation (IsOurs plans) (visible site now before) is.sent.cookies is.sent.sent (All-filter (is_sent site now) (IsOurs plans) before ours.each) in
-      ap (header_cookies true) (is.sent.text ∙ ap joined_texts (texts_same plans is.sent.cookies every))
-      ∙ header_form (map plain_of is.sent.cookies) (named_of plans is.sent.cookies every) ∙ plain_same plans is.sent.cookies
+      read_as plans header is.sent.cookies every is.sent.text
 
   originals_known : Mirrors site now before (λ name. value_of (get jar.originals name))
   originals_known name u =
@@ -184,12 +170,12 @@ module _ (rules : List Rule) (plans : Name → PlanView) (before : CookieStore) 
       let small : length (seen site now before (escape name)) ≤ 1 = omega arith in
       let (o, e) = at_most_one (seen site now before (escape name)) small in
       let moved = any_order (λ c. bytes_eq c.name (escape name)) (visible site now before) is.sent.cookies is.sent.sent o e in
-      let read : values_of name (header_cookies true header) ≡ option_to_list (option_map unescape o)
+      let read : values_of name (field_cookies header) ≡ option_to_list (option_map unescape o)
       = ap (values_of name) cookies_read ∙ values_read plans name u is.sent.cookies sent_all ∙ ap (map unescape) moved ∙ unescape_list o in
-      let got : value_of (get jar.originals name) ≡ first_some (option_map unescape o) (value_of (get empty_jar.originals name))
-      = ap (λ m. value_of (get m name)) is.originals ∙ original_at name (header_cookies true header) empty_jar (option_map unescape o) read in
-      let none : value_of (get empty_jar.originals name) ≡ None = ap value_of (get-empty name_cmp name) in
-      let value : value_of (get jar.originals name) ≡ option_map unescape o = got ∙ ap (first_some (option_map unescape o)) none ∙ first_none (option_map unescape o) in
+      let value : value_of (get jar.originals name) ≡ option_map unescape o
+      = ap (λ m. value_of (get m name)) is.originals
+      ∙ ap value_of ((has_first (field_cookies header) empty_jar).originals name ∙ ap (λ p. option_or p (first_of_name name (field_cookies header))) (get-empty name_cmp name))
+      ∙ first_value name (field_cookies header) (option_map unescape o) read in
       let escapes : All (λ v. escape (unescape v) ≡ v) (option_to_list o)
       = subst (All (λ v. escape (unescape v) ≡ v)) e
       (values_all (λ v. escape (unescape v) ≡ v) (under (escape name) (visible site now before))
@@ -197,10 +183,6 @@ module _ (rules : List Rule) (plans : Name → PlanView) (before : CookieStore) 
       (All-filter (λ c. bytes_eq c.name (escape name)) (IsOurs plans) (visible site now before) every))) in
       e ∙ escaped_again o escapes ∙ ap (λ w. option_to_list (option_map escape w)) (sym value)
     where
-      first_none : (w : Option (List ℕ)) → first_some w None ≡ w
-      first_none None = refl
-      first_none (Some v) = refl
-
       escaped_value : (c : KeptView) → IsOurs plans c → escape (unescape c.value) ≡ c.value
       escaped_value c o = ap escape (back o.value c.value o.named.cookie.value o.values) ∙ sym o.values
 

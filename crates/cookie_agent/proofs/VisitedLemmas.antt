@@ -9,8 +9,6 @@ use Rattle.cookie_client.specs.Calls.{IsOutcome, change_of, changes_of}
 use Rattle.cookie.specs.Originals.{jar_for}
 use Rattle.cookie_client.proofs.ChangeLemmas.{known_changes}
 use Rattle.cookie_browser.specs.Suffixes.{Rule}
-use Rattle.std.specs.Str.{IsUtf8}
-use Rattle.cookie_agent.proofs.Utf8Lemmas.{header_utf8}
 use Rattle.cookie_agent.specs.Agreement.{IsOurStore, PlanView}
 use Rattle.cookie_agent.specs.Calls.{IsPlannedChange}
 use Rattle.cookie_agent.specs.Sent.{IsHeader, IsOrderedHeader}
@@ -27,7 +25,7 @@ pub record IsPlayed (before : AgentView) (request : AgentRequest) (visited : Vis
   pub count : length visited.outcomes.items ≡ length request.calls.now
   pub outcomes : AllZip IsOutcome request.calls.now visited.outcomes.items
   pub sent : IsOrderedHeader request.site.now request.moment before.cookies visited.header.items
-  pub jar : IsUtf8 visited.header.items → visited.jar ≡ after_all (changes_of visited.outcomes.items request.calls.now) (jar_for visited.header.items)
+  pub jar : visited.jar ≡ after_all (changes_of visited.outcomes.items request.calls.now) (jar_for visited.header.items)
   pub texts : List (List ℕ)
   pub are : AreDeltaTexts visited.jar.delta texts
   pub read : visited.agent ≡ agent_after_texts request.site.now request.moment texts before
@@ -39,7 +37,7 @@ module _ (before : AgentView) (request : AgentRequest) (visited : Visited) (is :
   can_follow : (plans : Name → PlanView) → IsOurStore plans before.cookies → ArePlanned before.rules plans request visited
       → IsFollowable before.rules plans before.cookies request.site.now request.moment header visited.jar
   can_follow plans ours planned =
-      subst (IsFollowable before.rules plans before.cookies request.site.now request.moment header) (sym (is.jar (header_utf8 plans before.cookies ours request.site.now request.moment header is.sent.is)))
+      subst (IsFollowable before.rules plans before.cookies request.site.now request.moment header) (sym is.jar)
       (followable before.rules plans before.cookies ours request.site.now request.moment header is.sent.is (changes_of visited.outcomes.items request.calls.now)
       (known_changes visited.outcomes.items request.calls.now is.outcomes)
       (All-map (IsPlannedChange before.rules request.site.now request.moment plans) change_of (accepted_items visited.outcomes.items request.calls.now) planned))

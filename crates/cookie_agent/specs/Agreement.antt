@@ -4,12 +4,13 @@ use Rattle.std.specs.FinMap.{FinMap, get}
 use Rattle.std.specs.Option.{option_to_list}
 use Rattle.std.specs.Str.{bytes_eq}
 use Rattle.jiff.specs.Types.{DateTime}
-use Rattle.cookie.specs.CookieOf.{cookie_of, header_cookies}
+use Rattle.cookie.specs.CookieOf.{cookie_of}
 use Rattle.cookie.specs.DeltaTexts.{AreDeltaTexts}
 use Rattle.cookie.specs.Escapes.{escape}
 use Rattle.cookie.specs.Header.{header_texts}
 use Rattle.cookie.specs.Jar.{Name, name_cmp, Marked, JarState, view}
 use Rattle.cookie.specs.Normal.{IsNamed}
+use Rattle.cookie.specs.Originals.{field_cookies}
 use Rattle.cookie.specs.Record.{Record, plain}
 use Rattle.cookie.specs.Text.{cookie_text}
 use Rattle.cookie_client.specs.Agreement.{value_of}
@@ -70,13 +71,13 @@ Mirrors site now store values =
 abbrev pub values_of : Name → List Record → List (List ℕ)
 values_of name cookies = map (λ c. c.value) (filter (λ c. bytes_eq c.name name) cookies)
 
--- The header is read as what the jar shows: none of its texts is refused, and those of a name are the one that the jar
--- shows under it, if it shows one.
+-- A server reads the header as what the jar shows: none of its texts is refused or skipped, and those of a name are the
+-- one that the jar shows under it, if it shows one.
 pub record SiteAgrees (jar : JarState) (header : List ℕ) : Type 0 where
   pub read : map (cookie_of true) (header_texts header)
-      ≡ map (λ c. Some c) (header_cookies true header)
+      ≡ map (λ c. Some c) (field_cookies header)
   pub agrees : (name : Name) → IsUtf8 name
-      → values_of name (header_cookies true header) ≡ option_to_list (value_of (view jar name))
+      → values_of name (field_cookies header) ≡ option_to_list (value_of (view jar name))
 
 -- ---- the delta
 

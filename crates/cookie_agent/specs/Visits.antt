@@ -1,5 +1,5 @@
 -- Many requests of one user agent, to any sites, at any times.
-use Rattle.std.specs.Prelude.{◌≡◌, ℕ, IsUtf8, List, [], ◌∷◌, length, All}
+use Rattle.std.specs.Prelude.{◌≡◌, ℕ, List, [], ◌∷◌, length, All}
 use Rattle.std.specs.List.{AllZip}
 use Rattle.jiff.specs.Types.{DateTime}
 use Rattle.cookie.specs.History.{accepted_items, after_all}
@@ -30,10 +30,8 @@ pub record IsVisited (before : AgentView) (request : AgentRequest) (visited : Vi
   pub outcomes : AllZip IsOutcome request.calls.now visited.outcomes.items
   -- it sent the agent's header
   pub sent : IsOrderedHeader request.site.now request.moment before.cookies visited.header.items
-  -- its jar is what the accepted calls made of a new one with the header's cookies as its originals, if the header is
-  -- UTF-8
-  pub jar : IsUtf8 visited.header.items
-      → visited.jar
+  -- its jar is what the accepted calls made of a new one with the header's cookies as its originals
+  pub jar : visited.jar
       ≡ after_all (changes_of visited.outcomes.items request.calls.now)
       (jar_for visited.header.items)
   -- its agent is the one before, which read the delta's texts in some order

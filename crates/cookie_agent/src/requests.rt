@@ -1,5 +1,5 @@
 //! Many requests of one user agent.
-ghost use Rattle.std.specs.Prelude.{◌≡◌, [], length, map, IfOk, OnOk, IsUtf8, string_bytes};
+ghost use Rattle.std.specs.Prelude.{◌≡◌, [], length, map, IfOk, OnOk, string_bytes};
 ghost use Rattle.cookie.specs.Jar.{Name};
 ghost use Rattle.cookie_agent.specs.Agreement.{IsOurStore, PlanView};
 ghost use Rattle.cookie_agent.specs.Store.{AgentView, agent_after_texts};
@@ -19,8 +19,7 @@ use std::alloc::{AllocError, Global};
 /// suffixes.
 ///
 /// Each request sends the agent's header; what is sent keeps its last access, as with [`Agent::header`]. Its jar is
-/// new, with the header's cookies, split and decoded, as its originals; a header that isn't UTF-8 counts as empty. The
-/// calls are made on it as by `replay`. The encoded texts of its delta come back as the response, which the agent
+/// new, with the header's cookies as its originals, read as by `CookieJar::with_field`. The calls are made on it as by `replay`. The encoded texts of its delta come back as the response, which the agent
 /// reads. The text that is read as the i-th is number `pick[i]` of the texts that are left, modulo their count, or
 /// number 0 after `pick` has ended. Fails only if out of memory outside the calls.
 pub fn visits<'r>(
@@ -67,7 +66,7 @@ pub fn visit<'r>(
         → AgreesOn plans request.now visited) }
 {
     let header = agent.header(request.site, request.moment)?;
-    let mut jar = CookieJar::new(alloc).with_originals(text_of(&header))?;
+    let mut jar = CookieJar::new(alloc).with_field(&header)?;
     let outcomes = replay(alloc, &mut jar, request.calls)?;
     let texts = delta_texts(alloc, &jar, pick)?;
     let mut agent = agent.clone()?;
@@ -78,13 +77,6 @@ pub fn visit<'r>(
         agent,
         outcomes,
     })
-}
-
-// The header as a text. One that isn't UTF-8 counts as empty.
-fn text_of(header: &[u8]) -> &str
-    ensures { IsUtf8 header.now → result.now ≡ header.now }
-{
-    str::from_utf8(header).unwrap_or("")
 }
 
 // Has the agent read texts in order.

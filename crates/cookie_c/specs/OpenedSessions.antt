@@ -2,7 +2,7 @@
 use Rattle.std.specs.Prelude.{◌≡◌, ◌↔◌, ◌⊎◌, ℕ, List, Option, Some}
 use Rattle.jiff.specs.Types.{DateTime}
 use Rattle.cookie.specs.Jar.{view}
-use Rattle.cookie.specs.Originals.{jar_for, readable}
+use Rattle.cookie.specs.Originals.{jar_for}
 use Rattle.cookie.specs.Record.{Record}
 use Rattle.cookie_session.specs.Form.{form_of_texts}
 use Rattle.cookie_session.specs.Session.{SessionState}
@@ -15,9 +15,9 @@ use Rattle.cookie_c.specs.declared.opened_session.OpenedSession.{OpenedSession}
 use Rattle.cookie_c.specs.declared.status.Status.{Status}
 use Rattle.cookie_c.specs.declared.status.Status.TheVariants as status
 
--- the cookie of the site's name in a request's `Cookie` field, if it has one: of several the last
+-- the cookie of the site's name in a request's `Cookie` field, if it has one: of several the first
 abbrev pub stored_of : Sessions → List ℕ → Option Record
-stored_of site field = view (jar_for (readable field)) site.cookie.now.fields.name
+stored_of site field = view (jar_for field) site.cookie.now.fields.name
 
 -- no session is open in the stored cookie
 abbrev pub HasNone : Sessions → Option Record → DateTime → Type 0

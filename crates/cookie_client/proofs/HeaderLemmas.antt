@@ -1,5 +1,5 @@
 -- The client's header is read back as its names and values.
-use Rattle.std.proofs.Common.{◌≡◌, ℕ, Bool, false, cond, None, List, [], ◌∷◌, ◌++◌, true, map, All, Some, refl, sym, ap, subst, ◌∙◌, append_assoc}
+use Rattle.std.proofs.Common.{◌≡◌, ℕ, Bool, false, cond, None, List, [], ◌∷◌, ◌++◌, true, map, All, Some, refl, sym, ap, subst, ◌∙◌, append_assoc, IsUtf8}
 use Rattle.std.proofs.lemmas.List.{append-nil}
 use Rattle.std.proofs.lemmas.List.Elements.{All-nil, All-cons, All-head, All-tail}
 use Rattle.std.proofs.lemmas.Option.{none-some}
@@ -11,8 +11,10 @@ use Rattle.cookie.specs.CookieOf.{cookie_of}
 use Rattle.cookie.specs.Header.{header_texts, joined_texts, more_joined}
 use Rattle.cookie.specs.Jar.{Name, name_cmp}
 use Rattle.cookie.specs.Normal.{IsNamed}
+use Rattle.cookie.specs.Originals.{field_cookies}
 use Rattle.cookie.specs.Record.{Record, IsCookie, plain}
 use Rattle.cookie.specs.Text.{cookie_text}
+use Rattle.cookie.proofs.FieldLemmas.{printed_cookies}
 use Rattle.cookie.proofs.LawLemmas.{joined-read}
 use Rattle.cookie_client.specs.Client.{Values, pair_text}
 use Rattle.cookie_client.proofs.SessionLemmas.{map_map}
@@ -59,6 +61,13 @@ pub header-read : (text : List ℕ) (pairs : List Pair) → All IsKnown pairs �
 header-read text pairs k h e =
     joined-read text (map plain_of pairs) (named pairs h k) (e ∙ ap joined_texts (sym (map_map plain_of (cookie_text true true) pairs)))
     ∙ map_map plain_of (λ r. Some (plain r.name r.value)) pairs
+
+-- and by a server
+pub header-cookies : (text : List ℕ) (pairs : List Pair) → IsUtf8 text → All IsKnown pairs → All HasName pairs → text ≡ joined_texts (map pair_text pairs)
+    → field_cookies text ≡ map plain_of pairs
+header-cookies text pairs utf8 k h e =
+    printed_cookies text (map plain_of pairs) utf8 (named pairs h k) (e ∙ ap joined_texts (sym (map_map plain_of (cookie_text true true) pairs)))
+    ∙ map_map plain_of (λ r. plain r.name r.value) pairs
 
 -- what is written of the first pair, with what the others add, is the whole
 pub header-first : (empty header : List ℕ) (pair : Pair) (rest pairs : List Pair) → pairs ≡ pair ∷ rest → empty ≡ [] → header ≡ empty ++ pair_text pair

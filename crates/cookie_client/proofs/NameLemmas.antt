@@ -1,4 +1,4 @@
--- The cookies of a header have names, so a client that holds them holds nothing under the empty name.
+-- The cookies of the program's line have names, so a client that holds them holds nothing under the empty name.
 use Rattle.std.proofs.Common.{◌≡◌, ℕ, true, List, [], ◌∷◌, All, Option, Some, None, refl, sym, ◌∙◌}
 use Rattle.std.proofs.lemmas.List.Elements.{All-nil, All-cons}
 use Rattle.std.specs.FinMap.{empty, get, get-empty}
@@ -10,7 +10,7 @@ use Rattle.cookie.specs.Jar.{name_cmp}
 use Rattle.cookie.specs.Record.{Record}
 use Rattle.cookie.proofs.CookieOfLemmas.{cookie_of-Reads}
 use Rattle.cookie.proofs.EscapeTextLemmas.{unescape_some}
-use Rattle.cookie_client.specs.Originals.{client_for}
+use Rattle.cookie_client.specs.Originals.{client_of_line}
 use Rattle.cookie_client.proofs.AgreementLemmas.{HasName, held_unnamed}
 
 -- what is read has a name
@@ -28,7 +28,7 @@ all_read_named (text ∷ texts) = more (all_read_named texts) (cookie_of true te
     more rest None is = rest
     more rest (Some cookie) is = All-cons HasName cookie (filter_map (cookie_of true) texts) (read_named text cookie is) rest
 
--- a client of a header holds nothing under the empty name
-pub client_for-unnamed : (header : List ℕ) → get (client_for header) [] ≡ None
+-- a client of a line holds nothing under the empty name
+pub client_of_line-unnamed : (header : List ℕ) → get (client_of_line header) [] ≡ None
 unfolding header_cookies
-client_for-unnamed header = held_unnamed (header_cookies true header) empty (all_read_named (header_texts header)) ∙ get-empty name_cmp []
+client_of_line-unnamed header = held_unnamed (header_cookies true header) empty (all_read_named (header_texts header)) ∙ get-empty name_cmp []

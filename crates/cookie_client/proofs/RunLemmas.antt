@@ -17,16 +17,15 @@ use Rattle.cookie_client.specs.Calls.{IsOutcome, change_of, changes_of}
 use Rattle.cookie_client.specs.Client.{ReadsBack, after_texts}
 use Rattle.cookie_client.specs.Lines.{lines_of}
 use Rattle.cookie_client.specs.Exchange.{IsExchange}
-use Rattle.cookie.specs.Originals.{jar_for}
-use Rattle.cookie_client.specs.Originals.{client_for}
+use Rattle.cookie_client.specs.Originals.{client_of_line, jar_of_line}
 use Rattle.cookie_client.specs.Run.{IsOfAgreement, IsPlayed, Refuses}
 use Rattle.cookie_client.specs.Session.{Fault, BadMoment, BadInput, changes_in, cookie_line, delta_texts, header_line, moment_of, session_of_lines, session_of_bytes, session, set_cookie_lines, session_text}
 use Rattle.cookie_client.specs.declared.call.JarCall.{JarCall}
 use Rattle.cookie_client.specs.declared.exchange.Played.{Played}
 use Rattle.cookie_client.specs.declared.run_error.RunError.{RunError}
 use Rattle.cookie_client.specs.declared.run_error.RunError.TheVariants as refusal
-use Rattle.cookie_client.proofs.NameLemmas.{client_for-unnamed}
-use Rattle.cookie_client.proofs.RoundLemmas.{holds_kept}
+use Rattle.cookie_client.proofs.NameLemmas.{client_of_line-unnamed}
+use Rattle.cookie_client.proofs.RoundLemmas.{holds_kept, holds_line}
 use Rattle.cookie_client.proofs.SessionLemmas.{accepted_items-all}
 
 pub session_of_bytes-text : (now : DateTime) (bytes : List ℕ) → IsUtf8 bytes → session_of_bytes now bytes ≡ session_of_lines now (lines_of bytes)
@@ -41,7 +40,7 @@ session_of_bytes-bad now bytes bad =
 -- the session as it is finished from what the lines ask for
 asked : DateTime → List (List ℕ) → Result (List Change) Fault → Result (List ℕ) Fault
 asked now lines r =
-    result_map_both (λ changes. session_text now (client_for (header_line lines)) (after_all changes (jar_for (header_line lines)))) (λ fault. fault) r
+    result_map_both (λ changes. session_text now (client_of_line (header_line lines)) (after_all changes (jar_of_line (header_line lines)))) (λ fault. fault) r
 
 pub session_of_lines-refused : (now : DateTime) (lines : List (List ℕ)) (e : RunError) → Refuses (changes_in now 2 (drop 1 lines)) e → Refuses (session_of_lines now lines) e
 unfolding asked
@@ -54,18 +53,18 @@ session_of_lines-refused now lines refusal.Output h = h
 
 -- what is written of accepted calls is the session's text, and of a client that agrees with the jar
 pub written_by : (now : DateTime) (lines : List (List ℕ)) (calls : List JarCall) (p : Played) (text : List ℕ) → changes_in now 2 (drop 1 lines) ≡ Ok (map change_of calls)
-    → IsExchange now (jar_for (header_line lines)) (client_for (header_line lines)) calls p → list_all (λ b. b) p.outcomes.items ≡ true
-    → p.client ≡ after_texts now (delta_texts p.jar) (client_for (header_line lines))
+    → IsExchange now (jar_of_line (header_line lines)) (client_of_line (header_line lines)) calls p → list_all (λ b. b) p.outcomes.items ≡ true
+    → p.client ≡ after_texts now (delta_texts p.jar) (client_of_line (header_line lines))
     → (text ≡ set_cookie_lines (delta_texts p.jar) ++ cookie_line p.client) × (get p.client [] ≡ None → ReadsBack p.client)
     → (session_of_lines now lines ≡ Ok text) × IsOfAgreement now lines text
 unfolding asked
 written_by now lines calls p text asks exchange all read (is, reads_back) =
-    let values = client_for (header_line lines) in
-    let start : JarState = jar_for (header_line lines) in
+    let values = client_of_line (header_line lines) in
+    let start : JarState = jar_of_line (header_line lines) in
     let changes : List Change = map change_of calls in
     let same : changes_of p.outcomes.items calls ≡ changes = ap (map change_of) (accepted_items-all p.outcomes.items calls (AllZip-long IsOutcome calls p.outcomes.items exchange.outcomes) all) in
     let made : p.jar ≡ after_all changes start = exchange.jar ∙ ap (λ cs. after_all cs start) same in
-    let named : get p.client [] ≡ None = exchange.agreement.named (client_for-unnamed (header_line lines)) in (
+    let named : get p.client [] ≡ None = exchange.agreement.named (client_of_line-unnamed (header_line lines)) in (
       ap (asked now lines) asks
           ∙ sym (ap Ok (is ∙ ap (λ v. set_cookie_lines (delta_texts p.jar) ++ cookie_line v) read ∙ ap (λ jar. session_text now values jar) made)),
       record {
@@ -75,7 +74,7 @@ written_by now lines calls p text asks exchange all read (is, reads_back) =
         made = made;
         client = p.client;
         agreement = subst (λ cs. Agrees now values cs p.jar p.client) same exchange.agreement;
-        held = holds_kept (header_line lines) changes p.jar made;
+        held = holds_kept start values (holds_line (header_line lines)) changes p.jar made;
         named = named;
         reads_back = reads_back named;
         written = is;

@@ -1,10 +1,9 @@
 -- Mirrors private code: the steps of an exchange and of `rounds`.
-use Rattle.std.specs.Prelude.{◌≡◌, ℕ, true, List, [], ◌∷◌, map, OnOk, Some, None, Result}
+use Rattle.std.specs.Prelude.{◌≡◌, ℕ, List, [], ◌∷◌, map, OnOk, None, Result}
 use Rattle.std.specs.FinMap.{get, entries}
-use Rattle.cookie.specs.CookieOf.{cookie_of}
-use Rattle.cookie.specs.Header.{header_texts}
 use Rattle.cookie.specs.History.{originals_of}
 use Rattle.cookie.specs.Jar.{Change, JarState, after}
+use Rattle.cookie.specs.Originals.{field_cookies}
 use Rattle.cookie.specs.Record.{plain}
 use Rattle.cookie_client.specs.Client.{Values, header_text}
 use Rattle.cookie_client.specs.Originals.{holding}
@@ -19,5 +18,4 @@ HoldsAdded change jar old new result =
 pub record IsHeaderOf (client : Values) (header : List ℕ) : Type 0 where
   pub text : header ≡ header_text client
   pub named : get client [] ≡ None
-  pub read : map (cookie_of true) (header_texts header)
-      ≡ map (λ pair. Some (plain pair.0 pair.1)) (entries client)
+  pub read : field_cookies header ≡ map (λ pair. plain pair.0 pair.1) (entries client)

@@ -9,8 +9,7 @@ use Rattle.cookie.specs.Jar.{Name, JarState, Change}
 use Rattle.cookie_client.specs.Agreement.{Agrees, HoldsOriginal, alters_original}
 use Rattle.cookie_client.specs.Client.{ReadsBack, Values}
 use Rattle.cookie_client.specs.Lines.{lines_of}
-use Rattle.cookie.specs.Originals.{jar_for}
-use Rattle.cookie_client.specs.Originals.{client_for}
+use Rattle.cookie_client.specs.Originals.{client_of_line, jar_of_line}
 use Rattle.cookie_client.specs.Session.{Fault, BadMoment, BadInput, BadLine, changes_in, cookie_line, delta_texts, header_line, moment_of, session, set_cookie_lines}
 use Rattle.cookie_client.specs.declared.run_error.RunError.{RunError}
 use Rattle.cookie_client.specs.declared.run_error.RunError.TheVariants as refusal
@@ -58,13 +57,13 @@ pub record IsOfAgreement (now : DateTime) (lines : List (List ℕ)) (text : List
   pub asked : changes_in now 2 (drop 1 lines) ≡ Ok changes
   -- was made to a new jar, whose originals are the cookies of the first line
   pub jar : JarState
-  pub made : jar ≡ after_all changes (jar_for (header_line lines))
+  pub made : jar ≡ after_all changes (jar_of_line (header_line lines))
   -- a client that held these cookies agrees with the jar
   pub client : Values
-  pub agreement : Agrees now (client_for (header_line lines)) changes jar client
+  pub agreement : Agrees now (client_of_line (header_line lines)) changes jar client
   -- which held the jar's original of each name that no line removes by force
   pub held : (name : Name) → list_any (alters_original name) changes ≡ false
-      → HoldsOriginal (client_for (header_line lines)) jar name
+      → HoldsOriginal (client_of_line (header_line lines)) jar name
   -- and which holds nothing under the empty name, so that its header is read back as its names and values
   pub named : get client [] ≡ None
   pub reads_back : ReadsBack client

@@ -17,8 +17,7 @@ use Rattle.cookie.specs.Record.{plain}
 use Rattle.cookie.specs.Text.{cookie_text}
 use Rattle.cookie_client.specs.Client.{Values, after_texts, header_text}
 use Rattle.cookie_client.specs.Lines.{lines_of}
-use Rattle.cookie.specs.Originals.{jar_for}
-use Rattle.cookie_client.specs.Originals.{client_for}
+use Rattle.cookie_client.specs.Originals.{client_of_line, jar_of_line}
 
 -- why a session has no text; lines are counted from 1
 pub data Fault : Type 0 where
@@ -90,8 +89,8 @@ session_text now values jar =
 abbrev pub session_of_lines : DateTime → List (List ℕ) → Result (List ℕ) Fault
 session_of_lines now lines =
     result_map_both
-    (λ changes. session_text now (client_for (header_line lines))
-    (after_all changes (jar_for (header_line lines))))
+    (λ changes. session_text now (client_of_line (header_line lines))
+    (after_all changes (jar_of_line (header_line lines))))
     (λ fault. fault)
     (changes_in now 2 (drop 1 lines))
 

@@ -6,7 +6,7 @@ ghost use Rattle.cookie.specs.CookieOf.{cookie_of};
 ghost use Rattle.cookie.specs.Header.{header_texts};
 ghost use Rattle.cookie.specs.Jar.{Name, view};
 ghost use Rattle.cookie.specs.Memory.{Gives};
-ghost use Rattle.cookie.specs.Originals.{jar_for};
+ghost use Rattle.cookie.specs.Originals.{field_cookies, jar_for};
 ghost use Rattle.cookie.specs.Record.{IsCookie, plain};
 ghost use Rattle.cookie_client.specs.Client.{after_cookie, after_text, header_text, pair_text};
 ghost use Rattle.cookie_client.specs.declared.client_error.ClientError.TheVariants as refusal;
@@ -128,8 +128,8 @@ impl Client {
     /// Returns the value of its `Cookie` header (RFC 6265 5.4): each name and value, escaped, in byte order of the
     /// names.
     ///
-    /// If it holds nothing under the empty name, the header's cookies, decoded, are those names and values, and none is
-    /// refused. Fails only with `ClientError::OutOfMemory`.
+    /// If it holds nothing under the empty name, the header's cookies, decoded, are those names and values. None is
+    /// refused, and none is skipped by `CookieJar::with_originals`. Fails only with `ClientError::OutOfMemory`.
     /// Example: `print_held` in crates/cookie_examples/src/show.rt.
     pub fn header(&self) -> Result<String, ClientError>
         ensures text { Gives refusal.OutOfMemory result (λ header.
@@ -137,6 +137,9 @@ impl Client {
         ensures reads_back { get self.now [] ≡ None → IfOk result (λ header.
             map (cookie_of true) (header_texts (string_bytes header))
             ≡ map (λ pair. Some (plain pair.0 pair.1)) (entries self.now)) }
+        ensures cookies { get self.now [] ≡ None → IfOk result (λ header.
+            field_cookies (string_bytes header)
+            ≡ map (λ pair. plain pair.0 pair.1) (entries self.now)) }
     {
         let mut header = String::new(self.alloc);
         let mut pairs = self.iter();

@@ -1,10 +1,14 @@
 //! The engine of the program: a session from the bytes of its input to its text.
-ghost use Rattle.std.specs.Prelude.{◌≡◌, ◌+◌, ◌++◌, ◌^◌, ◌<◌, [], codes, true, false, option_map, None, Ok, Err, IfOk, OnOk, MatchResult, drop, map, length, string_bytes};
+ghost use Rattle.std.specs.Prelude.{◌≡◌, ◌+◌, ◌++◌, ◌^◌, ◌<◌, List, ℕ, [], codes, true, false, option_map, None, Ok, Err, IfOk, OnOk, MatchResult, drop, map, length, string_bytes};
 ghost use Rattle.std.specs.FinMap.{entries, get};
 ghost use Rattle.std.specs.List.{list_all};
-ghost use Rattle.cookie.specs.CookieOf.{cookie_of};
+ghost use Rattle.std.specs.Option.{option_to_list};
+ghost use Rattle.cookie.specs.CookieOf.{cookie_of, header_cookies};
+ghost use Rattle.cookie.specs.Decoding.{AgreesInMemory};
+ghost use Rattle.cookie.specs.History.{after_all};
 ghost use Rattle.cookie.specs.Memory.{Gives};
-ghost use Rattle.cookie.specs.Jar.{Add, empty_jar};
+ghost use Rattle.cookie.specs.Jar.{Add, AddOriginal, empty_jar};
+ghost use Rattle.cookie.specs.Reads.{record_or_refusal};
 ghost use Rattle.cookie.specs.Text.{cookie_text};
 ghost use Rattle.cookie_client.specs.Calls.{change_of};
 ghost use Rattle.cookie_client.specs.Client.{ReadsBack, after_texts};
@@ -203,7 +207,7 @@ fn session_text(
     let mut lines = Lines::of(text);
     let header = header_of(&mut lines);
     let calls = calls_of(alloc, lines, now)?;
-    let mut jar = jar.with_originals(header)?;
+    let mut jar = with_line(alloc, jar, header)?;
     let client = client_of(alloc, &jar)?;
     let outcomes = replay(alloc, &mut jar, &calls)?;
     if !are_accepted(&outcomes) {
@@ -211,6 +215,39 @@ fn session_text(
         return Err(RunError::OutOfMemory);
     }
     output(alloc, client, &jar, now)
+}
+
+// The jar with the cookies of the first line as originals. Of several with one name the last counts.
+fn with_line(alloc: Global, jar: CookieJar, line: &str) -> Result<CookieJar, AllocError>
+    ensures { IfOk result (λ made.
+        made ≡ after_all (map AddOriginal (header_cookies true line.now)) jar) }
+{
+    let mut jar = jar;
+    let text = String::from_str(alloc, line)?;
+    for outcome in Cookie::split_parse_encoded_owned(alloc, text) {
+        add_piece(&mut jar, outcome)?;
+    }
+    Ok(jar)
+}
+
+// Adds the cookie of one piece as an original, if the piece is one.
+fn add_piece(
+    jar: &mut CookieJar,
+    outcome: Result<Cookie<'static>, ParseError>,
+) -> Result<(), AllocError>
+    ensures added { (text : List ℕ)
+        → AgreesInMemory true text (record_or_refusal outcome.entry)
+        → OnOk result
+        (jar.new ≡ after_all (map AddOriginal (option_to_list (cookie_of true text))) jar.old) }
+{
+    match outcome {
+        Ok(cookie) => match jar.add_original(cookie) {
+            Ok(()) => Ok(()),
+            Err(_) => Err(AllocError),
+        },
+        Err(ParseError::OutOfMemory) => Err(AllocError),
+        Err(ParseError::MissingPair | ParseError::EmptyName | ParseError::Utf8Error(_)) => Ok(()),
+    }
 }
 
 // The first line, or the empty one, which is taken off.

@@ -22,7 +22,7 @@ past_ascii : (b : ℕ) → 128 ≤ b → should_percent_encode ESCAPED b ≡ is_
 unfolding should_percent_encode
 past_ascii b large = grind (arith, nat_tests)
 
-same_set : (b : ℕ) → should_percent_encode ESCAPED b ≡ is_escaped b
+pub same_set : (b : ℕ) → should_percent_encode ESCAPED b ≡ is_escaped b
 same_set b = ⊎_elim (low b) (past_ascii b) (cases_lt b 128)
 
 pub percent_encode_is : (text : List ℕ) → percent_encode ESCAPED text ≡ escape text

@@ -9,7 +9,7 @@ use Rattle.cookie_core.specs.CookieOf.{cookie_of, header_cookies}
 use Rattle.cookie_core.specs.Escapes.{escape}
 use Rattle.cookie_core.specs.Header.{kept_texts, IsHeaderTexts, header_texts, more_joined, joined_texts}
 use Rattle.cookie_core.specs.Normal.{IsNamed}
-use Rattle.cookie_core.specs.Pieces.{Lacks}
+use Rattle.cookie_core.specs.Pieces.{IsPieces, Lacks}
 use Rattle.cookie_core.specs.Record.{Record, plain}
 use Rattle.cookie_core.specs.Text.{cookie_text}
 use Rattle.cookie_core.specs.Walk.{before_rest}
@@ -48,7 +48,7 @@ stripped_apart : (r : Record) → Lacks 59 (stripped_text r)
 stripped_apart r = rw (stripped_is_pair r) (escaped_pair-apart r)
 
 -- the pieces behind the first
-abbrev spaced : List Record → List (List ℕ)
+abbrev pub spaced : List Record → List (List ℕ)
 spaced rs = map (λ r. 32 ∷ stripped_text r) rs
 
 more-tails : (rs : List Record) → more_joined (map stripped_text rs) ≡ tails (spaced rs)
@@ -69,6 +69,11 @@ kept_texts-first : (r : Record) (rs : List Record) → kept_texts (stripped_text
 kept_texts-first r rs =
     rw (trim-stripped r, stripped_some r) (ap (λ ts. stripped_text r ∷ ts) (kept_texts-spaced rs))
 
+-- the pieces of the joined header
+pub joined_are_pieces : (r : Record) (rs : List Record) → IsPieces (joined_texts (map (cookie_text true true) (r ∷ rs))) (stripped_text r) (spaced rs)
+joined_are_pieces r rs =
+    first_piece _ (stripped_text r) (before_rest (spaced rs) None) (ap (λ t. stripped_text r ++ t) (more-tails rs)) (stripped_apart r) (spaced rs) refl (spaced_apart rs)
+
 -- the texts of the joined header are the stripped texts, whatever the names and the values are
 pub header_split : (rs : List Record) → IsHeaderTexts (joined_texts (map (cookie_text true true) rs)) (map (cookie_text true true) rs)
 header_split [] =
@@ -76,7 +81,7 @@ header_split [] =
 header_split (r ∷ rs) = (
   stripped_text r,
   spaced rs,
-  first_piece _ (stripped_text r) (before_rest (spaced rs) None) (ap (λ t. stripped_text r ++ t) (more-tails rs)) (stripped_apart r) (spaced rs) refl (spaced_apart rs),
+  joined_are_pieces r rs,
   sym (kept_texts-first r rs),
 )
 

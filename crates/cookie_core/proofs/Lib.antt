@@ -1,5 +1,6 @@
 pub mod AgeLemmas
 pub mod AgeTextLemmas
+pub mod BareLemmas
 pub mod ByteLemmas
 pub mod CookieOfLemmas
 pub mod CopyLemmas
@@ -22,9 +23,12 @@ pub mod PartLemmas
 pub mod PieceLemmas
 pub mod PieceWalkLemmas
 pub mod ReadingLemmas
+pub mod SentHeaderLemmas
+pub mod SentNameLemmas
 pub mod SpanLemmas
 pub mod SplitLemmas
 pub mod TrimLemmas
+pub mod WspLemmas
 pub use Rattle.cookie_date.proofs.DateLemmas
 pub use Rattle.cookie_date.proofs.DayLemmas
 pub use Rattle.cookie_date.proofs.PrintLemmas

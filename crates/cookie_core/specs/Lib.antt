@@ -1,4 +1,5 @@
 pub mod Attributes
+pub mod BareNames
 pub mod Cookie
 pub mod CookieOf
 pub mod CookieStr
@@ -27,6 +28,7 @@ pub mod RecordCode
 pub mod Removal
 pub mod Same
 pub mod SameSite
+pub mod SentNames
 pub mod Settings
 pub mod Spans
 pub mod SplitCode
@@ -35,6 +37,7 @@ pub mod SplitInside
 pub mod Text
 pub mod Trim
 pub mod Walk
+pub mod Wsp
 pub use Rattle.cookie_date.specs.Forms
 pub use Rattle.cookie_date.specs.Moments
 pub use Rattle.cookie_date.specs.Days

@@ -9,7 +9,7 @@ use std::fmt;
 use std::marker::Model;
 
 /// The ASCII bytes that are escaped in names and values.
-const ESCAPED: AsciiSet = ascii_set!(
+pub(crate) const ESCAPED: AsciiSet = ascii_set!(
     CONTROLS
         .add(b' ')
         .add(b'"')

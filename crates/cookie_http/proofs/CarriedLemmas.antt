@@ -3,8 +3,7 @@ use Rattle.std.proofs.Common.{◌≡◌, ℕ, true, false, codes, List, [], ◌�
 use Rattle.std.proofs.lemmas.List.{append-nil}
 use Rattle.std.proofs.lemmas.List.Elements.{All-contains, All-weaker}
 use Rattle.std.proofs.lemmas.List.Sorted.{IsPermutation-refl}
-use Rattle.std.specs.FinMap.{FinMap, get, get-empty}
-use Rattle.std.specs.Str.{IsUtf8}
+use Rattle.std.specs.FinMap.{FinMap, entries, get, get-empty}
 use Rattle.jiff.specs.Types.{DateTime}
 use Rattle.http_header.specs.FieldValue.{FieldValue, plain_value}
 use Rattle.http_header.specs.HeaderMap.{Entries}
@@ -12,9 +11,10 @@ use Rattle.cookie.specs.Jar.{Marked, Name, empty_jar, name_cmp, overlay, view}
 use Rattle.cookie.specs.Text.{cookie_text}
 use Rattle.cookie.specs.DeltaTexts.{AreDeltaTexts, IsDeltaText}
 use Rattle.cookie_client.specs.Agreement.{value_of}
-use Rattle.cookie_client.specs.Client.{ReadsBack, Values, header_text}
+use Rattle.cookie_client.specs.Client.{Values, header_text}
 use Rattle.cookie_client.specs.Exchange.{IsExchange, changes_by}
-use Rattle.cookie.specs.Originals.{jar_for, readable}
+use Rattle.cookie.specs.Originals.{field_cookies, jar_for, with_originals}
+use Rattle.cookie.specs.Record.{plain}
 use Rattle.cookie_client.specs.Originals.{holds_originals}
 use Rattle.cookie_client.specs.ExchangeCode.{IsHeaderOf}
 use Rattle.cookie_client.specs.declared.call.JarCall.{JarCall}
@@ -22,11 +22,9 @@ use Rattle.cookie.proofs.DeltaTextLemmas.{AreDeltaTexts-once}
 use Rattle.cookie_client.proofs.AgreementLemmas.{holds_each}
 use Rattle.cookie_client.proofs.RoundLemmas.{fresh, held_again, holds_header, told}
 use Rattle.cookie_http.specs.Carried.{AreSameTexts, IsCarried}
-use Rattle.cookie_http.specs.Fields.{cookie_header, set_cookie_texts}
+use Rattle.cookie_http.specs.Fields.{request_jar, set_cookie_texts}
 use Rattle.cookie_http.specs.Response.{AddsDelta}
 use Rattle.cookie_http.specs.declared.carried.Exchanged.{Exchanged}
-use Rattle.cookie_http.proofs.FieldTextLemmas.{IsUtf8-header_text}
-use Rattle.cookie.proofs.FieldLemmas.{readable-utf8}
 
 -- texts that are the same are those of one delta
 AreDeltaTexts-same : (delta : FinMap name_cmp Marked) (texts others : List (List ℕ)) → AreSameTexts texts others → AreDeltaTexts delta texts → AreDeltaTexts delta others
@@ -43,9 +41,9 @@ are_carried delta response adds =
     (AreDeltaTexts-once delta (map (cookie_text true false) adds.cookies)
     (record { cookies = adds.cookies; are = adds.are; written = IsPermutation-refl (map (cookie_text true false) adds.cookies) }))
 
--- the header of a request with one field
-one_field : (header : List ℕ) → IsUtf8 header → cookie_header ((codes "cookie", plain_value header ∷ []) ∷ []) ≡ header
-one_field header utf8 = append-nil (readable header) ∙ readable-utf8 header utf8
+-- the jar of a request with one field
+one_field : (header : List ℕ) → request_jar ((codes "cookie", plain_value header ∷ []) ∷ []) ≡ jar_for header
+one_field header = ap (λ cookies. with_originals cookies empty_jar) (append-nil (field_cookies header))
 
 -- the jar for a client's header shows what the client holds
 shown : (client : Values) (header : List ℕ) → IsHeaderOf client header → (name : Name) → value_of (view (jar_for header) name) ≡ get client name
@@ -60,8 +58,8 @@ module _ (now : DateTime) (calls : List JarCall) (e : Exchanged) where
   pub carried : IsExchange now empty_jar (holds_originals (changes_by calls e.played)) calls e.played
       → AddsDelta e.played.jar.delta [] e.response
       → e.request ≡ (codes "cookie", plain_value (header_text e.played.client) ∷ []) ∷ []
-      → e.next ≡ jar_for (cookie_header e.request)
-      → (get e.played.client [] ≡ None → ReadsBack e.played.client)
+      → e.next ≡ request_jar e.request
+      → (get e.played.client [] ≡ None → field_cookies (header_text e.played.client) ≡ map (λ pair. plain pair.0 pair.1) (entries e.played.client))
       → IsCarried now calls e
   carried exchange response request next read =
       let delta = e.played.jar.delta in
@@ -78,6 +76,6 @@ module _ (now : DateTime) (calls : List JarCall) (e : Exchanged) where
         arrived = next;
         next = λ fits name.
             let is : IsHeaderOf client header = told client header (exchange.agreement.named (held.named (exchange.fit fits))) refl read in
-            ap (λ jar. value_of (view jar name)) (next ∙ ap jar_for (ap cookie_header request ∙ one_field header (IsUtf8-header_text client)))
+            ap (λ jar. value_of (view jar name)) (next ∙ ap request_jar request ∙ one_field header)
             ∙ shown client header is name;
       }

@@ -1,5 +1,4 @@
 pub mod CarriedLemmas
 pub mod FieldTextLemmas
 pub mod ReadLemmas
-pub mod RequestLemmas
 pub mod ResponseLemmas

@@ -9,11 +9,10 @@ use Rattle.cookie_client.specs.Agreement.{value_of}
 use Rattle.cookie_client.specs.Calls.{IsFitCall}
 use Rattle.cookie_client.specs.Client.{after_texts, header_text}
 use Rattle.cookie_client.specs.Exchange.{IsExchange, accepted_calls, changes_by}
-use Rattle.cookie.specs.Originals.{jar_for}
 use Rattle.cookie_client.specs.Originals.{holds_originals}
 use Rattle.cookie_client.specs.declared.call.JarCall.{JarCall}
 use Rattle.cookie_client.specs.declared.exchange.Played.{Played}
-use Rattle.cookie_http.specs.Fields.{cookie_header, set_cookie_texts}
+use Rattle.cookie_http.specs.Fields.{request_jar, set_cookie_texts}
 use Rattle.cookie_http.specs.Response.{AddsDelta, AllFitFields}
 use Rattle.cookie_http.specs.declared.carried.Exchanged.{Exchanged}
 
@@ -38,7 +37,7 @@ pub record IsCarried (now : DateTime) (calls : List JarCall) (e : Exchanged) : T
   -- its next request has the one field `Cookie`
   pub request : e.request ≡ (codes "cookie", plain_value (header_text e.played.client) ∷ []) ∷ []
   -- the jar of that request is that of its fields, whether the calls are fit or not
-  pub arrived : e.next ≡ jar_for (cookie_header e.request)
+  pub arrived : e.next ≡ request_jar e.request
   -- and where they are fit, the jar of that request shows at each name what the client holds
   pub next : All (IsFitCall now) (accepted_calls calls e.played) → (name : Name)
       → value_of (view e.next name) ≡ get e.played.client name

@@ -1,14 +1,20 @@
 -- The fields of a header map that carry cookies (RFC 6265 3, RFC 9113 8.2.3).
 use Rattle.std.specs.Prelude.{ℕ, List, map, filter, codes}
+use Rattle.std.specs.List.{flat_map}
 use Rattle.std.specs.Str.{is_utf8}
 use Rattle.http_header.specs.FieldValue.{FieldValue}
 use Rattle.http_header.specs.HeaderMap.{Entries, get_all}
-use Rattle.cookie.specs.Header.{joined_texts}
-use Rattle.cookie.specs.Originals.{readable}
+use Rattle.cookie.specs.Jar.{JarState, empty_jar}
+use Rattle.cookie.specs.Originals.{field_cookies, with_originals}
+use Rattle.cookie.specs.Record.{Record}
 
--- the header that a request's `Cookie` fields are read as: several fields as one, joined by `; ` (RFC 9113 8.2.3)
-abbrev pub cookie_header : Entries FieldValue → List ℕ
-cookie_header m = joined_texts (map (λ v. readable v.bytes) (get_all m (codes "cookie")))
+-- the cookies of a request's `Cookie` fields, one field after the other (RFC 9113 8.2.3)
+abbrev pub request_cookies : Entries FieldValue → List Record
+request_cookies m = flat_map (λ v. field_cookies v.bytes) (get_all m (codes "cookie"))
+
+-- a new jar whose originals are these cookies
+abbrev pub request_jar : Entries FieldValue → JarState
+request_jar m = with_originals (request_cookies m) empty_jar
 
 -- the texts of a response's `Set-Cookie` fields: the values that are UTF-8, in order
 abbrev pub set_cookie_texts : Entries FieldValue → List (List ℕ)

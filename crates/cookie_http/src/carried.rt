@@ -1,8 +1,10 @@
 //! A jar's response, and the request of the client that read it.
-ghost use Rattle.std.specs.Prelude.{◌≡◌, ◌∷◌, [], None, IfOk, OnOk, IsErrOf, codes};
-ghost use Rattle.std.specs.FinMap.{get};
+ghost use Rattle.std.specs.Prelude.{◌≡◌, ◌∷◌, [], None, IfOk, OnOk, IsErrOf, codes, map};
+ghost use Rattle.std.specs.FinMap.{entries, get};
 ghost use Rattle.cookie.specs.Memory.{Gives};
-ghost use Rattle.cookie_client.specs.Client.{ReadsBack, header_text};
+ghost use Rattle.cookie.specs.Originals.{field_cookies};
+ghost use Rattle.cookie.specs.Record.{plain};
+ghost use Rattle.cookie_client.specs.Client.{header_text};
 ghost use Rattle.http_header.specs.FieldValue.{plain_value};
 ghost use Rattle.cookie_http.specs.Carried.{HasUnfitDelta, IsCarried};
 ghost use Rattle.cookie_http.specs.declared.http_error.HttpError.TheVariants as refusal;
@@ -65,7 +67,9 @@ pub fn exchange(alloc: Global, calls: &[JarCall<'_>], now: DateTime) -> Result<E
 fn request_of(alloc: Global, client: &Client) -> Result<HeaderMap, HttpError>
     ensures gives { Gives refusal.OutOfMemory result (λ request. request
         ≡ (codes "cookie", plain_value (header_text client.now) ∷ []) ∷ []) }
-    ensures reads_back { OnOk result (get client.now [] ≡ None → ReadsBack client.now) }
+    ensures cookies { OnOk result (get client.now [] ≡ None
+        → field_cookies (header_text client.now)
+        ≡ map (λ pair. plain pair.0 pair.1) (entries client.now)) }
 {
     let mut request = HeaderMap::new(alloc);
     request.append("cookie", cookie_of_client(client)?)?;

@@ -5,6 +5,7 @@ ghost use Rattle.std.specs.Str.{is_utf8};
 ghost use Rattle.cookie.specs.CookieOf.{cookie_of};
 ghost use Rattle.cookie.specs.Header.{header_texts};
 ghost use Rattle.cookie.specs.Memory.{Gives};
+ghost use Rattle.cookie.specs.Originals.{field_cookies};
 ghost use Rattle.cookie.specs.Record.{plain};
 ghost use Rattle.http_header.specs.FieldValue.{plain_value};
 ghost use Rattle.cookie_client.specs.Client.{after_texts, header_text};
@@ -28,6 +29,8 @@ pub fn cookie_of_client(client: &Client) -> Result<HeaderValue, HttpError>
     ensures reads_back { get client.now [] ≡ None → IfOk result (λ value.
         map (cookie_of true) (header_texts value.bytes)
         ≡ map (λ pair. Some (plain pair.0 pair.1)) (entries client.now)) }
+    ensures cookies { get client.now [] ≡ None → IfOk result (λ value.
+        field_cookies value.bytes ≡ map (λ pair. plain pair.0 pair.1) (entries client.now)) }
 {
     let header = client.header()?;
     Ok(HeaderValue::from_known_valid(Bytes::from_string(header)?))

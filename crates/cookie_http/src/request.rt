@@ -1,9 +1,8 @@
 //! The cookies of a request (RFC 6265 5.4, RFC 9113 8.2.3).
-ghost use Rattle.std.specs.Prelude.{◌≡◌, true};
-ghost use Rattle.cookie.specs.CookieOf.{header_cookies};
+ghost use Rattle.std.specs.Prelude.{◌≡◌};
 ghost use Rattle.cookie.specs.Memory.{Gives};
-ghost use Rattle.cookie.specs.Originals.{jar_for, with_originals};
-ghost use Rattle.cookie_http.specs.Fields.{cookie_header};
+ghost use Rattle.cookie.specs.Originals.{HasFirst, with_originals};
+ghost use Rattle.cookie_http.specs.Fields.{request_cookies, request_jar};
 ghost use Rattle.cookie_http.specs.declared.http_error.HttpError.TheVariants as refusal;
 
 use crate::http_error::HttpError;
@@ -14,10 +13,10 @@ use std::alloc::Global;
 /// Makes a new jar whose originals are the cookies of a request's `Cookie` fields, decoded. Its hash is fixed. If
 /// strangers choose the names, use `with_headers`.
 ///
-/// Several fields are read as one, joined by `; ` (RFC 9113 8.2.3). A piece between semicolons is skipped if it isn't
-/// UTF-8 or is no cookie. The other pieces count. Fails only with `HttpError::OutOfMemory`.
+/// Several fields are read one after the other (RFC 9113 8.2.3). Pieces are skipped as by `CookieJar::with_field`, and of
+/// several cookies with one name the first counts. Fails only with `HttpError::OutOfMemory`.
 pub fn jar_from_headers(alloc: Global, headers: &HeaderMap) -> Result<CookieJar, HttpError>
-    ensures { Gives refusal.OutOfMemory result (λ jar. jar ≡ jar_for (cookie_header headers.now)) }
+    ensures { Gives refusal.OutOfMemory result (λ jar. jar ≡ request_jar headers.now) }
 {
     with_headers(CookieJar::new(alloc), headers)
 }
@@ -28,8 +27,9 @@ pub fn jar_from_headers(alloc: Global, headers: &HeaderMap) -> Result<CookieJar,
 /// Fails only with `HttpError::OutOfMemory`, and then the jar is gone.
 /// Example: `jar_of` in crates/cookie_examples/src/headers.rt.
 pub fn with_headers(jar: CookieJar, headers: &HeaderMap) -> Result<CookieJar, HttpError>
-    ensures { Gives refusal.OutOfMemory result (λ made.
-        made ≡ with_originals (header_cookies true (cookie_header headers.now)) jar) }
+    ensures made { Gives refusal.OutOfMemory result (λ made.
+        made ≡ with_originals (request_cookies headers.now) jar) }
+    ensures first { Gives refusal.OutOfMemory result (HasFirst (request_cookies headers.now) jar) }
 {
     let mut jar = jar;
     for value in headers.get_all("cookie") {

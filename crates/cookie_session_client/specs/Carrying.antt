@@ -4,9 +4,8 @@ use Rattle.std.specs.FinMap.{FinMap}
 use Rattle.jiff.specs.Types.{DateTime}
 use Rattle.http_header.specs.FieldValue.{plain_value}
 use Rattle.cookie.specs.Jar.{Marked, name_cmp}
-use Rattle.cookie.specs.Originals.{jar_for}
 use Rattle.cookie_client.specs.Client.{Values, after_texts, header_text}
-use Rattle.cookie_http.specs.Fields.{cookie_header, set_cookie_texts}
+use Rattle.cookie_http.specs.Fields.{request_jar, set_cookie_texts}
 use Rattle.cookie_http.specs.Response.{AddsDelta}
 use Rattle.cookie_session_client.specs.declared.carrying.Carried.{Carried}
 
@@ -20,4 +19,4 @@ pub record CarriesDelta (now : DateTime) (delta : FinMap name_cmp Marked) (befor
   -- its next request has the one field `Cookie`
   pub request : carried.request ≡ (codes "cookie", plain_value (header_text client) ∷ []) ∷ []
   -- the jar of that request is that of its fields
-  pub arrived : carried.next ≡ jar_for (cookie_header carried.request)
+  pub arrived : carried.next ≡ request_jar carried.request

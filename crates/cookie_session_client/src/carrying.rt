@@ -4,10 +4,9 @@ ghost use Rattle.std.specs.FinMap.{get};
 ghost use Rattle.http_header.specs.FieldValue.{plain_value};
 ghost use Rattle.cookie.specs.Jar.{Name, view};
 ghost use Rattle.cookie.specs.Memory.{Gives};
-ghost use Rattle.cookie.specs.Originals.{jar_for};
 ghost use Rattle.cookie.specs.Record.{plain};
 ghost use Rattle.cookie_client.specs.Client.{header_text};
-ghost use Rattle.cookie_http.specs.Fields.{cookie_header};
+ghost use Rattle.cookie_http.specs.Fields.{request_jar};
 ghost use Rattle.cookie_http.specs.Response.{AddsDelta, AllFitFields};
 ghost use Rattle.cookie_http.specs.declared.http_error.HttpError.TheVariants as http_refusal;
 ghost use Rattle.cookie_session_client.specs.Carrying.{CarriesDelta};
@@ -70,7 +69,7 @@ fn request_of(alloc: Global, client: &Client) -> Result<HeaderMap, HttpError>
     ensures request { Gives http_refusal.OutOfMemory result (λ request. request
         ≡ (codes "cookie", plain_value (header_text client.now) ∷ []) ∷ []) }
     ensures shows { IfOk result (λ request. get client.now [] ≡ None → (name : Name)
-        → view (jar_for (cookie_header request)) name
+        → view (request_jar request) name
         ≡ option_map (plain name) (get client.now name)) }
 {
     let mut request = HeaderMap::new(alloc);

@@ -7,7 +7,7 @@ use Rattle.std.specs.Result.{IsErrAnd}
 use Rattle.jiff.specs.Types.{DateTime}
 use Rattle.cookie.specs.Jar.{JarState, view}
 use Rattle.cookie.specs.Memory.{Gives}
-use Rattle.cookie.specs.Originals.{jar_for, readable}
+use Rattle.cookie.specs.Originals.{jar_for}
 use Rattle.cookie.specs.Record.{Record}
 use Rattle.cookie_session.specs.Session.{SessionState}
 use Rattle.cookie_session.specs.Sessions.{HoldsOne, IsOpen}
@@ -130,7 +130,7 @@ greeted_exactly site request now page saved plan user =
 
 -- what is planned by the session of the request's jar
 pub plan_is : (site : LoginSite) (request : Request) (now : DateTime) (jar : JarState) (page : Page) (saved : Option SessionState)
-    → jar ≡ jar_for (readable request.cookies.now)
+    → jar ≡ jar_for request.cookies.now
     → (found : Option SessionState) × HasSession site.sessions (view jar site.sessions.cookie.now.fields.name) now found
     × Plans site.users.now (route_of request.method.now request.path.now) (credentials_of request.form.now) now found page saved
     → IsPlan site request now page saved

@@ -4,7 +4,7 @@ use Rattle.std.specs.FinMap.{get}
 use Rattle.jiff.specs.Types.{DateTime}
 use Rattle.cookie.specs.Jar.{Add, JarState, after, view}
 use Rattle.cookie.specs.Memory.{Gives}
-use Rattle.cookie.specs.Originals.{jar_for, readable}
+use Rattle.cookie.specs.Originals.{jar_for}
 use Rattle.cookie.specs.Record.{IsCookie, Record}
 use Rattle.cookie.specs.Sealing.{CanSeal, IsNonce}
 use Rattle.cookie_session.specs.Seconds.{second_of}
@@ -31,10 +31,10 @@ pub record HasSession (sessions : Sessions) (stored : Option Record) (now : Date
   -- and the cookie holds no other, whatever the time
   pub once : HoldsOne sessions stored
 
--- the request's cookie of the site's name, if it has one: of several the last
+-- the request's cookie of the site's name, if it has one: of several the first
 abbrev pub stored_of : LoginSite → Request → Option Record
 stored_of site request =
-    view (jar_for (readable request.cookies.now)) site.sessions.cookie.now.fields.name
+    view (jar_for request.cookies.now) site.sessions.cookie.now.fields.name
 
 -- the request asks for the home page, and carries a session that is open and has the user
 abbrev pub IsGreeted : LoginSite → Request → DateTime → List ℕ → Type 0

@@ -3,7 +3,7 @@ ghost use Rattle.std.specs.Prelude.{◌≡◌, ◌↔◌, ℕ, List, Option, IfO
 ghost use Rattle.cookie.specs.DeltaTexts.{AreDeltaTextsOnce};
 ghost use Rattle.cookie.specs.Jar.{JarState, view};
 ghost use Rattle.cookie.specs.Memory.{Gives};
-ghost use Rattle.cookie.specs.Originals.{jar_for, readable};
+ghost use Rattle.cookie.specs.Originals.{jar_for};
 ghost use Rattle.cookie.specs.declared.jar_error.JarError.TheVariants as jar_refusal;
 ghost use Rattle.cookie_session.specs.Session.{SessionState};
 ghost use Rattle.cookie_session.specs.declared.session_error.SessionError.TheVariants as refusal;
@@ -48,7 +48,7 @@ pub fn answer<R: TryRng>(
     ensures answers { IfOk result (λ response. (saved : Option SessionState) × (jar : JarState)
         × IsPlan site.now request.now now response.page saved
         × Saves (λ nonce. R.may_fill rng.old nonce rng.new) site.now.sessions now saved
-        (jar_for (readable request.now.cookies.now)) jar
+        (jar_for request.now.cookies.now) jar
         × AreDeltaTextsOnce jar.delta (map string_bytes response.cookies.items)) }
 
     // Unless out of memory, it fails as the session that the request saves is refused.
@@ -70,7 +70,7 @@ pub fn answer<R: TryRng>(
 
 // The jar of the request's cookies.
 fn request_jar(alloc: Global, state: RandomState, field: &[u8]) -> Result<CookieJar, AllocError>
-    ensures { IfOk result (λ jar. jar ≡ jar_for (readable field.now)) }
+    ensures { IfOk result (λ jar. jar ≡ jar_for field.now) }
 {
     CookieJar::with_hasher(alloc, state).with_field(field)
 }

@@ -1,7 +1,7 @@
 //! Opening a session for C.
 ghost use Rattle.std.specs.Prelude.{◌≡◌, IfOk};
 ghost use Rattle.cookie.specs.Memory.{Gives};
-ghost use Rattle.cookie.specs.Originals.{jar_for, readable};
+ghost use Rattle.cookie.specs.Originals.{jar_for};
 ghost use Rattle.cookie.specs.declared.jar_error.JarError.TheVariants as refusal;
 ghost use Rattle.cookie_c.specs.OpenedSessions.{Finds, IsOpening, IsRefusedOpening, stored_of};
 ghost use Rattle.cookie_c.specs.Sites.{AtSite};
@@ -81,7 +81,7 @@ fn request_jar(
     settings: &SessionSettings<'_>,
     header: &[u8],
 ) -> Result<CookieJar, AllocError>
-    ensures { IfOk result (λ jar. jar ≡ jar_for (readable header.now)) }
+    ensures { IfOk result (λ jar. jar ≡ jar_for header.now) }
 {
     match RandomState::new(&Seed::of(settings.seed, settings.other_seed)) {
         Ok(state) => CookieJar::with_hasher(alloc, state).with_field(header),

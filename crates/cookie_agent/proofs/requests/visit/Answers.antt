@@ -1,11 +1,9 @@
 -- The header tells the jar's originals, and the agent follows what the calls made of them.
-use Rattle.std.proofs.Common.{◌≡◌, ℕ, List, true, map, ap, ◌∙◌, string_bytes}
-use Rattle.std.specs.Str.{IsUtf8}
-use Rattle.cookie.specs.CookieOf.{header_cookies}
+use Rattle.std.proofs.Common.{◌≡◌, ℕ, List, map, ap, ◌∙◌, string_bytes}
 use Rattle.cookie.specs.History.{after_all}
 use Rattle.cookie.specs.Jar.{Change, JarState}
 use Rattle.cookie_client.specs.Calls.{changes_of}
-use Rattle.cookie.specs.Originals.{jar_for, with_originals}
+use Rattle.cookie.specs.Originals.{field_cookies, jar_for, with_originals}
 use Rattle.cookie_agent.specs.Store.{agent_after_texts}
 use Rattle.cookie_agent.proofs.VisitedLemmas.{agrees_on, is_visited}
 use Rattle.cookie_agent.proofs.requests.visit.Goals as goal
@@ -18,11 +16,10 @@ returns-clause-visit c =
     let changes : List Change = changes_of outcomes request.calls.now in
     let header : List ℕ = c.in_ok-header.header.items in
     let start : JarState = jar_for header in
-    let jar : IsUtf8 header → c.replay.new.jar ≡ after_all changes start = λ u.
+    let jar : c.replay.new.jar ≡ after_all changes start =
     c.in_ok-outcomes.ensures.jar
     ∙ ap (after_all changes)
-    (c.in_ok-jar.ensures ∙ ap (with_originals (header_cookies true c.text_of.result.now)) c.new.ensures.empty
-    ∙ ap jar_for (c.text_of.ensures (rw c.deref.ensures.value u) ∙ c.deref.ensures.value)) in
+    (c.in_ok-jar.ensures.made ∙ ap (with_originals (field_cookies c.deref.result.now)) c.new.ensures.empty ∙ ap jar_for c.deref.ensures.value) in
     let texts : List (List ℕ) = map string_bytes c.in_ok-texts.texts.items in
     let read : c.read_texts.new.agent ≡ agent_after_texts request.site.now request.moment texts before =
     c.in_ok-read_texts.ensures

@@ -10,7 +10,7 @@ use Rattle.cookie_client.proofs.requests.rounds.Goals as goal
 pub loop-request-init : goal.loop-request-init
 loop-request-init c = (
   c.new.result,
-  told c.new.result _ (ap (λ v. get v []) c.new.ensures ∙ get-empty name_cmp []) c.in_ok-header.ensures.text c.in_ok-header.ensures.reads_back,
+  told c.new.result _ (ap (λ v. get v []) c.new.ensures ∙ get-empty name_cmp []) c.in_ok-header.ensures.text c.in_ok-header.ensures.cookies,
   λ rest h.
       subst (λ client. AreRounds c.args.now client c.args.requests.now (c.new-played.result.items ++ rest)) c.new.ensures
       (subst (λ ps. AreRounds c.args.now c.new.result c.args.requests.now (ps ++ rest)) (sym c.new-played.ensures.items) h),
@@ -27,7 +27,7 @@ loop-request-preserved c =
     let first : drop c.loop-request.request-index requests ≡ c.request-item.result ∷ later =
     drop_more requests c.loop-request.request-index c.request-item.result c.loop-request-test.true ∙ ap (λ r. r ∷ later) (sym c.request-item.is) in (
       one.client,
-      told one.client _ this.named c.in_ok-header-2.ensures.text c.in_ok-header-2.ensures.reads_back,
+      told one.client _ this.named c.in_ok-header-2.ensures.text c.in_ok-header-2.ensures.cookies,
       λ rest h.
           subst (AreRounds c.args.now empty requests)
           (sym (append_assoc c.loop-request.played.items (one ∷ []) rest) ∙ ap (λ ps. ps ++ rest) (sym c.in_ok-push.ensures.items))

@@ -48,7 +48,7 @@ returns-clause-carried c =
     adds
     sent.ensures.gives
     c.in_ok-next.ensures
-    sent.ensures.reads_back
+    sent.ensures.cookies
 
 pub returns-in_err-append_delta-clause-invalid : goal.returns-in_err-append_delta-clause-invalid
 returns-in_err-append_delta-clause-invalid c invalid =

@@ -2,8 +2,7 @@ use Rattle.std.proofs.Common.{◌≡◌, true, codes, [], ◌∷◌, map, Err, a
 use Rattle.http_header.specs.FieldValue.{plain_value}
 use Rattle.http_header.specs.HeaderMap.{append}
 use Rattle.http_header.specs.declared.map.HeaderMapError.TheVariants as full
-use Rattle.cookie.specs.CookieOf.{cookie_of}
-use Rattle.cookie.specs.Header.{header_texts}
+use Rattle.cookie.specs.Originals.{field_cookies}
 use Rattle.cookie_client.specs.Client.{header_text}
 use Rattle.cookie_http.proofs.ResponseLemmas.{empty_takes, gives_memory}
 use Rattle.cookie_session_client.proofs.HeaderLemmas.{request_shows}
@@ -20,7 +19,7 @@ returns-clause-shows c =
     let is : c.append.new.self ≡ (codes "cookie", plain_value (header_text client) ∷ []) ∷ [] =
     c.in_ok-append.ensures.ok ∙ (λ i. append (c.new-request.ensures i) (codes "cookie") (sent.ensures.text i)) in
     request_shows client c.append.new.self is
-    (λ unnamed. ap (λ value. map (cookie_of true) (header_texts value.bytes)) (sym sent.ensures.text) ∙ sent.ensures.reads_back unnamed)
+    (λ unnamed. ap (λ value. field_cookies value.bytes) (sym sent.ensures.text) ∙ sent.ensures.cookies unnamed)
 
 pub returns-in_err-append-clause-request : goal.returns-in_err-append-clause-request
 returns-in_err-append-clause-request c =

@@ -1,11 +1,9 @@
 use Rattle.std.proofs.Common.{◌≡◌, List, ℕ, Some, option_map, map, sym, ap, subst, ◌∙◌, string_bytes}
-use Rattle.std.proofs.lemmas.Str.{IsUtf8-string_bytes}
 use Rattle.std.specs.FinMap.{empty, get}
 use Rattle.cookie.specs.Jar.{JarState, view}
-use Rattle.cookie.specs.Originals.{jar_for, readable}
+use Rattle.cookie.specs.Originals.{jar_for}
 use Rattle.cookie.specs.Record.{plain}
 use Rattle.cookie.proofs.DeltaTextLemmas.{AreDeltaTexts-once}
-use Rattle.cookie.proofs.FieldLemmas.{readable-utf8}
 use Rattle.cookie_client.specs.Client.{after_texts}
 use Rattle.cookie_client.proofs.RoundLemmas.{fresh, shows_held}
 use Rattle.login_core.specs.Answers.{stored_of}
@@ -33,8 +31,8 @@ returns g c can held holds =
     let is = c.in_ok-header.ensures holds.unnamed in
     let (saved, jar, plan, saves, once) = c.in_ok-response.ensures.answers in
     let asked : Request = record { method = request.method; path = request.path; cookies = c.as_bytes.result; form = request.form } in
-    let field : List ℕ = readable asked.cookies.now in
-    let field_is : field ≡ header = ap readable c.as_bytes.ensures.value ∙ readable-utf8 header (IsUtf8-string_bytes c.in_ok-header.header) in
+    let field : List ℕ = asked.cookies.now in
+    let field_is : field ≡ header = c.as_bytes.ensures.value in
     let start : JarState = jar_for field in
     let shown : stored_of site asked ≡ option_map (plain name) (get client name) =
     ap (λ h. view (jar_for h) name) field_is ∙ shows_held client header is name in

@@ -1,11 +1,10 @@
-use Rattle.std.proofs.Common.{true, ap, sym, ◌∙◌}
+use Rattle.std.proofs.Common.{subst, sym}
 use Rattle.std.proofs.lemmas.Result.{IfOk-weaker}
-use Rattle.cookie_core.specs.CookieOf.{header_cookies}
-use Rattle.cookie.specs.Originals.{with_originals}
-use Rattle.cookie.proofs.FieldLemmas.{readable-utf8}
+use Rattle.cookie.specs.Originals.{HasFirst, field_cookies}
+use Rattle.cookie.proofs.OriginalLemmas.{has_first}
 use Rattle.cookie.proofs.jar.CookieJar.with_field.Goals as goal
 
-pub returns-in-Ok : goal.returns-in-Ok
-returns-in-Ok c =
-    let same = ap (header_cookies true) (c.in-Ok.ensures.cases.0 ∙ sym (readable-utf8 c.args.field.now c.in-Ok.ensures.cases.1)) in
-    IfOk-weaker c.with_originals.result _ _ (λ jar is. is ∙ ap (λ cookies. with_originals cookies c.args.self) same) c.with_originals.ensures
+pub returns-in-Err-clause-first : goal.returns-in-Err-clause-first
+returns-in-Err-clause-first c =
+    let cookies = field_cookies c.args.field.now in
+    IfOk-weaker c.with_pieces.result _ _ (λ jar is. subst (HasFirst cookies c.args.self) (sym is) (has_first cookies c.args.self)) c.with_pieces.ensures

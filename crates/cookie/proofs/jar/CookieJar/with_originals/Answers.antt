@@ -1,31 +1,31 @@
-use Rattle.std.proofs.Common.{true, refl, sym, ap, ◌∙◌}
-use Rattle.std.specs.List.{filter_map}
-use Rattle.cookie_core.proofs.CookieOfLemmas.{header_cookies-texts}
-use Rattle.cookie_core.proofs.SplitLemmas.{NextCookie-decodes}
-use Rattle.cookie_core.specs.CookieOf.{cookie_of, header_cookies}
-use Rattle.cookie.specs.Originals.{with_originals}
-use Rattle.cookie.proofs.OriginalLemmas.{with_originals-next}
+use Rattle.std.proofs.Common.{◌≡◌, true, ap, subst, sym, ◌∙◌}
+use Rattle.std.proofs.lemmas.Result.{IfOk-weaker}
+use Rattle.cookie_core.specs.CookieOf.{header_cookies}
+use Rattle.cookie.specs.Originals.{HasFirst, field_cookies, with_originals}
+use Rattle.cookie.proofs.FieldLemmas.{printed_cookies, readable-named}
+use Rattle.cookie.proofs.OriginalLemmas.{has_first}
 use Rattle.cookie.proofs.jar.CookieJar.with_originals.Goals as goal
 
-pub loop-outcome-init : goal.loop-outcome-init
-loop-outcome-init c =
-    let left = c.into_iter-outcome-iterator.ensures.into_iter_gives in
-    let split = c.split_parse_encoded_owned-outcome-items.ensures in
-    record {
-      is_decoded = ap (λ s. s.is_decoded) (left ∙ split.value);
-      jar = ap (λ cookies. with_originals cookies c.args.self)
-          (ap (λ s. filter_map (cookie_of true) s.texts) left ∙ sym (header_cookies-texts true _ _ split.texts) ∙ ap (header_cookies true) c.in_ok-text.ensures.ok);
-    }
+pub returns-then-are_named_as_sent-clause-made : goal.returns-then-are_named_as_sent-clause-made
+returns-then-are_named_as_sent-clause-made c =
+    let header = c.args.header.now in
+    let whole = readable-named header c.utf8.header (sym c.are_named_as_sent.ensures ∙ c.if-are_named_as_sent.true) in
+    IfOk-weaker c.with_header.result _ _ (λ jar is. is ∙ ap (λ t. with_originals (header_cookies true t) c.args.self) (sym whole)) c.with_header.ensures
 
-pub loop-outcome-preserved : goal.loop-outcome-preserved
-loop-outcome-preserved c =
-    let before = c.loop-outcome.invariant in
-    let steps = c.in-Some.ensures.steps in
-    let (text, first, agrees) = NextCookie-decodes c.loop-outcome.outcome-iterator c.next.new.self c.in-Some.outcome before.is_decoded steps in
-    record {
-      is_decoded = steps.3.is_decoded ∙ before.is_decoded;
-      jar = ap (with_originals (filter_map (cookie_of true) c.next.new.self.texts)) (c.in_ok-put_piece.ensures.added text agrees)
-          ∙ with_originals-next (cookie_of true) text c.next.new.self.texts _ c.loop-outcome.jar refl
-          ∙ ap (λ texts. with_originals (filter_map (cookie_of true) texts) c.loop-outcome.jar) (sym first)
-          ∙ before.jar;
-    }
+pub returns-then-are_named_as_sent-clause-first : goal.returns-then-are_named_as_sent-clause-first
+returns-then-are_named_as_sent-clause-first c =
+    let cookies = field_cookies c.args.header.now in
+    IfOk-weaker c.with_header.result _ _ (λ jar is. subst (HasFirst cookies c.args.self) (sym is) (has_first cookies c.args.self)) (returns-then-are_named_as_sent-clause-made c)
+
+pub returns-then-are_named_as_sent-clause-printed : goal.returns-then-are_named_as_sent-clause-printed
+returns-then-are_named_as_sent-clause-printed c cookies named is = printed_cookies c.args.header.now cookies c.utf8.header named is
+
+pub returns-else-are_named_as_sent-clause-first : goal.returns-else-are_named_as_sent-clause-first
+returns-else-are_named_as_sent-clause-first c =
+    let cookies = field_cookies c.args.header.now in
+    IfOk-weaker c.with_pieces.result _ _ (λ jar is.
+    let made : jar ≡ with_originals cookies c.args.self = is ∙ ap (λ t. with_originals (field_cookies t) c.args.self) c.as_bytes.ensures.value in
+    subst (HasFirst cookies c.args.self) (sym made) (has_first cookies c.args.self)) c.with_pieces.ensures
+
+pub returns-else-are_named_as_sent-clause-printed : goal.returns-else-are_named_as_sent-clause-printed
+returns-else-are_named_as_sent-clause-printed c cookies named is = printed_cookies c.args.header.now cookies c.utf8.header named is

@@ -1,9 +1,10 @@
 use Rattle.std.proofs.Common.{◌≡◌, ◌∷◌, ◌++◌, [], All, map, sym, ap, subst, ◌∙◌, string_bytes}
 use Rattle.std.proofs.lemmas.List.Elements.{All-nil}
+use Rattle.std.proofs.lemmas.Str.{IsUtf8-string_bytes}
 use Rattle.std.specs.FinMap.{entries}
 use Rattle.cookie.specs.Header.{joined_texts}
 use Rattle.cookie_client.specs.Client.{pair_text}
-use Rattle.cookie_client.proofs.HeaderLemmas.{Pair, IsKnown, all_named, header-first, header-last, header-next, header-read, known-first}
+use Rattle.cookie_client.proofs.HeaderLemmas.{Pair, IsKnown, all_named, header-cookies, header-first, header-last, header-next, header-read, known-first}
 use Rattle.cookie_client.proofs.client.Client.header.Goals as goal
 
 pub returns-in_default-clause-reads_back : goal.returns-in_default-clause-reads_back
@@ -12,6 +13,14 @@ returns-in_default-clause-reads_back c unnamed =
     let none : entries c.args.self.now ≡ [] =
     sym c.iter-pairs.ensures.listed ∙ c.in_default.ensures.steps.0 in
     header-read _ (entries c.args.self.now) (subst (All IsKnown) (sym none) (All-nil IsKnown)) named
+    (c.new-header.ensures.bytes ∙ sym (ap (λ es. joined_texts (map pair_text es)) none))
+
+pub returns-in_default-clause-cookies : goal.returns-in_default-clause-cookies
+returns-in_default-clause-cookies c unnamed =
+    let named = all_named c.args.self.now unnamed in
+    let none : entries c.args.self.now ≡ [] =
+    sym c.iter-pairs.ensures.listed ∙ c.in_default.ensures.steps.0 in
+    header-cookies _ (entries c.args.self.now) (IsUtf8-string_bytes c.new-header.result) (subst (All IsKnown) (sym none) (All-nil IsKnown)) named
     (c.new-header.ensures.bytes ∙ sym (ap (λ es. joined_texts (map pair_text es)) none))
 
 pub loop-name-init : goal.loop-name-init
@@ -41,4 +50,12 @@ returns-clause-reads_back c unnamed =
     let named = all_named c.args.self.now unnamed in
     let none = c.in-None.ensures.steps.0 in
     header-read _ (entries c.args.self.now) (c.loop-name.invariant.known (subst (All IsKnown) (sym none) (All-nil IsKnown))) named
+    (header-last _ _ none ∙ c.loop-name.invariant.text)
+
+pub returns-clause-cookies : goal.returns-clause-cookies
+returns-clause-cookies c unnamed =
+    let named = all_named c.args.self.now unnamed in
+    let none = c.in-None.ensures.steps.0 in
+    header-cookies _ (entries c.args.self.now) (IsUtf8-string_bytes c.loop-name.header)
+    (c.loop-name.invariant.known (subst (All IsKnown) (sym none) (All-nil IsKnown))) named
     (header-last _ _ none ∙ c.loop-name.invariant.text)
