@@ -50,3 +50,7 @@ absolute_suffixes = refl
 absolute_others : list_any (is_public_suffix kept) (codes "example.com." ∷ codes "example.uk.com." ∷ codes "b.c.mm." ∷ codes "city.kobe.jp." ∷ codes "www.city.kobe.jp." ∷ codes "test.us." ∷ []) ≡ false
 unfolding rule_of idna is_public_suffix cut
 absolute_others = refl
+
+absolute_rules : rules_of (codes "com." ++ 10 ∷ codes "*.ck. x" ++ 10 ∷ codes "!www.ck.") ≡ Plain (codes "com") ∷ Wild (codes "ck") ∷ Except (codes "www.ck") ∷ []
+unfolding rule_of idna
+absolute_rules = refl

@@ -140,11 +140,11 @@ fn is_no_rule(text: &[u8]) -> bool
     text.is_empty() || text.starts_with(b"//")
 }
 
-// The labels in lower case and in Punycode, if they are valid.
+// The labels in lower case and in Punycode, without a last dot, if they are valid.
 fn canonical(alloc: Global, labels: &[u8]) -> Result<Option<Vec<u8>>, AllocError>
     ensures { IfOk result (λ text. option_map (λ v. v.items) text ≡ canonical labels.now) }
 {
-    match domain_to_ascii_cow(alloc, labels, AsciiDenyList::EMPTY) {
+    match domain_to_ascii_cow(alloc, without_last_dot(labels), AsciiDenyList::EMPTY) {
         Ok(text) => Ok(Some(text.into_owned(alloc)?.into_bytes())),
         Err(Errors::Invalid) => Ok(None),
         Err(Errors::OutOfMemory) => Err(AllocError),

@@ -34,6 +34,7 @@ ide.kyoto.jp
 MM.UPPER.example
 a.*.star.example
 xn--u-ccb.example
+absolute.example.
 *.mm
 cn
 com.cn
@@ -103,7 +104,8 @@ shishi.xn--fiqs8s no
 test.ac no
 ";
 
-// Worked out by hand from publicsuffix.org, Format. `xn--u-ccb` is no valid Punycode label (UTS #46).
+// Worked out by hand from publicsuffix.org, Format, and Algorithm, Definitions. `xn--u-ccb` is no valid Punycode label
+// (UTS #46).
 const FORM: &str = "\
 co.uk yes
 a.co.uk no
@@ -114,6 +116,9 @@ tight.example no
 mm.upper.example yes
 a.b.star.example no
 xn--u-ccb.example no
+absolute.example yes
+absolute.example. yes
+a.absolute.example no
 ";
 
 // The dot that ends an absolute name is ignored (publicsuffix.org, Algorithm, Definitions), so it changes no answer of
