@@ -41,3 +41,16 @@ suffixes = refl
 others : list_any (is_public_suffix kept) (codes "example.com" ∷ codes "b.example.com" ∷ codes "example.uk.com" ∷ codes "b.c.mm" ∷ codes "a.b.c.mm" ∷ codes "test.jp" ∷ codes "test.kyoto.jp" ∷ codes "b.c.kobe.jp" ∷ codes "city.kobe.jp" ∷ codes "www.city.kobe.jp" ∷ codes "test.us" ∷ codes "test.ak.us" ∷ codes "test.k12.ak.us" ∷ codes "example.example" ∷ []) ≡ false
 unfolding rule_of idna is_public_suffix cut
 others = refl
+
+-- the dot that ends an absolute name is ignored (Algorithm, Definitions)
+absolute_suffixes : list_all (is_public_suffix kept) (codes "com." ∷ codes "uk.com." ∷ codes "c.mm." ∷ codes "c.kobe.jp." ∷ codes "k12.ak.us." ∷ codes "localhost." ∷ codes "." ∷ []) ≡ true
+unfolding rule_of idna is_public_suffix cut
+absolute_suffixes = refl
+
+absolute_others : list_any (is_public_suffix kept) (codes "example.com." ∷ codes "example.uk.com." ∷ codes "b.c.mm." ∷ codes "city.kobe.jp." ∷ codes "www.city.kobe.jp." ∷ codes "test.us." ∷ []) ≡ false
+unfolding rule_of idna is_public_suffix cut
+absolute_others = refl
+
+absolute_rules : rules_of (codes "com." ++ 10 ∷ codes "*.ck. x" ++ 10 ∷ codes "!www.ck.") ≡ Plain (codes "com") ∷ Wild (codes "ck") ∷ Except (codes "www.ck") ∷ []
+unfolding rule_of idna
+absolute_rules = refl

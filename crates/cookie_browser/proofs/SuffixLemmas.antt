@@ -8,7 +8,7 @@ use Rattle.std.proofs.lemmas.List.Folds.{list_any-append}
 use Rattle.std.proofs.lemmas.List.Sorted.{list_any-IsPermutation}
 use Rattle.cookie_browser.specs.Bytes.{cut}
 use Rattle.cookie_browser.specs.Request.{is_in_domain}
-use Rattle.cookie_browser.specs.Suffixes.{Rule, Plain, Wild, Except, HasSameElements, has_parent, is_covered, is_excepted, is_one_label, is_public_suffix}
+use Rattle.cookie_browser.specs.Suffixes.{Rule, Plain, Wild, Except, HasSameElements, has_parent, fills_rule, is_covered, is_excepted, is_one_label, is_public_suffix, without_last_dot}
 use Rattle.cookie_browser.specs.SuffixCode.{rules_view, texts_of}
 use Rattle.cookie_browser.specs.SuffixList.{canonical, rule_of, rule_of_line, rules_of}
 use Rattle.cookie_browser.proofs.AnyLemmas.{any-map, any-never, any-same, any-or, holds_in, any-cons_option}
@@ -53,12 +53,15 @@ any-cut domain texts =
     any-same (is_in_domain domain false) (λ t. bytes_eq domain t || rest_in (cut 46 domain).1 t) (is_in_domain-cut domain) texts
     ∙ any-or (bytes_eq domain) (rest_in (cut 46 domain).1) texts
 
+fills_rule-same : (left right : List Rule) (domain : List ℕ) → HasSameElements left right → fills_rule left domain ≡ fills_rule right domain
+fills_rule-same left right domain same =
+    ap (λ b. not b && (is_one_label domain || list_any (is_covered domain) left)) (same (is_excepted domain))
+    ∙ ap (λ b. not (list_any (is_excepted domain) right) && (is_one_label domain || b)) (same (is_covered domain))
+
 -- whether a domain is a public suffix depends only on which rules there are
 pub is_public_suffix-same : (left right : List Rule) (domain : List ℕ) → HasSameElements left right → is_public_suffix left domain ≡ is_public_suffix right domain
 unfolding is_public_suffix
-is_public_suffix-same left right domain same =
-    ap (λ b. not b && (is_one_label domain || list_any (is_covered domain) left)) (same (is_excepted domain))
-    ∙ ap (λ b. not (list_any (is_excepted domain) right) && (is_one_label domain || b)) (same (is_covered domain))
+is_public_suffix-same left right domain same = fills_rule-same left right (without_last_dot domain) same
 
 -- ---- a text is added
 

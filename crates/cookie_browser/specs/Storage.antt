@@ -53,17 +53,21 @@ kept_until now None None = None
 abbrev pub asked_domain : AttributesView → List ℕ
 asked_domain attributes = str_to_ascii_lowercase (without_leading_dot attributes.domain)
 
+-- the domain is a public suffix, and the host is a name: an IP address only matches itself (Domain Matching)
+abbrev pub is_suffix_at : List Rule → RequestView → List ℕ → Bool
+is_suffix_at rules request domain = not request.is_address && is_public_suffix rules domain
+
 -- the domain is a public suffix, and not the host itself
 abbrev pub is_suffix_of_others : List Rule → RequestView → List ℕ → Bool
 is_suffix_of_others rules request [] = false
 is_suffix_of_others rules request (byte ∷ bytes) =
     not (bytes_eq (byte ∷ bytes) request.host)
-    && is_public_suffix rules (byte ∷ bytes)
+    && is_suffix_at rules request (byte ∷ bytes)
 
 -- host-only: no domain is asked for, or one that is a public suffix
-abbrev pub is_host_only : List Rule → List ℕ → Bool
-is_host_only rules [] = true
-is_host_only rules (byte ∷ bytes) = is_public_suffix rules (byte ∷ bytes)
+abbrev pub is_host_only : List Rule → RequestView → List ℕ → Bool
+is_host_only rules request [] = true
+is_host_only rules request (byte ∷ bytes) = is_suffix_at rules request (byte ∷ bytes)
 
 -- the path that is asked for, if it begins with `/`, and else the default path of the request's (The Path Attribute)
 abbrev pub path_or_folder : List ℕ → List ℕ → List ℕ
@@ -78,9 +82,9 @@ kept_as rules request now cookie =
     record {
       name = cookie.name;
       value = cookie.value;
-      domain = if is_host_only rules (asked_domain cookie.attributes)
+      domain = if is_host_only rules request (asked_domain cookie.attributes)
           then request.host else asked_domain cookie.attributes;
-      is_host_only = is_host_only rules (asked_domain cookie.attributes);
+      is_host_only = is_host_only rules request (asked_domain cookie.attributes);
       path = asked_path request cookie.attributes.path;
       is_secure_only = cookie.attributes.secure;
       is_http_only = cookie.attributes.http_only;

@@ -5,11 +5,12 @@ use Rattle.std.specs.List.{before_first, filter_map, slice_split, starts_with}
 use Rattle.std.specs.Str.{bytes_eq}
 use Rattle.idna.specs.Uts46.{domain_to_ascii}
 use Rattle.idna.specs.declared.deny_list.TheConstants.AsciiDenyList.{EMPTY}
-use Rattle.cookie_browser.specs.Suffixes.{Rule, Plain, Wild, Except}
+use Rattle.cookie_browser.specs.Suffixes.{Rule, Plain, Wild, Except, without_last_dot}
 
--- labels in lower case and in Punycode (Algorithm, Definitions; UTS #46, ToASCII), if they are valid
+-- labels in lower case and in Punycode (Algorithm, Definitions; UTS #46, ToASCII), if they are valid; a last dot is
+-- ignored (Algorithm, Definitions)
 abbrev pub canonical : List ℕ → Option (List ℕ)
-canonical labels = domain_to_ascii EMPTY labels
+canonical labels = domain_to_ascii EMPTY (without_last_dot labels)
 
 -- the rule that is written so; a comment begins with `//`
 unfoldable pub rule_of : List ℕ → Option Rule

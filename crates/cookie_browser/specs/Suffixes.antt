@@ -1,6 +1,6 @@
 -- Public suffixes, by rules that are passed in (publicsuffix.org, Algorithm).
-use Rattle.std.specs.Prelude.{◌≡◌, ℕ, ◌&&◌, ◌||◌, not, Bool, false, List, Option, Some, None}
-use Rattle.std.specs.List.{list_any}
+use Rattle.std.specs.Prelude.{◌≡◌, ℕ, ◌-◌, ◌&&◌, ◌||◌, not, Bool, false, List, codes, eqb, length, take, Option, Some, None, if◌then◌else◌}
+use Rattle.std.specs.List.{ends_with, list_any}
 use Rattle.std.specs.Str.{bytes_eq}
 use Rattle.cookie_browser.specs.Bytes.{cut}
 use Rattle.cookie_browser.specs.Request.{is_in_domain}
@@ -31,12 +31,21 @@ is_covered domain (Plain text) = bytes_eq domain text
 is_covered domain (Wild text) = has_parent text (cut 46 domain).1
 is_covered domain (Except text) = false
 
--- The domain is a public suffix: the prevailing rule has as many labels as it. An exception prevails over any other
--- rule, and the suffix that it gives has a label less; where no rule matches, `*` prevails.
-unfoldable pub is_public_suffix : List Rule → List ℕ → Bool
-is_public_suffix rules domain =
+-- The prevailing rule has as many labels as the domain. An exception prevails over any other rule, and the suffix that
+-- it gives has a label less; where no rule matches, `*` prevails.
+abbrev pub fills_rule : List Rule → List ℕ → Bool
+fills_rule rules domain =
     not (list_any (is_excepted domain) rules)
     && (is_one_label domain || list_any (is_covered domain) rules)
+
+-- the domain without the dot that ends an absolute name, if it has one (Algorithm, Definitions: that dot is ignored)
+abbrev pub without_last_dot : List ℕ → List ℕ
+without_last_dot domain =
+    if ends_with eqb domain (codes ".") then take (length domain - 1) domain else domain
+
+-- The domain is a public suffix, as `com` and `com.` are. So is the root, `.`: nobody registers it.
+unfoldable pub is_public_suffix : List Rule → List ℕ → Bool
+is_public_suffix rules domain = fills_rule rules (without_last_dot domain)
 
 -- the lists pass the same tests: each element of one is in the other
 abbrev pub HasSameElements : {X : Type 0} → List X → List X → Type 0

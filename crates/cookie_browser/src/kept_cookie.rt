@@ -7,7 +7,7 @@ ghost use Rattle.cookie_browser.specs.RefusedCode.{kept_view, request_view};
 
 use crate::enforcement::Enforcement;
 use crate::received::Received;
-use crate::refused::is_site_bound;
+use crate::refused::{is_site_bound, is_suffix_at};
 use crate::request::{BrowserRequest, folder_of, is_in_domain, is_under_path};
 use crate::suffixes::Suffixes;
 
@@ -33,10 +33,10 @@ pub struct KeptCookie<'s> {
 }
 
 // Whether only the host gets a cookie with this domain.
-fn is_host_only(suffixes: &Suffixes, domain: &[u8]) -> bool
-    ensures { result ≡ spec.is_host_only suffixes.now domain.now }
+fn is_host_only(suffixes: &Suffixes, request: &BrowserRequest<'_>, domain: &[u8]) -> bool
+    ensures { result ≡ spec.is_host_only suffixes.now (request_view request.now) domain.now }
 {
-    domain.is_empty() || suffixes.is_public(domain)
+    domain.is_empty() || is_suffix_at(suffixes, request, domain)
 }
 
 // The path, if it begins with `/`, and else the folder of the request's path.
@@ -79,7 +79,7 @@ impl<'s> KeptCookie<'s> {
             ≡ record (spec.kept_as suffixes.now (request_view request.now) now
             (received_view received.now)) { expiry = None; last_access = pos 0 } }
     {
-        let is_host_only = is_host_only(suffixes, domain);
+        let is_host_only = is_host_only(suffixes, request, domain);
         KeptCookie {
             name: received.name,
             value: received.value,

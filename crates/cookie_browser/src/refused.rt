@@ -55,11 +55,18 @@ fn is_empty_pair(received: &Received<'_>) -> bool
     received.name.is_empty() && received.value.is_empty()
 }
 
+// Whether the domain is a public suffix, and the host is a name.
+pub(crate) fn is_suffix_at(suffixes: &Suffixes, request: &BrowserRequest<'_>, domain: &[u8]) -> bool
+    ensures { result ≡ spec.is_suffix_at suffixes.now (request_view request.now) domain.now }
+{
+    !request.is_address && suffixes.is_public(domain)
+}
+
 fn is_suffix_of_others(suffixes: &Suffixes, request: &BrowserRequest<'_>, domain: &[u8]) -> bool
     ensures { result ≡ spec.is_suffix_of_others suffixes.now (request_view request.now)
         domain.now }
 {
-    !domain.is_empty() && domain != request.host && suffixes.is_public(domain)
+    !domain.is_empty() && domain != request.host && is_suffix_at(suffixes, request, domain)
 }
 
 fn is_foreign(request: &BrowserRequest<'_>, domain: &[u8]) -> bool

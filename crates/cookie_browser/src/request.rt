@@ -5,7 +5,8 @@ ghost use Rattle.cookie_browser.specs.Request.{folder_of, is_in_domain, is_under
 /// A request: where it goes, and how it came about.
 #[derive(Clone, Copy)]
 pub struct BrowserRequest<'s> {
-    /// The host, in lower case and in ASCII (RFC 6265bis, Canonicalized Host Names).
+    /// The host, in lower case and in ASCII (RFC 6265bis, Canonicalized Host Names). An IPv6 address is in brackets, as
+    /// in a URL.
     pub host: &'s [u8],
     /// Whether the host is an IP address.
     pub is_address: bool,

@@ -90,11 +90,18 @@ impl Suffixes {
     }
 
     /// Whether the domain, in lower case and in ASCII, is a public suffix (publicsuffix.org, Algorithm). A domain of
-    /// one label is one, unless a rule excepts it. The time grows with the number of labels, and not with the number of
-    /// rules.
+    /// one label is one, unless a rule excepts it. The dot that ends an absolute name, as `com.`, doesn't count. The
+    /// time grows with the number of labels, and not with the number of rules.
     #[tactic(auto, unfolding(crate::specs::Suffixes::is_public_suffix))]
     pub fn is_public(&self, domain: &[u8]) -> bool
         ensures { result ≡ spec.is_public_suffix self.now domain.now }
+    {
+        self.fills_rule(without_last_dot(domain))
+    }
+
+    // Whether the prevailing rule has as many labels as the domain.
+    fn fills_rule(&self, domain: &[u8]) -> bool
+        ensures { result ≡ spec.fills_rule self.now domain.now }
     {
         if self.is_excepted(domain) {
             return false;
@@ -133,11 +140,11 @@ fn is_no_rule(text: &[u8]) -> bool
     text.is_empty() || text.starts_with(b"//")
 }
 
-// The labels in lower case and in Punycode, if they are valid.
+// The labels in lower case and in Punycode, without a last dot, if they are valid.
 fn canonical(alloc: Global, labels: &[u8]) -> Result<Option<Vec<u8>>, AllocError>
     ensures { IfOk result (λ text. option_map (λ v. v.items) text ≡ canonical labels.now) }
 {
-    match domain_to_ascii_cow(alloc, labels, AsciiDenyList::EMPTY) {
+    match domain_to_ascii_cow(alloc, without_last_dot(labels), AsciiDenyList::EMPTY) {
         Ok(text) => Ok(Some(text.into_owned(alloc)?.into_bytes())),
         Err(Errors::Invalid) => Ok(None),
         Err(Errors::OutOfMemory) => Err(AllocError),
@@ -184,6 +191,17 @@ fn has_domain_of(texts: &Texts, domain: &[u8]) -> bool
         rest = cut(text, b'.').1;
     }
     false
+}
+
+// The domain without the dot that ends an absolute name, if it has one.
+fn without_last_dot(domain: &[u8]) -> &[u8]
+    ensures { result.now ≡ spec.without_last_dot domain.now }
+{
+    if domain.ends_with(b".") {
+        &domain[..domain.len() - 1]
+    } else {
+        domain
+    }
 }
 
 fn is_one_label(domain: &[u8]) -> bool

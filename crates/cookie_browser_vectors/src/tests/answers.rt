@@ -4,13 +4,13 @@ use cookie_browser::{BrowserRequest, KeptCookie, Received, Refusal, Suffixes};
 use std::alloc::{AllocError, Global};
 
 /// The request of a URL such as `http://example.com/a/b`. `get` is same-site. `link` and `fetch` come from another site,
-/// and `link` is a top-level navigation. A host that begins with `1` is an IP address.
+/// and `link` is a top-level navigation. A host that begins with `1` or `[` is an IP address.
 pub(super) fn request<'r>(how: &str, url: &'r str) -> Option<BrowserRequest<'r>> {
     let (scheme, rest) = url.split_once("://")?;
     let (host, path) = rest.split_at_checked(rest.find('/')?)?;
     Some(BrowserRequest {
         host: host.as_bytes(),
-        is_address: host.starts_with('1'),
+        is_address: host.starts_with(['1', '[']),
         path: path.as_bytes(),
         is_secure: scheme == "https",
         is_same_site: how == "get",
@@ -43,7 +43,7 @@ pub(super) fn kept<'s>(
     received: &Received<'s>,
     domain: &'s [u8],
 ) -> KeptCookie<'s> {
-    let is_host_only = domain.is_empty() || suffixes.is_public(domain);
+    let is_host_only = domain.is_empty() || (!request.is_address && suffixes.is_public(domain));
     KeptCookie {
         name: received.name,
         value: received.value,

@@ -19,6 +19,21 @@ get http://10.1.2.3/ [n=v; Domain=..2.3] ForeignDomain
 get http://127.0.0.5/ [n=v; Domain=other.org] ForeignDomain
 get http://www.example.com/dir/ [a=1; Path=/; Domain=other.org] ForeignDomain
 get http://www.example.com/dir/ [a=2; Domain=com; HttpOnly] PublicSuffix
+get http://[::1]/ [n=v; Domain=[::1]] stored
+get http://[::1]/ [n=v; Domain=.[::1]] stored
+get http://[::1]/ [n=v; Domain=child.[::1]] ForeignDomain
+get https://[2001:db8::1]/ [n=v; Domain=1]] ForeignDomain
+get https://[2001:db8::1]/ [n=v; Domain=x[2001:db8::1]] ForeignDomain
+get https://[2001:db8::1]/ [n=v; Domain=[2001:db8:0::1]] ForeignDomain
+get http://127.0.0.5/ [n=v; Domain=.127.0.0.5] stored
+get http://127.0.0.5/ [n=v; Domain=.127.0.0.5.] ForeignDomain
+get https://www.example.com/ [n=v; Domain=com.] PublicSuffix
+get https://www.example.com./ [n=v; Domain=www.example.com.] stored
+get https://www.example.com./ [n=v; Domain=.example.com.] stored
+get https://www.example.com./ [n=v; Domain=example.com] ForeignDomain
+get https://www.example.com./ [n=v; Domain=.www.example.com..] ForeignDomain
+get https://example.com/ [n=v; Domain=.example.com.] ForeignDomain
+get https://github.io/ [n=v; Domain=github.io.] PublicSuffix
 get http://www.example.com/dir/page [n=v; SameSite=Strict; Secure] InsecureConnection
 get http://192.168.1.1/ [n=v; SameSite=None; Secure] InsecureConnection
 get http://www.example.com/dir/page [n=v; SameSite=none] NoneWithoutSecure
@@ -56,6 +71,18 @@ get https://a.com/ [n=v; Domain=\u{e4}.com] NonAsciiDomain
 get https://a.com/ [n=v; Domain=A.Com] stored
 get https://b.a.com/ [n=v; Domain=a.com] stored
 get https://ba.com/ [n=v; Domain=a.com] ForeignDomain
+get https://www.example.com./ [n=v; Domain=com.] PublicSuffix
+get https://www.example.com./ [n=v; Domain=com] PublicSuffix
+get https://com./ [n=v; Domain=com.] stored
+get https://com./ [__Host-n=v; Secure; Path=/; Domain=com.] stored
+get https://a.co.uk./ [n=v; Domain=co.uk.] PublicSuffix
+get https://b.any.ck./ [n=v; Domain=any.ck.] PublicSuffix
+get https://a.www.ck./ [n=v; Domain=www.ck.] stored
+get https://www.example.com./ [n=v; Domain=..] PublicSuffix
+get http://[::1]/ [n=v; Domain=::1] ForeignDomain
+get https://[::1]/ [__Host-n=v; Secure; Path=/; Domain=[::1]] HostPrefix
+get https://10.1.2.3/ [__Host-n=v; Secure; Path=/; Domain=10.1.2.3] HostPrefix
+get https://[::1]/ [__Host-n=v; Secure; Path=/] stored
 get http://a.com/d/p [n=v; Secure] InsecureConnection
 get http://a.com/d/p [n=1; Secure; Path=/][n=v] OverlaysSecure
 get http://a.com/d/p [m=1; Secure; Path=/][n=v] stored

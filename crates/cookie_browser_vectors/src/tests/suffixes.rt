@@ -34,6 +34,7 @@ ide.kyoto.jp
 MM.UPPER.example
 a.*.star.example
 xn--u-ccb.example
+absolute.example.
 *.mm
 cn
 com.cn
@@ -103,7 +104,8 @@ shishi.xn--fiqs8s no
 test.ac no
 ";
 
-// Worked out by hand from publicsuffix.org, Format. `xn--u-ccb` is no valid Punycode label (UTS #46).
+// Worked out by hand from publicsuffix.org, Format, and Algorithm, Definitions. `xn--u-ccb` is no valid Punycode label
+// (UTS #46).
 const FORM: &str = "\
 co.uk yes
 a.co.uk no
@@ -114,6 +116,32 @@ tight.example no
 mm.upper.example yes
 a.b.star.example no
 xn--u-ccb.example no
+absolute.example yes
+absolute.example. yes
+a.absolute.example no
+";
+
+// The dot that ends an absolute name is ignored (publicsuffix.org, Algorithm, Definitions), so it changes no answer of
+// `ROWS` and `FORM`. `.` is the root, which nobody registers.
+const ABSOLUTE: &str = "\
+com. yes
+example.com. no
+uk.com. yes
+example.uk.com. no
+co.uk. yes
+a.co.uk. no
+local. yes
+c.kobe.jp. yes
+b.c.kobe.jp. no
+city.kobe.jp. no
+www.city.kobe.jp. no
+test.ck. yes
+b.test.ck. no
+www.ck. no
+www.www.ck. no
+xn--55qx5d.cn. yes
+xn--fiqs8s. yes
+. yes
 ";
 
 fn is_right(suffixes: &Suffixes, row: &str) -> bool {
@@ -145,11 +173,18 @@ fn lists_are_read(rt: HostRuntime) -> Result<(), Fail> {
     play(rt.alloc(), LIST, FORM)
 }
 
+#[test]
+fn a_last_dot_is_ignored(rt: HostRuntime) -> Result<(), Fail> {
+    play(rt.alloc(), LIST, ABSOLUTE)
+}
+
 // Without rules, exactly the domains of one label are public suffixes.
 const DEFAULT: &str = "\
 com yes
 local yes
+localhost. yes
 example.com no
+example.com. no
 www.ck no
 ";
 
