@@ -1,16 +1,19 @@
 -- The texts of the cookies that a delta's walk meets are the delta's, in any order.
-use Rattle.std.proofs.Common.{◌≡◌, ℕ, zero, suc, true, false, List, [], ◌∷◌, map, Contains, Option, Some, None, option_map, refl, sym, ap, arith}
+use Rattle.std.proofs.Common.{◌≡◌, ℕ, zero, suc, true, false, List, [], ◌∷◌, map, Contains, Option, Some, None, option_map, Result, Ok, Err, refl, sym, ap, arith}
 use Rattle.std.proofs.lemmas.List.Elements.{All-map, All-weaker}
 use Rattle.std.proofs.lemmas.List.Sorted.{All-permutation, Contains-permutation, IsPermutation-trans}
 use Rattle.std.proofs.lemmas.Option.{none-some, same_Some}
 use Rattle.std.specs.FinMap.{FinMap, get}
 use Rattle.std.specs.List.Sorted.{IsPermutation}
+use Rattle.std.specs.Result.{IsErrAnd, IsErrOf}
 use Rattle.cookie.specs.Jar.{name_cmp, Marked}
 use Rattle.cookie_core.specs.Record.{Record}
 use Rattle.cookie_core.specs.Text.{cookie_text}
 use Rattle.cookie.specs.Walk.{Walks}
 use Rattle.cookie.proofs.MetLemmas.{meets_each, meets_only}
 use Rattle.cookie.specs.DeltaTexts.{IsDeltaText, AreDeltaTexts, AreDeltaTextsOnce}
+use Rattle.cookie.specs.declared.texts_error.TextsError.{TextsError}
+use Rattle.cookie.specs.declared.texts_error.TextsError.TheVariants as refusal
 
 -- the encoded text of a cookie
 abbrev text_of : Record → List ℕ
@@ -64,3 +67,8 @@ module _ (delta : FinMap name_cmp Marked) where
         are = once.are;
         written = IsPermutation-trans (map text_of once.cookies) texts others once.written moved;
       }
+
+-- out of memory is no other refusal
+pub memory_is_valid : {T : Type 0} (r : Result T TextsError) → IsErrAnd r (λ e. e ≡ refusal.OutOfMemory) → ¬ (IsErrOf r refusal.InvalidValue)
+memory_is_valid (Ok t) h is = cc
+memory_is_valid (Err e) h is = cc

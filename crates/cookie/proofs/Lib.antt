@@ -1,4 +1,5 @@
 pub mod AnswerLemmas
+pub mod AttributeValueLemmas
 pub mod DeltaTextLemmas
 pub mod FieldLemmas
 pub mod HistoryLemmas

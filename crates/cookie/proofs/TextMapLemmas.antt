@@ -1,5 +1,5 @@
 -- The finite map that a `BTreeMap` of texts shows, through its calls.
-use Rattle.std.proofs.Common.{◌≡◌, ℕ, true, cond, T, List, [], ◌∷◌, All, IsUtf8, Option, None, Some, String, refl, sym, ap, ◌∙◌, arith}
+use Rattle.std.proofs.Common.{◌≡◌, ℕ, true, cond, T, List, [], ◌∷◌, IsUtf8, Option, None, Some, String, refl, sym, ap, ◌∙◌, arith}
 use Rattle.std.proofs.lemmas.List.Elements.{All-nil, All-cons}
 use Rattle.std.proofs.lemmas.Map.Lookups.{exact_bytes}
 use Rattle.std.proofs.lemmas.Map.Text.{is_eq-slice_cmp, btree_map_updates_text}

@@ -1,4 +1,5 @@
 pub mod AnswersExactly
+pub mod AttributeValues
 pub mod ChildJars
 pub mod Clipped
 pub mod DeltaTexts
@@ -22,6 +23,7 @@ pub mod Shown
 pub mod Signing
 pub mod Table
 pub mod TextMap
+pub mod TextsError
 pub mod Types
 pub mod Walk
 pub use Rattle.cookie_core.specs.Attributes

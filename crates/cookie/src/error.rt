@@ -4,6 +4,7 @@ ghost use Rattle.cookie.specs.declared.error.Error.TheVariants as failure;
 
 use crate::jar_error::JarError;
 use crate::secure::KeyError;
+use crate::texts_error::TextsError;
 use cookie_core::ParseError;
 use std::alloc::{AllocError, AllocFailed};
 use std::{error, fmt};
@@ -21,6 +22,8 @@ pub enum Error {
     Key(KeyError),
     /// A private jar sealed nothing: `TooLong` or `Generator`.
     Jar(JarError),
+    /// A path or a domain is no attribute value: `set_cookie_texts` refuses it.
+    InvalidValue,
 }
 
 impl fmt::Display for Error {
@@ -35,6 +38,9 @@ impl fmt::Display for Error {
             Error::Parse(error) => write!(f, "{error}"),
             Error::Key(error) => write!(f, "{error}"),
             Error::Jar(error) => write!(f, "{error}"),
+            Error::InvalidValue => {
+                f.write_str("a cookie's path or domain is no attribute value")
+            }
         }
     }
 }
@@ -89,6 +95,19 @@ impl From<JarError> for Error {
         match error {
             JarError::OutOfMemory => Error::OutOfMemory,
             JarError::TooLong | JarError::Generator => Error::Jar(error),
+        }
+    }
+}
+
+impl From<TextsError> for Error {
+    ghost use Rattle.cookie.specs.Error.{texts_failure};
+
+    ghost from_gives = { λ error e. e ≡ texts_failure error };
+
+    fn from(error: TextsError) -> Error {
+        match error {
+            TextsError::OutOfMemory => Error::OutOfMemory,
+            TextsError::InvalidValue => Error::InvalidValue,
         }
     }
 }

@@ -1,6 +1,7 @@
 //! Cookies and the jar that keeps them: original cookies, and the changes since (RFC 6265).
 #![tactic(auto)]
 
+mod attribute_value;
 mod child;
 mod delta;
 mod delta_texts;
@@ -17,7 +18,9 @@ mod original;
 pub mod prefix;
 mod secure;
 mod text_map;
+mod texts_error;
 
+pub use attribute_value::{fits_field, is_attribute_value};
 pub use child::{ChildJar, Storing};
 pub use cookie_core::{
     Attributes, Builder, Cookie, CookieBuilder, DateText, Display, EncodedText, Expiration, Layout,
@@ -33,3 +36,4 @@ pub use secure::{
     Key, KeyError, PrivateJar, PrivateJarMut, Sealer, SignedJar, SignedJarMut, Signer,
 };
 pub use text_map::{Pairs, TextMap};
+pub use texts_error::TextsError;

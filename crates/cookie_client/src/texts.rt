@@ -6,7 +6,8 @@ use crate::order::reorder;
 use cookie::CookieJar;
 use std::alloc::{AllocError, Global};
 
-/// Returns the texts of `CookieJar::set_cookie_texts`, in the order of `pick`.
+/// Returns the encoded text of each cookie of the delta, in the order of `pick`, whatever paths and domains they have:
+/// unlike `CookieJar::set_cookie_texts`, it refuses none. So print these texts into no header.
 ///
 /// The i-th text is number `pick[i]` of those that are left, in the order of `CookieJar::delta` and modulo their
 /// number, or number 0 after the end of `pick`. Fails only if out of memory.
@@ -20,6 +21,19 @@ pub fn delta_texts(
     ensures once { IfOk result (λ texts.
         AreDeltaTextsOnce jar.now.delta (map string_bytes texts.items)) }
 {
-    let texts = jar.set_cookie_texts()?;
+    let texts = all_texts(alloc, jar)?;
     reorder(alloc, texts, pick)
+}
+
+// The texts, in the order of `CookieJar::delta`.
+fn all_texts(alloc: Global, jar: &CookieJar) -> Result<Vec<String>, AllocError>
+    ensures { IfOk result (λ texts.
+        AreDeltaTextsOnce jar.now.delta (map string_bytes texts.items)) }
+{
+    let mut texts = Vec::new(alloc);
+    for cookie in jar.delta() {
+        let text = cookie.encoded().to_string(alloc)?;
+        texts.push(text)?;
+    }
+    Ok(texts)
 }

@@ -10,3 +10,4 @@ mod prefixes;
 mod rows;
 mod sealing;
 mod secrets;
+mod texts;

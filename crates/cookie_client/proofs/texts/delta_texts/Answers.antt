@@ -7,7 +7,7 @@ use Rattle.cookie_client.proofs.texts.delta_texts.Goals as goal
 pub returns-clause-once : goal.returns-clause-once
 returns-clause-once c =
     IfOk-weaker c.reorder.result _ _ (λ ordered moved.
-    AreDeltaTextsOnce-moved c.args.jar.now.delta _ _ (IsPermutation-map string_bytes _ _ moved) c.in_ok-texts.ensures.once) c.reorder.ensures
+    AreDeltaTextsOnce-moved c.args.jar.now.delta _ _ (IsPermutation-map string_bytes _ _ moved) c.in_ok-texts.ensures) c.reorder.ensures
 
 pub returns-clause-each : goal.returns-clause-each
 returns-clause-each c =

@@ -1,16 +1,13 @@
-use Rattle.std.proofs.Common.{ap, map, true, false, string_bytes, sym, subst, ◌++◌, ◌∙◌}
-use Rattle.std.proofs.lemmas.List.Sorted.{IsPermutation-refl}
-use Rattle.std.specs.List.Sorted.{IsPermutation}
-use Rattle.cookie_core.specs.Text.{cookie_text}
+use Rattle.std.proofs.Common.{IsTrue, rules}
+use Rattle.cookie.proofs.DeltaTextLemmas.{memory_is_valid}
 use Rattle.cookie.proofs.jar.CookieJar.set_cookie_texts.Goals as goal
 
-pub loop-cookie-init : goal.loop-cookie-init
-loop-cookie-init c =
-    let all = map (cookie_text true false) c.delta-cookie-items.result in
-    record {
-      cookies = c.delta-cookie-items.result;
-      are = c.delta-cookie-items.ensures.walks;
-      written = subst (IsPermutation all) (sym (
-          ap (λ ts. map string_bytes ts ++ map (cookie_text true false) c.into_iter-cookie-iterator.result) c.new-texts.ensures.items
-          ∙ ap (λ cookies. map (cookie_text true false) cookies) c.into_iter-cookie-iterator.ensures.into_iter_gives)) (IsPermutation-refl all);
-    }
+pub returns-in_err-all_texts-clause-invalid : goal.returns-in_err-all_texts-clause-invalid
+returns-in_err-all_texts-clause-invalid c =
+    let yes : IsTrue c.fits_fields.result = search rules in
+    (λ invalid fit. memory_is_valid c.from_residual.result c.from_residual.ensures.1 invalid, λ unfit. absurd (unfit (c.fits_fields.ensures.0 yes)))
+
+pub returns-clause-invalid : goal.returns-clause-invalid
+returns-clause-invalid c =
+    let yes : IsTrue c.fits_fields.result = search rules in
+    (λ invalid fit. cc, λ unfit. absurd (unfit (c.fits_fields.ensures.0 yes)))

@@ -1,7 +1,7 @@
 use Rattle.std.proofs.Common.{◌++◌, true, false, map, string_bytes}
 use Rattle.cookie_core.specs.Text.{cookie_text}
 use Rattle.cookie.specs.DeltaTexts.{AreDeltaTextsOnce}
-use Rattle.cookie.proofs.jar.CookieJar.set_cookie_texts.Given as goal
+use Rattle.cookie.proofs.jar.CookieJar.all_texts.Given as goal
 
 -- the texts so far, with those of the cookies that are left, are the delta's
 abbrev pub invariant-loop-cookie : goal.invariant-loop-cookie
