@@ -3,6 +3,7 @@ ghost use Rattle.std.specs.Prelude.{◌≡◌};
 ghost use Rattle.cookie_session.specs.declared.session_error.SessionError.TheVariants as refusal;
 
 use cookie::JarError;
+use itoa::Buffer;
 use std::alloc::{AllocError, AllocFailed};
 use std::error::Error;
 use std::fmt;
@@ -33,6 +34,8 @@ impl fmt::Display for SessionError {
 
     ghost output = { λ e. Some (session_refusal_text e) };
 
+    ghost styled_output = { λ e _. Some (session_refusal_text e) };
+
     fn fmt<W: fmt::Write>(&self, f: &mut fmt::Formatter<W>) -> fmt::Result {
         match self {
             SessionError::OutOfMemory => f.write_str("out of memory"),
@@ -40,10 +43,11 @@ impl fmt::Display for SessionError {
                 f.write_str("the cookie lacks what a browser asks of the prefix of its name")
             }
             SessionError::Over => f.write_str("the session is over"),
-            SessionError::TooLarge(count) => write!(
-                f,
-                "the cookie is too large: expected <= 4096 bytes, got {count} bytes"
-            ),
+            SessionError::TooLarge(count) => {
+                f.write_str("the cookie is too large: expected <= 4096 bytes, got ")?;
+                f.write_str(Buffer::new().format(*count))?;
+                f.write_str(" bytes")
+            }
             SessionError::TooLong => f.write_str("the value or name is too long to seal"),
             SessionError::Generator => f.write_str("the generator failed"),
         }

@@ -1,5 +1,5 @@
 -- A session that was saved is open in the jar of the client's next request.
-use Rattle.std.proofs.Common.{◌≡◌, ℕ, ◌+◌, ◌-◌, ◌<◌, pos, ◌*ℤ◌, Bool, true, false, cond, List, [], ◌∷◌, ◌++◌, All, Option, None, Some, IfSome, option_map, refl, sym, ap, subst, arith, ◌∙◌}
+use Rattle.std.proofs.Common.{◌≡◌, ℕ, ◌+◌, ◌-◌, ◌<◌, ◌≤◌, pos, ◌*ℤ◌, Bool, true, false, cond, List, [], ◌∷◌, ◌++◌, All, Option, None, Some, IfSome, option_map, refl, sym, ap, subst, arith, ◌∙◌}
 use Rattle.std.proofs.lemmas.List.Elements.{All-append, All-cons, All-head, All-nil, All-tail}
 use Rattle.std.proofs.lemmas.Option.{none-some}
 use Rattle.std.proofs.lemmas.Slice.Eq.{bytes_eq-Decides}
@@ -12,6 +12,7 @@ use Rattle.cookie.specs.DeltaTexts.{AreDeltaTexts}
 use Rattle.cookie.specs.History.{accepted_items, after_all}
 use Rattle.cookie.specs.Jar.{Add, Change, JarState, Marked, Name, added_mark, after, view}
 use Rattle.cookie.specs.Record.{IsCookie, Record, plain}
+use Rattle.cookie.specs.Sealing.{CanSeal, IsNonce}
 use Rattle.cookie.proofs.AnswerLemmas.{view-stored}
 use Rattle.cookie.proofs.NameLemmas.{get_inserted}
 use Rattle.cookie_client.specs.Agreement.{Agrees, value_of}
@@ -22,9 +23,10 @@ use Rattle.cookie_client.proofs.AgreementLemmas.{agreement}
 use Rattle.cookie_client.proofs.ChangeLemmas.{fit_changes, known_changes}
 use Rattle.cookie_session.specs.Seconds.{second_of}
 use Rattle.cookie_session.specs.Session.{SessionState, seen_at}
-use Rattle.cookie_session.specs.Sessions.{CanSave, IsOpen, IsStored, saved_cookie, time_left}
+use Rattle.cookie_session.specs.Sessions.{CanSave, IsOpen, IsStored, bare_cookie, meets_prefix, saved_cookie, time_left}
+use Rattle.cookie_session.specs.Size.{browser_length, most_bytes}
 use Rattle.cookie_session.specs.declared.sessions.Sessions.{Sessions}
-use Rattle.cookie_session_client.specs.Returning.{CanReturn}
+use Rattle.cookie_session_client.specs.Returning.{CanReturn, IsHandled}
 
 -- ---- lists of calls
 
@@ -48,6 +50,28 @@ live_age age some = grind (arith, signed_arith)
 
 some_left : (started lifetime idle now : ℕ) → now < started + lifetime → now < now + idle → 0 < min (started + lifetime - now) idle
 some_left started lifetime idle now young used = omega arith
+
+-- ---- what the calls and the save make of a jar
+
+pub handled : (IsDrawn : List ℕ → Type 0) (site : Sessions) (nonce : List ℕ) (now : DateTime) (session : SessionState) (start old new : JarState) (calls : List JarCall)
+    (outcomes : List Bool) → AllZip IsOutcome calls outcomes → old ≡ after_all (changes_of outcomes calls) start → IsNonce nonce → IsDrawn nonce
+    → new ≡ after (Add (saved_cookie site nonce now session)) old → meets_prefix site.cookie.now.fields ≡ true → CanSave site now session → CanSeal (bare_cookie site now session)
+    → IfSome (view new site.cookie.now.fields.name) (λ cookie. browser_length cookie ≤ most_bytes) → IsHandled IsDrawn site calls session now start new
+handled IsDrawn site nonce now session start old new calls outcomes told played is_nonce drawn added meets lives within fits =
+    let saved : Record = saved_cookie site nonce now session in
+    record {
+      outcomes = outcomes;
+      told = told;
+      nonce = nonce;
+      is_nonce = is_nonce;
+      drawn = drawn;
+      made = added ∙ ap (after (Add saved)) played;
+      meets = meets;
+      lives = lives;
+      within = within;
+      fits = subst (λ o. IfSome o (λ cookie. browser_length cookie ≤ most_bytes))
+          (ap (λ (j : JarState). view j site.cookie.now.fields.name) added ∙ view-stored old saved) fits;
+    }
 
 -- ---- the theorem
 

@@ -1,16 +1,15 @@
 //! A request that saves a session, and the client's next one, over header maps.
-ghost use Rattle.std.specs.Prelude.{◌≡◌, ◌↔◌, ◌<◌, true, ℕ, Some, Err, IfOk};
-ghost use Rattle.cookie.specs.Jar.{view};
-ghost use Rattle.cookie.specs.Sealing.{CanSeal};
+ghost use Rattle.std.specs.Prelude.{◌≡◌, ◌<◌, true, ℕ, List, Some, Err, IfOk, OnOk};
+ghost use Rattle.cookie.specs.Sealing.{CanSeal, IsNonce};
 ghost use Rattle.cookie_http.specs.Response.{AllFitFields};
 ghost use Rattle.cookie_http.specs.declared.http_error.HttpError.TheVariants as http_refusal;
 ghost use Rattle.cookie_session.specs.Seconds.{second_of};
-ghost use Rattle.cookie_session.specs.Session.{SessionState, seen_at};
-ghost use Rattle.cookie_session.specs.Sessions.{CanSave, IsOpen, bare_cookie, meets_prefix};
-ghost use Rattle.cookie_session.specs.Size.{most_bytes};
+ghost use Rattle.cookie_session.specs.Session.{seen_at};
+ghost use Rattle.cookie_session.specs.Sessions.{CanSave, bare_cookie, meets_prefix, saved_cookie};
+ghost use Rattle.cookie_session.specs.Size.{browser_length, most_bytes};
 ghost use Rattle.cookie_session.specs.declared.session_error.SessionError.TheVariants as refusal;
 ghost use Rattle.cookie_session_client.specs.Carrying.{CarriesDelta};
-ghost use Rattle.cookie_session_client.specs.Returning.{CanReturn};
+ghost use Rattle.cookie_session_client.specs.Returning.{CanReturn, IsHandled, IsOpened};
 ghost use Rattle.cookie_session_client.specs.declared.return_error.ReturnError.TheVariants as failure;
 
 use crate::carrying::{Carried, carry};
@@ -57,13 +56,15 @@ pub fn save_over_headers<R: TryRng>(
         → IfOk result (λ answer. answer.opened
         ≡ Some (record { session = seen_at (second_of now) session.now; place = 0 })) }
 
-    // All of it goes by the header maps.
+    // The calls and the save made the jar.
+    ensures handled { OnOk result (IsHandled (λ nonce. R.may_fill rng.old nonce rng.new)
+        sessions.now calls.now session.now now jar.old jar.new) }
+
+    // The rest goes by the header maps.
     ensures carried { IfOk result (λ answer.
         CarriesDelta now jar.new.delta client.old client.new answer.carried) }
-    ensures opens { IfOk result (λ answer. (place : ℕ) (s : SessionState)
-        → (answer.opened ≡ Some (record { session = s; place = place }))
-        ↔ IsOpen sessions.now (view answer.carried.next sessions.now.cookie.now.fields.name) later
-        place s) }
+    ensures opens { IfOk result (λ answer.
+        IsOpened sessions.now answer.carried.next later answer.opened) }
 
     // Out of memory aside, it fails only for the reasons for which `save` does, or if a cookie doesn't fit a field.
     ensures prefix { result ≡ Err (failure.Session refusal.Prefix)
@@ -75,7 +76,9 @@ pub fn save_over_headers<R: TryRng>(
         → result ≡ Err (failure.Session refusal.TooLong)
         → ¬ (CanSeal (bare_cookie sessions.now now session.now)) }
     ensures too_large { (size : ℕ) → result ≡ Err (failure.Session (refusal.TooLarge size))
-        → most_bytes < size }
+        → (most_bytes < size) × (nonce : List ℕ) × IsNonce nonce
+        × R.may_fill rng.old nonce rng.new
+        × (size ≡ browser_length (saved_cookie sessions.now nonce now session.now)) }
     ensures failed { result ≡ Err (failure.Session refusal.Generator) → R.Error }
     ensures invalid { result ≡ Err (failure.Http http_refusal.InvalidValue)
         → ¬ (AllFitFields jar.new.delta) }

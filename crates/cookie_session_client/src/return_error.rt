@@ -25,10 +25,12 @@ impl fmt::Display for ReturnError {
 
     ghost output = { λ e. Some (return_refusal_text e) };
 
+    ghost styled_output = { λ e _. Some (return_refusal_text e) };
+
     fn fmt<W: fmt::Write>(&self, f: &mut fmt::Formatter<W>) -> fmt::Result {
         match self {
-            ReturnError::Session(error) => write!(f, "{error}"),
-            ReturnError::Http(error) => write!(f, "{error}"),
+            ReturnError::Session(error) => fmt::Display::fmt(error, f),
+            ReturnError::Http(error) => fmt::Display::fmt(error, f),
         }
     }
 }

@@ -5,16 +5,17 @@ ghost use Rattle.std.specs.List.{AllZip};
 ghost use Rattle.cookie.specs.DeltaTexts.{AreDeltaTexts};
 ghost use Rattle.cookie.specs.History.{after_all};
 ghost use Rattle.cookie.specs.Jar.{Name, view};
+ghost use Rattle.cookie.specs.Originals.{jar_for};
 ghost use Rattle.cookie.specs.Record.{plain};
-ghost use Rattle.cookie.specs.Sealing.{CanSeal};
+ghost use Rattle.cookie.specs.Sealing.{CanSeal, IsNonce};
 ghost use Rattle.cookie_client.specs.Calls.{IsOutcome, changes_of};
-ghost use Rattle.cookie_client.specs.Client.{after_texts};
+ghost use Rattle.cookie_client.specs.Client.{after_texts, header_text};
 ghost use Rattle.cookie_session.specs.Seconds.{second_of};
 ghost use Rattle.cookie_session.specs.Session.{seen_at};
-ghost use Rattle.cookie_session.specs.Sessions.{CanSave, bare_cookie, meets_prefix};
-ghost use Rattle.cookie_session.specs.Size.{most_bytes};
+ghost use Rattle.cookie_session.specs.Sessions.{CanSave, bare_cookie, meets_prefix, saved_cookie};
+ghost use Rattle.cookie_session.specs.Size.{browser_length, most_bytes};
 ghost use Rattle.cookie_session.specs.declared.session_error.SessionError.TheVariants as refusal;
-ghost use Rattle.cookie_session_client.specs.Returning.{CanReturn};
+ghost use Rattle.cookie_session_client.specs.Returning.{CanReturn, IsReturned};
 
 use cookie::CookieJar;
 use cookie_client::{Client, JarCall, read_delta, replay};
@@ -49,6 +50,11 @@ pub fn save_and_return<R: TryRng>(
         → IfOk result (λ answer. answer
         ≡ Some (record { session = seen_at (second_of now) session.now; place = 0 })) }
 
+    // Whatever was passed in: the calls and the save made the jar, the client read its delta, and the session is opened
+    // in the jar of the client's next header.
+    ensures came { IfOk result (IsReturned (λ nonce. R.may_fill rng.old nonce rng.new)
+        sessions.now calls.now session.now now later jar.old jar.new client.old client.new) }
+
     // Out of memory aside, it fails only for the reasons for which `save` does.
     ensures prefix { result ≡ Err refusal.Prefix
         → ¬ (meets_prefix sessions.now.cookie.now.fields ≡ true) }
@@ -56,7 +62,10 @@ pub fn save_and_return<R: TryRng>(
         → result ≡ Err refusal.Over → ¬ (CanSave sessions.now now session.now) }
     ensures too_long { CanSave sessions.now now session.now → result ≡ Err refusal.TooLong
         → ¬ (CanSeal (bare_cookie sessions.now now session.now)) }
-    ensures too_large { (size : ℕ) → result ≡ Err (refusal.TooLarge size) → most_bytes < size }
+    ensures too_large { (size : ℕ) → result ≡ Err (refusal.TooLarge size)
+        → (most_bytes < size) × (nonce : List ℕ) × IsNonce nonce
+        × R.may_fill rng.old nonce rng.new
+        × (size ≡ browser_length (saved_cookie sessions.now nonce now session.now)) }
     ensures failed { result ≡ Err refusal.Generator → R.Error }
 {
     play(alloc, jar, calls)?;
@@ -87,10 +96,11 @@ fn next_jar(
     pick: &[usize],
     now: DateTime,
 ) -> Result<CookieJar, AllocError>
-    ensures { IfOk result (λ next. (texts : List (List ℕ)) × AreDeltaTexts jar.now.delta texts
-        × (client.new ≡ after_texts now texts client.old)
-        × (get client.new [] ≡ None → (name : Name)
-        → view next name ≡ option_map (plain name) (get client.new name))) }
+    ensures read { OnOk result ((texts : List (List ℕ)) × AreDeltaTexts jar.now.delta texts
+        × (client.new ≡ after_texts now texts client.old)) }
+    ensures next { IfOk result (λ next. next ≡ jar_for (header_text client.new)) }
+    ensures shows { IfOk result (λ next. get client.new [] ≡ None → (name : Name)
+        → view next name ≡ option_map (plain name) (get client.new name)) }
 {
     read_delta(alloc, client, jar, pick, now)?;
     let next = client.next_jar()?;

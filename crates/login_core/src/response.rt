@@ -1,15 +1,12 @@
 //! A response, and its text.
 ghost use Rattle.std.specs.Prelude.{◌≡◌, ◌++◌, IfOk, OnOk, string_bytes};
 ghost use Rattle.std.specs.List.{flat_map};
-ghost use Rattle.login_core.specs.Responses.{cookie_line, head_of, place_line, status_line, response_text};
+ghost use Rattle.login_core.specs.Responses.{common_lines, cookie_line, head_of, place_line, status_line, response_text};
 
 use crate::markup::html;
 use crate::page::Page;
 use crate::refusal::Refusal;
 use std::alloc::{AllocError, Global};
-
-const FIELDS: &[u8] =
-    b"Content-Type: text/html; charset=utf-8\r\nCache-Control: no-store\r\nContent-Security-Policy: default-src 'none'; style-src 'unsafe-inline'; form-action 'self'\r\n";
 
 /// A response, before its text.
 #[derive(Drop)]
@@ -53,7 +50,7 @@ fn push_head(text: &mut Vec<u8>, base: &str, response: &Response) -> Result<(), 
 {
     text.extend_from_slice(status_line(&response.page))?;
     push_place(text, base, &response.page)?;
-    text.extend_from_slice(FIELDS)?;
+    push_common(text)?;
     push_cookies(text, &response.cookies)?;
     text.extend_from_slice(b"\r\n")
 }
@@ -86,6 +83,18 @@ fn push_place(text: &mut Vec<u8>, base: &str, page: &Page) -> Result<(), AllocEr
     Ok(())
 }
 
+// The type of the page, that no cache stores it, and that a browser loads nothing for it.
+fn push_common(text: &mut Vec<u8>) -> Result<(), AllocError>
+    ensures { OnOk result (text.new.items ≡ text.old.items ++ common_lines) }
+{
+    push_line(
+        text,
+        b"Content-Type: text/html; charset=utf-8\r\n",
+        b"Cache-Control: no-store\r\n",
+        b"Content-Security-Policy: default-src 'none'; style-src 'unsafe-inline'; form-action 'self'\r\n",
+    )
+}
+
 // A field for each cookie that was changed.
 fn push_cookies(text: &mut Vec<u8>, cookies: &[String]) -> Result<(), AllocError>
     ensures { OnOk result
@@ -105,7 +114,7 @@ fn push_cookie(text: &mut Vec<u8>, cookie: &str) -> Result<(), AllocError>
     push_line(text, b"Set-Cookie: ", cookie.as_bytes(), b"\r\n")
 }
 
-// A field of three parts.
+// Three parts, one after the other.
 fn push_line(text: &mut Vec<u8>, front: &[u8], middle: &[u8], back: &[u8]) -> Result<(), AllocError>
     ensures { OnOk result
         (text.new.items ≡ text.old.items ++ (front.now ++ middle.now ++ back.now)) }

@@ -39,13 +39,13 @@ fn outcome(opened: Option<Opened>) -> &'static str {
     }
 }
 
-// What comes back if the client reads the texts in the order of `pick`.
+// What comes back if the client reads the texts in the order of `pick`, and whether it then holds `theme=dark`.
 fn over_texts(
     alloc: Global,
     calls: &[JarCall<'_>],
     pick: &[usize],
     later: DateTime,
-) -> Option<&'static str> {
+) -> Option<(&'static str, bool)> {
     let site = Site::new(alloc)?;
     let session = anns(alloc)?;
     let (mut jar, mut client) = (CookieJar::new(alloc), Client::new(alloc));
@@ -62,11 +62,15 @@ fn over_texts(
         later,
         &mut rng,
     );
-    Some(outcome(opened.ok()?))
+    Some((outcome(opened.ok()?), client.get("theme") == Some("dark")))
 }
 
-// What comes back over header maps.
-fn over_headers(alloc: Global, calls: &[JarCall<'_>], later: DateTime) -> Option<&'static str> {
+// The same over header maps.
+fn over_headers(
+    alloc: Global,
+    calls: &[JarCall<'_>],
+    later: DateTime,
+) -> Option<(&'static str, bool)> {
     let site = Site::new(alloc)?;
     let session = anns(alloc)?;
     let (mut jar, mut client) = (CookieJar::new(alloc), Client::new(alloc));
@@ -82,16 +86,21 @@ fn over_headers(alloc: Global, calls: &[JarCall<'_>], later: DateTime) -> Option
         later,
         &mut rng,
     );
-    Some(outcome(returned.ok()?.opened))
+    Some((
+        outcome(returned.ok()?.opened),
+        client.get("theme") == Some("dark"),
+    ))
 }
 
-// Whether the row's session comes back as it says, in two orders and over header maps.
+// Whether the row's session comes back as it says, in two orders and over header maps, and the client holds the cookie
+// that the row's call adds, if it adds `theme=dark` (RFC 6265 5.3).
 fn is_right(alloc: Global, row: &'static str) -> Option<bool> {
     let (head, steps) = row.split_once(':')?;
     let (seconds, wanted) = head.split_once(' ')?;
     let later = later(seconds)?;
     let key = test_key();
     let calls = calls_of(alloc, &key, steps.trim())?;
+    let wanted = (wanted, steps.find("add theme=dark").is_some());
     Some(
         over_texts(alloc, &calls, &[], later)? == wanted
             && over_texts(alloc, &calls, &[2, 1, 0], later)? == wanted

@@ -3,7 +3,7 @@ use Rattle.cookie_http.specs.Fields.{set_cookie_texts}
 use Rattle.cookie_http.proofs.CarriedLemmas.{are_carried}
 use Rattle.cookie_session.specs.Seconds.{second_of}
 use Rattle.cookie_session.specs.Session.{seen_at}
-use Rattle.cookie_session_client.proofs.ReturnLemmas.{returned_open, still_unnamed}
+use Rattle.cookie_session_client.proofs.ReturnLemmas.{handled, returned_open, still_unnamed}
 use Rattle.cookie_session_client.proofs.header_round.save_over_headers.Goals as goal
 
 pub returns-clause-returns : goal.returns-clause-returns
@@ -21,3 +21,12 @@ returns-clause-returns g c can =
     (returned_open site nonce c.args.now c.args.later c.args.session.now c.args.jar.now c.play.new.jar c.save.new.jar c.args.calls.now outcomes c.args.client.now
     c.carry.new.client can saved.lives told played added saved.cookie (set_cookie_texts response) are carried.carried.reads
     c.in_ok-carried.carried.next (carried.shows unnamed site.cookie.now.fields.name) saved.opens)
+
+pub returns-clause-handled : goal.returns-clause-handled
+returns-clause-handled g c =
+    let site = c.args.sessions.now in
+    let saved = c.in_ok-save.ensures in
+    let (nonce, is_nonce, drawn, added) = saved.ok in
+    let (outcomes, told, played) = c.in_ok-play.ensures in
+    handled _ site nonce c.args.now c.args.session.now c.args.jar.now c.play.new.jar c.save.new.jar c.args.calls.now outcomes told played is_nonce drawn added saved.meets saved.lives
+    saved.within saved.fits
