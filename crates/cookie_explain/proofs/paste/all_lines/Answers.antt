@@ -1,7 +1,7 @@
-use Rattle.std.proofs.Common.{◌≡◌, ◌++◌, ◌∷◌, [], ℕ, List, Option, Some, None, option_copied, map, refl, sym, ap, ◌∙◌, append_assoc}
+use Rattle.std.proofs.Common.{◌++◌, ◌∷◌, [], option_copied, map, sym, ap, ◌∙◌, append_assoc}
 use Rattle.cookie_browser.specs.Bytes.{cut}
 use Rattle.cookie_browser.proofs.CutLemmas.{pieces_at, rest-shorter, slice_split-cut}
-use Rattle.cookie_explain.specs.Paste.{LineView, line_of}
+use Rattle.cookie_explain.specs.Paste.{line_of}
 use Rattle.cookie_explain.proofs.paste.all_lines.Goals as goal
 
 pub loop-rest-smaller : goal.loop-rest-smaller
