@@ -1,27 +1,33 @@
-"""`python -m deomigal explain URL` says what a browser makes of `Set-Cookie` lines."""
+"""`python -m deomigal explain URL` says what a browser makes of `Set-Cookie` lines, as the program cookie_explain does."""
 from __future__ import annotations
 
 import argparse
-import datetime
 import pathlib
 import sys
 
-from .dates import read_date
-from .explain import address_of, explain
+from .addresses import address_of
+from .browser import Browser, counted_lines, moment
+from .explain import second_of, suffix_list
 
 
-def value_of(line: bytes) -> bytes:
-    """The value of the `Set-Cookie` field that the line is, which may begin with `Set-Cookie:`."""
-    line = line.strip()
-    return line[11:].strip() if line[:11].lower() == b"set-cookie:" else line
+def date(text: str) -> int:
+    """The second of the date, for the command line."""
+    try:
+        return moment(text.encode())
+    except ValueError as error:
+        raise argparse.ArgumentTypeError(str(error)) from None
 
 
-def date(text: str) -> datetime.datetime:
-    """The date, for the command line."""
-    found = read_date(text)
-    if found is None:
-        raise argparse.ArgumentTypeError("no date")
-    return found
+def explain(words: argparse.Namespace) -> None:
+    """Prints what a browser makes of the lines of standard input."""
+    address = address_of(words.url, words.cross_site)
+    title, suffixes = (words.suffixes, pathlib.Path(words.suffixes).read_bytes()) if words.suffixes else suffix_list()
+    out, paste = sys.stdout.buffer, sys.stdin.buffer.read()
+    out.write(f"public suffixes: {title}\n".encode())
+    browser = Browser(suffixes, address, second_of(None) if words.now is None else words.now)
+    for line in counted_lines(paste):
+        out.write(browser.answer(line) + b"\n")
+    out.write(browser.header(browser.address._replace(is_same_site=True, is_top_level=True)) + b"\n")
 
 
 def main() -> None:
@@ -32,16 +38,13 @@ def main() -> None:
     )
     command.add_argument("url", metavar="URL", help="the address that the response comes from")
     command.add_argument("--now", metavar="DATE", type=date, help="the time of the response, as an HTTP date")
-    command.add_argument("--suffixes", metavar="FILE", type=pathlib.Path, help="the list of public suffixes")
+    command.add_argument("--suffixes", metavar="FILE", help="the list of public suffixes")
     command.add_argument("--cross-site", action="store_true", help="another site's page made the request")
     words = parser.parse_args()
     try:
-        address_of(words.url)
-        suffixes = words.suffixes.read_bytes() if words.suffixes else b""
-        for line in sys.stdin.buffer:
-            if text := value_of(line):
-                print(explain(words.url, text, suffixes, words.cross_site, words.now))
+        explain(words)
     except (OSError, ValueError) as error:
+        sys.stdout.flush()
         command.error(str(error))
 
 

@@ -3,11 +3,12 @@ from __future__ import annotations
 
 import ctypes
 import datetime
-import ipaddress
+import functools
+import pathlib
 from typing import NamedTuple
-from urllib.parse import urlsplit
 
 from ._library import DONE, TEXT, Place, bytes_of, declare
+from .addresses import Address, address_of
 from .cookies import RULES
 from .dates import print_date
 from .errors import error_of
@@ -19,9 +20,17 @@ STEPS = (
 )
 # The last second that has a date, since 1970.
 LAST = 253402300799
-LOOPBACK = ipaddress.ip_network("127.0.0.0/8"), ipaddress.ip_network("::1")
+# The longest that a browser keeps a cookie: 400 days (RFC 6265bis, Cookie Lifetime Limits).
+LONGEST = 34560000
 # More than a sentence and a title have.
 ROOM = 1000
+# Where Debian's package `publicsuffix` has the list of public suffixes, and where the project's own copy is: in the
+# wheel beside this file, in the project with the program cookie_explain.
+DEBIAN = "/usr/share/publicsuffix/public_suffix_list.dat"
+HERE = pathlib.Path(__file__).resolve().parent
+COPIES = (
+    HERE / "public_suffix_list.dat", HERE.parent.parent / "crates/cookie_explain/data/public_suffix_list.dat",
+)
 
 
 class Request(ctypes.Structure):
@@ -73,49 +82,29 @@ class Stored(NamedTuple):
     is_http_only: bool
 
 
-class Address(NamedTuple):
-    """Where a response comes from: the host, the path, and whether the host is an IP address."""
+class Found(NamedTuple):
+    """What the library finds: the number of the step that refuses, or 0, its texts, and the cookie that is stored."""
 
-    host: str
-    path: str
-    is_address: bool
-    is_secure: bool
-
-
-def is_loopback(host: str, number: ipaddress.IPv4Address | ipaddress.IPv6Address | None) -> bool:
-    """Whether the host, whose IP address is the number if it is one, is this machine."""
-    if number is None:
-        return f".{host.removesuffix('.')}".endswith(".localhost")
-    return any(number in network for network in LOOPBACK)
-
-
-def address_of(url: str) -> Address:
-    """The address of a URL. Raises `ValueError` if the URL isn't one of http or https, or its host isn't in ASCII."""
-    parts = urlsplit(url)
-    host = parts.hostname or ""
-    if parts.scheme not in ("http", "https") or not host:
-        raise ValueError("the address is no URL of https or http")
-    if not host.isascii():
-        raise ValueError("the host isn't in ASCII: write it in Punycode")
-    try:
-        number = ipaddress.ip_address(host)
-    except ValueError:
-        number = None
-    # Browsers count a connection that doesn't leave the machine as secure.
-    is_secure = parts.scheme == "https" or is_loopback(host, number)
-    shown = f"[{host}]" if ":" in host else host
-    return Address(shown, parts.path or "/", number is not None, is_secure)
+    refusal: int
+    sentence: bytes
+    section: bytes
+    name: bytes
+    value: bytes
+    domain: bytes
+    path: bytes
+    cookie: StoredCookie
 
 
 def verdict(
-    url: str, text: str | bytes, suffixes: str | bytes = b"", is_cross_site: bool = False,
+    url: str, text: str | bytes, suffixes: str | bytes | None = None, is_cross_site: bool = False,
     now: datetime.datetime | None = None,
 ) -> Stored | Refusal:
     """What a browser stores of the cookie in a `Set-Cookie` header's value, or why it refuses it.
 
     The response comes from the URL, at the time `now` or else at the current time, and the browser has no cookies yet.
-    `suffixes` is the text of the list of publicsuffix.org; without it exactly the domains of one label are public
-    suffixes. With `is_cross_site` another site's page made the request, as a frame, an image or a script does.
+    `suffixes` is the text of the list of publicsuffix.org, by default `suffix_list`'s. If it is empty, exactly the
+    domains of one label are public suffixes. With `is_cross_site` another site's page made the request, as a frame, an
+    image or a script does.
 
     >>> verdict("https://shop.example/cart/view", "lang=en; Max-Age=60")[:5]
     ('lang', 'en', 'shop.example', '/cart', 60)
@@ -124,24 +113,36 @@ def verdict(
     >>> verdict("https://shop.example/", "lang=en; Domain=other.example").step
     'ForeignDomain'
     """
-    address, text, suffixes = address_of(url), bytes_of(text), bytes_of(suffixes)
-    host, path = bytes_of(address.host), bytes_of(address.path)
-    request = Request(
-        host, len(host), path, len(path), address.is_address, address.is_secure, not is_cross_site, not is_cross_site
+    address = address_of(url, is_cross_site)
+    found = found_at(address, bytes_of(text), list_text(suffixes), second_of(now))
+    if found.refusal:
+        return Refusal(STEPS[found.refusal - 1], shown(found.sentence), shown(found.section))
+    cookie = found.cookie
+    return Stored(
+        name=shown(found.name), value=shown(found.value), domain=shown(found.domain), path=shown(found.path),
+        lifetime=cookie.lifetime if cookie.is_persistent else None, same_site=RULES[cookie.same_site],
+        is_host_only=cookie.is_host_only, is_secure=cookie.is_secure, is_http_only=cookie.is_http_only,
     )
+
+
+def found_at(address: Address, text: bytes, suffixes: bytes, now: int) -> Found:
+    """What a browser without cookies makes of the text that comes from the address."""
+    host, path = bytes_of(address.host), bytes_of(address.path)
+    request = Request(host, len(host), path, len(path), *address[2:])
     # The texts of a stored cookie come from these three.
     room = ROOM + len(host) + len(path) + len(text)
     buffer = ctypes.create_string_buffer(room)
-    answer = EXPLAIN(request, suffixes, len(suffixes), text, len(text), second_of(now), buffer, room)
+    answer = EXPLAIN(request, suffixes, len(suffixes), text, len(text), now, buffer, room)
     if answer.status != DONE:
         raise error_of(answer.status)
-    if answer.refusal == 0:
-        return stored_at(buffer.raw, answer.stored)
-    sentence, section = shown_at(buffer.raw, answer.sentence), shown_at(buffer.raw, answer.section)
-    return Refusal(STEPS[answer.refusal - 1], sentence, section)
+    cookie = answer.stored
+    places = answer.sentence, answer.section, cookie.name, cookie.value, cookie.domain, cookie.path
+    return Found(answer.refusal, *(buffer.raw[at.start : at.start + at.length] for at in places), cookie)
 
 
-def refusal(url: str, text: str | bytes, suffixes: str | bytes = b"", is_cross_site: bool = False) -> Refusal | None:
+def refusal(
+    url: str, text: str | bytes, suffixes: str | bytes | None = None, is_cross_site: bool = False
+) -> Refusal | None:
     """Why a browser refuses the cookie, as `verdict` says, or None if it stores it.
 
     >>> refusal("https://shop.example/", "a=1; SameSite=None")
@@ -154,7 +155,7 @@ def refusal(url: str, text: str | bytes, suffixes: str | bytes = b"", is_cross_s
 
 
 def explain(
-    url: str, text: str | bytes, suffixes: str | bytes = b"", is_cross_site: bool = False,
+    url: str, text: str | bytes, suffixes: str | bytes | None = None, is_cross_site: bool = False,
     now: datetime.datetime | None = None,
 ) -> str:
     """A line that says what a browser stores of the cookie, or why it refuses it, as `verdict` does.
@@ -164,17 +165,60 @@ def explain(
     >>> explain("https://shop.example/", "lang=en; Domain=other.example")
     "refused: the host isn't in the domain: set the host or a domain above it, or none (RFC 6265bis, Storage Model)"
     """
-    now = now or datetime.datetime.now(datetime.timezone.utc)
-    found = verdict(url, text, suffixes, is_cross_site, now)
-    if isinstance(found, Refusal):
-        return f"refused: {found.sentence} (RFC 6265bis, {found.section})"
-    scope = f"; for {found.domain} {'only' if found.is_host_only else 'and the hosts below it'}; path {found.path}"
-    if found.lifetime == 0:
-        return f"removes nothing, since no such cookie is stored: {found.name}{scope}"
-    until = "the browser closes" if found.lifetime is None else print_date(date_after(second_of(now), found.lifetime))
-    flags = "; Secure" * found.is_secure + "; HttpOnly" * found.is_http_only
-    site = f"; SameSite={found.same_site}" if found.same_site else ""
-    return f"stored: {found.name}={found.value}{scope}; until {until}{flags}{site}"
+    now, text = second_of(now), bytes_of(text)
+    found = found_at(address_of(url, is_cross_site), text, list_text(suffixes), now)
+    return shown(told(found, text, now))
+
+
+def told(found: Found, text: bytes, now: int, removal: bytes = b"would remove, if it were stored: ") -> bytes:
+    """The line on what was found of the text. It begins with `removal` if the cookie is expired."""
+    if found.refusal:
+        return b"refused: %b (RFC 6265bis, %b)" % (found.sentence, found.section)
+    cookie = found.cookie
+    scope = b"; for %b%b; path %b" % (
+        found.domain, b" only" if cookie.is_host_only else b" and the hosts below it", found.path
+    )
+    if cookie.is_persistent and cookie.lifetime == 0:
+        return removal + found.name + scope + partition_of(text, cookie.is_secure)
+    flags = b"; Secure" * cookie.is_secure + b"; HttpOnly" * cookie.is_http_only
+    site = f"; SameSite={RULES[cookie.same_site]}".encode() if cookie.same_site else b""
+    pair = b"stored: %b=%b" % (found.name, found.value)
+    return pair + scope + end_of(cookie, now) + flags + site + partition_of(text, cookie.is_secure)
+
+
+def end_of(cookie: StoredCookie, now: int) -> bytes:
+    """Until when the browser has the cookie."""
+    if not cookie.is_persistent:
+        return b"; until the browser closes"
+    end = f"; until {print_date(date_after(now, cookie.lifetime))}".encode()
+    return end + b" (400 days, the most that a browser allows)" * (cookie.lifetime == LONGEST)
+
+
+def partition_of(text: bytes, is_secure: bool) -> bytes:
+    """What is said of the attribute `Partitioned`, which RFC 6265bis doesn't know (CHIPS)."""
+    for piece in text.split(b";")[1:]:
+        name, _, value = (part.strip(b" \t") for part in piece.partition(b"="))
+        if name.lower() == b"partitioned" and len(value) <= 1024:
+            note = b"kept apart for each top-level site" if is_secure else b"browsers that know it refuse it without Secure"
+            return b"; Partitioned (not in RFC 6265bis: %b)" % note
+    return b""
+
+
+@functools.lru_cache(maxsize=1)
+def suffix_list() -> tuple[str, bytes]:
+    """Which list of public suffixes there is, and its text: Debian's, or the project's own, or an empty one."""
+    own = "the list of 2023-02-09 that comes with cookie_explain"
+    for path, title in ((pathlib.Path(DEBIAN), DEBIAN), *((path, own) for path in COPIES)):
+        try:
+            return title, path.read_bytes()
+        except OSError:
+            pass
+    return "none found, so only a domain of one label is one", b""
+
+
+def list_text(suffixes: str | bytes | None) -> bytes:
+    """The text of the list, by default `suffix_list`'s."""
+    return suffix_list()[1] if suffixes is None else bytes_of(suffixes)
 
 
 def second_of(now: datetime.datetime | None) -> int:
@@ -188,16 +232,6 @@ def date_after(second: int, lifetime: int) -> datetime.datetime:
     return datetime.datetime.fromtimestamp(min(second + lifetime, LAST), datetime.timezone.utc)
 
 
-def stored_at(text: bytes, found: StoredCookie) -> Stored:
-    """The cookie, with what is at its places."""
-    return Stored(
-        name=shown_at(text, found.name), value=shown_at(text, found.value), domain=shown_at(text, found.domain),
-        path=shown_at(text, found.path), lifetime=found.lifetime if found.is_persistent else None,
-        same_site=RULES[found.same_site], is_host_only=found.is_host_only, is_secure=found.is_secure,
-        is_http_only=found.is_http_only,
-    )
-
-
-def shown_at(text: bytes, place: Place) -> str:
-    """What is at the place, with U+FFFD for what isn't UTF-8."""
-    return text[place.start : place.start + place.length].decode(errors="replace")
+def shown(text: bytes) -> str:
+    """The text, with U+FFFD for what isn't UTF-8."""
+    return text.decode(errors="replace")

@@ -260,24 +260,35 @@ def use_threads():
         assert sorted(jar.delta()) == [f"Set-Cookie: a{number}=1999" for number in range(4)]
 
 
+def said_of_byte(byte):
+    """What is said of a cookie `a=3` with this byte after it (RFC 6265bis, The Set-Cookie Header Field)."""
+    if byte not in b"\t\n\r ;" and (byte < 32 or byte == 127):
+        return b"refused: the text holds a control character: leave it out or escape it (RFC 6265bis, The Set-Cookie Header Field)"
+    end = b"" if byte in b"\t\n\r ;" else bytes([byte])
+    return b"stored: a=3%b; for a.example only; path /; until the browser closes" % end
+
+
 def use_explain():
-    """What `python -m deomigal explain` says is what the program cookie_explain says in its stored run. But Python knows no
-    cookie that an earlier line has set, so none is removed."""
+    """`python -m deomigal explain` prints what the program cookie_explain prints in its stored run. Of a text that ends in
+    any byte of ASCII it says what the program's tests say."""
     crate = pathlib.Path(__file__).resolve().parent.parent.parent / "crates/cookie_explain"
-    url, _, now, _, suffixes = (crate / "args").read_text().splitlines()
-    command = [sys.executable, "-m", "deomigal", "explain", url, "--now", now, "--suffixes", crate / "data" / suffixes]
-    lines = (crate / "stdin").read_bytes() + b"Set-Cookie: a=1; SameSite=Lax\n"
-    printed = subprocess.run(command, input=lines, capture_output=True, check=True).stdout.decode().splitlines()
-    wanted = (crate / "stdout").read_text().splitlines()[:-1]
-    nothing = "removes nothing, since no such cookie is stored: "
-    assert printed[:-1] == [re.sub("^removed: ", nothing, line) for line in wanted]
-    assert subprocess.run([*command[:4], "ftp://a.b"], input=b"", capture_output=True).returncode == 2
+    command = [sys.executable, "-m", "deomigal", "explain"]
+    options = {"cwd": crate / "data", "capture_output": True}
+    words, paste = (crate / "args").read_text().splitlines(), (crate / "stdin").read_bytes()
+    assert subprocess.run([*command, *words], input=paste, check=True, **options).stdout == (crate / "stdout").read_bytes()
+    paste = b"\n".join(b"a=3" + bytes([byte]) for byte in range(128))
+    printed = subprocess.run([*command, "https://a.example/"], input=paste, check=True, **options).stdout
+    assert printed.split(b"\n")[1:129] == [said_of_byte(byte) for byte in range(128)]
+    for url, paste in (("ftp://a.b", b""), ("http://a.b", b"URL http://"), ("http://a.b", b"NOW then")):
+        assert subprocess.run([*command, url], input=paste, **options).returncode == 2
     assert explain.refusal("http://a.example/", "a=1; Secure").step == "InsecureConnection"
     assert explain.refusal("http://localhost/", "a=1; Secure") is None
+    assert explain.refusal("https://a.co.uk/", "a=1; Domain=co.uk").step == "PublicSuffix"
+    assert explain.refusal("https://a.co.uk/", "a=1; Domain=co.uk", b"") is None
     assert explain.refusal("https://a.example/", "a=1", is_cross_site=True).step == "CrossSite"
     assert explain.explain("https://[::1]/", "=v; Domain=") == "stored: =v; for [::1] only; path /; until the browser closes"
     now = datetime.datetime(9999, 12, 30, 21, 59, 59, 999999)
-    last = "stored: a=1; for a.example only; path /; until Fri, 31 Dec 9999 23:59:59 GMT"
+    last = "stored: a=1; for a.example only; path /; until Fri, 31 Dec 9999 23:59:59 GMT (400 days, the most that a browser allows)"
     assert explain.explain("https://a.example/", "a=1; Max-Age=34560000", now=now) == last
     assert explain.verdict("https://a.example/", "a=1; SameSite=Lax", now=now).same_site == "Lax"
     assert explain.explain("https://a.example/x/", b"v\xff; Path=y").startswith("stored: =v\ufffd; for a.example only; path /x;")

@@ -2,73 +2,65 @@
 //! it, and then writes the `Cookie` header of the next request to the address.
 #![tactic(auto)]
 
+mod attribute;
+mod bytes;
 mod command;
-mod line;
+mod list;
+mod moment;
+mod paste;
 mod report;
+mod sending;
+mod session;
 mod target;
+#[cfg(test)]
+mod tests;
 
 use anyhow::{Context, Result};
 use clap::ArgMatches;
 use command::command;
-use cookie_agent::Agent;
-use cookie_browser::Suffixes;
-use cookie_date::read_date;
 use jiff::Timestamp;
 use jiff::civil::DateTime;
 use jiff::tz::Offset;
-use line::field_value;
-use report::report;
+use list::suffix_list;
+use moment::moment;
+use paste::counted_lines;
+use session::Session;
+use std::env;
 use std::io::{Read, Write};
 use std::process::ExitCode;
-use std::{env, fs};
-use target::site;
+use target::{from_frame, site};
 
-// The time of the response: the argument's, or the clock's.
-fn moment(rt: &HostRuntime, matches: &ArgMatches<'_>) -> Result<DateTime> {
+// The time of the response: the argument's, or the clock's whole second.
+fn moment_of(rt: &HostRuntime, matches: &ArgMatches<'_>) -> Result<DateTime> {
     match matches.get_str("now") {
-        Some(text) => read_date(text).context("--now: no date"),
-        None => Ok(Offset::UTC.to_datetime(Timestamp::now(rt)?)),
-    }
-}
-
-// The list of public suffixes: the file's, or an empty one.
-fn suffixes(rt: &HostRuntime, matches: &ArgMatches<'_>) -> Result<Suffixes> {
-    match matches.get_str("suffixes") {
-        Some(path) => {
-            let list = fs::read(rt, path).context("--suffixes: the file can't be read")?;
-            Ok(Suffixes::new(rt.alloc(), &list)?)
+        Some(text) => moment(text.as_bytes()).context("--now: no date of the years 1970 to 9998"),
+        None => {
+            let second = Timestamp::now(rt)?.as_second();
+            Ok(Offset::UTC.to_datetime(Timestamp::from_second(second)?))
         }
-        None => Ok(Suffixes::empty(rt.alloc())),
     }
 }
 
-// Has a browser read each line, and says what it makes of it.
+// Has a browser read each line that counts, and says what it makes of it.
 fn explain(rt: &HostRuntime, matches: &ArgMatches<'_>) -> Result<()> {
     let alloc = rt.alloc();
-    let now = moment(rt, matches)?;
-    let suffixes = suffixes(rt, matches)?;
-    let address = matches.get_str("url").unwrap_or("");
-    let response = site(alloc, address, matches.get_flag("cross-site"))?;
-    let mut agent = Agent::new(alloc, &suffixes);
-    let mut input = Vec::new(alloc);
-    rt.stdin()
-        .read_to_end(&mut input)
-        .context("the standard input can't be read")?;
-    for line in input.split(|byte| *byte == b'\n') {
-        let text = field_value(line);
-        if text.is_empty() {
-            continue;
-        }
-        let verdict = agent.verdict(&response, text, now)?;
-        rt.stdout()
-            .write_all(&report(alloc, agent.cookies(), &verdict, now)?)?;
-        agent.read(&response, text, now)?;
+    let now = moment_of(rt, matches)?;
+    let mut response = site(alloc, matches.get_str("url").unwrap_or(""))?;
+    if matches.get_flag("cross-site") {
+        response = response.with_context(from_frame());
     }
-    let next = site(alloc, address, false)?;
-    let header = agent.header(&next, now)?;
-    rt.stdout().write_all(b"Cookie: ")?;
-    rt.stdout().write_all(&header)?;
-    rt.stdout().write_all(b"\n")?;
+    let list = suffix_list(rt, matches.get_str("suffixes"))?;
+    let mut paste = Vec::new(alloc);
+    rt.stdin()
+        .read_to_end(&mut paste)
+        .context("the standard input can't be read")?;
+    let mut out = rt.stdout();
+    out.write_all(format!(in alloc; "public suffixes: {}\n", list.title)?.as_bytes())?;
+    let mut session = Session::new(alloc, &list.suffixes, response, now);
+    for line in &counted_lines(alloc, &paste)? {
+        out.write_all(&session.answer(line)?)?;
+    }
+    out.write_all(&session.next_header()?)?;
     Ok(())
 }
 

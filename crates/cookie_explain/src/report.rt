@@ -1,27 +1,36 @@
 //! What the program says of a text.
+use crate::attribute::is_partitioned;
 use cookie_agent::{StoredCookie, Verdict};
 use cookie_browser::{Enforcement, Expiry, KeptCookie, Refusal};
 use cookie_date::DateText;
 use jiff::civil::DateTime;
 use std::alloc::{AllocError, Global};
 
-/// What a browser that stores these cookies makes of a text, as a line.
-pub fn report(
+/// Appends what a browser that stores these cookies makes of a text.
+pub fn push_verdict(
     alloc: Global,
+    line: &mut Vec<u8>,
     stored: &[StoredCookie],
+    text: &[u8],
     verdict: &Verdict,
     now: DateTime,
-) -> Result<Vec<u8>, AllocError> {
-    let mut line = Vec::new(alloc);
-    match verdict {
-        Verdict::Refused(refusal) => push_refusal(&mut line, *refusal)?,
-        Verdict::Stored(cookie) if cookie.expiry().lasts(now) => {
-            push_stored(alloc, &mut line, cookie)?
-        }
-        Verdict::Stored(cookie) => push_removal(&mut line, stored, cookie)?,
+) -> Result<(), AllocError> {
+    let cookie = match verdict {
+        Verdict::Refused(refusal) => return push_refusal(line, *refusal),
+        Verdict::Stored(cookie) => cookie,
+    };
+    let kept = cookie.as_kept();
+    if cookie.expiry().lasts(now) {
+        line.extend_from_slice(b"stored: ")?;
+        push_cookie(line, &kept)?;
+        push_expiry(alloc, line, cookie.expiry())?;
+        push_flags(line, &kept)?;
+    } else {
+        line.extend_from_slice(removal_head(stored, &kept, now))?;
+        line.extend_from_slice(kept.name)?;
+        push_scope(line, &kept)?;
     }
-    line.push(b'\n')?;
-    Ok(line)
+    push_partition(line, text, kept.is_secure_only)
 }
 
 // The sentence of the refusal, and its section.
@@ -33,33 +42,27 @@ fn push_refusal(line: &mut Vec<u8>, refusal: Refusal) -> Result<(), AllocError> 
     line.extend_from_slice(b")")
 }
 
-// The cookie that is stored.
-fn push_stored(alloc: Global, line: &mut Vec<u8>, cookie: &StoredCookie) -> Result<(), AllocError> {
-    let kept = cookie.as_kept();
-    line.extend_from_slice(b"stored: ")?;
+/// Appends a cookie, and which hosts and paths it is for.
+pub fn push_cookie(line: &mut Vec<u8>, kept: &KeptCookie<'_>) -> Result<(), AllocError> {
     line.extend_from_slice(kept.name)?;
     line.extend_from_slice(b"=")?;
     line.extend_from_slice(kept.value)?;
-    push_scope(line, &kept)?;
-    push_expiry(alloc, line, cookie.expiry())?;
-    push_flags(line, &kept)
+    push_scope(line, kept)
 }
 
-// What an expired cookie removes: the stored one with its name, host and path.
-fn push_removal(
-    line: &mut Vec<u8>,
-    stored: &[StoredCookie],
-    cookie: &StoredCookie,
-) -> Result<(), AllocError> {
-    let kept = cookie.as_kept();
-    let is_there = stored.iter().any(|other| other.as_kept().is_same(&kept));
-    line.extend_from_slice(if is_there {
+// What comes of an expired cookie: it removes the stored one with its name, host and path.
+fn removal_head(stored: &[StoredCookie], kept: &KeptCookie<'_>, now: DateTime) -> &'static [u8] {
+    let is_there = stored.iter().any(|other| other.expiry().lasts(now)
+        && other.as_kept().is_same(kept));
+    let is_named = stored.iter().any(|other| other.expiry().lasts(now)
+        && other.as_kept().name == kept.name);
+    if is_there {
         b"removed: "
-    } else {
+    } else if is_named {
         b"removes nothing, since no such cookie is stored: "
-    })?;
-    line.extend_from_slice(kept.name)?;
-    push_scope(line, &kept)
+    } else {
+        b"would remove, if it were stored: "
+    }
 }
 
 // Which hosts and paths the cookie is for.
@@ -77,13 +80,17 @@ fn push_scope(line: &mut Vec<u8>, kept: &KeptCookie<'_>) -> Result<(), AllocErro
 
 // Until when the browser has the cookie.
 fn push_expiry(alloc: Global, line: &mut Vec<u8>, expiry: Expiry) -> Result<(), AllocError> {
-    let end = match expiry {
+    let (end, is_longest) = match expiry {
         Expiry::Session => return line.extend_from_slice(b"; until the browser closes"),
-        Expiry::At(moment) => moment,
-        Expiry::After(moment, age) => moment.saturating_add(age),
+        Expiry::At(moment) => (moment, false),
+        Expiry::After(moment, age) => (moment.saturating_add(age), age.as_secs() == 34_560_000),
     };
     line.extend_from_slice(b"; until ")?;
-    line.extend_from_slice(DateText(end).to_string(alloc)?.as_bytes())
+    line.extend_from_slice(DateText(end).to_string(alloc)?.as_bytes())?;
+    if is_longest {
+        line.extend_from_slice(b" (400 days, the most that a browser allows)")?;
+    }
+    Ok(())
 }
 
 // The flags that are set.
@@ -99,5 +106,17 @@ fn push_flags(line: &mut Vec<u8>, kept: &KeptCookie<'_>) -> Result<(), AllocErro
         Enforcement::Strict => b"; SameSite=Strict",
         Enforcement::Lax => b"; SameSite=Lax",
         Enforcement::None => b"; SameSite=None",
+    })
+}
+
+// The attribute `Partitioned`, which RFC 6265bis doesn't know (CHIPS).
+fn push_partition(line: &mut Vec<u8>, text: &[u8], is_secure: bool) -> Result<(), AllocError> {
+    if !is_partitioned(text) {
+        return Ok(());
+    }
+    line.extend_from_slice(if is_secure {
+        b"; Partitioned (not in RFC 6265bis: kept apart for each top-level site)"
+    } else {
+        b"; Partitioned (not in RFC 6265bis: browsers that know it refuse it without Secure)"
     })
 }
