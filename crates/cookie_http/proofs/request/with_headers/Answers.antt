@@ -1,4 +1,4 @@
-use Rattle.std.proofs.Common.{ap, subst, sym, ◌∙◌}
+use Rattle.std.proofs.Common.{◌≡◌, ap, subst, sym, ◌∙◌}
 use Rattle.std.specs.List.{flat_map}
 use Rattle.cookie.specs.Originals.{HasFirst, field_cookies, with_originals}
 use Rattle.cookie.proofs.OriginalLemmas.{has_first, with_originals-more}
@@ -17,3 +17,10 @@ loop-value-preserved c =
     ∙ with_originals-more (field_cookies c.in-Some.value.now.bytes) left c.loop-value.jar
     ∙ ap (λ values. with_originals (flat_map (λ v. field_cookies v.bytes) values) c.loop-value.jar) (sym c.in-Some.ensures.steps)
     ∙ c.loop-value.invariant
+
+pub returns-clause-first : goal.returns-clause-first
+returns-clause-first c =
+    let cookies = request_cookies c.args.headers.now in
+    let made : c.loop-value.jar ≡ with_originals cookies c.args.jar =
+    sym (ap (λ values. with_originals (flat_map (λ v. field_cookies v.bytes) values) c.loop-value.jar) c.in-None.ensures.steps.0) ∙ c.loop-value.invariant in
+    subst (HasFirst cookies c.args.jar) (sym made) (has_first cookies c.args.jar)
