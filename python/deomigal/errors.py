@@ -154,6 +154,12 @@ class TooLarge(CookieError):
         self.size = size
 
 
+class InvalidValue(CookieError):
+    """A path or a domain holds a control character, such as a line break, or a `;` (RFC 6265 4.1.1)."""
+
+    status = 24
+
+
 ERRORS = {error.status: error for error in CookieError.__subclasses__()}
 
 

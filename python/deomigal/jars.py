@@ -31,7 +31,7 @@ class Jar:
         # Only one call at a time may use the handle.
         self.lock = threading.Lock()
         done(JAR_NEW, *seeds(), self.handle)
-        done(JAR_ADD_ORIGINALS, self.handle, readable(header_of(header)))
+        done(JAR_ADD_ORIGINALS, self.handle, header_of(header))
 
     def __enter__(self) -> Jar:
         return self
@@ -45,8 +45,8 @@ class Jar:
     def add(self, text: str) -> None:
         """Adds the cookie in a `Set-Cookie` header's value.
 
-        Its path and domain aren't escaped: refuse line breaks and `;` in those that come from outside. Raises
-        `MissingPair`, `EmptyName`, `BadEscape` or `NotUtf8`.
+        Raises `MissingPair`, `EmptyName`, `BadEscape` or `NotUtf8`, and `InvalidValue` for a path or a domain with a
+        control character.
         """
         with self.lock:
             done(JAR_ADD, self.handle, text)
@@ -55,7 +55,7 @@ class Jar:
         """Removes the cookie of that name, now or at the time `moment`.
 
         If the request sent the name, the client gets a cookie that drops the one set with this path and this domain. A
-        browser keeps any other.
+        browser keeps any other. Raises `InvalidValue` for a path or a domain with a control character or a `;`.
         """
         moment = moment or datetime.datetime.now(datetime.timezone.utc)
         with self.lock:
@@ -86,11 +86,6 @@ class Jar:
         """Frees the jar. All other calls raise `NoJar` from then on."""
         with self.lock:
             JAR_FREE(self.handle)
-
-
-def readable(header: bytes) -> bytes:
-    """The header without the pieces that aren't UTF-8."""
-    return b";".join(piece for piece in header.split(b";") if piece.decode(errors="replace").encode() == piece)
 
 
 def run(moment: str | datetime.datetime, text: str) -> str:

@@ -77,8 +77,9 @@ class Sessions:
 
     `keys` are the site's keys, each of at least 64 random bytes, the newest first. The newest encrypts, and each of them
     decrypts. A session is over `lifetime` seconds after its start, and `idle` seconds after it was last saved. `name` and
-    the arguments after the limits are the cookie's. Settings that no session could be saved with are refused at once,
-    and a limit past 32 bits with `OverflowError`.
+    the arguments after the limits are the cookie's. Settings that no session could be saved with are refused at once:
+    a path or a domain with a control character or a `;` with `InvalidValue`, and a limit past 32 bits with
+    `OverflowError`.
 
     >>> from deomigal import derive_key
     >>> keys = [derive_key(b"a master key of at least 32 bytes")]

@@ -1,7 +1,7 @@
 """Whether `deomigal.flask` honours an application's settings as python/README.md says, by Flask's own test client."""
 import datetime
 
-from deomigal.errors import BadPrefix, MasterTooShort, TooLarge
+from deomigal.errors import BadPrefix, InvalidValue, MasterTooShort, TooLarge
 from deomigal.flask import SessionInterface
 from flask import Flask, session
 
@@ -67,6 +67,8 @@ assert ask(app, "/set")[1].startswith("site=") and ask(app, "/set")[1].endswith(
 app = application(SESSION_COOKIE_SECURE=True, SESSION_COOKIE_SAMESITE="Strict", SESSION_COOKIE_NAME="__Host-s")
 assert ask(app, "/set")[1].endswith("; HttpOnly; SameSite=Strict; Secure; Path=/")
 assert refused(application(SESSION_COOKIE_NAME="__Host-s"), "/", BadPrefix)
+assert refused(application(SESSION_COOKIE_PATH="/\r\nSet-Cookie: admin=1"), "/", InvalidValue)
+assert refused(application(SESSION_COOKIE_DOMAIN="b.example; Path=/"), "/", InvalidValue)
 assert refused(application(SECRET_KEY="short"), "/", MasterTooShort)
 assert refused(application(SECRET_KEY=None), "/set", RuntimeError)
 assert refused(application(), "/large", TooLarge)

@@ -1,6 +1,8 @@
 -- Which site C's settings stand for, and why they are refused.
 use Rattle.std.proofs.Common.{◌≡◌, ℕ, ◌<◌, ◌≤◌, ◌⊎◌, inl, inr, List, Some, true, IsUtf8, refl, sym, ap, subst, ◌∙◌}
+use Rattle.cookie.specs.AttributeValues.{FitsField}
 use Rattle.cookie.specs.CookieOf.{cookie_of}
+use Rattle.cookie.specs.Record.{Record}
 use Rattle.cookie.specs.declared.ParseError.{ParseError}
 use Rattle.cookie_session.specs.declared.sessions.Sessions.{Sessions}
 use Rattle.cookie_c.specs.Codes.{refusal_status}
@@ -32,10 +34,15 @@ module _ (settings : SessionSettings) (second : ℕ) where
         → IsUnusable settings second why
     unusable_cookie read why same (inl is) =
         inr (inr (inr (inl (can, is.0, subst (λ t. IsDecodingRefusal t is.0) same is.1, is.2))))
-    unusable_cookie read why same (inr is) = inr (inr (inr (inr (can, is))))
+    unusable_cookie read why same (inr is) = inr (inr (inr (inr (inr (can, is)))))
+
+    pub unusable_scope : (read : List ℕ) (cookie : Record) → read ≡ settings.cookie.now → cookie_of true read ≡ Some cookie → ¬ FitsField cookie
+        → IsUnusable settings second status.InvalidValue
+    unusable_scope read cookie same is unfit =
+        inr (inr (inr (inr (inl (can, cookie, subst (λ t. cookie_of true t ≡ Some cookie) same is, unfit, refl)))))
 
     pub unusable_memory : IsUnusable settings second status.OutOfMemory
-    unusable_memory = inr (inr (inr (inr (can, refl))))
+    unusable_memory = inr (inr (inr (inr (inr (can, refl)))))
 
   -- the sessions of a site that has the settings' parts
   pub is_site : (site : Site) (sessions : Sessions) → IsMadeOf settings second site
@@ -44,6 +51,7 @@ module _ (settings : SessionSettings) (second : ℕ) where
   is_site site sessions made keys cookie lifetime idle = record {
     keys = subst (AreKeys settings.keys.now) (sym keys) made.keys;
     cookie = made.cookie ∙ ap (λ c. Some c.fields) (sym cookie);
+    fits = subst FitsField (ap (λ c. c.fields) (sym cookie)) made.fits;
     lifetime = lifetime ∙ made.lifetime;
     idle = idle ∙ made.idle;
     within = made.within;

@@ -31,6 +31,7 @@ code_of status.NoSession = 20
 code_of status.BadPrefix = 21
 code_of status.Over = 22
 code_of status.TooLarge = 23
+code_of status.InvalidValue = 24
 
 -- the status of a text that is refused as no cookie
 abbrev pub refusal_status : ParseError → Status

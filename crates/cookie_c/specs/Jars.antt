@@ -3,14 +3,14 @@
 use Rattle.std.specs.Prelude.{◌≡◌, ℕ, ◌⊎◌, true, false, List, [], map, IsUtf8, Option, Some, None, option_map}
 use Rattle.std.specs.FinMap.{FinMap, get}
 use Rattle.jiff.specs.Types.{DateTime}
-use Rattle.cookie.specs.CookieOf.{cookie_of, header_cookies, unless_empty}
+use Rattle.cookie.specs.AttributeValues.{AllFitFields, FitsField}
+use Rattle.cookie.specs.CookieOf.{cookie_of, unless_empty}
 use Rattle.cookie.specs.Jar.{Add, JarState, Marked, Remove, after, name_cmp, view}
 use Rattle.cookie.specs.Moments.{date_of}
 use Rattle.cookie.specs.Record.{Record, plain, without_leading_dot}
 use Rattle.cookie.specs.Text.{cookie_text}
 use Rattle.cookie.specs.Walk.{Walks}
 use Rattle.cookie.specs.declared.ParseError.{ParseError}
-use Rattle.cookie.specs.Originals.{with_originals}
 use Rattle.cookie_client.specs.Session.{set_cookie_lines}
 use Rattle.cookie_c.specs.Answers.{IsGiven, IsRefused}
 use Rattle.cookie_c.specs.Codes.{code_of, refusal_status}
@@ -28,17 +28,17 @@ abbrev pub IsChanged : (JarState → JarState) → Status → JarState → JarSt
 IsChanged change answer old new =
     ((answer ≡ status.Done) × (new ≡ change old)) ⊎ IsKept status.OutOfMemory answer old new
 
--- the cookies of a header were added as originals
-pub record HasOriginals (header : List ℕ) (answer : Status) (old new : JarState) : Type 0 where
-  pub not_utf8 : ¬ (IsUtf8 header) → IsKept status.NotUtf8 answer old new
-  pub added : IsUtf8 header → IsChanged (with_originals (header_cookies true header)) answer old new
+-- the cookie was added, if its path and domain fit a header
+pub record IsFitAdded (cookie : Record) (answer : Status) (old new : JarState) : Type 0 where
+  pub invalid : ¬ FitsField cookie → IsKept status.InvalidValue answer old new
+  pub added : FitsField cookie → IsChanged (after (Add cookie)) answer old new
 
 -- the cookie that the text of a `Set-Cookie` header is, decoded, was added, or the answer tells why the text is refused
 pub record IsAdded (text : List ℕ) (answer : Status) (old new : JarState) : Type 0 where
   pub not_utf8 : ¬ (IsUtf8 text) → IsKept status.NotUtf8 answer old new
   pub read : IsUtf8 text
       → ((cookie : Record) × (cookie_of true text ≡ Some cookie)
-      × IsChanged (after (Add cookie)) answer old new)
+      × IsFitAdded cookie answer old new)
       ⊎ ((why : ParseError) × IsDecodingRefusal text why
       × IsKept (refusal_status why) answer old new)
 
@@ -55,9 +55,12 @@ scoped_record name path domain =
 pub record IsRemoved (moment : List ℕ) (AreTexts : Type 0) (cookie : Record) (answer : Status)
     (old new : JarState) : Type 0 where
   pub not_utf8 : ¬ (IsUtf8 moment × AreTexts) → IsKept status.NotUtf8 answer old new
-  pub no_date : IsUtf8 moment → AreTexts → date_of moment ≡ None
+  pub invalid : IsUtf8 moment → AreTexts → ¬ FitsField cookie
+      → IsKept status.InvalidValue answer old new
+  pub no_date : IsUtf8 moment → AreTexts → FitsField cookie → date_of moment ≡ None
       → IsKept status.NoDate answer old new
-  pub removed : (now : DateTime) → IsUtf8 moment → AreTexts → date_of moment ≡ Some now
+  pub removed : (now : DateTime) → IsUtf8 moment → AreTexts → FitsField cookie
+      → date_of moment ≡ Some now
       → IsChanged (after (Remove cookie now)) answer old new
 
 -- the value is given that the jar shows under the name
@@ -74,11 +77,12 @@ pub record HasLines (delta : FinMap name_cmp Marked) (text : List ℕ) : Type 0 
   pub are : Walks (λ name. option_map (λ entry. entry.cookie) (get delta name)) cookies
   pub lines : text ≡ set_cookie_lines (map (cookie_text true false) cookies)
 
--- such a text is given, or memory was wanting
-abbrev pub IsDeltaGiven : JarState → Answer → List ℕ → List ℕ → Type 0
-IsDeltaGiven jar answer old new =
-    ((text : List ℕ) × HasLines jar.delta text × IsGiven text answer old new)
-    ⊎ IsRefused status.OutOfMemory answer old new
+-- such a text is given, or memory was wanting; but a delta with a path or a domain that doesn't fit a header is refused
+pub record IsDeltaGiven (jar : JarState) (answer : Answer) (old new : List ℕ) : Type 0 where
+  pub invalid : ¬ AllFitFields jar.delta → IsRefused status.InvalidValue answer old new
+  pub given : AllFitFields jar.delta
+      → ((text : List ℕ) × HasLines jar.delta text × IsGiven text answer old new)
+      ⊎ IsRefused status.OutOfMemory answer old new
 
 -- A handle's jar is as a call makes it, and the number is that of the call's answer. A handle without a jar stays so.
 abbrev pub AtJar : (Status → JarState → JarState → Type 0) → ℕ → Option JarState → Option JarState

@@ -3,8 +3,10 @@ use Rattle.std.specs.Prelude.{◌≡◌, ℕ, pos, ◌<◌, ◌≤◌, ◌%◌, 
 use Rattle.std.specs.List.{concat}
 use Rattle.jiff.specs.Types.{DateTime}
 use Rattle.jiff.specs.Words.{civil_nanos, nanos_of_seconds}
+use Rattle.cookie.specs.AttributeValues.{FitsField}
 use Rattle.cookie.specs.CookieOf.{cookie_of}
 use Rattle.cookie.specs.Keys.{key_length}
+use Rattle.cookie.specs.Record.{Record}
 use Rattle.cookie.specs.declared.ParseError.{ParseError}
 use Rattle.cookie_session.specs.declared.sessions.Sessions.{Sessions}
 use Rattle.cookie_c.specs.Codes.{refusal_status}
@@ -31,11 +33,12 @@ last_second = 253402207200
 abbrev pub IsAtSecond : ℕ → DateTime → Type 0
 IsAtSecond second time = civil_nanos time ≡ nanos_of_seconds (pos second)
 
--- the site has these keys, this cookie and these limits, and the time is in this second
+-- the site has these keys, this cookie, which fits a header, and these limits, and the time is in this second
 pub record IsSiteOf (settings : SessionSettings) (second : ℕ) (site : Sessions) (time : DateTime)
     : Type 0 where
   pub keys : AreKeys settings.keys.now site.keys.now
   pub cookie : cookie_of true settings.cookie.now ≡ Some site.cookie.now.fields
+  pub fits : FitsField site.cookie.now.fields
   pub lifetime : site.lifetime ≡ settings.lifetime
   pub idle : site.idle ≡ settings.idle
   pub within : second ≤ last_second
@@ -47,7 +50,8 @@ pub record CanBeSite (settings : SessionSettings) (second : ℕ) : Type 0 where
   pub keys : HasKeys settings.keys.now
   pub text : IsUtf8 settings.cookie.now
 
--- why the settings are refused: the time comes first, then the keys, and then the cookie; or memory ran out
+-- why the settings are refused: the time comes first, then the keys, then the cookie's text, and then its path and its
+-- domain, which have to fit a header; or memory ran out
 abbrev pub IsUnusable : SessionSettings → ℕ → Status → Type 0
 IsUnusable settings second why =
     ((why ≡ status.NoDate) × (last_second < second))
@@ -56,7 +60,10 @@ IsUnusable settings second why =
     × ¬ IsUtf8 settings.cookie.now)
     ⊎ ((CanBeSite settings second × (error : ParseError)
     × IsDecodingRefusal settings.cookie.now error × (why ≡ refusal_status error))
-    ⊎ (CanBeSite settings second × (why ≡ status.OutOfMemory)))))
+    ⊎ ((CanBeSite settings second × (cookie : Record)
+    × (cookie_of true settings.cookie.now ≡ Some cookie) × (¬ FitsField cookie)
+    × (why ≡ status.InvalidValue))
+    ⊎ (CanBeSite settings second × (why ≡ status.OutOfMemory))))))
 
 -- the settings are those of a site, of which this holds at that time, or the call is refused for what they lack or out
 -- of memory

@@ -2,6 +2,7 @@
 ghost use Rattle.std.specs.Prelude.{◌≡◌, ◌↔◌, ◌⊎◌, ℕ, pos, Some, None, IsTrue, IsUtf8, IfOk, MatchOption, MatchResult, option_map, string_bytes, false};
 ghost use Rattle.jiff.specs.Types.{DateTime as CivilDateTime};
 ghost use Rattle.jiff.specs.Words.{signed_nanos, nanos_of_seconds};
+ghost use Rattle.cookie.specs.AttributeValues.{FitsField};
 ghost use Rattle.cookie.specs.Expiration.{capped_expiry};
 ghost use Rattle.cookie.specs.Record.{without_leading_dot};
 ghost use Rattle.cookie.specs.Text.{cookie_text};
@@ -14,7 +15,7 @@ use crate::answer::Answer;
 use crate::attributes::Attributes;
 use crate::date::Moment;
 use crate::status::Status;
-use cookie::{Cookie, Expiration, SameSite};
+use cookie::{Cookie, Expiration, SameSite, fits_field};
 use jiff::SignedDuration;
 use jiff::civil::DateTime;
 use std::alloc::{AllocError, Global};
@@ -22,8 +23,9 @@ use std::alloc::{AllocError, Global};
 /// Prints the cookie of these parts as the value of a `Set-Cookie` header, for the buffer. Its name and value are
 /// escaped, or as they are. Path, domain, age and expiry count only if the attributes say that there is one.
 ///
-/// Refuses an attribute with an undefined value, then an expiry whose numbers aren't a date and time, and then a name,
-/// a value, a path or a domain that counts and isn't UTF-8. Else it fails only when memory runs out.
+/// Refuses an attribute with an undefined value, then an expiry whose numbers aren't a date and time, then a name, a
+/// value, a path or a domain that counts and isn't UTF-8, and then a path or a domain that counts and holds a control
+/// character or a `;`. Else it fails only when memory runs out.
 #[unsafe(no_mangle)]
 pub extern "C" fn cookie_print(
     alloc: Global,
@@ -42,9 +44,17 @@ pub extern "C" fn cookie_print(
     ensures not_utf8 { AreCodes attributes.now → HasDate attributes.now
         → ¬ AreTexts name.now value.now path.now domain.now attributes.now
         → IsRefused status.NotUtf8 result out.old out.new }
+    ensures invalid { (moment : CivilDateTime) → AreCodes attributes.now
+        → ExpiresAt attributes.now moment
+        → AreTexts name.now value.now path.now domain.now attributes.now
+        → ¬ FitsField
+        (record_of_parts name.now value.now path.now domain.now attributes.now moment)
+        → IsRefused status.InvalidValue result out.old out.new }
     ensures printed { (moment : CivilDateTime) → AreCodes attributes.now
         → ExpiresAt attributes.now moment
         → AreTexts name.now value.now path.now domain.now attributes.now
+        → FitsField
+        (record_of_parts name.now value.now path.now domain.now attributes.now moment)
         → IsGivenInMemory (cookie_text is_escaped false
         (record_of_parts name.now value.now path.now domain.now attributes.now moment))
         result out.old out.new }
@@ -84,6 +94,31 @@ fn text_of(alloc: Global, cookie: &Cookie<'_>, is_escaped: bool) -> Result<Strin
 
 // The cookie of these parts, or why there is none.
 fn cookie_of<'a>(
+    name: &'a [u8],
+    value: &'a [u8],
+    path: &'a [u8],
+    domain: &'a [u8],
+    numbers: &Attributes,
+) -> Result<Cookie<'a>, Status>
+    ensures { MatchResult result
+        (λ cookie. AreCodes numbers.now × HasDate numbers.now
+        × AreTexts name.now value.now path.now domain.now numbers.now
+        × FitsField cookie.fields
+        × ((moment : CivilDateTime) → ExpiresAt numbers.now moment
+        → cookie.fields
+        ≡ record_of_parts name.now value.now path.now domain.now numbers.now moment))
+        (IsUnprintable name.now value.now path.now domain.now numbers.now) }
+{
+    let cookie = made_of(name, value, path, domain, numbers)?;
+    if fits_field(&cookie) {
+        Ok(cookie)
+    } else {
+        Err(Status::InvalidValue)
+    }
+}
+
+// The cookie of these parts, whatever bytes its path and its domain hold.
+fn made_of<'a>(
     name: &'a [u8],
     value: &'a [u8],
     path: &'a [u8],

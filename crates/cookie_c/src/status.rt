@@ -53,6 +53,8 @@ pub enum Status {
     Over = 22,
     /// The cookie's name and value have more than 4,096 bytes. The length is the number of these bytes.
     TooLarge = 23,
+    /// A path or a domain holds a control character, such as a line break, or a `;`.
+    InvalidValue = 24,
 }
 
 impl Status {

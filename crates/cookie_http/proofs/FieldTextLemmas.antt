@@ -11,6 +11,7 @@ use Rattle.http_header.specs.FieldValue.{IsFieldValue, IsVisibleAscii}
 use Rattle.http_header.specs.Token.{is_value_byte, is_visible_or_blank}
 use Rattle.http_header.proofs.TokenLemmas.{AllPass-from_test, IsFieldValue-from_visible, IsUtf8-from_visible}
 use Rattle.cookie_date.specs.Text.{moment_text}
+use Rattle.cookie.specs.AttributeValues.{FitsField, IsAttributeValue, is_attribute_byte}
 use Rattle.cookie.specs.Escapes.{escape}
 use Rattle.cookie.specs.Header.{joined_texts, more_joined}
 use Rattle.cookie.specs.Jar.{Name}
@@ -23,7 +24,6 @@ use Rattle.cookie.proofs.ByteLemmas.{all-weaker}
 use Rattle.cookie.proofs.DateTextLemmas.{date_passes, is_date_byte}
 use Rattle.cookie.proofs.EscapeTextLemmas.{escape_is_tokens, is_token}
 use Rattle.cookie_client.specs.Client.{Values, header_text, pair_text}
-use Rattle.cookie_http.specs.Response.{FitsField, IsAttributeValue, is_attribute_byte}
 
 token_is_shown : (b : ℕ) → is_token b ≡ true → is_visible_or_blank b ≡ true
 token_is_shown b h = grind (arith, nat_tests)

@@ -1,10 +1,9 @@
 -- `Set-Cookie` fields that are appended, one for each cookie of a delta.
-use Rattle.std.proofs.Common.{◌≡◌, ◌+◌, ◌≤◌, inl, inr, ℕ, Bool, true, false, cond, suc, codes, List, [], ◌∷◌, ◌++◌, map, length, bytes_eq, All, Option, Some, None, is_some, option_map, ◌||◌, Result, Ok, Err, refl, sym, ap, subst, ◌∙◌, arith, ◌↔◌, zero}
+use Rattle.std.proofs.Common.{◌≡◌, ◌+◌, ◌≤◌, inl, inr, ℕ, Bool, true, false, cond, suc, codes, List, [], ◌∷◌, ◌++◌, map, length, bytes_eq, All, Option, Some, is_some, option_map, ◌||◌, Result, Ok, Err, refl, sym, ap, subst, ◌∙◌, arith, zero}
 use Rattle.std.proofs.lemmas.List.{append-nil, append_assoc, length-append, length-map, map-append}
-use Rattle.std.proofs.lemmas.List.Elements.{All-append, All-cons, All-contains, All-head, All-nil, All-tail, All-weaker, Contains-append_right, filter-append}
+use Rattle.std.proofs.lemmas.List.Elements.{All-append, All-cons, All-head, All-nil, All-tail, Contains-append_right, filter-append}
 use Rattle.std.proofs.lemmas.List.Sums.{sum_by-cons}
 use Rattle.std.proofs.lemmas.Map.Made.{length-le_from_is_member}
-use Rattle.std.proofs.lemmas.Option.{none-some, same_Some}
 use Rattle.std.proofs.lemmas.Slice.Eq.{bytes_eq-Decides}
 use Rattle.std.proofs.lemmas.Str.{is_utf8-from_IsUtf8}
 use Rattle.std.specs.Cmp.Lexicographic.{nat_list_eq_equiv}
@@ -22,13 +21,12 @@ use Rattle.cookie.specs.Memory.{Gives}
 use Rattle.cookie.specs.Record.{Record}
 use Rattle.cookie.specs.Text.{cookie_text}
 use Rattle.cookie.specs.Walk.{Walks}
-use Rattle.cookie.proofs.MetLemmas.{meets_each, meets_only}
 use Rattle.cookie_http.specs.Fields.{set_cookie_texts}
 use Rattle.cookie_http.specs.HttpError.{refusal_of}
 use Rattle.cookie_http.specs.declared.http_error.HttpError.{HttpError}
 use Rattle.cookie_http.specs.declared.http_error.HttpError.TheVariants as refusal
 use Rattle.cookie.specs.DeltaTexts.{WalksDelta}
-use Rattle.cookie_http.specs.Response.{AddsDelta, AllFitFields, FitsField, LacksRoom, LacksRoomFor, with_set_cookies}
+use Rattle.cookie_http.specs.Response.{AddsDelta, LacksRoom, LacksRoomFor, with_set_cookies}
 
 -- ---- a clone of a map
 
@@ -113,25 +111,6 @@ AddsDelta-written delta old made w =
       fields = w.fields;
       read = ap set_cookie_texts w.fields ∙ texts-with (map text_of w.done) old w.utf8;
     }
-
--- ---- cookies that can stand in a field
-
-entry_fits : (entry : Option Marked) (cookie : Record) → ((m : Marked) → entry ≡ Some m → FitsField m.cookie) → option_map (λ m. m.cookie) entry ≡ Some cookie → FitsField cookie
-entry_fits None cookie fit e = absurd (none-some cookie e)
-entry_fits (Some m) cookie fit e = subst FitsField (same_Some m.cookie cookie e) (fit m refl)
-
--- all cookies of the delta are those of a walk
-pub AllFitFields-walk : (delta : FinMap name_cmp Marked) (cookies : List Record) → WalksDelta delta cookies → All FitsField cookies ↔ AllFitFields delta
-AllFitFields-walk delta cookies walks =
-    let at : Name → Option Record = λ n. option_map (λ m. m.cookie) (get delta n) in (
-      λ all n entry e. All-contains FitsField cookies entry.cookie all (meets_each at cookies walks n entry.cookie (ap (option_map (λ m. m.cookie)) e)),
-      λ fit. All-weaker (λ c. at c.name ≡ Some c) FitsField (λ c e. entry_fits (get delta c.name) c (fit c.name) e) cookies (meets_only at cookies walks),
-    )
-
--- where one fits, the others decide
-pub AllFitFields-next : (delta : FinMap name_cmp Marked) (cookie : Record) (left : List Record) → FitsField cookie → All FitsField (cookie ∷ left) ↔ AllFitFields delta → All FitsField left ↔ AllFitFields delta
-AllFitFields-next delta cookie left fits whole =
-    (λ all. whole.0 (All-cons FitsField cookie left fits all), λ fit. All-tail FitsField cookie left (whole.1 fit))
 
 -- ---- a map without room
 

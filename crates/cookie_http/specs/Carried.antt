@@ -3,6 +3,7 @@ use Rattle.std.specs.Prelude.{◌≡◌, ◌∷◌, [], ℕ, false, List, All, C
 use Rattle.std.specs.FinMap.{get}
 use Rattle.jiff.specs.Types.{DateTime}
 use Rattle.http_header.specs.FieldValue.{plain_value}
+use Rattle.cookie.specs.AttributeValues.{AllFitFields}
 use Rattle.cookie.specs.History.{is_forced}
 use Rattle.cookie.specs.Jar.{Name, empty_jar, view}
 use Rattle.cookie_client.specs.Agreement.{value_of}
@@ -13,7 +14,7 @@ use Rattle.cookie_client.specs.Originals.{holds_originals}
 use Rattle.cookie_client.specs.declared.call.JarCall.{JarCall}
 use Rattle.cookie_client.specs.declared.exchange.Played.{Played}
 use Rattle.cookie_http.specs.Fields.{request_jar, set_cookie_texts}
-use Rattle.cookie_http.specs.Response.{AddsDelta, AllFitFields}
+use Rattle.cookie_http.specs.Response.{AddsDelta}
 use Rattle.cookie_http.specs.declared.carried.Exchanged.{Exchanged}
 
 -- the same texts, in any order and with any repetition

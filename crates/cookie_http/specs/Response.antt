@@ -1,11 +1,10 @@
 -- The `Set-Cookie` fields that a response gets of a jar's delta (RFC 6265 3, RFC 9110 5.5).
-use Rattle.std.specs.Prelude.{◌≡◌, ◌<◌, ◌≤◌, ◌+◌, ◌^◌, ◌⊎◌, ◌++◌, ◌==◌, ◌&&◌, not, ℕ, Bool, true, false, List, map, length, codes, Some, IfSome}
-use Rattle.std.specs.FinMap.{FinMap, get}
+use Rattle.std.specs.Prelude.{◌≡◌, ◌<◌, ◌≤◌, ◌+◌, ◌^◌, ◌⊎◌, ◌++◌, ℕ, true, false, List, map, length, codes}
+use Rattle.std.specs.FinMap.{FinMap}
 use Rattle.http_header.specs.FieldValue.{FieldValue, plain_value}
 use Rattle.http_header.specs.HeaderMap.{Entries, ContainsKey, append_all, value_count}
-use Rattle.http_header.specs.Token.{AllPass, is_value_byte}
 use Rattle.cookie.specs.DeltaTexts.{WalksDelta}
-use Rattle.cookie.specs.Jar.{Name, name_cmp, Marked}
+use Rattle.cookie.specs.Jar.{name_cmp, Marked}
 use Rattle.cookie.specs.Record.{Record}
 use Rattle.cookie.specs.Text.{cookie_text}
 use Rattle.cookie_http.specs.Fields.{set_cookie_texts}
@@ -22,24 +21,6 @@ pub record AddsDelta (delta : FinMap name_cmp Marked) (old new : Entries FieldVa
   pub fields : new ≡ with_set_cookies (map (cookie_text true false) cookies) old
   -- which a client reads
   pub read : set_cookie_texts new ≡ set_cookie_texts old ++ map (cookie_text true false) cookies
-
--- a byte that the value of an attribute may hold: one of a field value (RFC 9110 5.5), and no `;` (RFC 6265 4.1.1)
-abbrev pub is_attribute_byte : ℕ → Bool
-is_attribute_byte b = is_value_byte b && not (b == 59)
-
--- the text can be the value of an attribute: it ends neither the field nor the attribute
-abbrev pub IsAttributeValue : List ℕ → Type 0
-IsAttributeValue text = AllPass is_attribute_byte text
-
--- the cookie's path and domain can be the values of attributes
-pub record FitsField (cookie : Record) : Type 0 where
-  pub path : IfSome cookie.path IsAttributeValue
-  pub domain : IfSome cookie.domain IsAttributeValue
-
--- each cookie of the delta does
-abbrev pub AllFitFields : FinMap name_cmp Marked → Type 0
-AllFitFields delta =
-    (name : Name) (entry : Marked) → get delta name ≡ Some entry → FitsField entry.cookie
 
 -- for one field or more the map has 24,576 names, and no `Set-Cookie` field; or it can't count this many more values
 abbrev pub LacksRoom : ℕ → Entries FieldValue → Type 0

@@ -13,8 +13,7 @@ use std::fmt;
 pub enum HttpError {
     /// Memory ran out.
     OutOfMemory,
-    /// A cookie's path or domain holds a byte that no field value may hold, as a line break (RFC 9110 5.5), or a `;`
-    /// (RFC 6265 4.1.1).
+    /// A cookie's path or domain holds a control character, such as a line break, or a `;` (RFC 6265 4.1.1).
     InvalidValue,
     /// The map has no room: it has 24,576 names, none of them `Set-Cookie`, or it can't count the values.
     TooManyFields,

@@ -1,11 +1,12 @@
 //! The cookies of a response (RFC 6265 3, 4.1).
-ghost use Rattle.std.specs.Prelude.{◌≡◌, ◌∷◌, [], ◌↔◌, true, false, List, IsTrue, IfSome, OnOk, OnErr, IsErrOf, IsUtf8, codes, length, option_map};
+ghost use Rattle.std.specs.Prelude.{◌≡◌, ◌∷◌, [], ◌↔◌, true, false, List, IsTrue, OnOk, OnErr, IsErrOf, IsUtf8, codes, length};
+ghost use Rattle.cookie.specs.AttributeValues.{AllFitFields, FitsField};
 ghost use Rattle.cookie.specs.Memory.{Gives};
 ghost use Rattle.cookie.specs.Record.{Record};
 ghost use Rattle.cookie.specs.Text.{cookie_text};
 ghost use Rattle.http_header.specs.HeaderMap.{RefusesAppend};
 ghost use Rattle.cookie.specs.DeltaTexts.{WalksDelta};
-ghost use Rattle.cookie_http.specs.Response.{AddsDelta, AllFitFields, FitsField, IsAttributeValue, LacksRoom, LacksRoomFor, is_attribute_byte, with_set_cookies};
+ghost use Rattle.cookie_http.specs.Response.{AddsDelta, LacksRoom, LacksRoomFor, with_set_cookies};
 ghost use Rattle.cookie_http.specs.declared.http_error.HttpError.TheVariants as refusal;
 
 use crate::http_error::HttpError;
@@ -20,9 +21,9 @@ const MOST_NAMES: usize = 24_576;
 /// Appends a `Set-Cookie` field for each cookie of the jar's delta, after the fields that are there: its encoded text
 /// (RFC 6265 4.1.1).
 ///
-/// Names and values are escaped, and a path and a domain aren't. So the delta is refused as `InvalidValue` if a path or
-/// a domain in it holds a byte that no field value may hold, as a line break, which would split the response
-/// (RFC 9110 5.5), or a `;`, which would begin another attribute (RFC 6265 5.2).
+/// Names and values are escaped, and a path and a domain aren't. So the delta is refused as `InvalidValue` exactly if
+/// `set_cookie_texts` refuses it: if a path or a domain in it holds a control character, such as a line break, which
+/// would split the response, or a `;`, which would begin another attribute (RFC 6265 4.1.1).
 ///
 /// If the map has no room, it is refused as `TooManyFields`. Both come before anything is allocated. Else it fails only
 /// with `OutOfMemory`. After any refusal the map is as before.
@@ -40,7 +41,7 @@ pub fn append_delta(
     ensures empty { headers.old ≡ [] → ¬ (IsErrOf result refusal.TooManyFields) }
     ensures err { OnErr result (headers.new ≡ headers.old) }
 {
-    if !all_fit(jar) {
+    if !jar.fits_fields() {
         return Err(HttpError::InvalidValue);
     }
     if lacks_room(jar, headers) {
@@ -102,40 +103,4 @@ fn lacks_room_for(count: usize, headers: &HeaderMap) -> bool
         return true;
     }
     headers.len().checked_add(count).is_none()
-}
-
-// Whether each cookie of the delta fits a field.
-fn all_fit(jar: &CookieJar) -> bool
-    ensures { IsTrue result ↔ AllFitFields jar.now.delta }
-{
-    for cookie in jar.delta() {
-        if !fits_field(cookie) {
-            return false;
-        }
-    }
-    true
-}
-
-// Whether the cookie's path and domain fit a field.
-fn fits_field(cookie: &Cookie<'_>) -> bool
-    ensures { IsTrue result ↔ FitsField cookie.now.fields }
-{
-    is_attribute_value(cookie.path()) && is_attribute_value(cookie.domain())
-}
-
-// Whether the text, if there is one, can be the value of an attribute.
-fn is_attribute_value(text: Option<&str>) -> bool
-    ensures { IsTrue result ↔ IfSome (option_map (λ t. t.now) text.entry) IsAttributeValue }
-{
-    match text {
-        Some(text) => text.as_bytes().iter().all(|byte| is_attribute_byte(*byte)),
-        None => true,
-    }
-}
-
-// A tab, or no control character (RFC 9110 5.5), and no `;` (RFC 6265 4.1.1).
-fn is_attribute_byte(byte: u8) -> bool
-    ensures { result ≡ is_attribute_byte byte }
-{
-    (byte == b'\t' || (byte >= b' ' && byte != 127)) && byte != b';'
 }

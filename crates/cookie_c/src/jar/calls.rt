@@ -1,19 +1,20 @@
 //! The calls that change a jar in a handle.
 ghost use Rattle.std.specs.Prelude.{◌≡◌, ◌⊎◌, [], Some, None, IfOk, IsUtf8, true};
 ghost use Rattle.jiff.specs.Types.{DateTime};
+ghost use Rattle.cookie.specs.AttributeValues.{FitsField};
 ghost use Rattle.cookie.specs.CookieOf.{header_cookies};
 ghost use Rattle.cookie.specs.Jar.{Add, Remove, after, empty_jar};
 ghost use Rattle.cookie.specs.Moments.{date_of};
 ghost use Rattle.cookie.specs.Record.{plain};
-ghost use Rattle.cookie.specs.Originals.{with_originals};
+ghost use Rattle.cookie.specs.Originals.{readable, with_originals};
 ghost use Rattle.cookie_c.specs.Codes.{code_of};
-ghost use Rattle.cookie_c.specs.Jars.{AtJar, HasOriginals, IsAdded, IsChanged, IsKept, IsRemoved, scoped_record};
+ghost use Rattle.cookie_c.specs.Jars.{AtJar, IsAdded, IsChanged, IsFitAdded, IsKept, IsRemoved, scoped_record};
 ghost use Rattle.cookie_c.specs.declared.status.Status.TheVariants as status;
 
 use super::Jar;
 use crate::session::Seed;
 use crate::status::Status;
-use cookie::{Cookie, CookieJar, read_date};
+use cookie::{Cookie, CookieJar, fits_field, read_date};
 use std::alloc::{AllocError, Global};
 use std::hash::RandomState;
 
@@ -37,15 +38,15 @@ pub extern "C" fn cookie_jar_new(alloc: Global, seed: u64, other_seed: u64, jar:
     Status::Done.code()
 }
 
-/// Adds the cookies in the value of a `Cookie` header as originals, decoded (RFC 6265 5.4). A piece that isn't a cookie
-/// is skipped.
+/// Adds the cookies in the value of a `Cookie` header as originals, decoded (RFC 6265 5.4). A piece between semicolons
+/// that isn't UTF-8 or isn't a cookie is skipped, so that one bad byte costs no other cookie.
 ///
-/// Refuses a handle without a jar, and then a header that isn't UTF-8. Else it fails only when memory runs out. After a
-/// refusal the jar is as before.
+/// Refuses a handle without a jar. Else it fails only when memory runs out. After a refusal the jar is as before.
 #[tactic(auto, using(crate::proofs::JarLemmas::at_none, crate::proofs::JarLemmas::at_some))]
 #[unsafe(no_mangle)]
 pub extern "C" fn cookie_jar_add_originals(alloc: Global, jar: &mut Jar, header: &[u8]) -> u32
-    ensures { AtJar (HasOriginals header.now) result jar.old.held.jar jar.new.held.jar }
+    ensures { AtJar (IsChanged (with_originals (header_cookies true (readable header.now))))
+        result jar.old.held.jar jar.new.held.jar }
 {
     let Some(mut held) = jar.take(alloc) else {
         return Status::NoJar.code();
@@ -58,8 +59,8 @@ pub extern "C" fn cookie_jar_add_originals(alloc: Global, jar: &mut Jar, header:
 /// Adds the cookie in the text of a `Set-Cookie` header, decoded (RFC 6265 5.2), in place of the jar's cookie of that
 /// name.
 ///
-/// Refuses a handle without a jar, and then as `cookie_read_decoded` does. Else it fails only when memory runs out.
-/// After a refusal the jar is as before.
+/// Refuses a handle without a jar, then as `cookie_read_decoded` does, and then a path or a domain with a control
+/// character. Else it fails only when memory runs out. After a refusal the jar is as before.
 #[tactic(auto, using(crate::proofs::JarLemmas::at_none, crate::proofs::JarLemmas::at_some))]
 #[unsafe(no_mangle)]
 pub extern "C" fn cookie_jar_add(alloc: Global, jar: &mut Jar, text: &[u8]) -> u32
@@ -95,8 +96,9 @@ pub extern "C" fn cookie_jar_remove(alloc: Global, jar: &mut Jar, moment: &[u8],
 /// Removes the cookie of that name, as `cookie_jar_remove` does, but tells the client to drop the one that was set with
 /// this path and this domain. An empty path or domain is none, and one leading dot of the domain doesn't count.
 ///
-/// Refuses a handle without a jar, then a `moment`, a name, a path or a domain that isn't UTF-8, and then a `moment`
-/// that isn't a date. It may also run out of memory. After a refusal the jar is as before.
+/// Refuses a handle without a jar, then a `moment`, a name, a path or a domain that isn't UTF-8, then a path or a domain
+/// with a control character or a `;`, and then a `moment` that isn't a date. It may also run out of memory. After a
+/// refusal the jar is as before.
 #[tactic(auto, using(crate::proofs::JarLemmas::at_none, crate::proofs::JarLemmas::at_some))]
 #[unsafe(no_mangle)]
 pub extern "C" fn cookie_jar_remove_scoped(
@@ -127,11 +129,9 @@ pub extern "C" fn cookie_jar_free(alloc: Global, jar: &mut Jar)
 }
 
 fn add_originals(jar: &mut CookieJar, header: &[u8]) -> Status
-    ensures { HasOriginals header.now result jar.old jar.new }
+    ensures { IsChanged (with_originals (header_cookies true (readable header.now)))
+        result jar.old jar.new }
 {
-    let Ok(header) = str::from_utf8(header) else {
-        return Status::NotUtf8;
-    };
     match copy_with(jar, header) {
         Ok(made) => {
             *jar = made;
@@ -142,12 +142,12 @@ fn add_originals(jar: &mut CookieJar, header: &[u8]) -> Status
 }
 
 // A copy of the jar, with the header's cookies as originals.
-fn copy_with(jar: &CookieJar, header: &str) -> Result<CookieJar, AllocError>
+fn copy_with(jar: &CookieJar, header: &[u8]) -> Result<CookieJar, AllocError>
     ensures { IfOk result (λ made.
-        made ≡ with_originals (header_cookies true header.now) jar.now) }
+        made ≡ with_originals (header_cookies true (readable header.now)) jar.now) }
 {
     match jar.clone() {
-        Ok(copy) => copy.with_originals(header),
+        Ok(copy) => copy.with_field(header),
         Err(_) => Err(AllocError),
     }
 }
@@ -159,8 +159,19 @@ fn add(alloc: Global, jar: &mut CookieJar, text: &[u8]) -> Status
         return Status::NotUtf8;
     };
     match Cookie::parse_encoded(alloc, text) {
-        Ok(cookie) => add_copy(alloc, jar, cookie),
+        Ok(cookie) => add_fit(alloc, jar, cookie),
         Err(error) => Status::of(error),
+    }
+}
+
+// Adds a copy of the cookie, if its path and domain fit a header.
+fn add_fit(alloc: Global, jar: &mut CookieJar, cookie: Cookie<'_>) -> Status
+    ensures { IsFitAdded cookie.entry.fields result jar.old jar.new }
+{
+    if fits_field(&cookie) {
+        add_copy(alloc, jar, cookie)
+    } else {
+        Status::InvalidValue
     }
 }
 
@@ -222,10 +233,17 @@ fn scoped_cookie<'t>(name: &'t str, path: &'t str, domain: &'t str) -> Cookie<'t
 
 // Removes the cookie, at the date and time in the text.
 fn remove_at(alloc: Global, jar: &mut CookieJar, moment: &str, cookie: Cookie<'_>) -> Status
-    ensures no_date { date_of moment.now ≡ None → IsKept status.NoDate result jar.old jar.new }
-    ensures removed { (now : DateTime) → date_of moment.now ≡ Some now
+    ensures invalid { ¬ FitsField cookie.entry.fields
+        → IsKept status.InvalidValue result jar.old jar.new }
+    ensures no_date { FitsField cookie.entry.fields → date_of moment.now ≡ None
+        → IsKept status.NoDate result jar.old jar.new }
+    ensures removed { (now : DateTime) → FitsField cookie.entry.fields
+        → date_of moment.now ≡ Some now
         → IsChanged (after (Remove cookie.entry.fields now)) result jar.old jar.new }
 {
+    if !fits_field(&cookie) {
+        return Status::InvalidValue;
+    }
     let Some(now) = read_date(moment) else {
         return Status::NoDate;
     };

@@ -35,7 +35,8 @@ pub extern "C" fn cookie_jar_get(
 /// A line `Set-Cookie: ..` for each cookie of the jar's delta, for the buffer: the cookie's encoded text (RFC 6265
 /// 4.1.1), with a line feed at its end. The lines are in any order. The jar is as before.
 ///
-/// Refuses a handle without a jar. Else it fails only when memory runs out.
+/// Refuses a handle without a jar, and then a delta with a path or a domain that holds a control character or a `;`. No
+/// call puts one into a jar. Else it fails only when memory runs out.
 #[tactic(auto, using(crate::proofs::JarLemmas::of_none, crate::proofs::JarLemmas::of_some))]
 #[unsafe(no_mangle)]
 pub extern "C" fn cookie_jar_delta(alloc: Global, jar: &mut Jar, out: &mut [u8]) -> Answer
@@ -65,6 +66,9 @@ fn show(jar: &CookieJar, name: &[u8], out: &mut [u8]) -> Answer
 fn give_delta(alloc: Global, jar: &CookieJar, out: &mut [u8]) -> Answer
     ensures { IsDeltaGiven jar.now result out.old out.new }
 {
+    if !jar.fits_fields() {
+        return Answer::refusal(Status::InvalidValue);
+    }
     match lines(alloc, jar) {
         Ok(text) => Answer::give(text.as_bytes(), out),
         Err(_) => Answer::refusal(Status::OutOfMemory),

@@ -12,7 +12,7 @@ use super::SessionSettings;
 use super::keys::{has_keys, ring_of};
 use super::time::time_at;
 use crate::status::Status;
-use cookie::Cookie;
+use cookie::{Cookie, fits_field};
 use cookie_session::{KeyRing, Sessions};
 use jiff::civil::DateTime;
 use std::alloc::Global;
@@ -47,6 +47,9 @@ impl Site {
             return Err(Status::NotUtf8);
         };
         let cookie = read_cookie(alloc, text)?;
+        if !fits_field(&cookie) {
+            return Err(Status::InvalidValue);
+        }
         let Ok(keys) = ring_of(alloc, settings.keys) else {
             return Err(Status::OutOfMemory);
         };

@@ -10,12 +10,13 @@ use crate::jar::texts::{cookie_jar_delta, cookie_jar_get};
 use std::alloc::Global;
 
 // By a model of RFC 6265 5.2 to 5.4, and by the header's words. A removal has a moment, a name, and maybe a path and a
-// domain: a server removes a cookie by one of the same path and domain (RFC 6265 3.1).
+// domain: a server removes a cookie by one of the same path and domain (RFC 6265 3.1). Neither holds a control character
+// or a `;` (RFC 6265 4.1.1).
 const ROWS: &str = "\
 add a=1 -> 17
 new -> 0
 originals name=val; lang=en -> 0
-originals \\xff -> 3
+originals \\xff -> 0
 add a=%20 -> 0
 add a -> 13
 add =1 -> 14
@@ -42,6 +43,24 @@ get name -> 18
 delta -> 0 Set-Cookie: name=; Max-Age=0; Expires=Tue, 21 Oct 2014 07:28:00 GMT\\x0a
 free -> 0
 get n -> 17
+new -> 0
+originals a=1;\\xff=2; b\\xc3=3;c=4 -> 0
+get a -> 0 1
+get c -> 0 4
+get b -> 18
+add a=1; Path=/\\x0d\\x0aSet-Cookie: b=2 -> 24
+add a=1; Path=/\\x09b -> 24
+add a=1; Domain=b.c\\x7fd -> 24
+add a=%FF; Path=/\\x00b -> 15
+remove-scoped Wed, 21 Oct 2015 07:28:00 GMT|a|/\\x0aSet-Cookie: b=2| -> 24
+remove-scoped Wed, 21 Oct 2015 07:28:00 GMT|a|/;b|c.d -> 24
+remove-scoped yesterday|a|/|b\\x01c -> 24
+remove-scoped yesterday|a|/\\x0a|\\xff -> 3
+get a -> 0 1
+delta -> 0
+add a=1; Path=/b c\\xc3\\xa9 -> 0
+delta -> 0 Set-Cookie: a=1; Path=/b c\\xc3\\xa9\\x0a
+free -> 0
 new -> 0
 originals name=val -> 0
 remove-scoped Wed, 21 Oct 2015 07:28:00 GMT|name|/p|.b.c -> 0

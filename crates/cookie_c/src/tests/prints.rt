@@ -5,7 +5,8 @@ use crate::date::cookie_read_date;
 use crate::print::cookie_print;
 use std::alloc::Global;
 
-// The domain is `.a.example`. What is printed is by the crate cookie, and what is refused by the header's words.
+// The domain is `.a.example`, unless a row has one. What is printed is by the crate cookie, and what is refused by the
+// header's words and RFC 6265 4.1.1.
 const ROWS: &str = "\
 plain id|x y|/|set -> 0 id=x y; HttpOnly; SameSite=Lax; Partitioned; Secure; Path=/; Domain=a.example; Max-Age=90; Expires=Sun, 06 Nov 1994 08:49:37 GMT
 escaped id|x y|/|set -> 0 id=x%20y; HttpOnly; SameSite=Lax; Partitioned; Secure; Path=/; Domain=a.example; Max-Age=90; Expires=Sun, 06 Nov 1994 08:49:37 GMT
@@ -16,7 +17,17 @@ plain \\xff|x|/|bad site and date -> 19
 plain \\xff|x|/|bad date -> 10
 plain \\xff|x|/|set -> 3
 plain id|x|\\xff|set -> 3
-plain id|x|\\xff|unset -> 0 id=x";
+plain id|x|\\xff|unset -> 0 id=x
+plain id|x|/\\x0d\\x0aSet-Cookie: b=2|set -> 24
+escaped id|x|/;b|set -> 24
+plain id|x|/\\x09|set -> 24
+plain id|x|/\\x7f|set -> 24
+plain id|x|/|set|b\\x0ac -> 24
+plain id|x|/|set|.b;c -> 24
+plain \\xff|x|/\\x0a|set -> 3
+plain id|x|/\\x0a|set|\\xff -> 3
+plain id|x|/\\x0a|unset|\\x0a -> 0 id=x
+plain id|x|/\\x0a|bad date -> 10";
 
 // One attribute of each kind.
 fn set() -> Attributes {
@@ -57,8 +68,12 @@ fn is_right(alloc: Global, row: &str) -> Option<bool> {
     let (name, value) = (word(alloc, words, 0)?, word(alloc, words, 1)?);
     let path = word(alloc, words, 2)?;
     let set = attributes(words.split('|').nth(3)?)?;
-    let (domain, escape, mut out) = (b".a.example", form == "escaped", [0xa5; 160]);
-    let answer = cookie_print(alloc, &name, &value, &path, domain, &set, escape, &mut out);
+    let mut domain = word(alloc, words, 4)?;
+    if domain.is_empty() {
+        domain.extend_from_slice(b".a.example").ok()?;
+    }
+    let (escape, mut out) = (form == "escaped", [0xa5; 160]);
+    let answer = cookie_print(alloc, &name, &value, &path, &domain, &set, escape, &mut out);
     is_answered(alloc, answer, &out, wanted)
 }
 

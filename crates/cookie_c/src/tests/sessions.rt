@@ -62,6 +62,14 @@ fn settings_named(name: &str) -> Option<SessionSettings<'static>> {
             cookie: b"s%FF=; Path=/",
             ..site
         },
+        "path" => SessionSettings {
+            cookie: b"s=; Path=/\r\nSet-Cookie: b=2",
+            ..site
+        },
+        "domain" => SessionSettings {
+            cookie: b"s=; Path=/; Domain=b.c\x7fd",
+            ..site
+        },
         "prefix" => SessionSettings {
             cookie: b"__Host-s=; Path=/",
             ..site
@@ -90,6 +98,7 @@ open pair|0| -> 13
 open name|0| -> 14
 open escape|0| -> 15
 open none|251956794721| -> 10
+open path|0| -> 24
 renew site|0||user=ann -> 0 __Host-session=BwcHBwcHBwcHBwcHxr3ptyQiF+vjHTi0H%2FEZJ4ojpl9zfz1zVvp2m7gKpdda%2FGN0JOW7CAb5HSsyRy3XRjls00uYx1eOORdattff; HttpOnly; SameSite=Lax; Secure; Path=/; Max-Age=600
 renew site|0|__Host-session=x|user=bob&user=%61n%6E -> 0 __Host-session=BwcHBwcHBwcHBwcHxr3ptyQiF+vjHTi0H%2FEZJ4ojpl9zfz1zVvp2m7gKpdda%2FGN0JOW7CAb5HSsyRy3XRjls00uYx1eOORdattff; HttpOnly; SameSite=Lax; Secure; Path=/; Max-Age=600
 renew lifetime|0||user=ann -> 0 __Host-session=BwcHBwcHBwcHBwcHxr3ptyQiF+vjHTi0H%2FEZJ4ojpl9zfz1zVvp2m7gKpdda%2FGN0JOW7CAb5HSsyRy3XRjls00uYx1eOORdattff; HttpOnly; SameSite=Lax; Secure; Path=/; Max-Age=300
@@ -100,6 +109,10 @@ renew prefix|0||user=ann -> 21
 renew idle|0||user=ann -> 22
 renew none|0||user=ann -> 4
 renew none|251956794721||user=ann -> 10
+renew path|0||user=ann -> 24
+renew domain|0||user=ann -> 24
+save domain|0||user=ann -> 24
+end path|0 -> 24
 end site|0 -> 0 __Host-session=; HttpOnly; SameSite=Lax; Secure; Path=/; Max-Age=0; Expires=Tue, 21 Oct 2014 07:28:00 GMT
 end prefix|0 -> 0 __Host-s=; Path=/; Max-Age=0; Expires=Tue, 21 Oct 2014 07:28:00 GMT
 end pair|0 -> 13

@@ -2,14 +2,16 @@ use Rattle.std.proofs.Common.{◌≡◌, All, IsTrue, false, rules, sym, ap, sub
 use Rattle.std.proofs.lemmas.List.Elements.{All-head, All-tail}
 use Rattle.std.specs.Result.{IsErrAnd}
 use Rattle.cookie.specs.DeltaTexts.{WalksDelta}
-use Rattle.cookie_http.specs.Response.{FitsField, LacksRoom}
-use Rattle.cookie_http.proofs.ResponseLemmas.{AddsDelta-written, AllFitFields-walk, IsWritten, IsWritten-first, IsWritten-next, LacksRoom-append, LacksRoom-refused, clone_same, is_ok, not_full, not_invalid, other_refusal}
+use Rattle.cookie.proofs.AttributeValueLemmas.{AllFitFields-walk}
+use Rattle.cookie.specs.AttributeValues.{FitsField}
+use Rattle.cookie_http.specs.Response.{LacksRoom}
+use Rattle.cookie_http.proofs.ResponseLemmas.{AddsDelta-written, IsWritten, IsWritten-first, IsWritten-next, LacksRoom-append, LacksRoom-refused, clone_same, is_ok, not_full, not_invalid, other_refusal}
 use Rattle.cookie_http.proofs.response.append_delta.Goals as goal
 
 pub returns-in_err-made-clause-invalid : goal.returns-in_err-made-clause-invalid
 returns-in_err-made-clause-invalid c =
-    let yes : IsTrue c.all_fit.result = search rules in
-    (λ invalid fit. not_invalid c.from_residual.result c.from_residual.ensures.1 invalid, λ unfit. absurd (unfit (c.all_fit.ensures.0 yes)))
+    let yes : IsTrue c.fits_fields.result = search rules in
+    (λ invalid fit. not_invalid c.from_residual.result c.from_residual.ensures.1 invalid, λ unfit. absurd (unfit (c.fits_fields.ensures.0 yes)))
 
 pub returns-in_err-made-clause-full : goal.returns-in_err-made-clause-full
 returns-in_err-made-clause-full c =
@@ -21,11 +23,11 @@ loop-cookie-init c =
     let delta = c.args.jar.now.delta in
     let cookies = c.into_iter-cookie-iterator.result in
     let walks : WalksDelta delta cookies = subst (WalksDelta delta) (sym c.into_iter-cookie-iterator.ensures.into_iter_gives) c.delta-cookie-items.ensures.walks in
-    let yes : IsTrue c.all_fit.result = search rules in
+    let yes : IsTrue c.fits_fields.result = search rules in
     let no : c.lacks_room.result ≡ false = search rules in
     let same = clone_same c.args.headers.now c.in_ok-made.made c.in_ok-made.ensures.cases in
     record {
-      fit = (AllFitFields-walk delta cookies walks).1 (c.all_fit.ensures.0 yes);
+      fit = (AllFitFields-walk delta cookies walks).1 (c.fits_fields.ensures.0 yes);
       room = λ lacks. true≢false (sym (c.lacks_room.ensures.lacks.1 (cookies, walks, subst (LacksRoom (length cookies)) same lacks)) ∙ no);
       written = IsWritten-first delta c.args.headers.now c.in_ok-made.made cookies walks same;
     }
@@ -62,8 +64,8 @@ returns-clause-ok c =
 
 pub returns-clause-invalid : goal.returns-clause-invalid
 returns-clause-invalid c =
-    let yes : IsTrue c.all_fit.result = search rules in
-    (λ invalid fit. absurd (true≢false (ap is_ok invalid)), λ unfit. absurd (unfit (c.all_fit.ensures.0 yes)))
+    let yes : IsTrue c.fits_fields.result = search rules in
+    (λ invalid fit. absurd (true≢false (ap is_ok invalid)), λ unfit. absurd (unfit (c.fits_fields.ensures.0 yes)))
 
 pub returns-clause-full : goal.returns-clause-full
 returns-clause-full c =
@@ -72,19 +74,19 @@ returns-clause-full c =
 
 pub returns-then-lacks_room-clause-invalid : goal.returns-then-lacks_room-clause-invalid
 returns-then-lacks_room-clause-invalid c =
-    let yes : IsTrue c.all_fit.result = search rules in
-    (λ invalid fit. other_refusal _ refl invalid, λ unfit. absurd (unfit (c.all_fit.ensures.0 yes)))
+    let yes : IsTrue c.fits_fields.result = search rules in
+    (λ invalid fit. other_refusal _ refl invalid, λ unfit. absurd (unfit (c.fits_fields.ensures.0 yes)))
 
 pub returns-then-lacks_room-clause-full : goal.returns-then-lacks_room-clause-full
 returns-then-lacks_room-clause-full c =
-    let yes : IsTrue c.all_fit.result = search rules in
+    let yes : IsTrue c.fits_fields.result = search rules in
     let lacking : IsTrue c.lacks_room.result = search rules in
-    (λ full. (c.all_fit.ensures.0 yes, c.lacks_room.ensures.lacks.0 lacking), λ both. refl)
+    (λ full. (c.fits_fields.ensures.0 yes, c.lacks_room.ensures.lacks.0 lacking), λ both. refl)
 
 pub returns-in_err-append_cookie-clause-invalid : goal.returns-in_err-append_cookie-clause-invalid
 returns-in_err-append_cookie-clause-invalid c =
-    let yes : IsTrue c.all_fit.result = search rules in (
+    let yes : IsTrue c.fits_fields.result = search rules in (
       λ invalid fit. not_invalid c.from_residual-in_err-append_cookie.result
           (subst (λ x. IsErrAnd c.from_residual-in_err-append_cookie.result (λ e. e ≡ x)) c.in_err-append_cookie.ensures.gives c.from_residual-in_err-append_cookie.ensures.1) invalid,
-      λ unfit. absurd (unfit (c.all_fit.ensures.0 yes)),
+      λ unfit. absurd (unfit (c.fits_fields.ensures.0 yes)),
     )

@@ -1,5 +1,6 @@
 use Rattle.std.proofs.Common.{All, length}
-use Rattle.cookie_http.specs.Response.{FitsField, LacksRoom}
+use Rattle.cookie.specs.AttributeValues.{FitsField}
+use Rattle.cookie_http.specs.Response.{LacksRoom}
 use Rattle.cookie_http.proofs.ResponseLemmas.{IsWritten}
 use Rattle.cookie_http.proofs.response.append_delta.Given as goal
 

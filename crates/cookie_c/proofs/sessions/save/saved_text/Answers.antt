@@ -1,9 +1,8 @@
-use Rattle.std.proofs.Common.{◌≡◌, [], true, false, Some, Err, IsOkAnd, MatchResult, option_map, refl, string_bytes, subst, sym}
+use Rattle.std.proofs.Common.{◌≡◌, [], true, false, Some, Err, IsOkAnd, MatchResult, option_map, refl, string_bytes, subst}
 use Rattle.cookie.specs.Jar.{view}
 use Rattle.cookie.specs.Text.{cookie_text}
 use Rattle.cookie_session.specs.Session.{SessionState}
 use Rattle.cookie_session.specs.declared.session_error.SessionError.TheVariants as failure
-use Rattle.cookie_c.specs.SaveParts.{IsSaved}
 use Rattle.cookie_c.specs.SavedSessions.{Saves, with_form}
 use Rattle.cookie_c.proofs.SaveLemmas.{saves_shown, text_refused}
 use Rattle.cookie_c.proofs.sessions.save.saved_text.Goals as goal
