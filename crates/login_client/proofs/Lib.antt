@@ -1,3 +1,4 @@
+mod FailLemmas
 mod HeldLemmas
 mod PageLemmas
 mod StandingLemmas

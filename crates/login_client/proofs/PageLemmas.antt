@@ -25,7 +25,7 @@ use Rattle.login_core.specs.declared.routes.Route.{Route}
 use Rattle.login_core.specs.declared.routes.Route.TheVariants.{Home, LogIn, LogOut}
 use Rattle.login_core.specs.declared.user.User.{User}
 use Rattle.login_core.specs.declared.visitor.Visitor.{Visitor}
-use Rattle.login_client.specs.Browsing.{IsHomeOf, Shows, told}
+use Rattle.login_client.specs.Browsing.{IsHomeOf, IsHomePage, IsPageOf, Shows, login_page, told}
 use Rattle.login_client.specs.Holding.{standing_of}
 use Rattle.login_client.specs.Standing.{Standing, after_form, after_route, begun, shown, standing_at}
 
@@ -77,6 +77,26 @@ page_shows users (Ok LogOut) credentials now found page saved plans =
     silent (Ok LogOut) (λ e. cc) (option_map standing_of found) page (ap greeted plans.0) (ap told plans.0)
 page_shows users (Err refusal) credentials now found page saved plans =
     silent (Err refusal) (λ e. cc) (option_map standing_of found) page (ap greeted plans.0) (ap told plans.0)
+
+-- ---- which page it is
+
+login_is : (users : List User) (credentials : Option (List ℕ × List ℕ)) (now : DateTime) (page : Page) (saved : Option SessionState) → LogsIn users credentials now page saved
+    → page ≡ login_page users credentials
+login_is users None now page saved plans = plans.0
+login_is users (Some (user, password)) now page saved plans = by (is_known user password users) plans
+  where
+    by : (b : Bool) → MatchBool b ((page ≡ Moved) × (saved ≡ Some (logged_in now user))) ((page ≡ Refused Forbidden) × (saved ≡ None)) → page ≡ cond b Moved (Refused Forbidden)
+    by true moves = moves.0
+    by false refuses = refuses.0
+
+pub page_is : (users : List User) (form : List ℕ) (route : Result Route Refusal) (now : DateTime) (found : Option SessionState) (page : Page) (saved : Option SessionState)
+    → Plans users route (credentials_of form) now found page saved → IsPageOf users form route page
+page_is users form (Ok Home) now found page saved plans =
+    let (visitor, is, shown_is, saved_is) = plans in
+    subst IsHomePage (sym shown_is) tt
+page_is users form (Ok LogIn) now found page saved plans = login_is users (credentials_of form) now page saved plans
+page_is users form (Ok LogOut) now found page saved plans = plans.0
+page_is users form (Err refusal) now found page saved plans = plans.0
 
 -- ---- the session after it
 

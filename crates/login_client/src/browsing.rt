@@ -1,9 +1,12 @@
 //! A client that sends requests to the site, one after the other.
-ghost use Rattle.std.specs.Prelude.{◌≡◌, [], None, Option, IfOk, OnOk, map, string_bytes};
+ghost use Rattle.std.specs.Prelude.{◌≡◌, ◌<◌, true, ℕ, [], None, Option, Err, IfOk, OnOk, map, string_bytes};
 ghost use Rattle.std.specs.FinMap.{get};
 ghost use Rattle.cookie_client.specs.Client.{after_texts};
 ghost use Rattle.cookie_client.specs.ExchangeCode.{IsHeaderOf};
 ghost use Rattle.cookie_session.specs.Session.{SessionState};
+ghost use Rattle.cookie_session.specs.Sessions.{meets_prefix};
+ghost use Rattle.cookie_session.specs.Size.{most_bytes};
+ghost use Rattle.cookie_session.specs.declared.session_error.SessionError.TheVariants as refusal;
 ghost use Rattle.login_client.specs.Browsing.{ArePages, CanBrowse};
 ghost use Rattle.login_client.specs.Holding.{Holds, IsAnswered};
 
@@ -24,7 +27,8 @@ use std::hash::RandomState;
 /// of a login or a logout is shown on the first home page after it at such a time, and once. The times may come in any
 /// order. The site's cookie must have a name, and no `;` in its path and its domain.
 ///
-/// Fails at the first request at which `answer` fails, or if out of memory.
+/// Fails at the first request at which `answer` fails, or if out of memory. It fails with `Prefix` only if the site's
+/// cookie lacks what its name requires, and with `Over` only if a limit of the site is 0.
 pub fn browse<R: TryRng>(
     alloc: Global,
     state: RandomState,
@@ -34,6 +38,14 @@ pub fn browse<R: TryRng>(
 ) -> Result<Vec<Page>, SessionError>
     ensures pages { CanBrowse site.now.sessions
         → IfOk result (λ pages. ArePages site.now None requests.now pages.items) }
+
+    // Out of memory aside, it fails only as a session of the site is refused: `Over` only if a limit is 0.
+    ensures prefix { result ≡ Err refusal.Prefix
+        → ¬ (meets_prefix site.now.sessions.cookie.now.fields ≡ true) }
+    ensures over { 0 < site.now.sessions.lifetime → 0 < site.now.sessions.idle
+        → ¬ (result ≡ Err refusal.Over) }
+    ensures too_large { (size : ℕ) → result ≡ Err (refusal.TooLarge size) → most_bytes < size }
+    ensures failed { result ≡ Err refusal.Generator → R.Error }
 {
     let mut client = Client::new(alloc);
     let mut pages = Vec::new(alloc);
@@ -53,9 +65,15 @@ fn send<R: TryRng>(
     request: &TimedRequest<'_>,
     rng: &mut R,
 ) -> Result<Page, SessionError>
-    ensures { CanBrowse site.now.sessions → IfOk result (λ page. (held : Option SessionState)
+    ensures answered { CanBrowse site.now.sessions → IfOk result (λ page. (held : Option SessionState)
         → Holds site.now.sessions client.old held
         → IsAnswered site.now request.now held page client.new) }
+    ensures prefix { result ≡ Err refusal.Prefix
+        → ¬ (meets_prefix site.now.sessions.cookie.now.fields ≡ true) }
+    ensures over { 0 < site.now.sessions.lifetime → 0 < site.now.sessions.idle
+        → ¬ (result ≡ Err refusal.Over) }
+    ensures too_large { (size : ℕ) → result ≡ Err (refusal.TooLarge size) → most_bytes < size }
+    ensures failed { result ≡ Err refusal.Generator → R.Error }
 {
     let header = header_of(client)?;
     let asked = Request {

@@ -26,7 +26,7 @@ loop-request-preserved g c can =
     let requests = c.args.requests.now in
     let (held, holds, more) = c.loop-request.invariant can in
     let page = c.in_ok-page.page in
-    let answered = c.in_ok-page.ensures can held holds in
+    let answered = c.in_ok-page.ensures.answered can held holds in
     let later = drop (c.loop-request.request-index + 1) requests in
     let first : drop c.loop-request.request-index requests ≡ c.request-item.result ∷ later =
     drop_more requests c.loop-request.request-index c.request-item.result c.loop-request-test.true ∙ ap (λ r. r ∷ later) (sym c.request-item.is) in
@@ -41,11 +41,8 @@ loop-request-preserved g c can =
           (answered.shows, subst (λ standing. ArePages site standing later rest) answered.stands h)))),
     )
 
-pub returns : goal.returns
-returns g c =
-    record {
-      pages = λ can.
-          let (held, holds, more) = c.loop-request.invariant can in
-          subst (ArePages c.args.site.now None c.args.requests.now) (append-nil c.loop-request.pages.items)
-          (more [] (subst (λ rs. ArePages c.args.site.now (option_map standing_of held) rs []) (sym (drop_of_length-le c.args.requests.now c.loop-request-test.false)) tt));
-    }
+pub returns-clause-pages : goal.returns-clause-pages
+returns-clause-pages g c can =
+    let (held, holds, more) = c.loop-request.invariant can in
+    subst (ArePages c.args.site.now None c.args.requests.now) (append-nil c.loop-request.pages.items)
+    (more [] (subst (λ rs. ArePages c.args.site.now (option_map standing_of held) rs []) (sym (drop_of_length-le c.args.requests.now c.loop-request-test.false)) tt))

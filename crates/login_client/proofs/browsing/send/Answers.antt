@@ -13,13 +13,14 @@ use Rattle.login_core.specs.Routes.{route_of}
 use Rattle.login_core.specs.declared.request.Request.{Request}
 use Rattle.login_client.specs.Browsing.{Shows}
 use Rattle.login_client.specs.Standing.{route_asked}
+use Rattle.login_client.proofs.FailLemmas.{can_save, not_memory, refused_over, told_over}
 use Rattle.login_client.proofs.HeldLemmas.{finds, holds_after}
-use Rattle.login_client.proofs.PageLemmas.{held_after, page_shows, saved_stands}
+use Rattle.login_client.proofs.PageLemmas.{held_after, page_is, page_shows, saved_stands}
 use Rattle.login_client.proofs.StandingLemmas.{found_stands}
 use Rattle.login_client.proofs.browsing.send.Goals as goal
 
-pub returns : goal.returns
-returns g c can held holds =
+pub returns-clause-answered : goal.returns-clause-answered
+returns-clause-answered g c can held holds =
     let site = c.args.site.now in
     let sessions = site.sessions in
     let name = sessions.cookie.now.fields.name in
@@ -44,7 +45,23 @@ returns g c can held holds =
       later = held_after now saved held;
       holds = holds_after sessions can now client c.read_texts.new.client start jar (fresh field) texts (AreDeltaTexts-once jar.delta texts once)
           (c.in_ok-read_texts.ensures ∙ ap (λ ts. after_texts now (map string_bytes ts) client) c.deref.ensures.value) _ saved held saves holds;
-      shows = subst (λ standing. Shows (route_asked request) standing page) (sym counts)
-          (page_shows site.users.now (route_asked request) (credentials_of request.form.now) now found page saved plan.plans);
+      shows = record {
+        is = page_is site.users.now request.form.now (route_asked request) now found page saved plan.plans;
+        shows = subst (λ standing. Shows (route_asked request) standing page) (sym counts)
+            (page_shows site.users.now (route_asked request) (credentials_of request.form.now) now found page saved plan.plans);
+      };
       stands = saved_stands site (route_asked request) request.form.now now held found page saved counts plan.plans;
     }
+
+pub returns-in_err-response-clause-over : goal.returns-in_err-response-clause-over
+returns-in_err-response-clause-over g c long used over =
+    let site = c.args.site.now in
+    let sessions = site.sessions in
+    let now = c.args.request.now.time in
+    let told = told_over c.answer.result c.from_residual-in_err-response.result c.in_err-response.field-0.0 c.in_err-response.was
+    c.from_residual-in_err-response.ensures.1 over in
+    let (page, saved, plan, fails) = c.answer.ensures.fails (not_memory c.answer.result told) in
+    refused_over _ _ sessions now c.answer.result saved fails
+    (λ session is. can_save sessions now long used site.users.now (route_asked c.args.request.now) (credentials_of c.args.request.now.form.now) plan.found page session
+    (λ state found. ((plan.finds.exact state).0 found).1.lives) (subst (λ s. Plans site.users.now (route_asked c.args.request.now) (credentials_of c.args.request.now.form.now) now plan.found page s) is plan.plans))
+    told

@@ -1,0 +1,92 @@
+-- How a request fails whose session can't be saved.
+use Rattle.std.proofs.Common.{◌≡◌, ℕ, ◌+◌, ◌<◌, Bool, true, false, List, Option, Some, None, Result, Ok, Err, option_map, refl, sym, ap, subst, arith, ◌∙◌, codes}
+use Rattle.std.proofs.lemmas.Option.{none-some, same_Some}
+use Rattle.std.specs.Bool.{MatchBool}
+use Rattle.std.specs.Result.{IsErrAnd}
+use Rattle.cookie.specs.Memory.{Gives}
+use Rattle.jiff.specs.Types.{DateTime}
+use Rattle.cookie_session.specs.Seconds.{second_of}
+use Rattle.cookie_session.specs.Session.{SessionState}
+use Rattle.cookie_session.specs.Sessions.{CanSave, LivesAt, meets_prefix}
+use Rattle.cookie_session.specs.declared.session_error.SessionError.{SessionError}
+use Rattle.cookie_session.specs.declared.session_error.SessionError.TheVariants as failure
+use Rattle.cookie_session.specs.declared.sessions.Sessions.{Sessions}
+use Rattle.login_core.specs.Answers.{FailsFor}
+use Rattle.login_core.specs.Plans.{LogsIn, Plans, logged_in, logged_out, shown}
+use Rattle.login_core.specs.Users.{is_known}
+use Rattle.login_core.specs.declared.page.Page.{Page}
+use Rattle.login_core.specs.declared.page.Page.TheVariants.{Moved, Refused}
+use Rattle.login_core.specs.declared.refusal.Refusal.{Refusal}
+use Rattle.login_core.specs.declared.refusal.Refusal.TheVariants.{Forbidden}
+use Rattle.login_core.specs.declared.routes.Route.{Route}
+use Rattle.login_core.specs.declared.routes.Route.TheVariants.{Home, LogIn, LogOut}
+use Rattle.login_core.specs.declared.user.User.{User}
+use Rattle.login_core.specs.declared.visitor.Visitor.{Visitor}
+
+-- ---- what the site saves, it can save, unless a limit is 0
+
+module _ (sessions : Sessions) (now : DateTime) (long : 0 < sessions.lifetime) (used : 0 < sessions.idle) where
+  -- a session that starts now
+  starts : (session : SessionState) → session.started ≡ second_of now → CanSave sessions now session
+  starts session is =
+      record {
+        begun = omega arith;
+        young = omega arith;
+        used = omega arith;
+      }
+
+  -- one that lives
+  goes_on : (visitor : Visitor) (session : SessionState) → LivesAt sessions now session → CanSave sessions now (shown visitor session)
+  goes_on visitor session lives = record { begun = lives.begun; young = lives.young; used = omega arith }
+
+  from_form : (users : List User) (credentials : Option (List ℕ × List ℕ)) (page : Page) (session : SessionState) → LogsIn users credentials now page (Some session)
+      → CanSave sessions now session
+  from_form users None page session plans = absurd (none-some session (sym plans.1))
+  from_form users (Some (user, password)) page session plans = by (is_known user password users) plans
+    where
+      by : (b : Bool) → MatchBool b ((page ≡ Moved) × (Some session ≡ Some (logged_in now user))) ((page ≡ Refused Forbidden) × (Some session ≡ None)) → CanSave sessions now session
+      by true moves = subst (CanSave sessions now) (sym (same_Some session (logged_in now user) moves.1)) (starts (logged_in now user) refl)
+      by false refuses = absurd (none-some session (sym refuses.1))
+
+  from_home : (found : Option SessionState) (visitor : Visitor) (session : SessionState) → ((state : SessionState) → found ≡ Some state → LivesAt sessions now state)
+      → Some session ≡ option_map (shown visitor) found → CanSave sessions now session
+  from_home None visitor session lives is = absurd (none-some session (sym is))
+  from_home (Some state) visitor session lives is =
+      subst (CanSave sessions now) (sym (same_Some session (shown visitor state) is)) (goes_on visitor state (lives state refl))
+
+  pub can_save : (users : List User) (route : Result Route Refusal) (credentials : Option (List ℕ × List ℕ)) (found : Option SessionState) (page : Page) (session : SessionState)
+      → ((state : SessionState) → found ≡ Some state → LivesAt sessions now state) → Plans users route credentials now found page (Some session) → CanSave sessions now session
+  can_save users (Ok Home) credentials found page session lives plans =
+      let (visitor, is, page_is, saved_is) = plans in
+      from_home found visitor session lives saved_is
+  can_save users (Ok LogIn) credentials found page session lives plans = from_form users credentials page session plans
+  can_save users (Ok LogOut) credentials found page session lives plans =
+      subst (CanSave sessions now) (sym (same_Some session (logged_out now) plans.1)) (starts (logged_out now) refl)
+  can_save users (Err refusal) credentials found page session lives plans = absurd (none-some session (sym plans.1))
+
+-- ---- why a request fails
+
+module _ {T : Type 0} (IsDrawn : List ℕ → Type 0) (CanFail : Type 0) (sessions : Sessions) (now : DateTime) (result : Result T SessionError) where
+  -- with nothing to save only out of memory
+  unsaved : (error : SessionError) → FailsFor IsDrawn CanFail sessions now None result → result ≡ Err error → error ≡ failure.OutOfMemory
+  unsaved error fails is = subst (λ (r : Result T SessionError). Gives failure.OutOfMemory r (λ _. Unit {0})) is fails
+
+  pub refused_over : (saved : Option SessionState) → FailsFor IsDrawn CanFail sessions now saved result → ((session : SessionState) → saved ≡ Some session → CanSave sessions now session)
+      → ¬ (result ≡ Err failure.Over)
+  refused_over None fails can is = let clash = unsaved failure.Over fails is in cc
+  refused_over (Some session) fails can is = by (meets_prefix sessions.cookie.now.fields) refl
+    where
+      by : (b : Bool) → meets_prefix sessions.cookie.now.fields ≡ b → ⊥
+      by true meets = (fails.over meets).1 is (can session refl)
+      by false lacks =
+          let clash : Err failure.Over ≡ Err failure.Prefix = sym is ∙ fails.prefix.0 (λ meets. let other : false ≡ true = sym lacks ∙ meets in cc) in
+          cc
+
+-- ---- a refusal that is passed on
+
+pub told_over : {T U : Type 0} (r : Result T SessionError) (s : Result U SessionError) (e : SessionError) → r ≡ Err e → IsErrAnd s (λ x. x ≡ e) → s ≡ Err failure.Over
+    → r ≡ Err failure.Over
+told_over {T} {U} r s e was passed is = was ∙ ap Err (sym (subst (λ (q : Result U SessionError). IsErrAnd q (λ x. x ≡ e)) is passed))
+
+pub not_memory : {T : Type 0} (r : Result T SessionError) → r ≡ Err failure.Over → ¬ (r ≡ Err failure.OutOfMemory)
+not_memory r told memory = let clash : Err failure.Over ≡ Err failure.OutOfMemory = sym told ∙ memory in cc
