@@ -2,11 +2,10 @@
 ghost use Rattle.std.specs.Prelude.{◌≡◌, ◌⊎◌, [], Some, None, IfOk, IsUtf8, true};
 ghost use Rattle.jiff.specs.Types.{DateTime};
 ghost use Rattle.cookie.specs.AttributeValues.{FitsField};
-ghost use Rattle.cookie.specs.CookieOf.{header_cookies};
 ghost use Rattle.cookie.specs.Jar.{Add, Remove, after, empty_jar};
 ghost use Rattle.cookie.specs.Moments.{date_of};
 ghost use Rattle.cookie.specs.Record.{plain};
-ghost use Rattle.cookie.specs.Originals.{readable, with_originals};
+ghost use Rattle.cookie.specs.Originals.{field_cookies, with_originals};
 ghost use Rattle.cookie_c.specs.Codes.{code_of};
 ghost use Rattle.cookie_c.specs.Jars.{AtJar, IsAdded, IsChanged, IsFitAdded, IsKept, IsRemoved, scoped_record};
 ghost use Rattle.cookie_c.specs.declared.status.Status.TheVariants as status;
@@ -45,7 +44,7 @@ pub extern "C" fn cookie_jar_new(alloc: Global, seed: u64, other_seed: u64, jar:
 #[tactic(auto, using(crate::proofs::JarLemmas::at_none, crate::proofs::JarLemmas::at_some))]
 #[unsafe(no_mangle)]
 pub extern "C" fn cookie_jar_add_originals(alloc: Global, jar: &mut Jar, header: &[u8]) -> u32
-    ensures { AtJar (IsChanged (with_originals (header_cookies true (readable header.now))))
+    ensures { AtJar (IsChanged (with_originals (field_cookies header.now)))
         result jar.old.held.jar jar.new.held.jar }
 {
     let Some(mut held) = jar.take(alloc) else {
@@ -129,7 +128,7 @@ pub extern "C" fn cookie_jar_free(alloc: Global, jar: &mut Jar)
 }
 
 fn add_originals(jar: &mut CookieJar, header: &[u8]) -> Status
-    ensures { IsChanged (with_originals (header_cookies true (readable header.now)))
+    ensures { IsChanged (with_originals (field_cookies header.now))
         result jar.old jar.new }
 {
     match copy_with(jar, header) {
@@ -144,7 +143,7 @@ fn add_originals(jar: &mut CookieJar, header: &[u8]) -> Status
 // A copy of the jar, with the header's cookies as originals.
 fn copy_with(jar: &CookieJar, header: &[u8]) -> Result<CookieJar, AllocError>
     ensures { IfOk result (λ made.
-        made ≡ with_originals (header_cookies true (readable header.now)) jar.now) }
+        made ≡ with_originals (field_cookies header.now) jar.now) }
 {
     match jar.clone() {
         Ok(copy) => copy.with_field(header),
