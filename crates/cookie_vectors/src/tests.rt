@@ -1,6 +1,7 @@
 //! Rows whose answers come from the crate `cookie`, from the standards, from OpenSSL and from Python's hmac.
 mod children;
 mod collisions;
+mod fields;
 mod flags;
 mod generators;
 mod jars;
