@@ -1,8 +1,8 @@
 //! A request that saves a session, and the client's next one, over header maps.
 ghost use Rattle.std.specs.Prelude.{◌≡◌, ◌↔◌, ◌<◌, true, ℕ, Some, Err, IfOk};
+ghost use Rattle.cookie.specs.AttributeValues.{AllFitFields};
 ghost use Rattle.cookie.specs.Jar.{view};
 ghost use Rattle.cookie.specs.Sealing.{CanSeal};
-ghost use Rattle.cookie_http.specs.Response.{AllFitFields};
 ghost use Rattle.cookie_http.specs.declared.http_error.HttpError.TheVariants as http_refusal;
 ghost use Rattle.cookie_session.specs.Seconds.{second_of};
 ghost use Rattle.cookie_session.specs.Session.{SessionState, seen_at};

@@ -9,9 +9,8 @@ ghost use Rattle.login_client.specs.Holding.{Holds, IsAnswered};
 
 use crate::timed_request::TimedRequest;
 use cookie_client::Client;
-use cookie_session::SessionError;
 use jiff::civil::DateTime;
-use login_core::{LoginSite, Page, Request, answer};
+use login_core::{AnswerError, LoginSite, Page, Request, answer};
 use rand_core::TryRng;
 use std::alloc::{AllocError, Global};
 use std::hash::RandomState;
@@ -31,7 +30,7 @@ pub fn browse<R: TryRng>(
     site: &LoginSite<'_>,
     requests: &[TimedRequest<'_>],
     rng: &mut R,
-) -> Result<Vec<Page>, SessionError>
+) -> Result<Vec<Page>, AnswerError>
     ensures pages { CanBrowse site.now.sessions
         → IfOk result (λ pages. ArePages site.now None requests.now pages.items) }
 {
@@ -52,7 +51,7 @@ fn send<R: TryRng>(
     client: &mut Client,
     request: &TimedRequest<'_>,
     rng: &mut R,
-) -> Result<Page, SessionError>
+) -> Result<Page, AnswerError>
     ensures { CanBrowse site.now.sessions → IfOk result (λ page. (held : Option SessionState)
         → Holds site.now.sessions client.old held
         → IsAnswered site.now request.now held page client.new) }
