@@ -2,12 +2,13 @@
 ghost use Rattle.std.specs.Prelude.{◌≡◌, [], ◌∷◌, None, IfOk, IsErrOf, codes, option_map};
 ghost use Rattle.std.specs.FinMap.{get};
 ghost use Rattle.http_header.specs.FieldValue.{plain_value};
+ghost use Rattle.cookie.specs.AttributeValues.{AllFitFields};
 ghost use Rattle.cookie.specs.Jar.{Name, view};
 ghost use Rattle.cookie.specs.Memory.{Gives};
 ghost use Rattle.cookie.specs.Record.{plain};
 ghost use Rattle.cookie_client.specs.Client.{header_text};
 ghost use Rattle.cookie_http.specs.Fields.{request_jar};
-ghost use Rattle.cookie_http.specs.Response.{AddsDelta, AllFitFields};
+ghost use Rattle.cookie_http.specs.Response.{AddsDelta};
 ghost use Rattle.cookie_http.specs.declared.http_error.HttpError.TheVariants as http_refusal;
 ghost use Rattle.cookie_session_client.specs.Carrying.{CarriesDelta};
 

@@ -1,7 +1,7 @@
 //! A request that saves a session, and the client's next one, over header maps.
 ghost use Rattle.std.specs.Prelude.{◌≡◌, ◌<◌, true, ℕ, List, Some, Err, IfOk, OnOk};
+ghost use Rattle.cookie.specs.AttributeValues.{AllFitFields};
 ghost use Rattle.cookie.specs.Sealing.{CanSeal, IsNonce};
-ghost use Rattle.cookie_http.specs.Response.{AllFitFields};
 ghost use Rattle.cookie_http.specs.declared.http_error.HttpError.TheVariants as http_refusal;
 ghost use Rattle.cookie_session.specs.Seconds.{second_of};
 ghost use Rattle.cookie_session.specs.Session.{seen_at};

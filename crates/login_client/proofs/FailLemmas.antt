@@ -84,9 +84,8 @@ module _ {T : Type 0} (IsDrawn : List ℕ → Type 0) (CanFail : Type 0) (sessio
 
 -- ---- a refusal that is passed on
 
-pub told_over : {T U : Type 0} (r : Result T SessionError) (s : Result U SessionError) (e : SessionError) → r ≡ Err e → IsErrAnd s (λ x. x ≡ e) → s ≡ Err failure.Over
-    → r ≡ Err failure.Over
-told_over {T} {U} r s e was passed is = was ∙ ap Err (sym (subst (λ (q : Result U SessionError). IsErrAnd q (λ x. x ≡ e)) is passed))
+pub told_same : {T U E : Type 0} (r : Result T E) (s : Result U E) (e why : E) → r ≡ Err e → IsErrAnd s (λ x. x ≡ e) → s ≡ Err why → r ≡ Err why
+told_same {T} {U} {E} r s e why was passed is = was ∙ ap Err (sym (subst (λ (q : Result U E). IsErrAnd q (λ x. x ≡ e)) is passed))
 
-pub not_memory : {T : Type 0} (r : Result T SessionError) → r ≡ Err failure.Over → ¬ (r ≡ Err failure.OutOfMemory)
-not_memory r told memory = let clash : Err failure.Over ≡ Err failure.OutOfMemory = sym told ∙ memory in cc
+pub not_memory : ¬ (failure.Over ≡ failure.OutOfMemory)
+not_memory memory = cc

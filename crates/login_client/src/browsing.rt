@@ -7,14 +7,14 @@ ghost use Rattle.cookie_session.specs.Session.{SessionState};
 ghost use Rattle.cookie_session.specs.Sessions.{meets_prefix};
 ghost use Rattle.cookie_session.specs.Size.{most_bytes};
 ghost use Rattle.cookie_session.specs.declared.session_error.SessionError.TheVariants as refusal;
+ghost use Rattle.login_core.specs.declared.answer_error.AnswerError.TheVariants as failure;
 ghost use Rattle.login_client.specs.Browsing.{ArePages, CanBrowse};
 ghost use Rattle.login_client.specs.Holding.{Holds, IsAnswered};
 
 use crate::timed_request::TimedRequest;
 use cookie_client::Client;
-use cookie_session::SessionError;
 use jiff::civil::DateTime;
-use login_core::{LoginSite, Page, Request, answer};
+use login_core::{AnswerError, LoginSite, Page, Request, answer};
 use rand_core::TryRng;
 use std::alloc::{AllocError, Global};
 use std::hash::RandomState;
@@ -35,17 +35,18 @@ pub fn browse<R: TryRng>(
     site: &LoginSite<'_>,
     requests: &[TimedRequest<'_>],
     rng: &mut R,
-) -> Result<Vec<Page>, SessionError>
+) -> Result<Vec<Page>, AnswerError>
     ensures pages { CanBrowse site.now.sessions
         → IfOk result (λ pages. ArePages site.now None requests.now pages.items) }
 
     // Out of memory aside, it fails only as a session of the site is refused: `Over` only if a limit is 0.
-    ensures prefix { result ≡ Err refusal.Prefix
+    ensures prefix { result ≡ Err (failure.Session refusal.Prefix)
         → ¬ (meets_prefix site.now.sessions.cookie.now.fields ≡ true) }
     ensures over { 0 < site.now.sessions.lifetime → 0 < site.now.sessions.idle
-        → ¬ (result ≡ Err refusal.Over) }
-    ensures too_large { (size : ℕ) → result ≡ Err (refusal.TooLarge size) → most_bytes < size }
-    ensures failed { result ≡ Err refusal.Generator → R.Error }
+        → ¬ (result ≡ Err (failure.Session refusal.Over)) }
+    ensures too_large { (size : ℕ) → result ≡ Err (failure.Session (refusal.TooLarge size))
+        → most_bytes < size }
+    ensures failed { result ≡ Err (failure.Session refusal.Generator) → R.Error }
 {
     let mut client = Client::new(alloc);
     let mut pages = Vec::new(alloc);
@@ -64,16 +65,17 @@ fn send<R: TryRng>(
     client: &mut Client,
     request: &TimedRequest<'_>,
     rng: &mut R,
-) -> Result<Page, SessionError>
+) -> Result<Page, AnswerError>
     ensures answered { CanBrowse site.now.sessions → IfOk result (λ page. (held : Option SessionState)
         → Holds site.now.sessions client.old held
         → IsAnswered site.now request.now held page client.new) }
-    ensures prefix { result ≡ Err refusal.Prefix
+    ensures prefix { result ≡ Err (failure.Session refusal.Prefix)
         → ¬ (meets_prefix site.now.sessions.cookie.now.fields ≡ true) }
     ensures over { 0 < site.now.sessions.lifetime → 0 < site.now.sessions.idle
-        → ¬ (result ≡ Err refusal.Over) }
-    ensures too_large { (size : ℕ) → result ≡ Err (refusal.TooLarge size) → most_bytes < size }
-    ensures failed { result ≡ Err refusal.Generator → R.Error }
+        → ¬ (result ≡ Err (failure.Session refusal.Over)) }
+    ensures too_large { (size : ℕ) → result ≡ Err (failure.Session (refusal.TooLarge size))
+        → most_bytes < size }
+    ensures failed { result ≡ Err (failure.Session refusal.Generator) → R.Error }
 {
     let header = header_of(client)?;
     let asked = Request {

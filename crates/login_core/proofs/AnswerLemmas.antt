@@ -9,12 +9,15 @@ use Rattle.cookie.specs.Jar.{JarState, view}
 use Rattle.cookie.specs.Memory.{Gives}
 use Rattle.cookie.specs.Originals.{jar_for}
 use Rattle.cookie.specs.Record.{Record}
+use Rattle.cookie.specs.declared.texts_error.TextsError.{TextsError}
+use Rattle.cookie.specs.declared.texts_error.TextsError.TheVariants as unprinted
 use Rattle.cookie_session.specs.Session.{SessionState}
 use Rattle.cookie_session.specs.Sessions.{HoldsOne, IsOpen}
 use Rattle.cookie_session.specs.declared.opened.Opened.{Opened}
 use Rattle.cookie_session.specs.declared.session_error.SessionError.{SessionError}
 use Rattle.cookie_session.specs.declared.session_error.SessionError.TheVariants as failure
 use Rattle.cookie_session.specs.declared.sessions.Sessions.{Sessions}
+use Rattle.login_core.specs.AnswerError.{texts_failure}
 use Rattle.login_core.specs.Answers.{FailsFor, HasSession, IsGreeted, IsPlan, stored_of}
 use Rattle.login_core.specs.Forms.{credentials_of}
 use Rattle.login_core.specs.Pages.{greeted}
@@ -22,6 +25,8 @@ use Rattle.login_core.specs.Plans.{LogsIn, Moves, Plans, Refuses, logged_in}
 use Rattle.login_core.specs.Routes.{route_of}
 use Rattle.login_core.specs.Users.{is_known}
 use Rattle.login_core.specs.Visitors.{text_of}
+use Rattle.login_core.specs.declared.answer_error.AnswerError.{AnswerError}
+use Rattle.login_core.specs.declared.answer_error.AnswerError.TheVariants as unanswered
 use Rattle.login_core.specs.declared.login_site.LoginSite.{LoginSite}
 use Rattle.login_core.specs.declared.page.Page.{Page}
 use Rattle.login_core.specs.declared.refusal.Refusal.{Refusal}
@@ -148,7 +153,7 @@ err_is (Ok t) e h = absurd h
 err_is (Err x) e h = ap Err h
 
 -- what two facts give of an answer
-pub of_both : {T : Type 0} (r : Result T SessionError) (P Q R : T → Type 0) → ((t : T) → P t → Q t → R t) → IfOk r P → IfOk r Q → IfOk r R
+pub of_both : {T E : Type 0} (r : Result T E) (P Q R : T → Type 0) → ((t : T) → P t → Q t → R t) → IfOk r P → IfOk r Q → IfOk r R
 of_both (Ok t) P Q R k p q = k t p q
 of_both (Err e) P Q R k p q = tt
 
@@ -182,3 +187,21 @@ module _ (IsDrawn : List ℕ → Type 0) (CanFail : Type 0) (sessions : Sessions
     generator = λ is. h.generator ((same failure.Generator).1 is);
     too_large = λ size is. h.too_large size ((same (failure.TooLarge size)).1 is);
   }
+
+-- the error of a session that is passed on
+pub why_is : {T : Type 0} (r : Result T AnswerError) (e why : SessionError) → IsErrAnd r (λ x. x ≡ unanswered.Session e) → r ≡ Err (unanswered.Session why) → e ≡ why
+why_is (Ok t) e why is same = absurd is
+why_is (Err x) e why is same = cc
+
+-- a refusal to print that is passed on
+pub unprinted_memory : {T : Type 0} (r : Result T AnswerError) (e : TextsError) (why : SessionError) → IsErrAnd r (λ x. x ≡ texts_failure e)
+    → r ≡ Err (unanswered.Session why) → why ≡ failure.OutOfMemory
+unprinted_memory (Ok t) e why is same = absurd is
+unprinted_memory (Err x) unprinted.OutOfMemory why is same = cc
+unprinted_memory (Err x) unprinted.InvalidValue why is same = absurd (let clash : unanswered.InvalidValue ≡ unanswered.Session why = cc in cc)
+
+pub unprinted_value : {T : Type 0} (r : Result T AnswerError) (e : TextsError) → IsErrAnd r (λ x. x ≡ texts_failure e)
+    → r ≡ Err unanswered.InvalidValue → e ≡ unprinted.InvalidValue
+unprinted_value (Ok t) e is same = absurd is
+unprinted_value (Err x) unprinted.OutOfMemory is same = absurd (let clash : unanswered.Session failure.OutOfMemory ≡ unanswered.InvalidValue = cc in cc)
+unprinted_value (Err x) unprinted.InvalidValue is same = refl

@@ -1,3 +1,4 @@
+pub mod AnswerError
 pub mod Answers
 pub mod Forms
 pub mod Html

@@ -1,19 +1,23 @@
 //! What the site answers a request.
 ghost use Rattle.std.specs.Prelude.{◌≡◌, ◌↔◌, ℕ, List, Option, IfOk, OnOk, Err, Some, map, option_map, string_bytes};
+ghost use Rattle.cookie.specs.AttributeValues.{AllFitFields};
 ghost use Rattle.cookie.specs.DeltaTexts.{AreDeltaTextsOnce};
 ghost use Rattle.cookie.specs.Jar.{JarState, view};
 ghost use Rattle.cookie.specs.Memory.{Gives};
 ghost use Rattle.cookie.specs.Originals.{jar_for};
 ghost use Rattle.cookie.specs.declared.jar_error.JarError.TheVariants as jar_refusal;
 ghost use Rattle.cookie_session.specs.Session.{SessionState};
+ghost use Rattle.cookie_session.specs.declared.session_error.SessionError.{SessionError as SessionRefusal};
 ghost use Rattle.cookie_session.specs.declared.session_error.SessionError.TheVariants as refusal;
 ghost use Rattle.login_core.specs.Answers.{Draws, FailsFor, HasSession, IsGreeted, IsPlan, Saves};
 ghost use Rattle.login_core.specs.Forms.{credentials_of};
 ghost use Rattle.login_core.specs.Pages.{greeted};
 ghost use Rattle.login_core.specs.Plans.{Plans};
 ghost use Rattle.login_core.specs.Routes.{route_of};
+ghost use Rattle.login_core.specs.declared.answer_error.AnswerError.TheVariants as failure;
 ghost use Rattle.login_core.specs.declared.page.Page.{Page};
 
+use crate::answer_error::AnswerError;
 use crate::login_site::LoginSite;
 use crate::plan::{Plan, make_plan};
 use crate::request::Request;
@@ -28,8 +32,9 @@ use std::hash::RandomState;
 /// Answers a request at the time `now` in UTC. The keys of `state` were drawn, so that nobody can choose names that
 /// make the jar slow. `rng` must be a cryptographic generator.
 ///
-/// Out of memory aside, it fails only if `Sessions::save` fails for the session that the request saves. A request that
-/// saves none draws nothing from the generator.
+/// Out of memory aside, it fails only if `Sessions::save` fails for the session that the request saves, or as
+/// `InvalidValue` if that session is saved and a browser would read another cookie in the path or the domain of the
+/// site's. A request that saves none draws nothing from the generator.
 pub fn answer<R: TryRng>(
     alloc: Global,
     state: RandomState,
@@ -37,7 +42,7 @@ pub fn answer<R: TryRng>(
     request: &Request<'_>,
     now: DateTime,
     rng: &mut R,
-) -> Result<Response, SessionError>
+) -> Result<Response, AnswerError>
     // A user is greeted exactly if the request is for the home page and carries a session that is open and has that
     // user.
     ensures greeted { IfOk result (λ response. (user : List ℕ)
@@ -51,12 +56,20 @@ pub fn answer<R: TryRng>(
         (jar_for request.now.cookies.now) jar
         × AreDeltaTextsOnce jar.delta (map string_bytes response.cookies.items)) }
 
-    // Unless out of memory, it fails as the session that the request saves is refused.
-    ensures fails { ¬ (result ≡ Err refusal.OutOfMemory)
+    // Unless out of memory, it fails as the session that the request saves is refused, or if the saved session's cookie
+    // doesn't fit a header.
+    ensures fails { (why : SessionRefusal) → result ≡ Err (failure.Session why)
+        → ¬ (why ≡ refusal.OutOfMemory)
         → (page : Page) × (saved : Option SessionState)
         × IsPlan site.now request.now now page saved
-        × FailsFor (λ nonce. R.may_fill rng.old nonce rng.new) R.Error
-        site.now.sessions now saved result }
+        × FailsFor {T = Unit {0}} (λ nonce. R.may_fill rng.old nonce rng.new) R.Error
+        site.now.sessions now saved (Err why) }
+    ensures invalid { result ≡ Err failure.InvalidValue
+        → (page : Page) × (saved : Option SessionState) × (jar : JarState)
+        × IsPlan site.now request.now now page saved
+        × Saves (λ nonce. R.may_fill rng.old nonce rng.new) site.now.sessions now saved
+        (jar_for request.now.cookies.now) jar
+        × ¬ (AllFitFields jar.delta) }
 
     // Only a request that saves a session draws from the generator.
     ensures undrawn { ((page : Page) (saved : Option SessionState)
@@ -117,15 +130,20 @@ fn respond<R: TryRng>(
     plan: Plan,
     now: DateTime,
     rng: &mut R,
-) -> Result<Response, SessionError>
+) -> Result<Response, AnswerError>
     ensures page { IfOk result (λ response. response.page ≡ plan.page) }
     ensures saves { IfOk result (λ response.
         Saves (λ nonce. R.may_fill rng.old nonce rng.new) sessions.now now plan.session
         jar.old jar.new
         × AreDeltaTextsOnce jar.new.delta (map string_bytes response.cookies.items)) }
-    ensures fails { ¬ (result ≡ Err refusal.OutOfMemory)
-        → FailsFor (λ nonce. R.may_fill rng.old nonce rng.new) R.Error
-        sessions.now now plan.session result }
+    ensures fails { (why : SessionRefusal) → result ≡ Err (failure.Session why)
+        → ¬ (why ≡ refusal.OutOfMemory)
+        → FailsFor {T = Unit {0}} (λ nonce. R.may_fill rng.old nonce rng.new) R.Error
+        sessions.now now plan.session (Err why) }
+    ensures invalid { result ≡ Err failure.InvalidValue
+        → Saves (λ nonce. R.may_fill rng.old nonce rng.new) sessions.now now plan.session
+        jar.old jar.new
+        × ¬ (AllFitFields jar.new.delta) }
     ensures undrawn { ¬ (Draws sessions.now now plan.session) → rng.new ≡ rng.old }
 {
     save(alloc, sessions, jar, plan.session.as_ref(), now, rng)?;

@@ -3,6 +3,7 @@
 //! response.
 #![tactic(auto)]
 
+mod answer_error;
 mod decision;
 mod form;
 mod login_site;
@@ -17,6 +18,7 @@ mod site_cookie;
 mod user;
 mod visitor;
 
+pub use answer_error::AnswerError;
 pub use decision::answer;
 pub use form::{Credentials, read_credentials};
 pub use login_site::{IDLE, LIFETIME, LoginSite};

@@ -2,7 +2,7 @@
 use super::site::{Site, user};
 use super::spelled;
 use cookie_session::SessionError;
-use login_core::{Request, Response};
+use login_core::{AnswerError, Request, Response};
 use std::alloc::Global;
 use std::hash::RandomState;
 use std::test::Fail;
@@ -15,7 +15,7 @@ fn asked(
     site: &Site,
     words: &str,
     left: usize,
-) -> Option<Result<Response, SessionError>> {
+) -> Option<Result<Response, AnswerError>> {
     let words = spelled(alloc, words).ok()?;
     let (head, content) = words.as_str().split_once(" | ")?;
     let (method, path) = head.split_once(' ')?;
@@ -35,7 +35,7 @@ fn is_refused(
     site: &Site,
     words: &str,
     left: usize,
-    wanted: SessionError,
+    wanted: AnswerError,
 ) -> bool {
     matches!(asked(alloc, state, site, words, left), Some(Err(error)) if error == wanted)
 }
@@ -75,7 +75,16 @@ fn a_generator_that_fails_saves_nothing(rt: HostRuntime) -> Result<(), Fail> {
     let site = Site::new(alloc, true)?;
     for words in SAVING {
         for left in [0, 11] {
-            assert!(rt; is_refused(alloc, state, &site, words, left, SessionError::Generator));
+            assert!(rt;
+                is_refused(
+                    alloc,
+                    state,
+                    &site,
+                    words,
+                    left,
+                    SessionError::Generator.into()
+                )
+            );
         }
     }
     for (words, status) in QUIET {
@@ -94,7 +103,7 @@ fn a_cookie_that_no_browser_takes_is_told(rt: HostRuntime) -> Result<(), Fail> {
     let site = Site::new(alloc, true)?.without_secure();
     for words in SAVING {
         assert!(rt;
-            is_refused(alloc, state, &site, words, 12, SessionError::Prefix),
+            is_refused(alloc, state, &site, words, 12, SessionError::Prefix.into()),
             "{words}"
         );
     }
@@ -107,12 +116,32 @@ fn a_cookie_that_no_browser_takes_is_told(rt: HostRuntime) -> Result<(), Fail> {
     Ok(())
 }
 
+// RFC 6265 4.1.1: a path holds no control character and no `;`. The site's cookie has no prefix here.
+#[test]
+fn a_path_that_would_split_the_header_is_told(rt: HostRuntime) -> Result<(), Fail> {
+    let alloc = rt.alloc();
+    let state = RandomState::new(&rt)?;
+    for path in ["/\r\nSet-Cookie: admin=1", "/;a", "/\t"] {
+        let site = Site::new(alloc, false)?.with_path(path);
+        for words in [LOGIN, "POST /logout | a=b"] {
+            assert!(rt;
+                is_refused(alloc, state, &site, words, 12, AnswerError::InvalidValue),
+                "{words}"
+            );
+        }
+        assert!(rt; is_answered(alloc, state, &site, "GET / | a=b", 12, 200));
+    }
+    let site = Site::new(alloc, false)?.with_path("/a b");
+    assert!(rt; is_answered(alloc, state, &site, LOGIN, 12, 303));
+    Ok(())
+}
+
 #[test]
 fn a_session_that_is_over_at_once_is_told(rt: HostRuntime) -> Result<(), Fail> {
     let alloc = rt.alloc();
     let state = RandomState::new(&rt)?;
     let site = Site::new(alloc, true)?.without_idle_time();
-    assert!(rt; is_refused(alloc, state, &site, LOGIN, 12, SessionError::Over));
+    assert!(rt; is_refused(alloc, state, &site, LOGIN, 12, SessionError::Over.into()));
     assert!(rt; is_answered(alloc, state, &site, "GET / | {ann}", 12, 200));
     for (words, status) in QUIET {
         assert!(rt;
@@ -145,7 +174,7 @@ fn a_name_that_is_too_large_is_told(rt: HostRuntime) -> Result<(), Fail> {
         let name = "x".repeat(alloc, length)?;
         let words = format!(in alloc; "POST /login | password=y&user={name}")?;
         assert!(rt;
-            is_refused(alloc, state, &site, words.as_str(), 12, wanted),
+            is_refused(alloc, state, &site, words.as_str(), 12, wanted.into()),
             "{length}"
         );
     }

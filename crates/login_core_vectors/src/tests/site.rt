@@ -1,8 +1,10 @@
 //! The site of the rows.
 use cookie::{Cookie, Key};
-use cookie_session::{KeyRing, SessionError, Sessions};
+use cookie_session::{KeyRing, Sessions};
 use jar_steps::{Sevens, moment, test_key};
-use login_core::{IDLE, LIFETIME, LoginSite, Request, Response, User, answer, session_cookie};
+use login_core::{
+    AnswerError, IDLE, LIFETIME, LoginSite, Request, Response, User, answer, session_cookie,
+};
 use std::alloc::{AllocError, Global};
 use std::hash::RandomState;
 
@@ -58,6 +60,12 @@ impl Site {
         self
     }
 
+    /// The same site, whose cookie has this path.
+    pub(super) fn with_path(mut self, path: &'static str) -> Site {
+        self.cookie.set_path(path);
+        self
+    }
+
     /// The same site, whose sessions live no second after they were saved.
     pub(super) fn without_idle_time(mut self) -> Site {
         self.idle = 0;
@@ -85,7 +93,7 @@ impl Site {
         state: RandomState,
         request: &Request<'_>,
         left: usize,
-    ) -> Result<Response, SessionError> {
+    ) -> Result<Response, AnswerError> {
         let site = self.login_site();
         answer(alloc, state, &site, request, moment(), &mut Sevens { left })
     }

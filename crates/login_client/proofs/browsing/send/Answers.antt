@@ -58,10 +58,10 @@ returns-in_err-response-clause-over g c long used over =
     let site = c.args.site.now in
     let sessions = site.sessions in
     let now = c.args.request.now.time in
-    let told = told_over c.answer.result c.from_residual-in_err-response.result c.in_err-response.field-0.0 c.in_err-response.was
-    c.from_residual-in_err-response.ensures.1 over in
-    let (page, saved, plan, fails) = c.answer.ensures.fails (not_memory c.answer.result told) in
-    refused_over _ _ sessions now c.answer.result saved fails
+    let told = told_same c.answer.result c.from_residual-in_err-response.result c.in_err-response.field-0.0 (answers.Session failure.Over)
+    c.in_err-response.was c.from_residual-in_err-response.ensures.1 over in
+    let (page, saved, plan, fails) = c.answer.ensures.fails failure.Over told not_memory in
+    refused_over {T = Unit {0}} _ _ sessions now (Err failure.Over) saved fails
     (λ session is. can_save sessions now long used site.users.now (route_asked c.args.request.now) (credentials_of c.args.request.now.form.now) plan.found page session
     (λ state found. ((plan.finds.exact state).0 found).1.lives) (subst (λ s. Plans site.users.now (route_asked c.args.request.now) (credentials_of c.args.request.now.form.now) now plan.found page s) is plan.plans))
-    told
+    refl

@@ -27,13 +27,27 @@ returns-clause-greeted g c =
     (returns-clause-answers g c)
 
 pub returns-clause-fails : goal.returns-clause-fails
-returns-clause-fails g c known =
+returns-clause-fails g c why is known =
     let page = c.in_ok-plan.plan.page in
     let saved = c.in_ok-plan.plan.session in (
       page,
       saved,
       plan_is c.args.site.now c.args.request.now c.args.now c.in_ok-jar.jar page saved c.in_ok-jar.ensures c.in_ok-plan.ensures,
-      c.respond.ensures.fails known,
+      c.respond.ensures.fails why is known,
+    )
+
+pub returns-clause-invalid : goal.returns-clause-invalid
+returns-clause-invalid g c is =
+    let site = c.args.site.now in
+    let page = c.in_ok-plan.plan.page in
+    let saved = c.in_ok-plan.plan.session in
+    let unfit = c.respond.ensures.invalid is in (
+      page,
+      saved,
+      c.respond.new.jar,
+      plan_is site c.args.request.now c.args.now c.in_ok-jar.jar page saved c.in_ok-jar.ensures c.in_ok-plan.ensures,
+      subst (λ old. Saves (λ nonce. g.R.TryRng.may_fill c.args.rng.now nonce c.respond.new.rng) site.sessions c.args.now saved old c.respond.new.jar) c.in_ok-jar.ensures unfit.0,
+      unfit.1,
     )
 
 pub returns-clause-undrawn : goal.returns-clause-undrawn
