@@ -13,7 +13,8 @@ use Rattle.cookie_core.proofs.NormalFormLemmas.{escaped_pair, escaped_pair-apart
 use Rattle.cookie_browser.specs.Bytes.{cut}
 use Rattle.cookie_browser.specs.Received.{ReceivedView, attributes_of, is_control, received, received_name_value, received_pair}
 use Rattle.cookie_browser.specs.declared.refusal.Refusal.TheVariants as refusal
-use Rattle.cookie_browser.proofs.TrimLemmas.{cut-at, cut-rest, trim-tokens}
+use Rattle.cookie_core.proofs.WspLemmas.{trim_wsp-tokens}
+use Rattle.cookie_browser.proofs.TrimLemmas.{cut-at, cut-rest}
 
 -- the text is empty, or begins with a `;`
 abbrev IsRest : List ℕ → Type 0
@@ -55,7 +56,7 @@ pair_received r v e =
     let cuts : cut 59 (cookie_text true false r) ≡ (escaped_pair r, rest.0) = ap (cut 59) text ∙ cut-rest (escaped_pair r) rest.0 (escaped_pair-apart r) in
     let pair : received_name_value (cut 61 (escaped_pair r)) ≡ (escape r.name, escape r.value) =
     ap received_name_value (cut-at 61 (escape r.name) (escape r.value) (escape_lacks_equals r.name))
-    ∙ (λ i. (trim-tokens (escape r.name) (escape_is_tokens r.name) i, trim-tokens (escape r.value) (escape_is_tokens r.value) i)) in
+    ∙ (λ i. (trim_wsp-tokens (escape r.name) (escape_is_tokens r.name) i, trim_wsp-tokens (escape r.value) (escape_is_tokens r.value) i)) in
     let form : received_pair (received_name_value (cut 61 (cut 59 (cookie_text true false r)).0)) (cut 59 (cookie_text true false r)).1 ≡ received_pair (escape r.name, escape r.value) rest.0 =
     ap (λ c. received_pair (received_name_value (cut 61 c.0)) c.1) cuts ∙ ap (λ p. received_pair p rest.0) pair in
     by rest.0 (list_any is_control (cookie_text true false r)) (nat_lt 4096 (length (escape r.name) + length (escape r.value)))

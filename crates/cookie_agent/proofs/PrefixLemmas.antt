@@ -14,7 +14,7 @@ use Rattle.cookie.specs.Record.{Record}
 use Rattle.cookie.specs.Removal.{removal}
 use Rattle.cookie.proofs.EscapeTextLemmas.{escape_some, escape-nil}
 use Rattle.cookie_core.proofs.ByteLemmas.{Lacks-from_test}
-use Rattle.cookie_browser.specs.Bytes.{trim_wsp}
+use Rattle.cookie_core.specs.Wsp.{trim_wsp}
 use Rattle.cookie_browser.specs.Printed.{IsPlainValue, IsReceivable, printed_as}
 use Rattle.cookie_browser.specs.Request.{RequestView}
 use Rattle.cookie_browser.specs.Storage.{KeptView, crosses, first_refusal, has_host_prefix, has_secure_prefix, is_site_bound, kept_as, refusal_by_connection, refusal_by_domain, refusal_by_prefix, unless_refused, verdict_on}

@@ -2,7 +2,8 @@
 -- Retrieval Algorithm).
 use Rattle.std.specs.Prelude.{◌≡◌, ℕ, true, false, List, [], ◌∷◌, map, codes, refl}
 use Rattle.jiff.specs.Types.{DateTime}
-use Rattle.cookie_browser.specs.Bytes.{cut, trim_wsp}
+use Rattle.cookie_core.specs.Wsp.{trim_wsp}
+use Rattle.cookie_browser.specs.Bytes.{cut}
 use Rattle.cookie_browser.specs.Received.{received, with_piece, with_attribute}
 use Rattle.cookie_browser.specs.Request.{RequestView, is_in_domain, is_under_path, folder_of}
 use Rattle.cookie_browser.specs.Storage.{refusal_by_domain, refusal_by_connection, refusal_by_prefix}

@@ -117,16 +117,17 @@ module _ (rules : List Rule) (site : RequestView) (now : DateTime) (plans : Name
 first_value : (name : Name) (cs : List Record) (w : Option (List ℕ)) → values_of name cs ≡ option_to_list w → value_of (first_of_name name cs) ≡ w
 first_value name [] None e = refl
 first_value name [] (Some v) e = cc
-first_value name (c ∷ cs) w e = by (bytes_eq c.name name) refl w e
+first_value name (c ∷ cs) w e = by (first_value name cs) (bytes_eq c.name name) refl w e
   where
-    by : (r : Bool) → bytes_eq c.name name ≡ r → (w : Option (List ℕ))
+    by : ((w : Option (List ℕ)) → values_of name cs ≡ option_to_list w → value_of (first_of_name name cs) ≡ w)
+        → (r : Bool) → bytes_eq c.name name ≡ r → (w : Option (List ℕ))
         → map (λ (d : Record). d.value) (cond r (c ∷ filter (λ d. bytes_eq d.name name) cs) (filter (λ d. bytes_eq d.name name) cs)) ≡ option_to_list w
         → value_of (cond (bytes_eq name c.name) (Some c) (first_of_name name cs)) ≡ w
-    by true f None g = cc
-    by true f (Some v) g =
+    by more true f None g = cc
+    by more true f (Some v) g =
         let first : c.value ≡ v = cc in
         ap (λ b. value_of (cond b (Some c) (first_of_name name cs))) (turned_test name c.name ∙ f) ∙ ap Some first
-    by false f w g = ap (λ b. value_of (cond b (Some c) (first_of_name name cs))) (turned_test name c.name ∙ f) ∙ first_value name cs w g
+    by more false f w g = ap (λ b. value_of (cond b (Some c) (first_of_name name cs))) (turned_test name c.name ∙ f) ∙ more w g
 
 at_most_one : (l : List (List ℕ)) → length l ≤ 1 → (o : Option (List ℕ)) × (l ≡ option_to_list o)
 at_most_one [] h = (None, refl)

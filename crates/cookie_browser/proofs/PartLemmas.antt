@@ -25,11 +25,12 @@ use Rattle.cookie_core.proofs.DateTextLemmas.{is_date_byte, date_passes, date_la
 use Rattle.cookie_core.proofs.EscapeTextLemmas.{is_token, token_is_other_59}
 use Rattle.cookie_core.proofs.ByteLemmas.{is_other, all-append, all-weaker, Lacks-append, Lacks-from_test}
 use Rattle.cookie_core.proofs.PieceWalkLemmas.{HasPieces, HasPieces-nil, HasPieces-one, HasPieces-append}
-use Rattle.cookie_browser.specs.Bytes.{cut, is_wsp, trim_wsp}
+use Rattle.cookie_core.specs.Wsp.{is_wsp, trim_wsp}
+use Rattle.cookie_browser.specs.Bytes.{cut}
 use Rattle.cookie_browser.specs.Printed.{IsPlainValue, is_quiet, or_zero, printed_age, printed_enforcement, printed_moment}
 use Rattle.cookie_browser.specs.Received.{AttributesView, age_limit, age_of, with_piece, with_attribute}
 use Rattle.cookie_browser.specs.declared.enforcement.Enforcement.{Enforcement}
-use Rattle.cookie_browser.proofs.TrimLemmas.{trim-dark, trim-tokens}
+use Rattle.cookie_core.proofs.WspLemmas.{trim_wsp-dark, trim_wsp-tokens}
 
 -- pieces without control characters that turn attributes into others
 pub record Does (f : AttributesView → AttributesView) (ps : List (List ℕ)) : Type 0 where
@@ -139,7 +140,7 @@ plain_tokens t h l =
     record {
       whole = Lacks-from_test 59 t (all-weaker is_token (is_other 59) token_is_other_59 t h);
       quiet = tokens_are_quiet t h;
-      trimmed = trim-tokens t h;
+      trimmed = trim_wsp-tokens t h;
       short = l;
     }
 
@@ -236,7 +237,7 @@ plain_date m =
     record {
       whole = date_lacks_semicolon m;
       quiet = all-weaker is_date_byte is_quiet date_byte_is_quiet (moment_text m) (date_passes m);
-      trimmed = trim-dark (moment_text m) (date_ends m).0 (weekday_begins (weekday_of m.date) _) (date_ends m).1;
+      trimmed = trim_wsp-dark (moment_text m) (date_ends m).0 (weekday_begins (weekday_of m.date) _) (date_ends m).1;
       short = date_short m;
     }
 

@@ -22,7 +22,8 @@ use Rattle.cookie_browser.specs.Printed.{IsReceivable, is_quiet, printed_age, pr
 use Rattle.cookie_browser.specs.Received.{AttributesView, attributes_of, is_control, without_attributes, received_name_value, pieces_after, received, received_pair, with_piece}
 use Rattle.cookie_browser.specs.declared.enforcement.Enforcement.TheVariants as enforcement
 use Rattle.cookie_browser.proofs.PartLemmas.{IsPart, IsPart-append, domain_part, expires_part, http_only_part, max_age_part, or_printed, or_text, partitioned_part, path_part, same_site_part, secure_part, tokens_are_quiet}
-use Rattle.cookie_browser.proofs.TrimLemmas.{cut-at, cut-rest, trim-tokens}
+use Rattle.cookie_core.proofs.WspLemmas.{trim_wsp-tokens}
+use Rattle.cookie_browser.proofs.TrimLemmas.{cut-at, cut-rest}
 
 or_none : {X : Type 0} (o : Option X) → option_or o None ≡ o
 or_none None = refl
@@ -115,7 +116,7 @@ received_printed r h =
     let cuts : cut 59 (cookie_text true false r) ≡ (escaped_pair r, rest) = ap (cut 59) text ∙ cut-rest (escaped_pair r) rest (escaped_pair-apart r) in
     let pair : received_name_value (cut 61 (escaped_pair r)) ≡ (escape r.name, escape r.value) =
     ap received_name_value (cut-at 61 (escape r.name) (escape r.value) (escape_lacks_equals r.name))
-    ∙ (λ i. (trim-tokens (escape r.name) (escape_is_tokens r.name) i, trim-tokens (escape r.value) (escape_is_tokens r.value) i)) in
+    ∙ (λ i. (trim_wsp-tokens (escape r.name) (escape_is_tokens r.name) i, trim_wsp-tokens (escape r.value) (escape_is_tokens r.value) i)) in
     let attributes : attributes_of rest ≡ (printed_as r).attributes = ap (fold with_piece without_attributes) (pieces_after-is w.pieces w.apart) ∙ w.holds.gives without_attributes ∙ settled r in
     let fits = h.size in
     let size : nat_lt 4096 (length (escape r.name) + length (escape r.value)) ≡ false = grind (arith, nat_tests) in

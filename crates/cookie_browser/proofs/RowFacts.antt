@@ -2,7 +2,8 @@
 use Rattle.std.specs.Prelude.{◌≡◌, ℕ, true, false, List, [], ◌∷◌, codes, refl, None, Ok, Err}
 use Rattle.jiff.specs.Types.{DateTime}
 use Rattle.jiff.specs.Words.{civil_nanos}
-use Rattle.cookie_browser.specs.Bytes.{cut, trim_wsp}
+use Rattle.cookie_core.specs.Wsp.{trim_wsp}
+use Rattle.cookie_browser.specs.Bytes.{cut}
 use Rattle.cookie_browser.specs.Received.{received, with_piece, with_attribute}
 use Rattle.cookie_browser.specs.Request.{RequestView}
 use Rattle.cookie_browser.specs.Storage.{KeptView, verdict, refusal_by_domain, refusal_by_connection, refusal_by_prefix}

@@ -13,7 +13,7 @@ use Rattle.cookie_core.specs.declared.expiration.Expiration.{Expiration}
 use Rattle.cookie_core.specs.declared.expiration.Expiration.TheVariants as expiration
 use Rattle.cookie_date.specs.CookieDate.{cookie_date_of}
 use Rattle.cookie_date.specs.Text.{moment_text}
-use Rattle.cookie_browser.specs.Bytes.{trim_wsp}
+use Rattle.cookie_core.specs.Wsp.{trim_wsp}
 use Rattle.cookie_browser.specs.Received.{ReceivedView, is_control, age_limit, received}
 use Rattle.cookie_browser.specs.declared.enforcement.Enforcement.{Enforcement}
 use Rattle.cookie_browser.specs.declared.enforcement.Enforcement.TheVariants as enforcement

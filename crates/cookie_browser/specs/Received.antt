@@ -7,7 +7,8 @@ use Rattle.jiff.specs.Types.{DateTime}
 use Rattle.cookie_core.specs.Attributes.{max_age_seconds}
 use Rattle.cookie_core.specs.Pieces.{pieces}
 use Rattle.cookie_date.specs.CookieDate.{cookie_date_of}
-use Rattle.cookie_browser.specs.Bytes.{cut, trim_wsp}
+use Rattle.cookie_core.specs.Wsp.{trim_wsp}
+use Rattle.cookie_browser.specs.Bytes.{cut}
 use Rattle.cookie_browser.specs.declared.enforcement.Enforcement.{Enforcement}
 use Rattle.cookie_browser.specs.declared.enforcement.Enforcement.TheVariants as enforcement
 use Rattle.cookie_browser.specs.declared.refusal.Refusal.{Refusal}

@@ -9,8 +9,9 @@ ghost use Rattle.cookie_core.specs.Record.{without_leading_dot};
 ghost use Rattle.cookie_browser.specs.Received as spec;
 ghost use Rattle.cookie_browser.specs.ReceivedCode.{attributes_view};
 
-use crate::bytes::{cut, trim_wsp};
+use crate::bytes::cut;
 use crate::enforcement::Enforcement;
+use cookie_core::trim_wsp;
 use cookie_date::read_cookie_date;
 use jiff::civil::DateTime;
 

@@ -12,19 +12,3 @@ pub(crate) fn cut(text: &[u8], mark: u8) -> (&[u8], Option<&[u8]>)
         None => (text, None),
     }
 }
-
-fn is_wsp(byte: u8) -> bool
-    ensures { result ≡ spec.is_wsp byte }
-{
-    byte == b' ' || byte == b'\t'
-}
-
-// The text without spaces and tabs at its ends.
-pub(crate) fn trim_wsp(text: &[u8]) -> &[u8]
-    ensures { result.now ≡ spec.trim_wsp text.now }
-{
-    let start = text.iter().take_while(|&&byte| is_wsp(byte)).count();
-    let rest = &text[start..];
-    let trailing = rest.iter().rev().take_while(|&&byte| is_wsp(byte)).count();
-    &rest[..rest.len() - trailing]
-}

@@ -7,8 +7,9 @@ ghost use Rattle.cookie_browser.specs.Received as spec;
 ghost use Rattle.cookie_browser.specs.ReceivedCode.{received_result};
 
 use crate::attributes::ReceivedAttributes;
-use crate::bytes::{cut, trim_wsp};
+use crate::bytes::cut;
 use crate::refusal::Refusal;
+use cookie_core::trim_wsp;
 
 /// A received cookie: name, value and attributes, borrowed from the text (RFC 6265bis, The Set-Cookie Header Field).
 #[derive(Clone, Copy)]

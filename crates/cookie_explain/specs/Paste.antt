@@ -3,7 +3,7 @@ use Rattle.std.specs.Prelude.{ℕ, ◌==◌, ◌||◌, not, Bool, true, false, L
 use Rattle.std.specs.List.{list_any, slice_split, starts_with}
 use Rattle.std.specs.Io.BufRead.{strip_last}
 use Rattle.std.specs.Str.{bytes_eq}
-use Rattle.cookie_browser.specs.Bytes.{trim_wsp}
+use Rattle.cookie_core.specs.Wsp.{trim_wsp}
 use Rattle.cookie_browser.specs.Storage.{has_prefix}
 use Rattle.cookie_explain.specs.declared.paste.Kind.{Kind}
 use Rattle.cookie_explain.specs.declared.paste.Kind.TheVariants.{Blank, Field, Url, Get, Now, Text}

@@ -1,5 +1,6 @@
 //! Attributes that RFC 6265bis doesn't know.
-use crate::bytes::{cut, trim_wsp};
+use crate::bytes::cut;
+use cookie_core::trim_wsp;
 
 /// Whether the text has an attribute `Partitioned`, in any case, with any value of at most 1024 bytes (RFC 6265bis, The
 /// Set-Cookie Header Field).

@@ -15,22 +15,6 @@ pub fn cut(text: &[u8], mark: u8) -> (&[u8], Option<&[u8]>)
     }
 }
 
-fn is_wsp(byte: u8) -> bool
-    ensures { result ≡ spec.is_wsp byte }
-{
-    byte == b' ' || byte == b'\t'
-}
-
-// The text without spaces and tabs at its ends.
-pub fn trim_wsp(text: &[u8]) -> &[u8]
-    ensures { result.now ≡ spec.trim_wsp text.now }
-{
-    let start = text.iter().take_while(|&&byte| is_wsp(byte)).count();
-    let rest = &text[start..];
-    let trailing = rest.iter().rev().take_while(|&&byte| is_wsp(byte)).count();
-    &rest[..rest.len() - trailing]
-}
-
 // Whether the text begins with the prefix, in any ASCII case.
 pub fn has_prefix(prefix: &[u8], text: &[u8]) -> bool
     requires { str_to_ascii_lowercase prefix.now ≡ prefix.now }

@@ -4,7 +4,8 @@ ghost use Rattle.std.specs.Io.BufRead.{strip_last};
 ghost use Rattle.std.specs.List.{list_any};
 ghost use Rattle.cookie_explain.specs.Paste as spec;
 
-use crate::bytes::{cut, has_prefix, trim_wsp};
+use crate::bytes::{cut, has_prefix};
+use cookie_core::trim_wsp;
 use std::alloc::{AllocError, Global};
 use std::marker::Model;
 

@@ -1,7 +1,7 @@
 //! The address of a request, and how the request came about.
-use crate::bytes::trim_wsp;
 use anyhow::{Context, Result, bail};
 use cookie_agent::{RequestContext, Site};
+use cookie_core::trim_wsp;
 use std::alloc::Global;
 use url::{Host, Url};
 

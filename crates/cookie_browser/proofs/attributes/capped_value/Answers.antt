@@ -4,7 +4,7 @@ use Rattle.std.specs.Int.{IsInRange}
 use Rattle.std.proofs.lemmas.Bool.Decides.{nat_tests}
 use Rattle.std.proofs.lemmas.Int.Digits.{digits_value_more}
 use Rattle.std.proofs.lemmas.Str.{digit_value_digit}
-use Rattle.cookie_browser.proofs.TrimLemmas.{all-at}
+use Rattle.cookie_core.proofs.WspLemmas.{all-at}
 use Rattle.cookie_browser.proofs.attributes.capped_value.Goals as goal
 use Rattle.cookie_browser.proofs.attributes.capped_value.Goals.{then-more-lt34560000, else-more-lt34560000}
 

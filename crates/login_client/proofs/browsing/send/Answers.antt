@@ -1,4 +1,4 @@
-use Rattle.std.proofs.Common.{◌≡◌, List, ℕ, Some, option_map, map, sym, ap, subst, ◌∙◌, string_bytes}
+use Rattle.std.proofs.Common.{◌≡◌, List, ℕ, Some, Err, Unit, option_map, map, sym, ap, subst, ◌∙◌, string_bytes}
 use Rattle.std.specs.FinMap.{empty, get}
 use Rattle.cookie.specs.Jar.{JarState, view}
 use Rattle.cookie.specs.Originals.{jar_for}
@@ -10,10 +10,12 @@ use Rattle.login_core.specs.Answers.{stored_of}
 use Rattle.login_core.specs.Forms.{credentials_of}
 use Rattle.login_core.specs.Plans.{Plans}
 use Rattle.login_core.specs.Routes.{route_of}
+use Rattle.cookie_session.specs.declared.session_error.SessionError.TheVariants as failure
+use Rattle.login_core.specs.declared.answer_error.AnswerError.TheVariants as answers
 use Rattle.login_core.specs.declared.request.Request.{Request}
 use Rattle.login_client.specs.Browsing.{Shows}
 use Rattle.login_client.specs.Standing.{route_asked}
-use Rattle.login_client.proofs.FailLemmas.{can_save, not_memory, refused_over, told_over}
+use Rattle.login_client.proofs.FailLemmas.{can_save, not_memory, refused_over, told_same}
 use Rattle.login_client.proofs.HeldLemmas.{finds, holds_after}
 use Rattle.login_client.proofs.PageLemmas.{held_after, page_is, page_shows, saved_stands}
 use Rattle.login_client.proofs.StandingLemmas.{found_stands}
