@@ -65,8 +65,8 @@ fn send<R: TryRng>(
     request: &TimedRequest<'_>,
     rng: &mut R,
 ) -> Result<Page, SessionError>
-    ensures answered { CanBrowse site.now.sessions → IfOk result (λ page. (held : Option SessionState)
-        → Holds site.now.sessions client.old held
+    ensures answered { CanBrowse site.now.sessions → IfOk result (λ page.
+        (held : Option SessionState) → Holds site.now.sessions client.old held
         → IsAnswered site.now request.now held page client.new) }
     ensures prefix { result ≡ Err refusal.Prefix
         → ¬ (meets_prefix site.now.sessions.cookie.now.fields ≡ true) }
