@@ -25,6 +25,7 @@ pub(super) const WORDS: &str = "\
 {other name}: __Host-session=BwcHBwcHBwcHBwcHxr3ptyQiF+vjHTi0H/EZJ4ojpl95fz1zVvp2m7gKpdda/GN0KeW7CAb5HSsyRy2bde1V3ADZnF5JRlY6/9Yi
 {changed}: __Host-session=BwcHBwcHBwcHBwcHxr3ptyQiF+vjHTi0H/EZJ4ojpl95fz1zVvp2m7gKpdda/GN0KeW7CAb5HSsyRy17FkZ2HlyPexC5cBAj7jqO
 {signed}: __Host-session=MbTkp8I+/yhIbZAsox4CLEeTFGmjOtarcHMDuf+RC0M=v=1&started=1445412420&seen=1445412450&user=ann
+{planted ann}: %5F_Host-session=BwcHBwcHBwcHBwcHxr3ptyQiF+vjHTi0H/EZJ4ojpl95fz1zVvp2m7gKpdda/GN0KeW7CAb5HSsyRy17FkZ2HlyPexC5cBVj7jqO
 {bare}: __Host-session=v=1&started=1445412420&seen=1445412450&user=ann
 {plain ann}: session=BwcHBwcHBwcHBwcHxr3ptyQiF+vjHTi0H/EZJ4ojpl95fz1zVvp2m7gKpdda/GN0KeW7CAb5HSsyRy2bde1V3ADZnF5JRlY6/9Yi
 {=ann 1}: __Host-session=BwcHBwcHBwcHBwcHxr3ptyQiF+vjHTi0H%2FEZJ4ojpl95fz1zVvp2m7gKpdda%2FGN0JOW7CAb5HSsyRy2QcBMojF8yOKeRR5VCgUfX0JLbodya0sTF; HttpOnly; SameSite=Lax; Secure; Path=/; Max-Age=1800
