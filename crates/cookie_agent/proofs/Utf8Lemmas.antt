@@ -1,20 +1,17 @@
 -- The header of cookies that are ours is ASCII.
 use Rattle.std.proofs.Common.{◌≡◌, ℕ, true, List, [], ◌∷◌, ◌++◌, map, codes, refl, sym, subst, All, arith}
-use Rattle.std.proofs.lemmas.List.Elements.{All-head, All-tail, All-filter}
-use Rattle.std.proofs.lemmas.List.Sorted.{All-permutation}
+use Rattle.std.proofs.lemmas.List.Elements.{All-head, All-tail}
 use Rattle.std.specs.Str.{IsUtf8}
 use Rattle.std.proofs.lemmas.Str.{IsUtf8-append, IsUtf8-from_ascii, IsUtf8-nil}
-use Rattle.jiff.specs.Types.{DateTime}
 use Rattle.cookie.specs.Escapes.{escape}
 use Rattle.cookie.specs.Header.{joined_texts, more_joined}
 use Rattle.cookie.specs.Jar.{Name}
 use Rattle.cookie_core.proofs.ByteLemmas.{is_low, all-weaker, IsAscii-from_test}
 use Rattle.cookie_core.proofs.EscapeTextLemmas.{is_token, escape_is_tokens}
 use Rattle.std.proofs.lemmas.Bool.Decides.{nat_tests}
-use Rattle.cookie_browser.specs.Request.{RequestView}
-use Rattle.cookie_browser.specs.Storage.{KeptView, CookieStore, is_sent}
-use Rattle.cookie_agent.specs.Agreement.{IsOurs, IsOurStore, PlanView}
-use Rattle.cookie_agent.specs.Sent.{IsHeader, name_part, sent_pair, visible}
+use Rattle.cookie_browser.specs.Storage.{KeptView, CookieStore}
+use Rattle.cookie_agent.specs.Agreement.{IsOurs, PlanView}
+use Rattle.cookie_agent.specs.Sent.{name_part, sent_pair}
 
 token_is_low : (b : ℕ) → is_token b ≡ true → is_low b ≡ true
 token_is_low b h = grind (arith, nat_tests)

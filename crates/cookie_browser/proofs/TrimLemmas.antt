@@ -1,15 +1,11 @@
 -- Where a text is cut.
-use Rattle.std.proofs.Common.{◌≡◌, ℕ, zero, suc, ◌-◌, ◌<◌, ◌==◌, Bool, true, false, List, [], ◌∷◌, ◌++◌, length, get_or, take, drop, Option, Some, None, refl, sym, ap, ◌∙◌, arith, take_all}
-use Rattle.std.proofs.lemmas.Bool.{cond-true, cond-false, and_parts, ne_eqb}
+use Rattle.std.proofs.Common.{◌≡◌, ℕ, ◌==◌, true, List, [], ◌∷◌, ◌++◌, Option, Some, None, refl, ap, ◌∙◌, arith}
+use Rattle.std.proofs.lemmas.Bool.{cond-true, cond-false, ne_eqb}
 use Rattle.std.proofs.lemmas.Bool.Decides.{nat_tests}
 use Rattle.std.proofs.lemmas.List.{append-nil}
-use Rattle.std.proofs.lemmas.List.Sums.{prefix_len-drop_no, suffix_len-take_no}
-use Rattle.std.specs.List.{list_all, prefix_len, suffix_len}
 use Rattle.cookie_core.specs.Pieces.{Lacks}
 use Rattle.cookie_core.specs.Walk.{behind}
-use Rattle.cookie_core.proofs.EscapeTextLemmas.{is_token}
 use Rattle.cookie_core.proofs.ReadingLemmas.{Lacks-tail}
-use Rattle.cookie_core.specs.Wsp.{is_wsp, trim_wsp, trim_wsp_end}
 use Rattle.cookie_browser.specs.Bytes.{cut}
 
 -- a text that is cut at the first mark

@@ -3,7 +3,6 @@ use Rattle.std.proofs.Common.{◌≡◌, ℕ, true, List, [], ◌∷◌, All, Op
 use Rattle.std.proofs.lemmas.List.Elements.{All-nil, All-cons}
 use Rattle.std.specs.FinMap.{empty, get, get-empty}
 use Rattle.std.specs.List.{filter_map, cons_option}
-use mathlib.Core.Logic.{◌≢◌}
 use Rattle.cookie.specs.CookieOf.{cookie_of, header_cookies}
 use Rattle.cookie.specs.Header.{header_texts}
 use Rattle.cookie.specs.Jar.{name_cmp}

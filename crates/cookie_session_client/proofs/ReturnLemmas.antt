@@ -1,5 +1,5 @@
 -- A session that was saved is open in the jar of the client's next request.
-use Rattle.std.proofs.Common.{◌≡◌, ℕ, ◌+◌, ◌-◌, ◌<◌, ◌≤◌, pos, ◌*ℤ◌, Bool, true, false, cond, List, [], ◌∷◌, ◌++◌, All, Option, None, Some, IfSome, option_map, refl, sym, ap, subst, arith, ◌∙◌}
+use Rattle.std.proofs.Common.{◌≡◌, ℕ, ◌+◌, ◌-◌, ◌<◌, ◌≤◌, pos, ◌*ℤ◌, Bool, true, false, cond, List, [], ◌∷◌, ◌++◌, All, None, Some, IfSome, option_map, refl, sym, ap, subst, arith, ◌∙◌}
 use Rattle.std.proofs.lemmas.List.Elements.{All-append, All-cons, All-head, All-nil, All-tail}
 use Rattle.std.proofs.lemmas.Option.{none-some}
 use Rattle.std.proofs.lemmas.Slice.Eq.{bytes_eq-Decides}
@@ -10,7 +10,7 @@ use Rattle.jiff.specs.Types.{DateTime}
 use Rattle.jiff.proofs.SpanFacts.{signed_arith}
 use Rattle.cookie.specs.DeltaTexts.{AreDeltaTexts}
 use Rattle.cookie.specs.History.{accepted_items, after_all}
-use Rattle.cookie.specs.Jar.{Add, Change, JarState, Marked, Name, added_mark, after, view}
+use Rattle.cookie.specs.Jar.{Add, Change, JarState, Name, added_mark, after, view}
 use Rattle.cookie.specs.Record.{IsCookie, Record, plain}
 use Rattle.cookie.specs.Sealing.{CanSeal, IsNonce}
 use Rattle.cookie.proofs.AnswerLemmas.{view-stored}

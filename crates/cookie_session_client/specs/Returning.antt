@@ -1,5 +1,5 @@
 -- When a client comes back with a session, and what came of it.
-use Rattle.std.specs.Prelude.{◌≡◌, ◌≢◌, ◌↔◌, ◌≤◌, ℕ, Bool, true, List, [], All, Option, Some, None, IfSome}
+use Rattle.std.specs.Prelude.{◌≡◌, ◌≢◌, ◌↔◌, ◌≤◌, ℕ, Bool, true, List, [], All, Option, Some, None}
 use Rattle.std.specs.FinMap.{empty, get}
 use Rattle.std.specs.List.{AllZip}
 use Rattle.jiff.specs.Types.{DateTime}

@@ -1,5 +1,5 @@
 -- The session that a client holds, through a request.
-use Rattle.std.proofs.Common.{◌≡◌, ◌↔◌, ℕ, List, [], All, Option, Some, None, option_map, refl, sym, ap, subst, ◌∙◌}
+use Rattle.std.proofs.Common.{◌≡◌, ℕ, List, [], Option, Some, None, option_map, refl, sym, ap, subst, ◌∙◌}
 use Rattle.std.proofs.lemmas.List.Elements.{All-nil}
 use Rattle.std.proofs.lemmas.Option.{none-some, same_Some}
 use Rattle.std.specs.FinMap.{empty, get, get-empty}
@@ -21,7 +21,7 @@ use Rattle.cookie_session_client.specs.Returning.{CanReturn}
 use Rattle.cookie_session_client.proofs.ReturnLemmas.{held, shown, still_unnamed}
 use Rattle.login_core.specs.Answers.{HasSession, Saves}
 use Rattle.login_client.specs.Browsing.{CanBrowse}
-use Rattle.login_client.specs.Holding.{AreHeld, HoldsIn, Holds}
+use Rattle.login_client.specs.Holding.{AreHeld, Holds}
 use Rattle.login_client.proofs.PageLemmas.{held_after}
 use Rattle.login_client.proofs.StandingLemmas.{IsFound}
 

@@ -1,5 +1,5 @@
 -- What a page shows for the session that was found, and the standing after it.
-use Rattle.std.proofs.Common.{◌≡◌, ◌↔◌, ℕ, Bool, true, false, cond, List, Option, Some, None, Result, Ok, Err, is_some, option_map, string_bytes, refl, sym, ap, subst, ◌∙◌, codes}
+use Rattle.std.proofs.Common.{◌≡◌, ◌↔◌, ℕ, Bool, true, false, cond, List, Option, Some, None, Result, Ok, Err, is_some, option_map, refl, sym, ap, subst, ◌∙◌, codes}
 use Rattle.std.proofs.lemmas.Option.{none-some, same_Some}
 use Rattle.std.specs.Bool.{MatchBool}
 use Rattle.std.specs.FinMap.{FinMap, empty, get, insert, remove, get-empty}
@@ -15,12 +15,12 @@ use Rattle.login_core.specs.Forms.{credentials_of}
 use Rattle.login_core.specs.Pages.{greeted}
 use Rattle.login_core.specs.Plans.{LogsIn, Plans, counted, logged_in, logged_out, shown as shown_session}
 use Rattle.login_core.specs.Users.{is_known}
-use Rattle.login_core.specs.Visitors.{IsVisitor, text_of}
+use Rattle.login_core.specs.Visitors.{text_of}
 use Rattle.login_core.specs.declared.login_site.LoginSite.{LoginSite}
 use Rattle.login_core.specs.declared.page.Page.{Page}
-use Rattle.login_core.specs.declared.page.Page.TheVariants.{Home as ShowHome, Moved, Refused}
+use Rattle.login_core.specs.declared.page.Page.TheVariants.{Moved, Refused}
 use Rattle.login_core.specs.declared.refusal.Refusal.{Refusal}
-use Rattle.login_core.specs.declared.refusal.Refusal.TheVariants.{BadRequest, Forbidden}
+use Rattle.login_core.specs.declared.refusal.Refusal.TheVariants.{Forbidden}
 use Rattle.login_core.specs.declared.routes.Route.{Route}
 use Rattle.login_core.specs.declared.routes.Route.TheVariants.{Home, LogIn, LogOut}
 use Rattle.login_core.specs.declared.user.User.{User}

@@ -8,7 +8,7 @@ use Rattle.cookie_session.specs.Session.{SessionState}
 use Rattle.cookie_session.specs.Sessions.{LivesAt}
 use Rattle.cookie_session.specs.declared.sessions.Sessions.{Sessions}
 use Rattle.login_client.specs.Holding.{standing_of}
-use Rattle.login_client.specs.Standing.{Standing, is_within, standing_at}
+use Rattle.login_client.specs.Standing.{is_within, standing_at}
 
 -- ---- the limits
 

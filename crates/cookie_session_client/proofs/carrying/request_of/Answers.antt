@@ -1,4 +1,4 @@
-use Rattle.std.proofs.Common.{◌≡◌, true, codes, [], ◌∷◌, map, Err, ap, sym, ◌∙◌}
+use Rattle.std.proofs.Common.{◌≡◌, codes, [], ◌∷◌, Err, ap, sym, ◌∙◌}
 use Rattle.http_header.specs.FieldValue.{plain_value}
 use Rattle.http_header.specs.HeaderMap.{append}
 use Rattle.http_header.specs.declared.map.HeaderMapError.TheVariants as full

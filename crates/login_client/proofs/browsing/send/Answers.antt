@@ -1,5 +1,5 @@
-use Rattle.std.proofs.Common.{◌≡◌, List, ℕ, Some, Err, Unit, option_map, map, sym, ap, subst, ◌∙◌, string_bytes}
-use Rattle.std.specs.FinMap.{empty, get}
+use Rattle.std.proofs.Common.{◌≡◌, List, ℕ, Err, option_map, refl, map, sym, ap, subst, ◌∙◌, string_bytes}
+use Rattle.std.specs.FinMap.{get}
 use Rattle.cookie.specs.Jar.{JarState, view}
 use Rattle.cookie.specs.Originals.{jar_for}
 use Rattle.cookie.specs.Record.{plain}
@@ -9,7 +9,6 @@ use Rattle.cookie_client.proofs.RoundLemmas.{fresh, shows_held}
 use Rattle.login_core.specs.Answers.{stored_of}
 use Rattle.login_core.specs.Forms.{credentials_of}
 use Rattle.login_core.specs.Plans.{Plans}
-use Rattle.login_core.specs.Routes.{route_of}
 use Rattle.cookie_session.specs.declared.session_error.SessionError.TheVariants as failure
 use Rattle.login_core.specs.declared.answer_error.AnswerError.TheVariants as answers
 use Rattle.login_core.specs.declared.request.Request.{Request}

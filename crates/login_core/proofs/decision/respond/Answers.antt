@@ -1,7 +1,6 @@
 use Rattle.std.proofs.Common.{◌≡◌, Err, Result, ap, refl, subst, ◌∙◌}
 use Rattle.cookie.specs.declared.texts_error.TextsError.{TextsError}
 use Rattle.cookie_session.specs.declared.session_error.SessionError.{SessionError}
-use Rattle.cookie_session.specs.declared.session_error.SessionError.TheVariants as failure
 use Rattle.login_core.specs.Answers.{FailsFor, Saves}
 use Rattle.login_core.proofs.AnswerLemmas.{both_err, fails_same, unprinted_value, why_is}
 use Rattle.login_core.proofs.decision.respond.Goals as goal
