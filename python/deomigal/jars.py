@@ -15,7 +15,8 @@ from .errors import NotFound
 class Jar:
     """A jar whose originals are the cookies in a `Cookie` header, decoded. `with Jar(header) as jar` frees it at last.
 
-    Pieces of the header that aren't cookies or UTF-8 are left out. A jar is looked up as `http.cookies.SimpleCookie`
+    Pieces of the header that aren't cookies or UTF-8 are left out, and so is a name that another host of the domain
+    disguised, such as `%5F_Host-a`. Of several cookies with one name the first counts. A jar is looked up as `http.cookies.SimpleCookie`
     is, but `jar[name]` is the value itself. It can't be iterated. Threads may share it.
 
     >>> with Jar("lang=en") as jar:
