@@ -243,11 +243,12 @@ impl<'c> PlainAgent<'c> {
         Ok(header)
     }
 
-    /// The jar of a request after its calls. It begins with what is sent, and only the last of a name.
+    /// The jar of a request after its calls. It begins with what is sent, and only the first of a name.
     pub(super) fn jar_after(&self, spot: Spot, calls: &'c [JarCall<'_>]) -> Option<FlatJar<'c>> {
         let mut jar = FlatJar::new(self.alloc);
         for held in &self.sent(spot).ok()? {
-            if !held.cookie.name().is_empty() {
+            let name = held.cookie.name();
+            if !name.is_empty() && jar.originals.find(name).is_none() {
                 jar.originals.put(held.cookie, false).ok()?;
             }
         }

@@ -11,7 +11,7 @@ use std::alloc::Global;
 
 // By a model of RFC 6265 5.2 to 5.4, and by the header's words. A removal has a moment, a name, and maybe a path and a
 // domain: a server removes a cookie by one of the same path and domain (RFC 6265 3.1). Neither holds a control character
-// or a `;` (RFC 6265 4.1.1).
+// or a `;` (RFC 6265 4.1.1). A browser lets another host set what isn't `__Host-` for it (RFC 6265bis 4.1.3).
 const ROWS: &str = "\
 add a=1 -> 17
 new -> 0
@@ -48,6 +48,10 @@ originals a=1;\\xff=2; b\\xc3=3;c=4 -> 0
 get a -> 0 1
 get c -> 0 4
 get b -> 18
+originals %5F_Host-s=2; __Host-s\\xe2\\x80\\x83=3; __Host-d=4; __Host-d=5; a=6 -> 0
+get __Host-s -> 18
+get __Host-d -> 0 4
+get a -> 0 1
 add a=1; Path=/\\x0d\\x0aSet-Cookie: b=2 -> 24
 add a=1; Path=/\\x09b -> 24
 add a=1; Domain=b.c\\x7fd -> 24
