@@ -17,10 +17,10 @@ module _ {W : Type 0} (took : W → List ℕ → W → Type 0) where
   styled-append f g h a b p q =
       record {
         wrote = record {
-              parts = p.wrote.parts ++ q.wrote.parts;
-              calls = FoldsTo-append p.wrote.parts q.wrote.parts _ _ _ p.wrote.calls q.wrote.calls;
-              whole = concat-append p.wrote.parts q.wrote.parts ∙ (λ i. p.wrote.whole i ++ q.wrote.whole i);
-            };
+          parts = p.wrote.parts ++ q.wrote.parts;
+          calls = FoldsTo-append p.wrote.parts q.wrote.parts _ _ _ p.wrote.calls q.wrote.calls;
+          whole = concat-append p.wrote.parts q.wrote.parts ∙ (λ i. p.wrote.whole i ++ q.wrote.whole i);
+        };
         spec = q.spec ∙ p.spec;
         flush = q.flush;
       }
