@@ -32,7 +32,7 @@ const ROWS: [(&str, &str); 9] = [
         "URL https://b.example/y/\n\
          stored: a=1; for b.example only; path /y; until the browser closes\n",
     ),
-    // What a removal alone would remove, and what it doesn't.
+    // What a removal would remove where no such cookie is stored, and what it does remove.
     (
         "a=; Max-Age=0\na=1; Path=/\na=; Max-Age=-1\na=; Max-Age=0; Path=/\na=; Max-Age=0; Path=/",
         "would remove, if it were stored: a; for a.example only; path /x\n\
