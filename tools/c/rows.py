@@ -16,7 +16,7 @@ from deomigal import _library as library, cookies, dates, errors, explain, jars,
 CALLS = {"derive_key": library.DERIVE_KEY, "sign": library.SIGN, "verify": library.VERIFY, "seal": library.SEAL,
          "open": library.OPEN, "print": library.PRINT, "print_date": library.PRINT_DATE, "run": library.RUN}
 # The names of the statuses in the rows, such as NOT_UTF8 for `NotUtf8`.
-STATUSES = ["DONE"] + [re.sub(r"(?<!^)(?=[A-Z])", "_", errors.ERRORS[number].__name__).upper() for number in range(1, 24)]
+STATUSES = ["DONE"] + [re.sub(r"(?<!^)(?=[A-Z])", "_", error.__name__).upper() for _, error in sorted(errors.ERRORS.items())]
 FIELDS = ("year", "month", "day", "hour", "minute", "second")
 faults = []
 
