@@ -38,7 +38,7 @@ module _ (p : KeptView → Bool) where
       by rest true e = All-cons P c (filter p xs) (All-head (λ d. p d ≡ true → P d) c xs all e) rest
       by rest false e = rest
 
-  passed : (P : KeptView → Type 0) (xs : CookieStore) → All P (filter p xs) → All (λ c. p c ≡ true → P c) xs
+  pub passed : (P : KeptView → Type 0) (xs : CookieStore) → All P (filter p xs) → All (λ c. p c ≡ true → P c) xs
   passed P [] all = All-nil (λ c. p c ≡ true → P c)
   passed P (c ∷ xs) all = by (passed P xs) (p c) refl all
     where

@@ -1,7 +1,8 @@
 -- Nobody but a site over a secure connection sets what it has under names with the prefix `__Host-`.
-use Rattle.std.proofs.Common.{◌≡◌, ℕ, ℤ, ◌≤ℤ◌, ◌&&◌, not, Bool, true, false, cond, List, [], ◌∷◌, Option, Some, None, Ok, Err, refl, sym, ap, ◌∙◌, All, inl, arith}
+use Rattle.std.proofs.Common.{◌≡◌, ℕ, ℤ, ◌≤ℤ◌, ◌&&◌, ◌||◌, not, Bool, true, false, cond, List, [], ◌∷◌, codes, Option, Some, None, Ok, Err, refl, sym, ap, ◌∙◌, All, inl, arith}
 use Rattle.std.proofs.lemmas.Bool.{and_parts, false≢true}
 use Rattle.std.proofs.lemmas.List.Elements.{All-nil, All-head, All-tail, All-filter, All-weaker, filter_agree}
+use Rattle.std.proofs.lemmas.Slice.Eq.{bytes_eq-Decides}
 use Rattle.std.specs.List.{filter}
 use Rattle.std.specs.Prelude.{Result, int_lt}
 use Rattle.std.specs.Str.{bytes_eq}
@@ -21,7 +22,7 @@ use Rattle.cookie_agent.proofs.VerdictLemmas.{IsStoredBy, stored_by}
 
 -- ---- lists
 
-filter-both : {X : Type 0} (p q : X → Bool) (xs : List X) → filter p (filter q xs) ≡ filter (λ x. q x && p x) xs
+pub filter-both : {X : Type 0} (p q : X → Bool) (xs : List X) → filter p (filter q xs) ≡ filter (λ x. q x && p x) xs
 filter-both p q [] = refl
 filter-both {X} p q (x ∷ xs) = by (q x) (filter-both p q xs)
   where
@@ -36,10 +37,10 @@ and_turned true false = refl
 and_turned false true = refl
 and_turned false false = refl
 
-filter-turned : {X : Type 0} (p q : X → Bool) (xs : List X) → filter p (filter q xs) ≡ filter q (filter p xs)
+pub filter-turned : {X : Type 0} (p q : X → Bool) (xs : List X) → filter p (filter q xs) ≡ filter q (filter p xs)
 filter-turned p q xs = filter-both p q xs ∙ filter_agree (λ x. q x && p x) (λ x. p x && q x) (λ x. and_turned (q x) (p x)) xs ∙ sym (filter-both q p xs)
 
-agree_all : {X : Type 0} (p q : X → Bool) (xs : List X) → All (λ x. p x ≡ q x) xs → filter p xs ≡ filter q xs
+pub agree_all : {X : Type 0} (p q : X → Bool) (xs : List X) → All (λ x. p x ≡ q x) xs → filter p xs ≡ filter q xs
 agree_all p q [] all = refl
 agree_all p q (x ∷ xs) all =
     ap (λ b. cond b (x ∷ filter p xs) (filter p xs)) (All-head (λ y. p y ≡ q y) x xs all)
@@ -51,7 +52,7 @@ module _ (P : KeptView → Bool) (respects : (a b : KeptView) → is_same_cookie
   abbrev others : CookieStore → CookieStore
   others store = filter (λ c. not (is_same_cookie c x)) store
 
-  put_in : P x ≡ true → (store : CookieStore) → filter P (kept_with x store) ≡ kept_with x (filter P store)
+  pub put_in : P x ≡ true → (store : CookieStore) → filter P (kept_with x store) ≡ kept_with x (filter P store)
   put_in e [] = ap (λ b. cond b (x ∷ []) []) e
   put_in e (c ∷ store) = by (put_in e store) (is_same_cookie c x) refl
     where
@@ -79,7 +80,7 @@ module _ (P : KeptView → Bool) (respects : (a b : KeptView) → is_same_cookie
         filter-both P (λ d. not (is_same_cookie d x)) store
         ∙ filter_agree (λ c. not (is_same_cookie c x) && P c) P (λ c. one_lost c (is_same_cookie c x) refl) store
 
-    put_out : (store : CookieStore) → filter P (kept_with x store) ≡ filter P store
+    pub put_out : (store : CookieStore) → filter P (kept_with x store) ≡ filter P store
     put_out [] = ap (λ b. cond b (x ∷ []) []) e
     put_out (c ∷ store) = by (put_out store) (is_same_cookie c x) refl
       where
@@ -106,10 +107,11 @@ second_holds true true e f = refl
 second_holds true false e f = absurd (false≢true (sym f))
 second_holds false b e f = absurd (false≢true e)
 
-record IsHostSet (s : RequestView) (k : KeptView) : Type 0 where
-  secure : s.is_secure ≡ true
-  host_only : k.is_host_only ≡ true
-  domain : k.domain ≡ s.host
+pub record IsHostSet (s : RequestView) (k : KeptView) : Type 0 where
+  pub secure : s.is_secure ≡ true
+  pub host_only : k.is_host_only ≡ true
+  pub domain : k.domain ≡ s.host
+  pub path : k.path ≡ codes "/"
 
 host_set : (rules : List Rule) (s : RequestView) (t : DateTime) (store : CookieStore) (v : ReceivedView) (k : KeptView) → IsStoredBy rules s t store v k → has_host_prefix k.name ≡ true → IsHostSet s k
 unfolding refusal_by_connection refusal_by_prefix
@@ -123,13 +125,31 @@ host_set rules s t store v k is prefixed =
     let meets = second_holds (has_host_prefix v.name) (meets_host_prefix v new) named prefix in
     let one = and_parts new.is_secure_only _ meets in
     let two = and_parts new.is_host_only _ one.1 in
+    let three = and_parts v.attributes.has_path (bytes_eq new.path (codes "/")) two.1 in
     record {
       secure = second_holds new.is_secure_only s.is_secure one.0 insecure;
       host_only = sym (ap (λ (c : KeptView). c.is_host_only) is.same) ∙ two.0;
       domain = sym (ap (λ (c : KeptView). c.domain) is.same) ∙ ap (λ b. cond b s.host (asked_domain v.attributes)) two.0;
+      path = sym (ap (λ (c : KeptView). c.path) is.same) ∙ (bytes_eq-Decides new.path (codes "/")).0 three.1;
     }
 
-verdict_host_set : (rules : List Rule) (s : RequestView) (t : DateTime) (store : CookieStore) (text : List ℕ) (k : KeptView) → verdict rules s t store text ≡ Ok k → has_host_prefix k.name ≡ true → IsHostSet s k
+-- without a name its value has no such prefix
+pub no_hidden_prefix : (rules : List Rule) (s : RequestView) (t : DateTime) (store : CookieStore) (v : ReceivedView) (k : KeptView) → IsStoredBy rules s t store v k → v.name ≡ [] → has_host_prefix v.value ≡ false
+unfolding refusal_by_connection refusal_by_prefix
+no_hidden_prefix rules s t store v k is nameless =
+    let new : KeptView = kept_as rules s t v in
+    let first = both_none (refusal_by_domain rules s v) (or_next_refusal (refusal_by_connection s store new) (refusal_by_prefix v new)) is.accepted in
+    let second = both_none (refusal_by_connection s store new) (refusal_by_prefix v new) first.1 in
+    let third = (not_refused (has_host_prefix v.name && not (meets_host_prefix v new)) _ _ (not_refused (has_secure_prefix v.name && not new.is_secure_only) _ _ second.1).1).1 in
+    let hidden = (not_refused (bytes_eq v.name [] && (has_secure_prefix v.value || has_host_prefix v.value)) _ _ third).0 in
+    neither (has_secure_prefix v.value) (has_host_prefix v.value)
+    (sym (ap (λ b. b && (has_secure_prefix v.value || has_host_prefix v.value)) ((bytes_eq-Decides v.name []).1 nameless)) ∙ hidden)
+  where
+    neither : (a b : Bool) → (a || b) ≡ false → b ≡ false
+    neither true b e = absurd (false≢true (sym e))
+    neither false b e = e
+
+pub verdict_host_set : (rules : List Rule) (s : RequestView) (t : DateTime) (store : CookieStore) (text : List ℕ) (k : KeptView) → verdict rules s t store text ≡ Ok k → has_host_prefix k.name ≡ true → IsHostSet s k
 verdict_host_set rules s t store text k e prefixed = by (received text) e
   where
     by : (o : Result ReceivedView Refusal) → verdict_on rules s t store o ≡ Ok k → IsHostSet s k
@@ -137,7 +157,7 @@ verdict_host_set rules s t store text k e prefixed = by (received text) e
     by (Ok v) h = host_set rules s t store v k (stored_by rules s t store v k h) prefixed
 
 -- over a secure connection what is stored doesn't change the verdict
-secure_verdict : (rules : List Rule) (s : RequestView) (t : DateTime) (store : CookieStore) (text : List ℕ) → s.is_secure ≡ true → verdict rules s t store text ≡ verdict rules s t [] text
+pub secure_verdict : (rules : List Rule) (s : RequestView) (t : DateTime) (store : CookieStore) (text : List ℕ) → s.is_secure ≡ true → verdict rules s t store text ≡ verdict rules s t [] text
 secure_verdict rules s t store text secure = by (received text)
   where
     by : (o : Result ReceivedView Refusal) → verdict_on rules s t store o ≡ verdict_on rules s t [] o
@@ -159,7 +179,7 @@ lasts_longer (Some e) t u order = by (int_lt (civil_nanos u) e) (int_lt (civil_n
     by false true f g = refl
     by false false f g = refl
 
-lasting-later : (t u : DateTime) → civil_nanos t ≤ℤ civil_nanos u → (xs : CookieStore) → lasting u (lasting t xs) ≡ lasting u xs
+pub lasting-later : (t u : DateTime) → civil_nanos t ≤ℤ civil_nanos u → (xs : CookieStore) → lasting u (lasting t xs) ≡ lasting u xs
 lasting-later t u order xs =
     filter-both (λ c. lasts c.expiry u) (λ c. lasts c.expiry t) xs
     ∙ filter_agree (λ c. lasts c.expiry t && lasts c.expiry u) (λ c. lasts c.expiry u) (λ c. lasts_longer c.expiry t u order) xs

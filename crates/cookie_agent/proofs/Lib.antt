@@ -1,7 +1,9 @@
 pub mod AlikeLemmas
 pub mod CallLemmas
+pub mod CutOutLemmas
 pub mod FollowLemmas
 pub mod HeaderLemmas
+pub mod HostJarLemmas
 pub mod HostLemmas
 pub mod KeyLemmas
 pub mod LimitLemmas
@@ -14,6 +16,7 @@ pub mod PutLemmas
 pub mod RefusalLemmas
 pub mod RemovalLemmas
 pub mod RowFacts
+pub mod SentFieldLemmas
 pub mod SiteLemmas
 pub mod StoreLemmas
 pub mod Utf8Lemmas

@@ -1,6 +1,7 @@
 pub mod Agreement
 pub mod Apart
 pub mod Calls
+pub mod HostJars
 pub mod Hosts
 pub mod Limits
 pub mod LimitsCode

@@ -6,6 +6,7 @@ ghost use Rattle.cookie_browser.specs.RefusedCode.{kept_view};
 ghost use Rattle.cookie_browser.specs.Storage.{kept_with, lasting, verdict_on};
 ghost use Rattle.cookie_agent.specs.Agreement.{IsOurStore, PlanView};
 ghost use Rattle.cookie_agent.specs.Apart.{IsApart};
+ghost use Rattle.cookie_agent.specs.HostJars.{AreOwnOriginals, IsLastOwn};
 ghost use Rattle.cookie_agent.specs.Hosts.{AreOnlyOwn};
 ghost use Rattle.cookie_agent.specs.Limits.{IsWithin, trimmed};
 ghost use Rattle.cookie_agent.specs.Removals.{IsMissed, IsRemovedAsSet};
@@ -155,6 +156,10 @@ impl<'r> Agent<'r> {
 
         // Only the site's own secure responses set what it has under names with the prefix `__Host-`, in any case.
         ensures only_own { AreOnlyOwn }
+
+        // Nor does anything else reach what a server reads of it under such names.
+        ensures own_originals { AreOwnOriginals }
+        ensures last_own { IsLastOwn }
     {
         let sent = visible(self.alloc, &self.cookies, site, now)?;
         let sent = by_path(sent)?;

@@ -21,7 +21,7 @@ first_of_none : (o : Option (List ℕ)) → first_of o None ≡ o
 first_of_none None = refl
 first_of_none (Some x) = refl
 
-T-true : (b : Bool) → T b → b ≡ true
+pub T-true : (b : Bool) → T b → b ≡ true
 T-true true h = refl
 T-true false h = absurd h
 
@@ -31,13 +31,13 @@ apart Equal h = absurd (subst T (sym h) tt)
 apart Greater h = refl
 
 -- a name before all others isn't among them
-find_below : (name : List ℕ) (es : List (List ℕ × List ℕ)) → below_all name_cmp name es ≡ true → find name_cmp name es ≡ None
+pub find_below : (name : List ℕ) (es : List (List ℕ × List ℕ)) → below_all name_cmp name es ≡ true → find name_cmp name es ≡ None
 find_below name [] h = refl
 find_below name (e ∷ es) h =
     let parts = and_parts (is_lt (name_cmp name e.0)) (below_all name_cmp name es) h in
     ap (λ b. cond b (Some e.1) (find name_cmp name es)) (apart (name_cmp name e.0) parts.0) ∙ find_below name es parts.1
 
-is_name : (name key : List ℕ) → eq_by_cmp name_cmp name key ≡ true → name ≡ key
+pub is_name : (name key : List ℕ) → eq_by_cmp name_cmp name key ≡ true → name ≡ key
 is_name name key e = (bytes_eq-Decides name key).0 (texts_ties name key ∙ e)
 
 -- what it has at a name

@@ -1,4 +1,5 @@
 pub mod FillLemmas
+pub mod FirstLemmas
 pub mod KeyRingLemmas
 pub mod PrefixLemmas
 pub mod ReadLemmas

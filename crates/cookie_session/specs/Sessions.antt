@@ -1,5 +1,6 @@
 -- When a session is open, and what is stored of it.
-use Rattle.std.specs.Prelude.{◌≡◌, ℕ, ◌+◌, ◌-◌, ◌*ℤ◌, ◌&&◌, Bool, min, pos, List, Option, Some, None, MatchOption}
+use Rattle.std.specs.Prelude.{◌≡◌, ℕ, ◌+◌, ◌-◌, ◌*ℤ◌, ◌&&◌, ◌++◌, ◌∷◌, Bool, min, pos, All, List, Option, Some, None, MatchOption, filter}
+use Rattle.std.specs.Str.{bytes_eq}
 use Rattle.jiff.specs.Types.{DateTime}
 use Rattle.cookie.specs.AnswersExactly.{IsStoredFor}
 use Rattle.cookie.specs.Keys.{encryption_half}
@@ -29,6 +30,26 @@ HoldsOne site stored =
     (now later : DateTime) (place other_place : ℕ) (session other : SessionState)
     → IsOpen site stored now place session → IsOpen site stored later other_place other
     → session ≡ other
+
+-- no session is open in the cookie
+abbrev pub IsClosed : Sessions → DateTime → Record → Type 0
+IsClosed site now cookie =
+    (place : ℕ) (state : SessionState) → ¬ (IsOpen site (Some cookie) now place state)
+
+-- the cookies that have the site's name
+abbrev pub site_cookies : Sessions → List Record → List Record
+site_cookies site cookies =
+    filter (λ cookie. bytes_eq site.cookie.now.fields.name cookie.name) cookies
+
+-- The session is open in one of these cookies: of those that have the site's name the first in which one is open.
+pub record OpensFirst (site : Sessions) (cookies : List Record) (now : DateTime) (place : ℕ)
+    (state : SessionState) : Type 0 where
+  pub earlier : List Record
+  pub cookie : Record
+  pub later : List Record
+  pub split : site_cookies site cookies ≡ earlier ++ cookie ∷ later
+  pub closed : All (IsClosed site now) earlier
+  pub opens : IsOpen site (Some cookie) now place state
 
 -- saved now, it lives
 abbrev pub CanSave : Sessions → DateTime → SessionState → Type 0

@@ -114,10 +114,22 @@ impl KeyRing {
         ensures { Gives refusal.OutOfMemory result (λ answer.
             OpensExactly self.now (view jar.now name.now) answer) }
     {
+        match jar.get(name) {
+            Some(cookie) => self.open(cookie),
+            None => Ok(None),
+        }
+    }
+
+    // A copy of the cookie, opened by the newest key that opens it.
+    pub(crate) fn open(&self, cookie: &Cookie<'static>) -> Result<Option<Opening>, JarError>
+        ensures { Gives refusal.OutOfMemory result (λ answer.
+            OpensExactly self.now (Some cookie.now.fields) answer) }
+    {
+        let alloc = *self.keys.allocator();
+        let jar = CookieJar::new(alloc);
         for place in 0..self.len() {
-            let key = self.at(place);
-            let found = jar.private(key).get(name)?;
-            if let Some(cookie) = found {
+            let copy = cookie.clone(alloc)?;
+            if let Some(cookie) = jar.private(self.at(place)).decrypt(copy)? {
                 return Ok(Some(Opening { cookie, place }));
             }
         }

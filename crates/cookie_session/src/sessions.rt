@@ -1,13 +1,14 @@
 //! The sessions of a site.
-ghost use Rattle.std.specs.Prelude.{◌≡◌, ◌↔◌, ◌<◌, ◌≤◌, ◌-◌, ◌+◌, min, true, ℕ, List, Some, Err, IfErr, IfOk, IfSome, OnOk, OnErr, string_bytes};
+ghost use Rattle.std.specs.Prelude.{◌≡◌, ◌↔◌, ◌<◌, ◌≤◌, ◌-◌, ◌+◌, min, true, ℕ, List, Some, Err, IfErr, IfOk, IfSome, OnOk, OnErr, map, string_bytes};
 ghost use Rattle.cookie.specs.Jar.{Add, Remove, after, view};
 ghost use Rattle.cookie.specs.Memory.{Gives};
+ghost use Rattle.cookie.specs.Originals.{field_cookies, jar_for};
 ghost use Rattle.cookie.specs.Record.{IsCookie};
 ghost use Rattle.cookie.specs.Sealing.{CanSeal, IsNonce};
 ghost use Rattle.cookie.specs.declared.jar_error.JarError.TheVariants as jar_refusal;
 ghost use Rattle.cookie_session.specs.Seconds.{second_of};
 ghost use Rattle.cookie_session.specs.Session.{IsSession, SessionState, seen_at};
-ghost use Rattle.cookie_session.specs.Sessions.{CanSave, HoldsOne, IsOpen, IsStored, bare_cookie, meets_prefix, saved_cookie, session_cookie};
+ghost use Rattle.cookie_session.specs.Sessions.{CanSave, HoldsOne, IsOpen, IsStored, OpensFirst, bare_cookie, meets_prefix, saved_cookie, session_cookie};
 ghost use Rattle.cookie_session.specs.SessionError.{IsBareRefusal};
 ghost use Rattle.cookie_session.specs.Size.{browser_length, most_bytes};
 ghost use Rattle.cookie_session.specs.declared.session_error.SessionError.TheVariants as refusal;
@@ -20,7 +21,7 @@ use crate::session::Session;
 use crate::session_error::SessionError;
 use crate::session_text::read_session;
 use crate::size::browser_length;
-use cookie::{Cookie, CookieJar, JarError};
+use cookie::{Cookie, CookieJar, JarError, field_cookies};
 use jiff::SignedDuration;
 use jiff::civil::DateTime;
 use rand_core::TryRng;
@@ -64,7 +65,98 @@ impl<'a> Sessions<'a> {
         ensures once { IfOk result (λ _.
             HoldsOne self.now (view jar.now self.now.cookie.now.fields.name)) }
     {
-        let Some(opening) = self.keys.get(jar, self.cookie.name())? else {
+        match jar.get(self.cookie.name()) {
+            Some(cookie) => self.open_cookie(alloc, cookie, now),
+            None => Ok(None),
+        }
+    }
+
+    /// Opens the session of a request, at the time `now` in UTC, and returns it with the place of the key that opened
+    /// it. `field` is the request's `Cookie` field, which is read as by `cookie::field_cookies`. Of several cookies of
+    /// the site's name the first in which a session is open counts. So no cookie that another host set can hide an open
+    /// session. If `open` finds a session in the field's jar, this is the same. Returns `None` if no session is open.
+    ///
+    /// Fails only with `JarError::OutOfMemory`.
+    ///
+    /// ```
+    /// let opened = sessions.open_field(alloc, b"session=junk; session=BwcHBwcHBwcHBw..", now)?;
+    /// ```
+    pub fn open_field(
+        &self,
+        alloc: Global,
+        field: &[u8],
+        now: DateTime,
+    ) -> Result<Option<Opened>, JarError>
+        ensures answers { Gives jar_refusal.OutOfMemory result (λ answer.
+            (place : ℕ) (s : SessionState)
+            → (answer ≡ Some (record { session = s; place = place }))
+            ↔ OpensFirst self.now (field_cookies field.now) now place s) }
+
+        // The cookie that opens holds no other session, whatever the time.
+        ensures once { IfOk result (λ _. (place : ℕ) (s : SessionState)
+            → (first : OpensFirst self.now (field_cookies field.now) now place s)
+            → HoldsOne self.now (Some first.cookie)) }
+
+        // The session that is open in the field's jar, if there is one, is the one that is found.
+        ensures jar { Gives jar_refusal.OutOfMemory result (λ answer.
+            (place : ℕ) (s : SessionState)
+            → IsOpen self.now (view (jar_for field.now) self.now.cookie.now.fields.name)
+            now place s
+            → answer ≡ Some (record { session = s; place = place })) }
+    {
+        let cookies = field_cookies(alloc, field)?;
+        self.open_first(alloc, &cookies, now)
+    }
+
+    /// Opens the session of a request, as `open_field` does, for cookies that were read already: of those that have the
+    /// site's name the first in which a session is open counts. Returns `None` if no session is open.
+    ///
+    /// Fails only with `JarError::OutOfMemory`.
+    ///
+    /// ```
+    /// let cookies = cookie::field_cookies(alloc, field)?;
+    /// let opened = sessions.open_first(alloc, &cookies, now)?;
+    /// ```
+    pub fn open_first(
+        &self,
+        alloc: Global,
+        cookies: &[Cookie<'static>],
+        now: DateTime,
+    ) -> Result<Option<Opened>, JarError>
+        ensures answers { Gives jar_refusal.OutOfMemory result (λ answer.
+            (place : ℕ) (s : SessionState)
+            → (answer ≡ Some (record { session = s; place = place }))
+            ↔ OpensFirst self.now (map (λ c. c.fields) cookies.now) now place s) }
+
+        // The cookie that opens holds no other session, whatever the time.
+        ensures once { IfOk result (λ _. (place : ℕ) (s : SessionState)
+            → (first : OpensFirst self.now (map (λ c. c.fields) cookies.now) now place s)
+            → HoldsOne self.now (Some first.cookie)) }
+    {
+        for cookie in cookies {
+            if cookie.name() == self.cookie.name() {
+                if let Some(opened) = self.open_cookie(alloc, cookie, now)? {
+                    return Ok(Some(opened));
+                }
+            }
+        }
+        Ok(None)
+    }
+
+    // The session that is open in the cookie, if one is, with the place of its key.
+    fn open_cookie(
+        &self,
+        alloc: Global,
+        cookie: &Cookie<'static>,
+        now: DateTime,
+    ) -> Result<Option<Opened>, JarError>
+        ensures answers { Gives jar_refusal.OutOfMemory result (λ answer.
+            (place : ℕ) (s : SessionState)
+            → (answer ≡ Some (record { session = s; place = place }))
+            ↔ IsOpen self.now (Some cookie.now.fields) now place s) }
+        ensures once { IfOk result (λ _. HoldsOne self.now (Some cookie.now.fields)) }
+    {
+        let Some(opening) = self.keys.open(cookie)? else {
             return Ok(None);
         };
         let Some(session) = read_session(alloc, opening.cookie.value())? else {

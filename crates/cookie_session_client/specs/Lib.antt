@@ -1,3 +1,4 @@
 pub mod Carrying
+pub mod OwnSessions
 pub mod ReturnError
 pub mod Returning

@@ -5,6 +5,7 @@ use Rattle.cookie.specs.Header.{joined_texts}
 use Rattle.cookie_agent.specs.Store.{AgentView}
 use Rattle.cookie_agent.specs.Sent.{sent_pair, visible}
 use Rattle.cookie_agent.specs.SentCode.{targets}
+use Rattle.cookie_agent.proofs.HostJarLemmas.{last_own, own_originals}
 use Rattle.cookie_agent.proofs.HostLemmas.{only_own}
 use Rattle.cookie_agent.proofs.OrderLemmas.{ordered_header}
 use Rattle.cookie_agent.proofs.agent.Agent.header.Goals as goal
@@ -26,3 +27,21 @@ returns-in_err-sent-clause-only_own c = only_own
 
 pub returns-in_err-sent-2-clause-only_own : goal.returns-in_err-sent-2-clause-only_own
 returns-in_err-sent-2-clause-only_own c = only_own
+
+pub returns-clause-own_originals : goal.returns-clause-own_originals
+returns-clause-own_originals c = own_originals
+
+pub returns-in_err-sent-clause-own_originals : goal.returns-in_err-sent-clause-own_originals
+returns-in_err-sent-clause-own_originals c = own_originals
+
+pub returns-in_err-sent-2-clause-own_originals : goal.returns-in_err-sent-2-clause-own_originals
+returns-in_err-sent-2-clause-own_originals c = own_originals
+
+pub returns-clause-last_own : goal.returns-clause-last_own
+returns-clause-last_own c = last_own
+
+pub returns-in_err-sent-clause-last_own : goal.returns-in_err-sent-clause-last_own
+returns-in_err-sent-clause-last_own c = last_own
+
+pub returns-in_err-sent-2-clause-last_own : goal.returns-in_err-sent-2-clause-last_own
+returns-in_err-sent-2-clause-last_own c = last_own

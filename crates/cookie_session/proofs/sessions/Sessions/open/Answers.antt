@@ -1,23 +1,16 @@
-use Rattle.std.proofs.Common.{◌≡◌, ◌↔◌, true, Some, rules, subst}
-use Rattle.std.specs.Prelude.{IsTrue}
+use Rattle.std.proofs.Common.{◌≡◌, ◌↔◌, ℕ, Some, option_map, sym, ap, subst, ◌∙◌}
 use Rattle.cookie.specs.Jar.{view}
-use Rattle.cookie_session.specs.KeyRing.{OpensExactly}
-use Rattle.cookie_session.specs.Session.{IsAlive, IsSessionText, SessionState, seen_at}
-use Rattle.cookie_session.proofs.SessionLemmas.{open_right}
+use Rattle.cookie.specs.Memory.{Gives}
+use Rattle.cookie.specs.declared.jar_error.JarError.TheVariants as refusal
+use Rattle.cookie_session.specs.Session.{SessionState}
+use Rattle.cookie_session.specs.Sessions.{IsOpen}
 use Rattle.cookie_session.proofs.sessions.Sessions.open.Goals as goal
 
-pub returns-clause-answers : goal.returns-clause-answers
-returns-clause-answers c =
+pub returns-in-Some-clause-answers : goal.returns-in-Some-clause-answers
+returns-in-Some-clause-answers c =
     let site = c.args.self.now in
-    let name = site.cookie.now.fields.name in
-    let opening = c.in-Some.opening in
-    let session : SessionState = c.in-Some-2.session in
-    let alive = c.is_alive.result in
-    let answers = subst (λ n. OpensExactly site.keys.now (view c.args.jar.now n) (Some opening)) c.name.ensures
-    (subst (λ o. OpensExactly site.keys.now (view c.args.jar.now c.name.result.now) o) c.in-Some.is c.in_ok-opening.ensures) in
-    let reads = λ (s : SessionState). subst (λ t. (Some session ≡ Some s) ↔ IsSessionText t s) c.value.ensures
-    (subst (λ o. (o ≡ Some s) ↔ IsSessionText c.value.result.now s) c.in-Some-2.is (c.in_ok-session.ensures s)) in
-    let lives = subst (λ n. IsTrue alive ↔ IsAlive site.lifetime site.idle n session) c.second_of.ensures.value
-    (subst (λ k. IsTrue alive ↔ IsAlive site.lifetime site.idle c.second_of.result (seen_at k session)) c.seen.ensures c.is_alive.ensures) in
-    let living : alive ≡ true = search rules in
-    open_right site (view c.args.jar.now name) c.args.now opening answers session reads alive lives living
+    let jar = c.args.jar.now in
+    let stored : view jar site.cookie.now.fields.name ≡ Some c.in-Some.cookie.now.fields =
+    ap (view jar) (sym c.name.ensures) ∙ sym c.get.ensures ∙ ap (option_map (λ k. k.now.fields)) c.in-Some.is in
+    subst (λ o. Gives refusal.OutOfMemory c.open_cookie.result (λ answer. (place : ℕ) (s : SessionState)
+    → (answer ≡ Some (record { session = s; place = place })) ↔ IsOpen site o c.args.now place s)) (sym stored) c.open_cookie.ensures.answers

@@ -1,0 +1,31 @@
+use Rattle.std.proofs.Common.{◌≡◌, ◌↔◌, ℕ, List, Some, IfOk, ap, map, subst, ◌∙◌}
+use Rattle.cookie.specs.Memory.{Gives}
+use Rattle.cookie.specs.Originals.{field_cookies}
+use Rattle.cookie.specs.Record.{CookieView, Record}
+use Rattle.cookie.specs.declared.jar_error.JarError.TheVariants as refusal
+use Rattle.cookie_session.specs.Session.{SessionState}
+use Rattle.cookie_session.specs.Sessions.{HoldsOne, OpensFirst}
+use Rattle.cookie_session.proofs.FirstLemmas.{jar_found}
+use Rattle.cookie_session.proofs.SessionLemmas.{opened}
+use Rattle.cookie_session.proofs.sessions.Sessions.open_field.Goals as goal
+
+-- the cookies that are tried are the field's
+cookies_are : (tried read : List CookieView) (cookies : List Record) → tried ≡ read → map (λ c. c.fields) read ≡ cookies → map (λ c. c.fields) tried ≡ cookies
+cookies_are tried read cookies same are = ap (map (λ (c : CookieView). c.fields)) same ∙ are
+
+pub returns-clause-answers : goal.returns-clause-answers
+returns-clause-answers c =
+    subst (λ (cookies : List Record). Gives refusal.OutOfMemory c.open_first.result (λ answer. (place : ℕ) (s : SessionState)
+    → (answer ≡ Some (opened s place)) ↔ OpensFirst c.args.self.now cookies c.args.now place s))
+    (cookies_are c.deref.result.now c.in_ok-cookies.cookies.items (field_cookies c.args.field.now) c.deref.ensures.value c.in_ok-cookies.ensures)
+    c.open_first.ensures.answers
+
+pub returns-clause-once : goal.returns-clause-once
+returns-clause-once c =
+    subst (λ (cookies : List Record). IfOk c.open_first.result (λ _. (place : ℕ) (s : SessionState)
+    (first : OpensFirst c.args.self.now cookies c.args.now place s) → HoldsOne c.args.self.now (Some first.cookie)))
+    (cookies_are c.deref.result.now c.in_ok-cookies.cookies.items (field_cookies c.args.field.now) c.deref.ensures.value c.in_ok-cookies.ensures)
+    c.open_first.ensures.once
+
+pub returns-clause-jar : goal.returns-clause-jar
+returns-clause-jar c = jar_found c.args.self.now c.args.now refusal.OutOfMemory c.open_first.result c.args.field.now (returns-clause-answers c)
