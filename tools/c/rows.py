@@ -250,6 +250,28 @@ def use_sessions(key):
     assert deomigal.read_cookie(sessions.end(now))[2]["max_age"] == 0
 
 
+def use_planted(key):
+    """What another host of the domain can plant is no session and no cookie of the jar, first or last in the header. A
+    header is a str, its bytes, or as WSGI passes it (PEP 3333)."""
+    sessions, now = deomigal.Sessions([key], "__Host-s", 3600, 60), 1445412480
+    pairs = []
+    for user in ("ann", "mallory"):
+        session = sessions.start(now)
+        session["user"] = user
+        pairs.append(sessions.save(session).partition(";")[0])
+    own, planted = pairs
+    assert sessions.open(planted, now)["user"] == "mallory"
+    spaces = "\u2003\u00a0\u0085\u2028\u3000"
+    for name in ("%5F_Host-s", "_%5fHost-s", "__Host%2Ds", *(f"{space}__Host-s" for space in spaces), *(f"__Host-s{space}" for space in spaces)):
+        piece = planted.replace("__Host-s", name, 1)
+        for header in (f"{piece}; {own}", f"{own}; {piece}"):
+            for field in (header, header.encode(), header.encode().decode("latin-1")):
+                assert sessions.open(field, now)["user"] == "ann", name
+                assert deomigal.Jar(field)["__Host-s"] == deomigal.Jar(own)["__Host-s"], name
+        for field in (piece, piece.encode(), piece.encode().decode("latin-1")):
+            assert sessions.open(field, now).is_new and lacks(deomigal.Jar(field), "__Host-s"), name
+
+
 def use_threads():
     """Four threads look names up in one jar, and change it."""
     with deomigal.Jar("lang=en") as jar, concurrent.futures.ThreadPoolExecutor(4) as threads:
@@ -343,6 +365,7 @@ def use():
             "Set-Cookie: name=; Max-Age=0; Expires=Tue, 21 Oct 2014 07:28:00 GMT",
         ]
     use_sessions(key)
+    use_planted(key)
     use_explain()
     for wrong, refusal in ((lambda: deomigal.sign(b"short", "a", "b"), errors.KeyTooShort),
                          (lambda: deomigal.sign(key, "a", b"\xff"), errors.NotUtf8),
