@@ -345,6 +345,8 @@ def use():
     assert deomigal.read_decoded_cookie("a=%20; Path=/%20") == ("a", " ", {"path": "/%20"})
     assert list(deomigal.pairs(None)) == list(deomigal.decoded_pairs(None)) == []
     assert list(deomigal.pairs("a=1; b=\udcff")) == list(deomigal.decoded_pairs("b=\udcff; a=1")) == [("a", "1")]
+    planted = "%5F_Host-a=2; \u2003__Host-a=2; __Host-a\u00a0=2; __Host-a=1"
+    assert list(deomigal.pairs(planted)) == list(deomigal.decoded_pairs(planted)) == [("__Host-a", "1")]
     assert deomigal.verify(key, "s", "\udcff") is None and deomigal.open_sealed(key, "s", b"\xff") is None
     with deomigal.Jar(None) as jar, deomigal.Jar(b"lang=en; x=\xff; y=1") as other:
         assert jar.get("lang") is None and (other["lang"], other.get("x"), other["y"]) == ("en", None, "1")

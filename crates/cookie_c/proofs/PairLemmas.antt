@@ -1,6 +1,6 @@
 -- The pieces of a header of bytes, from a place on.
-use Rattle.std.proofs.Common.{◌≡◌, ◌==◌, ℕ, ◌+◌, ◌-◌, ◌<◌, ◌≤◌, List, [], ◌∷◌, ◌++◌, true, false, length, get_or, take, drop, slice_range, ◌⊎◌, Some, None, refl, sym, ap, subst, ◌∙◌, inl, inr, arith, length-drop}
-use Rattle.std.proofs.lemmas.Bool.{cases_lt, and_from, and_left, and_right, cond-true, cond-false, false_from_ne_true}
+use Rattle.std.proofs.Common.{◌≡◌, ◌==◌, ◌||◌, not, ℕ, ◌+◌, ◌-◌, ◌<◌, ◌≤◌, List, [], ◌∷◌, ◌++◌, true, false, length, get_or, take, drop, slice_range, ◌⊎◌, Some, None, refl, sym, ap, subst, ◌∙◌, inl, inr, arith, length-drop}
+use Rattle.std.proofs.lemmas.Bool.{cases_lt, and_from, and_left, and_right, or_from, or_left, or_right, not_from_true, not_from_false, cond-true, cond-false, false_from_ne_true}
 use Rattle.std.proofs.lemmas.Bool.Decides.{nat_tests}
 use Rattle.std.proofs.lemmas.List.{get_or-take, get_or-drop, length-take-le, take-append-drop, drop-drop, drop-take, take-take, drop_all, drop_more}
 use Rattle.std.proofs.lemmas.Str.{is_utf8-from_IsUtf8, IsUtf8-from_is_utf8, IsUtf8-nil}
@@ -11,23 +11,40 @@ use Rattle.cookie.proofs.PieceLemmas.{pieces-cut}
 use Rattle.cookie.proofs.OffsetLemmas.{offset_of-within, white-Lacks}
 use Rattle.cookie.specs.Layout.{IsLayoutIn}
 use Rattle.cookie.specs.Pieces.{Lacks, offset_of, pieces}
+use Rattle.cookie.specs.SentNames.{is_named_as_sent}
 use Rattle.cookie.specs.Spans.{StandsIn, span_text}
 use Rattle.cookie.specs.declared.Layout.{Layout}
 use Rattle.cookie.specs.declared.Span.{Span}
 use Rattle.cookie_c.specs.NextPiece.{IsTextOf}
-use Rattle.cookie_c.specs.Pairs.{HeaderPiece, end_of, is_blank, mark_of, next_in, next_piece}
+use Rattle.cookie_c.specs.Pairs.{HeaderPiece, end_of, is_blank, is_skipped, mark_of, next_in, next_piece}
 use Rattle.cookie_c.specs.Places.{IsAt, IsBetween, place_behind}
 use mathlib.Core.Logic.{◌≢◌}
 
 pub length-piece : (h : List ℕ) (s e : ℕ) → s ≤ e → e ≤ length h → length (slice_range h s e) ≡ e - s
 length-piece h s e le last = length-take-le (e - s) (drop s h) (omega (arith, length-drop s h))
 
--- a text without a byte is blank
+-- a text is skipped if it is blank
+skipped-blank : (t : List ℕ) → IsUtf8 t → is_blank t ≡ true → is_skipped t ≡ true
+skipped-blank t utf8 blank =
+    and_from (is_utf8 t) (is_blank t || not (is_named_as_sent t)) (is_utf8-from_IsUtf8 t utf8) (or_left (is_blank t) (not (is_named_as_sent t)) blank)
+
+-- or if it isn't read under the name that was sent
+skipped-hidden : (t : List ℕ) → IsUtf8 t → is_named_as_sent t ≡ false → is_skipped t ≡ true
+skipped-hidden t utf8 hidden =
+    and_from (is_utf8 t) (is_blank t || not (is_named_as_sent t)) (is_utf8-from_IsUtf8 t utf8)
+    (or_right (is_blank t) (not (is_named_as_sent t)) (not_from_false (is_named_as_sent t) hidden))
+
+-- and else not
+kept-named : (t : List ℕ) → is_blank t ≡ false → is_named_as_sent t ≡ true → is_skipped t ≡ false
+kept-named t filled named =
+    and_right (is_utf8 t) (is_blank t || not (is_named_as_sent t))
+    (or_from (is_blank t) (not (is_named_as_sent t)) filled (not_from_true (is_named_as_sent t) named))
+
+-- a text without a byte is skipped
 no_piece : (at : ℕ) → next_in at (pieces []) ≡ None
 no_piece at =
     let empty : HeaderPiece = record { start = at; bytes = [] } in
-    cond-true (is_blank []) None (Some empty)
-    (and_from (is_utf8 []) (length (trim []) == 0) (is_utf8-from_IsUtf8 [] IsUtf8-nil) (ap (λ t. length t == 0) (trim-graphic [] refl)))
+    cond-true (is_skipped []) None (Some empty) (skipped-blank [] IsUtf8-nil (ap (λ t. length t == 0) (trim-graphic [] refl)))
 
 -- no byte of the piece is a semicolon
 piece_apart : (h : List ℕ) (s e : ℕ) → s ≤ e → e ≤ length h → ((i : ℕ) → s ≤ i → i < e → get_or h i 0 ≢ 59) → Lacks 59 (slice_range h s e)
@@ -108,28 +125,28 @@ module _ (h : List ℕ) (s e : ℕ) (le : s ≤ e) (last : e ≤ length h)
         | inr (all, none) ↦ ([], pieces-cut (drop s h) this_piece.bytes None all lacks, sym (ap (λ t. next_in (e + 1) (pieces t)) none ∙ no_piece (e + 1)))
       ]
 
-  -- this one is skipped if it is blank
-  pub blank_piece : is_blank this_piece.bytes ≡ true → next_piece h s ≡ next_piece h (e + 1)
+  -- this one is skipped
+  skipped_piece : is_skipped this_piece.bytes ≡ true → next_piece h s ≡ next_piece h (e + 1)
   unfolding next_piece
-  blank_piece b =
+  skipped_piece b =
       let (later, is, rest) = first_piece in
       ap (next_in s) is
-      ∙ cond-true (is_blank this_piece.bytes) (next_in (s + length this_piece.bytes + 1) later) (Some this_piece) b
+      ∙ cond-true (is_skipped this_piece.bytes) (next_in (s + length this_piece.bytes + 1) later) (Some this_piece) b
       ∙ ap (λ n. next_in (n + 1) later) (sym end-this_piece)
       ∙ rest
 
-  -- and is else the next one
-  pub filled_piece : is_blank this_piece.bytes ≡ false → next_piece h s ≡ Some this_piece
+  -- or is the next one
+  kept_piece : is_skipped this_piece.bytes ≡ false → next_piece h s ≡ Some this_piece
   unfolding next_piece
-  filled_piece b =
+  kept_piece b =
       let (later, is, rest) = first_piece in
       ap (next_in s) is
-      ∙ cond-false (is_blank this_piece.bytes) (next_in (s + length this_piece.bytes + 1) later) (Some this_piece) b
+      ∙ cond-false (is_skipped this_piece.bytes) (next_in (s + length this_piece.bytes + 1) later) (Some this_piece) b
 
   -- as it is where it isn't UTF-8
   pub other_piece : ¬ (IsUtf8 this_piece.bytes) → next_piece h s ≡ Some this_piece
   other_piece not_utf8 =
-      filled_piece (and_left (is_utf8 this_piece.bytes) (length (trim this_piece.bytes) == 0)
+      kept_piece (and_left (is_utf8 this_piece.bytes) (is_blank this_piece.bytes || not (is_named_as_sent this_piece.bytes))
       (false_from_ne_true (is_utf8 this_piece.bytes) (λ utf8. not_utf8 (IsUtf8-from_is_utf8 this_piece.bytes utf8))))
 
   -- what a part of the piece is that is the whole of it, trimmed
@@ -139,21 +156,25 @@ module _ (h : List ℕ) (s e : ℕ) (le : s ≤ e) (last : e ≤ length h)
     size forward = ap (λ t. length (trim t)) (sym is) ∙ ap length (sym trimmed) ∙ length-piece piece a b forward within
 
     -- it is blank
-    pub passed_piece : a ≤ b → b ≤ a → next_piece h s ≡ next_piece h (e + 1)
-    passed_piece forward back =
+    pub blank_piece : a ≤ b → b ≤ a → next_piece h s ≡ next_piece h (e + 1)
+    blank_piece forward back =
         let none : length (trim this_piece.bytes) ≡ 0 = size forward ∙ omega arith in
-        blank_piece (and_from (is_utf8 this_piece.bytes) (length (trim this_piece.bytes) == 0) (is_utf8-from_IsUtf8 this_piece.bytes utf8) (ap (λ n. n == 0) none))
+        skipped_piece (skipped-blank this_piece.bytes utf8 (ap (λ n. n == 0) none))
+
+    -- or isn't read under the name that was sent
+    pub hidden_piece : is_named_as_sent piece ≡ false → next_piece h s ≡ next_piece h (e + 1)
+    hidden_piece hidden = skipped_piece (skipped-hidden this_piece.bytes utf8 (ap is_named_as_sent (sym is) ∙ hidden))
 
     -- or it is the text of the next piece
-    pub next_text : (text : List ℕ) → text ≡ slice_range piece a b → a < b
+    pub next_text : (text : List ℕ) → text ≡ slice_range piece a b → a < b → is_named_as_sent piece ≡ true
         → (next_piece h s ≡ Some this_piece) × IsTextOf h this_piece text (s + a) (e + 1)
-    next_text text same lt =
+    next_text text same lt named =
         let forward : a ≤ b = omega arith in
         let some : length (trim this_piece.bytes) ≢ 0 = λ none. omega (arith, size forward, none) in
         let wide : length piece ≡ e - s = ap length is ∙ length-piece h s e le last in
         let here : text ≡ slice_range this_piece.bytes a b = same ∙ ap (λ t. slice_range t a b) is in
         let long : length text ≡ b - a = ap length same ∙ length-piece piece a b forward within in (
-          filled_piece (and_right (is_utf8 this_piece.bytes) (length (trim this_piece.bytes) == 0) (differs some)),
+          kept_piece (kept-named this_piece.bytes (differs some) (ap is_named_as_sent (sym is) ∙ named)),
           record {
             trimmed = same ∙ trimmed ∙ ap trim is;
             place = record {

@@ -1,11 +1,12 @@
 -- The pairs of a header for C, and how far they were read (RFC 6265 4.2.1). A header is bytes here: whether a piece is
 -- UTF-8 is tested before it is trimmed and read, since only a text has white space and a name.
-use Rattle.std.specs.Prelude.{◌≡◌, ℕ, ◌+◌, ◌&&◌, ◌==◌, ◌⊎◌, Bool, List, [], ◌∷◌, length, drop, Option, Some, None, Err, false, if◌then◌else◌}
+use Rattle.std.specs.Prelude.{◌≡◌, ℕ, ◌+◌, ◌&&◌, ◌||◌, ◌==◌, ◌⊎◌, not, Bool, List, [], ◌∷◌, length, drop, Option, Some, None, Err, false, if◌then◌else◌}
 use Rattle.std.specs.Str.{is_utf8, trim}
 use Rattle.cookie.specs.CookieOf.{cookie_of}
 use Rattle.cookie.specs.Pieces.{offset_of, pieces}
 use Rattle.cookie.specs.Reads.{Reads}
 use Rattle.cookie.specs.Record.{Record}
+use Rattle.cookie.specs.SentNames.{is_named_as_sent}
 use Rattle.cookie.specs.declared.ParseError.{ParseError}
 use Rattle.cookie_c.specs.Codes.{code_of, refusal_status}
 use Rattle.cookie_c.specs.Places.{IsBetween, no_place}
@@ -30,18 +31,22 @@ mark_of piece = piece.start + offset_of 61 piece.bytes
 abbrev pub rest_after : HeaderPiece → ℕ
 rest_after piece = end_of piece + 1
 
--- the bytes are UTF-8, and white space only
+-- the bytes are white space only
 abbrev pub is_blank : List ℕ → Bool
-is_blank bytes = is_utf8 bytes && (length (trim bytes) == 0)
+is_blank bytes = length (trim bytes) == 0
 
--- the first piece that isn't blank of these, which follow one another from this offset on
+-- the bytes are UTF-8, and are blank or aren't read under the name that was sent (RFC 6265bis, Cookie Name Prefixes)
+abbrev pub is_skipped : List ℕ → Bool
+is_skipped bytes = is_utf8 bytes && (is_blank bytes || not (is_named_as_sent bytes))
+
+-- the first piece that isn't skipped of these, which follow one another from this offset on
 abbrev pub next_in : ℕ → List (List ℕ) → Option HeaderPiece
 next_in start [] = None
 next_in start (bytes ∷ later) =
-    if is_blank bytes then next_in (start + length bytes + 1) later
+    if is_skipped bytes then next_in (start + length bytes + 1) later
     else Some (record { start = start; bytes = bytes })
 
--- the header's first piece that isn't blank, from the place on
+-- the header's first piece that isn't skipped, from the place on
 unfoldable pub next_piece : List ℕ → ℕ → Option HeaderPiece
 next_piece header from = next_in from (pieces (drop from header))
 

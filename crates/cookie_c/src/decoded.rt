@@ -39,10 +39,9 @@ pub extern "C" fn cookie_read_decoded(alloc: Global, text: &[u8], out: &mut [u8]
     }
 }
 
-/// Reads the next pair of a header, from the offset `from` on (RFC 6265 4.2.1), and decodes it, as
-/// `Cookie::split_parse_encoded` does. A piece that is UTF-8 and white space only is skipped. It writes the name to the
-/// buffer, and the value right after it; their places are in the buffer. If the buffer is too short for both, nothing
-/// is written, and the status is `Status::BufferTooShort`; all else is as it would be with room for both.
+/// Reads the next pair of a header, from the offset `from` on, as `cookie_next_pair` does, and decodes it. It writes
+/// the name to the buffer, and the value right after it; their places are in the buffer. If the buffer is too short for
+/// both, nothing is written, and the status is `Status::BufferTooShort`; all else is as it would be with room for both.
 ///
 /// Refuses as `cookie_next_pair` does, and then a name or a value whose bytes, decoded, aren't UTF-8. It allocates, and
 /// may run out of memory, only if the name or the value has an escape.

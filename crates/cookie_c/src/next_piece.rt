@@ -2,9 +2,10 @@
 ghost use Rattle.std.specs.Prelude.{◌≡◌, ◌≢◌, ◌≤◌, ◌<◌, ℕ, length, get_or};
 ghost use Rattle.cookie_c.specs.NextPiece.{IsNextPiece};
 
-use cookie::Span;
+use cookie::{Span, is_named_as_sent};
 
-/// The next piece of a header, skipping blank ones, and where the rest begins.
+/// The next piece of a header and where the rest begins. Skipped are blank pieces, and those that aren't read under the
+/// name that was sent.
 #[derive(Clone, Copy)]
 pub(crate) enum NextPiece<'h> {
     /// There is none.
@@ -34,7 +35,7 @@ impl<'h> NextPiece<'h> {
                 return NextPiece::Other { next };
             };
             let span = Span::trim(piece);
-            if span.start < span.end {
+            if span.start < span.end && is_named_as_sent(piece) {
                 let text = &piece[span.start..span.end];
                 let start = start + span.start;
                 return NextPiece::Text { text, start, next };

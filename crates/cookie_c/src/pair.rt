@@ -53,8 +53,12 @@ impl Pair {
     }
 }
 
-/// Reads the next pair of a header, from the offset `from` on (RFC 6265 4.2.1), as `Cookie::split_parse` does. A piece
-/// that is UTF-8 and white space only is skipped. It doesn't allocate.
+/// Reads the next pair of a header, from the offset `from` on (RFC 6265 4.2.1). It is cut as by `Cookie::split_parse`.
+/// It doesn't allocate.
+///
+/// A piece that is UTF-8 is skipped if it is white space only, or if it isn't read under the name that was sent
+/// (`is_named_as_sent` of `cookie`), as a jar skips it: another host of the domain can set a cookie `%5F_Host-a`, but
+/// no cookie `__Host-a`.
 ///
 /// Refuses a piece that isn't UTF-8, one with no `=`, and one with an empty name. `next` is the offset after the piece
 /// and its semicolon, even if the piece is refused. If there is no further piece, the status is `Status::NoPair`.

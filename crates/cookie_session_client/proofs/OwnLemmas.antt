@@ -1,28 +1,24 @@
 -- Which session opens, if the site's own secure responses decide which cookie a server reads.
-use Rattle.std.proofs.Common.{◌≡◌, ◌↔◌, ℕ, zero, suc, ◌<◌, Bool, true, false, cond, List, [], ◌∷◌, ◌++◌, All, Option, None, Some, refl, sym, ap, subst, ◌∙◌, arith}
+use Rattle.std.proofs.Common.{◌≡◌, ◌↔◌, ℕ, zero, suc, Bool, true, false, cond, List, [], ◌∷◌, ◌++◌, Option, None, Some, refl, sym, ap, subst, ◌∙◌, arith}
 use Rattle.std.proofs.lemmas.Bool.{false≢true}
 use Rattle.std.proofs.lemmas.List.{append-nil}
 use Rattle.std.proofs.lemmas.List.Elements.{All-cons, All-nil}
-use Rattle.std.proofs.lemmas.Option.{none-some, same_Some}
 use Rattle.std.proofs.lemmas.Slice.Eq.{bytes_eq-Decides}
 use Rattle.std.specs.Option.{option_or, option_to_list}
 use Rattle.std.specs.Prelude.{Result, Ok, Err, IfOk}
-use Rattle.std.specs.Str.{bytes_eq}
 use mathlib.Core.Logic.{◌≢◌}
 use Rattle.jiff.specs.Types.{DateTime}
-use Rattle.cookie.specs.Escapes.{escape, unescape}
+use Rattle.cookie.specs.Escapes.{escape}
 use Rattle.cookie.specs.Memory.{Gives}
-use Rattle.cookie.specs.Normal.{IsNamed}
 use Rattle.cookie.specs.Originals.{field_cookies, first_of_name}
-use Rattle.cookie.specs.Prefixes.{pair_of}
 use Rattle.cookie.specs.Record.{IsCookie, Record, plain}
 use Rattle.cookie_agent.specs.Agreement.{IsOurs, PlanView}
 use Rattle.cookie_agent.specs.HostJars.{IsHostName, ReadsOnly, if_named, last_stored, original_of}
-use Rattle.cookie_agent.specs.Hosts.{Response, is_own}
+use Rattle.cookie_agent.specs.Hosts.{Response}
 use Rattle.cookie_agent.specs.Scopes.{scope_of}
 use Rattle.cookie_agent.specs.Sent.{IsHeader, IsOrderedHeader, sent_pair}
 use Rattle.cookie_agent.specs.Store.{AgentView}
-use Rattle.cookie_agent.proofs.HeaderLemmas.{back, plain_of, read_as}
+use Rattle.cookie_agent.proofs.HeaderLemmas.{back, read_as}
 use Rattle.cookie_agent.proofs.HostJarLemmas.{last_own}
 use Rattle.cookie_agent.proofs.SentFieldLemmas.{plain_kept}
 use Rattle.cookie_agent.proofs.VerdictLemmas.{StoresPair, stores_pair}
@@ -31,7 +27,7 @@ use Rattle.cookie_browser.specs.Storage.{KeptView, has_host_prefix, is_sent, ver
 use Rattle.cookie_browser.specs.Suffixes.{Rule}
 use Rattle.cookie_session.specs.Seconds.{second_of}
 use Rattle.cookie_session.specs.Session.{SessionState, seen_at, session_text}
-use Rattle.cookie_session.specs.Sessions.{HoldsOne, IsClosed, IsOpen, IsStored, LivesAt, OpensFirst, saved_cookie, site_cookies}
+use Rattle.cookie_session.specs.Sessions.{HoldsOne, IsClosed, IsOpen, LivesAt, OpensFirst, saved_cookie, site_cookies}
 use Rattle.cookie_session.specs.declared.opened.Opened.{Opened}
 use Rattle.cookie_session.specs.declared.sessions.Sessions.{Sessions}
 use Rattle.cookie_session_client.specs.OwnSessions.{IsGuarded, IsLastSave, IsRequestOpened, KeepsLastSave, OpensOnlyOwn, own_cookie}

@@ -68,7 +68,7 @@ fn a_short_buffer_is_left_as_it_is(rt: HostRuntime) {
 }
 
 // A header whose pieces are a pair, a byte that isn't UTF-8, white space (U+2009), an overlong form of `a` as a value,
-// a pair after U+2009, and a text without `=`.
+// a pair after U+2009, which is skipped, and a text without `=`.
 const HEADER: &[u8] = b" a = 1 ;\xc3; \xe2\x80\x89;b=\xc1\xa1;\xe2\x80\x89c=2;d";
 
 #[test]
@@ -77,7 +77,7 @@ fn pieces_are_looked_at_for_utf8(rt: HostRuntime) {
         (0, 0, 8, 1, 5),
         (8, 3, 10, 0, 0),
         (10, 3, 20, 0, 0),
-        (20, 0, 27, 23, 25),
+        (20, 13, 29, 0, 0),
         (27, 13, 29, 0, 0),
         (29, 16, 0, 0, 0),
         (1000, 16, 0, 0, 0),
@@ -89,5 +89,42 @@ fn pieces_are_looked_at_for_utf8(rt: HostRuntime) {
         assert!(rt; (pair.value.start, pair.value.length) == (value, length));
         let pair = cookie_next_pair_decoded(rt.alloc(), HEADER, from, &mut [0xa5; 2]);
         assert!(rt; (pair.status, pair.next) == (status, next));
+    }
+}
+
+// What another host of the domain can set (RFC 6265bis, Cookie Name Prefixes), before the login's cookie.
+#[test]
+fn names_that_were_not_sent_are_skipped(rt: HostRuntime) {
+    let headers: [&[u8]; 5] = [
+        b"%5F_Host-a=2; __Host-a=1",
+        b"_%5fHost%2da=2; __Hos%74-a=2;__Host-a=1",
+        b"\xe2\x80\x83__Host-a=2;\xc2\x85__host-a=2; __Host-a=1",
+        b"__Host-a\xc2\xa0=2;__Host-a\x0c=2;\t__Host-a\t=1",
+        b"%5F_Host-a; __Host-a=1",
+    ];
+    for header in headers {
+        let mut out = [0xa5; 16];
+        let pair = cookie_next_pair(header, 0);
+        let decoded = cookie_next_pair_decoded(rt.alloc(), header, 0, &mut out);
+        assert!(rt; (pair.status, pair.name.length, pair.value.length) == (0, 8, 1));
+        assert!(rt; pair.next > header.len() && decoded.next == pair.next);
+        assert!(rt; decoded.status == 0 && holds(&out, b"__Host-a1"));
+    }
+}
+
+// A printed name with escapes, and names of others without escapes.
+#[test]
+fn names_that_were_sent_are_read(rt: HostRuntime) {
+    let rows: [(&[u8], &[u8]); 4] = [
+        (b"a%20b=1", b"a b1"),
+        (b"%7Ca%2fb=1", b"|a/b1"),
+        (b"foo[bar]=1", b"foo[bar]1"),
+        (b"\t%5 =1", b"%51"),
+    ];
+    for (header, text) in rows {
+        let mut out = [0xa5; 16];
+        let pair = cookie_next_pair_decoded(rt.alloc(), header, 0, &mut out);
+        assert!(rt; pair.status == 0 && holds(&out, text));
+        assert!(rt; cookie_next_pair(header, 0).status == 0);
     }
 }
