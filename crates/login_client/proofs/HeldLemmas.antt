@@ -1,10 +1,10 @@
 -- The session that a client holds, through a request.
-use Rattle.std.proofs.Common.{◌≡◌, ℕ, List, [], Option, Some, None, option_map, refl, sym, ap, subst, ◌∙◌}
+use Rattle.std.proofs.Common.{◌≡◌, ℕ, List, [], ◌∷◌, ◌++◌, Option, Some, None, option_map, refl, sym, ap, subst, ◌∙◌}
 use Rattle.std.proofs.lemmas.List.Elements.{All-nil}
 use Rattle.std.proofs.lemmas.Option.{none-some, same_Some}
 use Rattle.std.specs.FinMap.{empty, get, get-empty}
+use Rattle.std.specs.Option.{option_to_list}
 use Rattle.jiff.specs.Types.{DateTime}
-use Rattle.cookie.specs.AnswersExactly.{IsStoredFor}
 use Rattle.cookie.specs.DeltaTexts.{AreDeltaTexts}
 use Rattle.cookie.specs.Jar.{JarState, name_cmp, view}
 use Rattle.cookie.specs.Record.{Record, plain}
@@ -12,10 +12,9 @@ use Rattle.cookie_client.specs.Agreement.{Agrees}
 use Rattle.cookie_client.specs.Calls.{IsFitCall, IsKnownChange}
 use Rattle.cookie_client.specs.Client.{Values, after_texts}
 use Rattle.cookie_client.proofs.AgreementLemmas.{agreement}
-use Rattle.cookie_session.specs.KeyRing.{OpensAt}
 use Rattle.cookie_session.specs.Seconds.{second_of}
-use Rattle.cookie_session.specs.Session.{SessionState, seen_at, session_text}
-use Rattle.cookie_session.specs.Sessions.{IsOpen, IsStored, LivesAt, saved_cookie}
+use Rattle.cookie_session.specs.Session.{SessionState, seen_at}
+use Rattle.cookie_session.specs.Sessions.{HoldsOne, IsClosed, IsOpen, IsStored, LivesAt, saved_cookie, site_cookies}
 use Rattle.cookie_session.specs.declared.sessions.Sessions.{Sessions}
 use Rattle.cookie_session_client.specs.Returning.{CanReturn}
 use Rattle.cookie_session_client.proofs.ReturnLemmas.{held, shown, still_unnamed}
@@ -27,26 +26,51 @@ use Rattle.login_client.proofs.StandingLemmas.{IsFound}
 
 -- ---- what a request finds
 
--- the session that is found in the cookie that the client sends is the one that it holds, if that lives
-pub finds : (sessions : Sessions) (value : Option (List ℕ)) (holds : Option SessionState) → AreHeld sessions value holds → (stored : Option Record)
-    → stored ≡ option_map (plain sessions.cookie.now.fields.name) value → (now : DateTime) (found : Option SessionState)
-    → HasSession sessions stored now found → IsFound sessions now holds found
-finds sessions None None are stored is now found has session = (
-  λ e. let there = (has.exact session).0 e in absurd (subst (λ o. IsStoredFor (OpensAt sessions.keys.now there.0) o (session_text session)) is there.1.sealed),
+-- there is no first of no cookies
+no_first : (cookie : Record) (earlier later : List Record) → ¬ ([] ≡ earlier ++ cookie ∷ later)
+no_first cookie [] later e = cc
+no_first cookie (c ∷ earlier) later e = cc
+
+-- and of one cookie it is this one
+one_first : (only cookie : Record) (earlier later : List Record) → only ∷ [] ≡ earlier ++ cookie ∷ later → cookie ≡ only
+one_first only cookie [] later e = cc
+one_first only cookie (c ∷ earlier) later e = absurd (no_first cookie earlier later (cc))
+
+-- the session that is found in the cookies that the client sends is the one that it holds, if that lives
+pub finds : (sessions : Sessions) (value : Option (List ℕ)) (holds : Option SessionState) → AreHeld sessions value holds → (cookies : List Record)
+    → site_cookies sessions cookies ≡ option_to_list (option_map (plain sessions.cookie.now.fields.name) value) → (now : DateTime) (found : Option SessionState)
+    → HasSession sessions cookies now found → IsFound sessions now holds found
+finds sessions None None are cookies is now found has session = (
+  λ e.
+      let first = ((has.exact session).0 e).1 in
+      absurd (no_first first.cookie first.earlier first.later (sym is ∙ first.split)),
   λ h. absurd (none-some session h.0),
 )
-finds sessions None (Some other) are stored is now found has session = absurd are
-finds sessions (Some value) None are stored is now found has session = absurd are
-finds sessions (Some value) (Some other) are stored is now found has session =
+finds sessions None (Some other) are cookies is now found has session = absurd are
+finds sessions (Some value) None are cookies is now found has session = absurd are
+finds sessions (Some value) (Some other) are cookies is now found has session =
     let cookie : Record = plain sessions.cookie.now.fields.name value in
-    let opens : (time : DateTime) → LivesAt sessions time other → IsOpen sessions stored time 0 other =
-    λ time lives. subst (λ o. IsOpen sessions o time 0 other) (sym is) (are.stored cookie refl time lives) in (
+    let opens : (time : DateTime) → LivesAt sessions time other → IsOpen sessions (Some cookie) time 0 other =
+    λ time lives. are.stored cookie refl time lives in (
       λ e.
           let there = (has.exact session).0 e in
-          (ap Some (has.once are.lived.0 now 0 there.0 other session (opens are.lived.0 are.lived.1) there.1), there.1.lives),
+          let first = there.1 in
+          let same : first.cookie ≡ cookie = one_first cookie first.cookie first.earlier first.later (sym is ∙ first.split) in
+          let once : HoldsOne sessions (Some cookie) = subst (λ c. HoldsOne sessions (Some c)) same (has.once there.0 session first) in
+          (ap Some (once are.lived.0 now 0 there.0 other session (opens are.lived.0 are.lived.1) (subst (λ c. IsOpen sessions (Some c) now there.0 session) same first.opens)), first.opens.lives),
       λ h.
           let same : other ≡ session = same_Some other session h.0 in
-          (has.exact session).1 (0, subst (λ s. IsOpen sessions stored now 0 s) same (opens now (subst (LivesAt sessions now) (sym same) h.1))),
+          (has.exact session).1 (
+            0,
+            record {
+              earlier = [];
+              cookie = cookie;
+              later = [];
+              split = is;
+              closed = All-nil (IsClosed sessions now);
+              opens = subst (λ s. IsOpen sessions (Some cookie) now 0 s) same (opens now (subst (LivesAt sessions now) (sym same) h.1));
+            },
+          ),
     )
 
 -- ---- what the client holds after the response

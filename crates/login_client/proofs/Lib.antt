@@ -1,4 +1,5 @@
 mod FailLemmas
 mod HeldLemmas
 mod PageLemmas
+mod SentLemmas
 mod StandingLemmas

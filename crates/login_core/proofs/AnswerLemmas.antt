@@ -5,20 +5,18 @@ use Rattle.std.specs.Bool.{MatchBool}
 use Rattle.std.specs.FinMap.{get}
 use Rattle.std.specs.Result.{IsErrAnd}
 use Rattle.jiff.specs.Types.{DateTime}
-use Rattle.cookie.specs.Jar.{JarState, view}
 use Rattle.cookie.specs.Memory.{Gives}
-use Rattle.cookie.specs.Originals.{jar_for}
 use Rattle.cookie.specs.Record.{Record}
 use Rattle.cookie.specs.declared.texts_error.TextsError.{TextsError}
 use Rattle.cookie.specs.declared.texts_error.TextsError.TheVariants as unprinted
 use Rattle.cookie_session.specs.Session.{SessionState}
-use Rattle.cookie_session.specs.Sessions.{HoldsOne, IsOpen}
+use Rattle.cookie_session.specs.Sessions.{HoldsOne, OpensFirst}
 use Rattle.cookie_session.specs.declared.opened.Opened.{Opened}
 use Rattle.cookie_session.specs.declared.session_error.SessionError.{SessionError}
 use Rattle.cookie_session.specs.declared.session_error.SessionError.TheVariants as failure
 use Rattle.cookie_session.specs.declared.sessions.Sessions.{Sessions}
 use Rattle.login_core.specs.AnswerError.{texts_failure}
-use Rattle.login_core.specs.Answers.{FailsFor, HasSession, IsGreeted, IsPlan, stored_of}
+use Rattle.login_core.specs.Answers.{FailsFor, HasSession, IsGreeted, IsPlan, cookies_of}
 use Rattle.login_core.specs.Forms.{credentials_of}
 use Rattle.login_core.specs.Pages.{greeted}
 use Rattle.login_core.specs.Plans.{LogsIn, Moves, Plans, Refuses, logged_in}
@@ -42,13 +40,17 @@ use Rattle.login_core.specs.declared.user.User.{User}
 abbrev opened : ℕ → SessionState → Opened
 opened place session = record { session = session; place = place }
 
-module _ (sessions : Sessions) (stored : Option Record) (now : DateTime) where
+module _ (sessions : Sessions) (cookies : List Record) (now : DateTime) where
   -- the answer of a call that opens a session
   abbrev pub OpensAs : Option Opened → Type 0
   OpensAs answer =
-      (place : ℕ) (session : SessionState) → (answer ≡ Some (opened place session)) ↔ IsOpen sessions stored now place session
+      (place : ℕ) (session : SessionState) → (answer ≡ Some (opened place session)) ↔ OpensFirst sessions cookies now place session
 
-  pub has_none : OpensAs None → HoldsOne sessions stored → HasSession sessions stored now None
+  -- the cookie that opens holds no other session
+  abbrev OpensOnce : Type 0
+  OpensOnce = (place : ℕ) (session : SessionState) (first : OpensFirst sessions cookies now place session) → HoldsOne sessions (Some first.cookie)
+
+  pub has_none : OpensAs None → OpensOnce → HasSession sessions cookies now None
   has_none opens once = record {
     exact = λ session. (
       λ is. absurd (none-some session is),
@@ -57,7 +59,7 @@ module _ (sessions : Sessions) (stored : Option Record) (now : DateTime) where
     once = once;
   }
 
-  pub has_some : (found : Opened) → OpensAs (Some found) → HoldsOne sessions stored → HasSession sessions stored now (Some found.session)
+  pub has_some : (found : Opened) → OpensAs (Some found) → OpensOnce → HasSession sessions cookies now (Some found.session)
   has_some found opens once = record {
     exact = λ session. (
       λ is.
@@ -88,13 +90,13 @@ module _ (users : List User) (now : DateTime) (page : Page) (saved : Option Sess
       by true (moved, is) = ap greeted moved
       by false (refused, is) = ap greeted refused
 
-  module _ (sessions : Sessions) (stored : Option Record) (user : List ℕ) where
-    -- a session that is open has the user
+  module _ (sessions : Sessions) (cookies : List Record) (user : List ℕ) where
+    -- the session that is open first has the user
     abbrev HasUser : Type 0
-    HasUser = (place : ℕ) × (session : SessionState) × IsOpen sessions stored now place session × (get session.texts (codes "user") ≡ Some user)
+    HasUser = (place : ℕ) × (session : SessionState) × OpensFirst sessions cookies now place session × (get session.texts (codes "user") ≡ Some user)
 
     -- the user whom the session names that was found
-    named : (found : Option SessionState) → HasSession sessions stored now found → (text_of found (codes "user") ≡ Some user) ↔ HasUser
+    named : (found : Option SessionState) → HasSession sessions cookies now found → (text_of found (codes "user") ≡ Some user) ↔ HasUser
     named None finds = (
       λ is. absurd (none-some user is),
       λ has. absurd (none-some has.1 ((finds.exact has.1).1 (has.0, has.2))),
@@ -115,7 +117,7 @@ module _ (users : List User) (now : DateTime) (page : Page) (saved : Option Sess
     )
 
     exactly : (route : Result Route Refusal) (credentials : Option (List ℕ × List ℕ)) (found : Option SessionState)
-        → HasSession sessions stored now found → Plans users route credentials now found page saved
+        → HasSession sessions cookies now found → Plans users route credentials now found page saved
         → (greeted page ≡ Some user) ↔ ((route ≡ Ok Home) × HasUser)
     exactly (Ok Home) credentials found finds (visitor, is, shows, saves) =
         let same = named found finds in (
@@ -126,24 +128,19 @@ module _ (users : List User) (now : DateTime) (page : Page) (saved : Option Sess
     exactly (Ok LogOut) credentials found finds (moved, is) = nobody (Ok LogOut) refl (ap greeted moved)
     exactly (Err refusal) credentials found finds (refused, is) = nobody (Err refusal) refl (ap greeted refused)
 
--- a user is greeted exactly where the route is the home page, and a session that is open has the user
+-- a user is greeted exactly where the route is the home page, and the session that is open first has the user
 pub greeted_exactly : (site : LoginSite) (request : Request) (now : DateTime) (page : Page) (saved : Option SessionState)
     → IsPlan site request now page saved → (user : List ℕ) → (greeted page ≡ Some user) ↔ IsGreeted site request now user
 greeted_exactly site request now page saved plan user =
-    exactly site.users.now now page saved site.sessions (stored_of site request) user (route_of request.method.now request.path.now)
+    exactly site.users.now now page saved site.sessions (cookies_of request) user (route_of request.method.now request.path.now)
     (credentials_of request.form.now) plan.found plan.finds plan.plans
 
--- what is planned by the session of the request's jar
-pub plan_is : (site : LoginSite) (request : Request) (now : DateTime) (jar : JarState) (page : Page) (saved : Option SessionState)
-    → jar ≡ jar_for request.cookies.now
-    → (found : Option SessionState) × HasSession site.sessions (view jar site.sessions.cookie.now.fields.name) now found
+-- what is planned by the session that the request carries
+pub plan_is : (site : LoginSite) (request : Request) (now : DateTime) (page : Page) (saved : Option SessionState)
+    → (found : Option SessionState) × HasSession site.sessions (cookies_of request) now found
     × Plans site.users.now (route_of request.method.now request.path.now) (credentials_of request.form.now) now found page saved
     → IsPlan site request now page saved
-plan_is site request now jar page saved is (found, finds, plans) = record {
-  found = found;
-  finds = subst (λ j. HasSession site.sessions (view j site.sessions.cookie.now.fields.name) now found) is finds;
-  plans = plans;
-}
+plan_is site request now page saved (found, finds, plans) = record { found = found; finds = finds; plans = plans }
 
 -- ---- how a call fails
 

@@ -4,12 +4,12 @@ use Rattle.std.specs.FinMap.{get}
 use Rattle.jiff.specs.Types.{DateTime}
 use Rattle.cookie.specs.Jar.{Add, JarState, after, view}
 use Rattle.cookie.specs.Memory.{Gives}
-use Rattle.cookie.specs.Originals.{jar_for}
+use Rattle.cookie.specs.Originals.{field_cookies}
 use Rattle.cookie.specs.Record.{IsCookie, Record}
 use Rattle.cookie.specs.Sealing.{CanSeal, IsNonce}
 use Rattle.cookie_session.specs.Seconds.{second_of}
 use Rattle.cookie_session.specs.Session.{SessionState, seen_at}
-use Rattle.cookie_session.specs.Sessions.{CanSave, HoldsOne, IsOpen, IsStored, bare_cookie, meets_prefix, saved_cookie}
+use Rattle.cookie_session.specs.Sessions.{CanSave, HoldsOne, IsStored, OpensFirst, bare_cookie, meets_prefix, saved_cookie}
 use Rattle.cookie_session.specs.Size.{browser_length, most_bytes}
 use Rattle.cookie_session.specs.declared.session_error.SessionError.{SessionError}
 use Rattle.cookie_session.specs.declared.session_error.SessionError.TheVariants as failure
@@ -22,33 +22,35 @@ use Rattle.login_core.specs.declared.page.Page.{Page}
 use Rattle.login_core.specs.declared.request.Request.{Request}
 use Rattle.login_core.specs.declared.routes.Route.TheVariants.{Home}
 
--- What is found in the stored cookie, if there is one.
-pub record HasSession (sessions : Sessions) (stored : Option Record) (now : DateTime)
+-- What is found in cookies, if anything.
+pub record HasSession (sessions : Sessions) (cookies : List Record) (now : DateTime)
     (found : Option SessionState) : Type 0 where
-  -- the session that is open there at this time
-  pub exact : (session : SessionState)
-      → (found ≡ Some session) ↔ ((place : ℕ) × IsOpen sessions stored now place session)
-  -- and the cookie holds no other, whatever the time
-  pub once : HoldsOne sessions stored
+  -- the session that is open at this time in the first cookie of the site's name in which one is
+  pub exact : (session : SessionState) → (found ≡ Some session)
+      ↔ ((place : ℕ) × OpensFirst sessions cookies now place session)
+  -- and this cookie holds no other, whatever the time
+  pub once : (place : ℕ) (session : SessionState)
+      → (first : OpensFirst sessions cookies now place session)
+      → HoldsOne sessions (Some first.cookie)
 
--- the request's cookie of the site's name, if it has one: of several the first
-abbrev pub stored_of : LoginSite → Request → Option Record
-stored_of site request =
-    view (jar_for request.cookies.now) site.sessions.cookie.now.fields.name
+-- the request's cookies
+abbrev pub cookies_of : Request → List Record
+cookies_of request = field_cookies request.cookies.now
 
--- the request asks for the home page, and carries a session that is open and has the user
+-- the request asks for the home page, and the session that is open in the first of its cookies in which one is has the
+-- user
 abbrev pub IsGreeted : LoginSite → Request → DateTime → List ℕ → Type 0
 IsGreeted site request now user =
     (route_of request.method.now request.path.now ≡ Ok Home)
     × ((place : ℕ) × (session : SessionState)
-    × IsOpen site.sessions (stored_of site request) now place session
+    × OpensFirst site.sessions (cookies_of request) now place session
     × (get session.texts (codes "user") ≡ Some user))
 
 -- what is shown and saved is what the site makes of the request and of the session that it finds there
 pub record IsPlan (site : LoginSite) (request : Request) (now : DateTime) (page : Page)
     (saved : Option SessionState) : Type 0 where
   pub found : Option SessionState
-  pub finds : HasSession site.sessions (stored_of site request) now found
+  pub finds : HasSession site.sessions (cookies_of request) now found
   pub plans : Plans site.users.now (route_of request.method.now request.path.now)
       (credentials_of request.form.now) now found page saved
 

@@ -2,14 +2,14 @@
 ghost use Rattle.std.specs.Prelude.{◌≡◌, ◌↔◌, ℕ, List, Option, IfOk, OnOk, Err, Some, map, option_map, string_bytes};
 ghost use Rattle.cookie.specs.AttributeValues.{AllFitFields};
 ghost use Rattle.cookie.specs.DeltaTexts.{AreDeltaTextsOnce};
-ghost use Rattle.cookie.specs.Jar.{JarState, view};
+ghost use Rattle.cookie.specs.Jar.{JarState};
 ghost use Rattle.cookie.specs.Memory.{Gives};
-ghost use Rattle.cookie.specs.Originals.{jar_for};
+ghost use Rattle.cookie.specs.Originals.{field_cookies, jar_for};
 ghost use Rattle.cookie.specs.declared.jar_error.JarError.TheVariants as jar_refusal;
 ghost use Rattle.cookie_session.specs.Session.{SessionState};
 ghost use Rattle.cookie_session.specs.declared.session_error.SessionError.{SessionError as SessionRefusal};
 ghost use Rattle.cookie_session.specs.declared.session_error.SessionError.TheVariants as refusal;
-ghost use Rattle.login_core.specs.Answers.{Draws, FailsFor, HasSession, IsGreeted, IsPlan, Saves};
+ghost use Rattle.login_core.specs.Answers.{Draws, FailsFor, HasSession, IsGreeted, IsPlan, Saves, cookies_of};
 ghost use Rattle.login_core.specs.Forms.{credentials_of};
 ghost use Rattle.login_core.specs.Pages.{greeted};
 ghost use Rattle.login_core.specs.Plans.{Plans};
@@ -43,8 +43,8 @@ pub fn answer<R: TryRng>(
     now: DateTime,
     rng: &mut R,
 ) -> Result<Response, AnswerError>
-    // A user is greeted exactly if the request is for the home page and carries a session that is open and has that
-    // user.
+    // A user is greeted exactly if the request is for the home page, and the session that is open in the first of its
+    // cookies in which one is has that user.
     ensures greeted { IfOk result (λ response. (user : List ℕ)
         → (greeted response.page ≡ Some user) ↔ IsGreeted site.now request.now now user) }
 
@@ -77,7 +77,7 @@ pub fn answer<R: TryRng>(
         → rng.new ≡ rng.old }
 {
     let mut jar = request_jar(alloc, state, request.cookies)?;
-    let plan = plan_of(alloc, site, request, &jar, now)?;
+    let plan = plan_of(alloc, site, request, now)?;
     respond(alloc, &site.sessions, &mut jar, plan, now, rng)
 }
 
@@ -88,35 +88,33 @@ fn request_jar(alloc: Global, state: RandomState, field: &[u8]) -> Result<Cookie
     CookieJar::with_hasher(alloc, state).with_field(field)
 }
 
-// What is shown and saved, by the session that the jar's cookie opens.
+// What is shown and saved, by the session that the request carries.
 fn plan_of(
     alloc: Global,
     site: &LoginSite<'_>,
     request: &Request<'_>,
-    jar: &CookieJar,
     now: DateTime,
 ) -> Result<Plan, JarError>
     ensures { Gives jar_refusal.OutOfMemory result (λ plan. (found : Option SessionState)
-        × HasSession site.now.sessions
-        (view jar.now site.now.sessions.cookie.now.fields.name) now found
+        × HasSession site.now.sessions (cookies_of request.now) now found
         × Plans site.now.users.now (route_of request.now.method.now request.now.path.now)
         (credentials_of request.now.form.now) now found plan.page plan.session) }
 {
-    let found = open_session(alloc, &site.sessions, jar, now)?;
+    let found = open_session(alloc, &site.sessions, request.cookies, now)?;
     Ok(make_plan(alloc, site.users, request, found, now)?)
 }
 
-// The session that the jar's cookie opens, if it opens one.
+// The session that the first of the field's cookies opens, if one opens.
 fn open_session(
     alloc: Global,
     sessions: &Sessions<'_>,
-    jar: &CookieJar,
+    field: &[u8],
     now: DateTime,
 ) -> Result<Option<Session>, JarError>
-    ensures { Gives jar_refusal.OutOfMemory result (HasSession sessions.now
-        (view jar.now sessions.now.cookie.now.fields.name) now) }
+    ensures { Gives jar_refusal.OutOfMemory result
+        (HasSession sessions.now (field_cookies field.now) now) }
 {
-    match sessions.open(alloc, jar, now)? {
+    match sessions.open_field(alloc, field, now)? {
         Some(opened) => Ok(Some(opened.session)),
         None => Ok(None),
     }

@@ -1,12 +1,14 @@
 use Rattle.std.proofs.Common.{◌≡◌, List, ℕ, Err, option_map, refl, map, sym, ap, subst, ◌∙◌, string_bytes}
 use Rattle.std.specs.FinMap.{get}
-use Rattle.cookie.specs.Jar.{JarState, view}
-use Rattle.cookie.specs.Originals.{jar_for}
+use Rattle.std.specs.Option.{option_to_list}
+use Rattle.cookie.specs.Jar.{JarState}
+use Rattle.cookie.specs.Originals.{field_cookies, jar_for}
 use Rattle.cookie.specs.Record.{plain}
 use Rattle.cookie.proofs.DeltaTextLemmas.{AreDeltaTexts-once}
 use Rattle.cookie_client.specs.Client.{after_texts}
-use Rattle.cookie_client.proofs.RoundLemmas.{fresh, shows_held}
-use Rattle.login_core.specs.Answers.{stored_of}
+use Rattle.cookie_client.proofs.RoundLemmas.{fresh}
+use Rattle.cookie_session.specs.Sessions.{site_cookies}
+use Rattle.login_core.specs.Answers.{cookies_of}
 use Rattle.login_core.specs.Forms.{credentials_of}
 use Rattle.login_core.specs.Plans.{Plans}
 use Rattle.cookie_session.specs.declared.session_error.SessionError.TheVariants as failure
@@ -17,6 +19,7 @@ use Rattle.login_client.specs.Standing.{route_asked}
 use Rattle.login_client.proofs.FailLemmas.{can_save, not_memory, refused_over, told_same}
 use Rattle.login_client.proofs.HeldLemmas.{finds, holds_after}
 use Rattle.login_client.proofs.PageLemmas.{held_after, page_is, page_shows, saved_stands}
+use Rattle.login_client.proofs.SentLemmas.{sends_held}
 use Rattle.login_client.proofs.StandingLemmas.{found_stands}
 use Rattle.login_client.proofs.browsing.send.Goals as goal
 
@@ -36,11 +39,11 @@ returns-clause-answered g c can held holds =
     let field : List ℕ = asked.cookies.now in
     let field_is : field ≡ header = c.as_bytes.ensures.value in
     let start : JarState = jar_for field in
-    let shown : stored_of site asked ≡ option_map (plain name) (get client name) =
-    ap (λ h. view (jar_for h) name) field_is ∙ shows_held client header is name in
+    let sent : site_cookies sessions (cookies_of asked) ≡ option_to_list (option_map (plain name) (get client name)) =
+    ap (λ h. site_cookies sessions (field_cookies h)) field_is ∙ sends_held sessions client header is in
     let found = plan.found in
     let counts = found_stands sessions now held found
-    (finds sessions (get client name) held holds.value (stored_of site asked) shown now found plan.finds) in
+    (finds sessions (get client name) held holds.value (cookies_of asked) sent now found plan.finds) in
     let texts : List (List ℕ) = map string_bytes c.in_ok-response.response.cookies.items in
     record {
       later = held_after now saved held;
@@ -64,5 +67,5 @@ returns-in_err-response-clause-over g c long used over =
     let (page, saved, plan, fails) = c.answer.ensures.fails failure.Over told not_memory in
     refused_over {T = Unit {0}} _ _ sessions now (Err failure.Over) saved fails
     (λ session is. can_save sessions now long used site.users.now (route_asked c.args.request.now) (credentials_of c.args.request.now.form.now) plan.found page session
-    (λ state found. ((plan.finds.exact state).0 found).1.lives) (subst (λ s. Plans site.users.now (route_asked c.args.request.now) (credentials_of c.args.request.now.form.now) now plan.found page s) is plan.plans))
+    (λ state found. ((plan.finds.exact state).0 found).1.opens.lives) (subst (λ s. Plans site.users.now (route_asked c.args.request.now) (credentials_of c.args.request.now.form.now) now plan.found page s) is plan.plans))
     refl

@@ -11,7 +11,7 @@ returns-clause-answers g c =
     let now = c.args.now in
     let page = c.in_ok-plan.plan.page in
     let saved = c.in_ok-plan.plan.session in
-    let plan : IsPlan site request now page saved = plan_is site request now c.in_ok-jar.jar page saved c.in_ok-jar.ensures c.in_ok-plan.ensures in
+    let plan : IsPlan site request now page saved = plan_is site request now page saved c.in_ok-plan.ensures in
     of_both c.respond.result _ _ _ (λ response is saves. (
       saved,
       c.respond.new.jar,
@@ -32,7 +32,7 @@ returns-clause-fails g c why is known =
     let saved = c.in_ok-plan.plan.session in (
       page,
       saved,
-      plan_is c.args.site.now c.args.request.now c.args.now c.in_ok-jar.jar page saved c.in_ok-jar.ensures c.in_ok-plan.ensures,
+      plan_is c.args.site.now c.args.request.now c.args.now page saved c.in_ok-plan.ensures,
       c.respond.ensures.fails why is known,
     )
 
@@ -45,7 +45,7 @@ returns-clause-invalid g c is =
       page,
       saved,
       c.respond.new.jar,
-      plan_is site c.args.request.now c.args.now c.in_ok-jar.jar page saved c.in_ok-jar.ensures c.in_ok-plan.ensures,
+      plan_is site c.args.request.now c.args.now page saved c.in_ok-plan.ensures,
       subst (λ old. Saves (λ nonce. g.R.TryRng.may_fill c.args.rng.now nonce c.respond.new.rng) site.sessions c.args.now saved old c.respond.new.jar) c.in_ok-jar.ensures unfit.0,
       unfit.1,
     )
@@ -54,4 +54,4 @@ pub returns-clause-undrawn : goal.returns-clause-undrawn
 returns-clause-undrawn g c none =
     let page = c.in_ok-plan.plan.page in
     let saved = c.in_ok-plan.plan.session in
-    c.respond.ensures.undrawn (none page saved (plan_is c.args.site.now c.args.request.now c.args.now c.in_ok-jar.jar page saved c.in_ok-jar.ensures c.in_ok-plan.ensures))
+    c.respond.ensures.undrawn (none page saved (plan_is c.args.site.now c.args.request.now c.args.now page saved c.in_ok-plan.ensures))
