@@ -130,8 +130,9 @@ class Sessions:
     def open(self, header: str | bytes | None, now: float | None = None) -> Session:
         """The session in a request's `Cookie` header, or a new one if the header has no open session, or is None.
 
-        A session isn't open if the site's cookie is missing, isn't encrypted under one of the keys, or is over; of
-        several cookies of its name the last counts. `now` is in seconds since 1970; without it the clock's time counts.
+        A session isn't open if the site's cookie is missing, isn't encrypted under one of the keys, or is over. Of
+        several cookies of its name the first in which a session is open counts. `now` is in seconds since 1970; without
+        it the clock's time counts.
 
         >>> from deomigal import derive_key
         >>> sessions = Sessions([derive_key(b"a master key of at least 32 bytes")], "session", 12 * 3600, 1800)

@@ -1,12 +1,10 @@
 -- A session that is found for C: `old` is the buffer at the call and `new` at the return.
 use Rattle.std.specs.Prelude.{◌≡◌, ◌↔◌, ◌⊎◌, ℕ, List, Option, Some}
 use Rattle.jiff.specs.Types.{DateTime}
-use Rattle.cookie.specs.Jar.{view}
-use Rattle.cookie.specs.Originals.{jar_for}
 use Rattle.cookie.specs.Record.{Record}
 use Rattle.cookie_session.specs.Form.{form_of_texts}
 use Rattle.cookie_session.specs.Session.{SessionState}
-use Rattle.cookie_session.specs.Sessions.{HoldsOne, IsOpen}
+use Rattle.cookie_session.specs.Sessions.{HoldsOne, OpensFirst}
 use Rattle.cookie_session.specs.declared.opened.Opened.{Opened}
 use Rattle.cookie_session.specs.declared.sessions.Sessions.{Sessions}
 use Rattle.cookie_c.specs.Answers.{IsGiven}
@@ -15,21 +13,21 @@ use Rattle.cookie_c.specs.declared.opened_session.OpenedSession.{OpenedSession}
 use Rattle.cookie_c.specs.declared.status.Status.{Status}
 use Rattle.cookie_c.specs.declared.status.Status.TheVariants as status
 
--- the cookie of the site's name in a request's `Cookie` field, if it has one: of several the first
-abbrev pub stored_of : Sessions → List ℕ → Option Record
-stored_of site field = view (jar_for field) site.cookie.now.fields.name
+-- no session is open in these cookies
+abbrev pub HasNone : Sessions → List Record → DateTime → Type 0
+HasNone site cookies time =
+    (place : ℕ) (session : SessionState) → ¬ OpensFirst site cookies time place session
 
--- no session is open in the stored cookie
-abbrev pub HasNone : Sessions → Option Record → DateTime → Type 0
-HasNone site stored time = (place : ℕ) (session : SessionState) → ¬ IsOpen site stored time place session
-
--- the session that is found, if any, is the one that is open, and the cookie holds no other, whatever the time
-pub record Finds (site : Sessions) (stored : Option Record) (time : DateTime)
+-- the session that is found, if any, is the one of the first cookie in which one is open, and this cookie holds no
+-- other, whatever the time
+pub record Finds (site : Sessions) (cookies : List Record) (time : DateTime)
     (found : Option Opened) : Type 0 where
   pub exact : (place : ℕ) (session : SessionState)
       → (found ≡ Some (record { session = session; place = place }))
-      ↔ IsOpen site stored time place session
-  pub once : HoldsOne site stored
+      ↔ OpensFirst site cookies time place session
+  pub once : (place : ℕ) (session : SessionState)
+      → (first : OpensFirst site cookies time place session)
+      → HoldsOne site (Some first.cookie)
 
 -- the answer of a call that has no session
 abbrev pub refused_opening : Status → OpenedSession
@@ -49,11 +47,13 @@ pub record GivesSession (key : ℕ) (session : SessionState) (answer : OpenedSes
   pub started : answer.started ≡ session.started
   pub seen : answer.seen ≡ session.seen
 
--- the session that is open in the stored cookie is given, which holds no other, or there is none, or memory ran out
-abbrev pub IsOpening : Sessions → Option Record → DateTime → OpenedSession → List ℕ → List ℕ
+-- the session of the first cookie in which one is open is given, and this cookie holds no other; or there is none, or
+-- memory ran out
+abbrev pub IsOpening : Sessions → List Record → DateTime → OpenedSession → List ℕ → List ℕ
     → Type 0
-IsOpening site stored time answer old new =
-    ((place : ℕ) × (session : SessionState) × IsOpen site stored time place session
-    × HoldsOne site stored × GivesSession place session answer old new)
-    ⊎ ((HasNone site stored time × IsRefusedOpening status.NoSession answer old new)
+IsOpening site cookies time answer old new =
+    ((place : ℕ) × (session : SessionState)
+    × (first : OpensFirst site cookies time place session)
+    × HoldsOne site (Some first.cookie) × GivesSession place session answer old new)
+    ⊎ ((HasNone site cookies time × IsRefusedOpening status.NoSession answer old new)
     ⊎ IsRefusedOpening status.OutOfMemory answer old new)

@@ -7,7 +7,7 @@ use Rattle.cookie.specs.Text.{cookie_text}
 use Rattle.cookie_session.specs.Form.{texts_of_form}
 use Rattle.cookie_session.specs.Seconds.{second_of}
 use Rattle.cookie_session.specs.Session.{SessionState, seen_at}
-use Rattle.cookie_session.specs.Sessions.{CanSave, IsOpen, IsStored, bare_cookie, meets_prefix, saved_cookie}
+use Rattle.cookie_session.specs.Sessions.{CanSave, IsStored, OpensFirst, bare_cookie, meets_prefix, saved_cookie}
 use Rattle.cookie_session.specs.Size.{browser_length, most_bytes}
 use Rattle.cookie_session.specs.declared.session_error.SessionError.{SessionError}
 use Rattle.cookie_session.specs.declared.session_error.SessionError.TheVariants as failure
@@ -71,15 +71,15 @@ new_session time form =
 abbrev pub with_form : List ℕ → SessionState → SessionState
 with_form form session = record session { texts = texts_of_form form }
 
--- What is saved with the texts of a form: a new session, if the lifetime starts anew, or else the one that is open in
--- the stored cookie, whose lifetime goes on.
-pub record SavesTexts (site : Sessions) (stored : Option Record) (form : List ℕ) (renew : Bool)
+-- What is saved with the texts of a form: a new session, if the lifetime starts anew, or else the one of the first
+-- cookie in which one is open, whose lifetime goes on.
+pub record SavesTexts (site : Sessions) (cookies : List Record) (form : List ℕ) (renew : Bool)
     (time : DateTime) (nonce : List ℕ) (answer : Answer) (old new : List ℕ) : Type 0 where
   pub renewed : renew ≡ true → Saves site nonce time (new_session time form)
       (IsUnsaved answer old new) (λ text. IsGiven text answer old new)
   pub continued : renew ≡ false → (place : ℕ) (session : SessionState)
-      → IsOpen site stored time place session
+      → OpensFirst site cookies time place session
       → Saves site nonce time (with_form form session)
       (IsUnsaved answer old new) (λ text. IsGiven text answer old new)
-  pub none : renew ≡ false → HasNone site stored time
+  pub none : renew ≡ false → HasNone site cookies time
       → IsRefused status.NoSession answer old new ⊎ IsRefused status.OutOfMemory answer old new

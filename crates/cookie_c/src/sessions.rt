@@ -20,8 +20,8 @@ pub struct SessionSettings<'a> {
     pub lifetime: u32,
     /// The seconds that a session lives after it was last saved.
     pub idle: u32,
-    /// A random number: the names of a request's cookies are hashed with it.
+    /// A number that isn't used.
     pub seed: u64,
-    /// Another random number, for the same hash.
+    /// Another number that isn't used.
     pub other_seed: u64,
 }

@@ -1,25 +1,23 @@
 //! Opening a session for C.
-ghost use Rattle.std.specs.Prelude.{◌≡◌, IfOk};
 ghost use Rattle.cookie.specs.Memory.{Gives};
-ghost use Rattle.cookie.specs.Originals.{jar_for};
+ghost use Rattle.cookie.specs.Originals.{field_cookies};
 ghost use Rattle.cookie.specs.declared.jar_error.JarError.TheVariants as refusal;
-ghost use Rattle.cookie_c.specs.OpenedSessions.{Finds, IsOpening, IsRefusedOpening, stored_of};
+ghost use Rattle.cookie_c.specs.OpenedSessions.{Finds, IsOpening, IsRefusedOpening};
 ghost use Rattle.cookie_c.specs.Sites.{AtSite};
 
 use super::SessionSettings;
 use super::site::Site;
 use crate::opened_session::OpenedSession;
-use crate::session::Seed;
 use crate::status::Status;
-use cookie::{CookieJar, JarError};
+use cookie::JarError;
 use cookie_session::{Opened, Sessions};
 use jiff::civil::DateTime;
-use std::alloc::{AllocError, Global};
-use std::hash::RandomState;
+use std::alloc::Global;
 
 /// Opens the session of a request, and returns the place of the key that opened it. The session's texts are for the
 /// buffer, as a form in byte order of the names (URL Standard 5.2). `header` is the value of the request's `Cookie`
-/// header. A piece of it that isn't UTF-8 or isn't a cookie is skipped. `now` is the time in seconds since 1970 in UTC.
+/// header. A piece of it that isn't UTF-8 or isn't a cookie is skipped. Of several cookies with the site's name the
+/// first in which a session is open counts. `now` is the time in seconds since 1970 in UTC.
 ///
 /// Refuses unusable settings or an unusable time (`IsUnusable`), and then a request without an open session. It may
 /// also run out of memory.
@@ -32,11 +30,11 @@ pub extern "C" fn cookie_session_open(
     out: &mut [u8],
 ) -> OpenedSession
     ensures { AtSite settings.now now
-        (λ site time. IsOpening site (stored_of site header.now) time result out.old out.new)
+        (λ site time. IsOpening site (field_cookies header.now) time result out.old out.new)
         (λ why. IsRefusedOpening why result out.old out.new) }
 {
     match Site::of(alloc, settings, now) {
-        Ok(site) => give_session(alloc, &site.sessions(), settings, header, site.time, out),
+        Ok(site) => give_session(alloc, &site.sessions(), header, site.time, out),
         Err(why) => OpenedSession::refusal(why),
     }
 }
@@ -45,15 +43,13 @@ pub extern "C" fn cookie_session_open(
 fn give_session(
     alloc: Global,
     sessions: &Sessions<'_>,
-    settings: &SessionSettings<'_>,
     header: &[u8],
     time: DateTime,
     out: &mut [u8],
 ) -> OpenedSession
-    ensures { IsOpening sessions.now (stored_of sessions.now header.now) time result
-        out.old out.new }
+    ensures { IsOpening sessions.now (field_cookies header.now) time result out.old out.new }
 {
-    match find(alloc, sessions, settings, header, time) {
+    match find(alloc, sessions, header, time) {
         Ok(Some(opened)) => OpenedSession::give(alloc, &opened, out),
         Ok(None) => OpenedSession::refusal(Status::NoSession),
         Err(_) => OpenedSession::refusal(Status::OutOfMemory),
@@ -64,27 +60,11 @@ fn give_session(
 pub(super) fn find(
     alloc: Global,
     sessions: &Sessions<'_>,
-    settings: &SessionSettings<'_>,
     header: &[u8],
     time: DateTime,
 ) -> Result<Option<Opened>, JarError>
     ensures { Gives refusal.OutOfMemory result
-        (Finds sessions.now (stored_of sessions.now header.now) time) }
+        (Finds sessions.now (field_cookies header.now) time) }
 {
-    let jar = request_jar(alloc, settings, header)?;
-    sessions.open(alloc, &jar, time)
-}
-
-// The jar of the request's cookies.
-fn request_jar(
-    alloc: Global,
-    settings: &SessionSettings<'_>,
-    header: &[u8],
-) -> Result<CookieJar, AllocError>
-    ensures { IfOk result (λ jar. jar ≡ jar_for header.now) }
-{
-    match RandomState::new(&Seed::of(settings.seed, settings.other_seed)) {
-        Ok(state) => CookieJar::with_hasher(alloc, state).with_field(header),
-        Err(_) => Err(AllocError),
-    }
+    sessions.open_field(alloc, header, time)
 }

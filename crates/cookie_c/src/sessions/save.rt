@@ -1,11 +1,11 @@
 //! Saving and ending a session for C.
 ghost use Rattle.std.specs.Prelude.{◌≡◌, ◌≢◌, true, false, Some, Err, IfOk, IsOkAnd, MatchResult, length, option_map, string_bytes};
 ghost use Rattle.cookie.specs.Jar.{view};
+ghost use Rattle.cookie.specs.Originals.{field_cookies};
 ghost use Rattle.cookie.specs.Removal.{removal};
 ghost use Rattle.cookie.specs.Text.{cookie_text};
 ghost use Rattle.cookie_session.specs.declared.session_error.SessionError.TheVariants as failure;
 ghost use Rattle.cookie_c.specs.Answers.{IsGiven, IsGivenInMemory, IsRefused};
-ghost use Rattle.cookie_c.specs.OpenedSessions.{stored_of};
 ghost use Rattle.cookie_c.specs.SavedSessions.{IsUnsaved, Saves, SavesTexts, unsaved_number, unsaved_status, with_form};
 ghost use Rattle.cookie_c.specs.SaveParts.{IsSaved};
 ghost use Rattle.cookie_c.specs.Sites.{AtSite};
@@ -46,7 +46,7 @@ pub extern "C" fn cookie_session_save(
     ensures bad_nonce { length nonce.now ≢ 12
         → IsRefused status.BadNonce result out.old out.new }
     ensures saves { length nonce.now ≡ 12 → AtSite settings.now now
-        (λ site time. SavesTexts site (stored_of site header.now) texts.now renew time nonce.now
+        (λ site time. SavesTexts site (field_cookies header.now) texts.now renew time nonce.now
         result out.old out.new)
         (λ why. IsRefused why result out.old out.new) }
 {
@@ -57,7 +57,6 @@ pub extern "C" fn cookie_session_save(
         Ok(site) => give_saved(
             alloc,
             &site.sessions(),
-            settings,
             header,
             texts,
             renew,
@@ -96,7 +95,6 @@ pub extern "C" fn cookie_session_end(
 fn give_saved(
     alloc: Global,
     sessions: &Sessions<'_>,
-    settings: &SessionSettings<'_>,
     header: &[u8],
     texts: &[u8],
     renew: bool,
@@ -104,7 +102,7 @@ fn give_saved(
     nonce: Nonce,
     out: &mut [u8],
 ) -> Answer
-    ensures { SavesTexts sessions.now (stored_of sessions.now header.now) texts.now renew time
+    ensures { SavesTexts sessions.now (field_cookies header.now) texts.now renew time
         nonce.bytes result out.old out.new }
 {
     if renew {
@@ -118,7 +116,7 @@ fn give_saved(
             out,
         );
     }
-    match find(alloc, sessions, settings, header, time) {
+    match find(alloc, sessions, header, time) {
         Ok(Some(opened)) => give_session(alloc, sessions, opened.session, texts, time, nonce, out),
         Ok(None) => Answer::refusal(Status::NoSession),
         Err(_) => Answer::refusal(Status::OutOfMemory),

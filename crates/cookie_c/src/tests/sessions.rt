@@ -90,6 +90,11 @@ open site|599|\\xff; __Host-session=BwcHBwcHBwcHBwcH+87bgnza0NNt/2ANl/RT/5OYs+1c
 open newest|0|__Host-session=BwcHBwcHBwcHBwcH+87bgnza0NNt/2ANl/RT/5OYs+1cWykqbkddgNcgZph4GPC2+e2fmNc4TOHWXxYPrjkfa+QaBvmpqJ4rPxGC -> 20
 open site|600|__Host-session=BwcHBwcHBwcHBwcHxr3ptyQiF+vjHTi0H/EZJ4ojpl9zfz1zVvp2m7gKpdda/GN0JOW7CAb5HSsyRy3XRjls00uYx1eOORdattff -> 20
 open site|0|session=BwcHBwcHBwcHBwcHxr3ptyQiF+vjHTi0H/EZJ4ojpl9zfz1zVvp2m7gKpdda/GN0JOW7CAb5HSsyRy3XRjls00uYx1eOORdattff -> 20
+open site|0|__Host-session=junk; __Host-session=BwcHBwcHBwcHBwcHxr3ptyQiF+vjHTi0H/EZJ4ojpl9zfz1zVvp2m7gKpdda/GN0JOW7CAb5HSsyRy3XRjls00uYx1eOORdattff -> 0 user=ann
+open site|0|__Host-session=BwcHBwcHBwcHBwcHxr3ptyQiF+vjHTi0H/EZJ4ojpl9zfz1zVvp2m7gKpdda/GN0JOW7CAb5HSsyRy3XRjls00uYx1eOORdattff; __Host-session=junk -> 0 user=ann
+open newest|0|__Host-session=BwcHBwcHBwcHBwcH+87bgnza0NNt/2ANl/RT/5OYs+1cWykqbkddgNcgZph4GPC2+e2fmNc4TOHWXxYPrjkfa+QaBvmpqJ4rPxGC; __Host-session=BwcHBwcHBwcHBwcHxr3ptyQiF+vjHTi0H/EZJ4ojpl9zfz1zVvp2m7gKpdda/GN0JOW7CAb5HSsyRy3XRjls00uYx1eOORdattff -> 0 user=ann
+open site|0|__Host-session=BwcHBwcHBwcHBwcHxr3ptyQiF+vjHTi0H/EZJ4ojpl9zfz1zVvp2m7gKpdda/GN0JOUfRAHIAKoj/jHLtVhTFbzG; __Host-session=BwcHBwcHBwcHBwcHxr3ptyQiF+vjHTi0H/EZJ4ojpl9zfz1zVvp2m7gKpdda/GN0JOW7CAb5HSsyRy3XRjls00uYx1eOORdattff -> 0
+open site|0|%5F_Host-session=BwcHBwcHBwcHBwcHxr3ptyQiF+vjHTi0H/EZJ4ojpl9zfz1zVvp2m7gKpdda/GN0JOW7CAb5HSsyRy3XRjls00uYx1eOORdattff; __Host-session=junk -> 20
 open site|0| -> 20
 open none|0| -> 4
 open short|0| -> 4
@@ -103,6 +108,7 @@ renew site|0||user=ann -> 0 __Host-session=BwcHBwcHBwcHBwcHxr3ptyQiF+vjHTi0H%2FE
 renew site|0|__Host-session=x|user=bob&user=%61n%6E -> 0 __Host-session=BwcHBwcHBwcHBwcHxr3ptyQiF+vjHTi0H%2FEZJ4ojpl9zfz1zVvp2m7gKpdda%2FGN0JOW7CAb5HSsyRy3XRjls00uYx1eOORdattff; HttpOnly; SameSite=Lax; Secure; Path=/; Max-Age=600
 renew lifetime|0||user=ann -> 0 __Host-session=BwcHBwcHBwcHBwcHxr3ptyQiF+vjHTi0H%2FEZJ4ojpl9zfz1zVvp2m7gKpdda%2FGN0JOW7CAb5HSsyRy3XRjls00uYx1eOORdattff; HttpOnly; SameSite=Lax; Secure; Path=/; Max-Age=300
 save site|599|__Host-session=BwcHBwcHBwcHBwcH+87bgnza0NNt/2ANl/RT/5OYs+1cWykqbkddgNcgZph4GPC2+e2fmNc4TOHWXxYPrjkfa+QaBvmpqJ4rPxGC|user=ann -> 0 __Host-session=BwcHBwcHBwcHBwcHxr3ptyQiF+vjHTi0H%2FEZJ4ojpl9zfz1zVvp2m7gKpdda%2FGJwK+y7CAb5HSsyRy28OAIo8IPNDv6qDqvYeobT; HttpOnly; SameSite=Lax; Secure; Path=/; Max-Age=600
+save site|599|__Host-session=junk; __Host-session=BwcHBwcHBwcHBwcH+87bgnza0NNt/2ANl/RT/5OYs+1cWykqbkddgNcgZph4GPC2+e2fmNc4TOHWXxYPrjkfa+QaBvmpqJ4rPxGC|user=ann -> 0 __Host-session=BwcHBwcHBwcHBwcHxr3ptyQiF+vjHTi0H%2FEZJ4ojpl9zfz1zVvp2m7gKpdda%2FGJwK+y7CAb5HSsyRy28OAIo8IPNDv6qDqvYeobT; HttpOnly; SameSite=Lax; Secure; Path=/; Max-Age=600
 save site|600|__Host-session=BwcHBwcHBwcHBwcHxr3ptyQiF+vjHTi0H/EZJ4ojpl9zfz1zVvp2m7gKpdda/GN0JOW7CAb5HSsyRy3XRjls00uYx1eOORdattff|user=ann -> 20
 save prefix|0||user=ann -> 20
 renew prefix|0||user=ann -> 21

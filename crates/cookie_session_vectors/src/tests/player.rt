@@ -10,12 +10,13 @@ use std::alloc::Global;
 // The number of bytes that are enough for what rows draw.
 const AMPLE: usize = 1_000;
 
-/// A site, the jar of a request, the time, and a session.
+/// A site, the jar of a request, a `Cookie` field, the time, and a session.
 #[derive(Drop)]
 pub(super) struct Player {
     alloc: Global,
     site: Site,
     jar: CookieJar,
+    field: &'static str,
     now: DateTime,
     session: Session,
 }
@@ -26,6 +27,7 @@ impl Player {
             alloc,
             site: Site::new(alloc)?,
             jar: CookieJar::new(alloc),
+            field: "",
             now: moment(),
             session: Session::start(alloc, moment()),
         })
@@ -117,6 +119,20 @@ impl Player {
         opened.is_ok_and(|opened| opened.is_none())
     }
 
+    // Whether the field has the session whose key is at that place, or none, as `0` or `none`.
+    fn carries(&mut self, place: &str) -> bool {
+        let field = self.field.as_bytes();
+        let found = self.site.sessions().open_field(self.alloc, field, self.now);
+        match (found, place) {
+            (Ok(None), "none") => true,
+            (Ok(Some(opened)), place) => {
+                self.session = opened.session;
+                place.parse() == Ok(opened.place)
+            }
+            _ => false,
+        }
+    }
+
     fn end(&mut self) -> Option<()> {
         self.site
             .sessions()
@@ -191,6 +207,11 @@ impl Player {
             "refuses" => self.is_refused(rest) == Some(true),
             "opens" => self.open().is_some_and(|place| rest.parse() == Ok(place)),
             "closed" => self.is_closed(),
+            "field" => {
+                self.field = rest;
+                true
+            }
+            "carries" => self.carries(rest),
             "end" => self.end().is_some(),
             "keep" => self.keep(rest, AMPLE).is_some_and(|kept| kept.is_ok()),
             "finds" => self.finds(rest) == Some(true),
