@@ -13,9 +13,10 @@ use std::alloc::Global;
 /// Has a user agent make a request to a site, at the time `now` in UTC, and opens the session of its `Cookie` header as
 /// the site's server does, by [`Sessions::open_field`].
 ///
-/// If the session's cookie has a name that begins with `__Host-`, only the site's own secure responses decide which
-/// session opens: the last of them that stored the cookie. What other hosts and insecure connections send changes
-/// nothing, whatever their texts are. This requires that the agent wasn't trimmed ([`Agent::trim`]).
+/// If the session's cookie has a name that begins with `__Host-`, and no byte of it is escaped, only the site's own
+/// secure responses decide which session opens: the last of them that stored the cookie. What other hosts and insecure
+/// connections send changes nothing, whatever their texts are. This requires that the agent wasn't trimmed
+/// ([`Agent::trim`]).
 ///
 /// Fails only with `JarError::OutOfMemory`.
 pub fn open_for_agent(
