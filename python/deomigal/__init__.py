@@ -15,12 +15,12 @@ from .cookies import decoded_pairs, pairs, print_cookie, read_cookie, read_decod
 from .dates import print_date, read_date
 from .errors import CookieError
 from .jars import Jar, run
-from .secrets import derive_key, open_sealed, seal, sign, verify
+from .secrets import derive_key, keys_of, open_sealed, seal, sign, verify
 from .sessions import Session, Sessions
 
-__version__ = "0.1.0"
+__version__ = "0.2.0"
 __all__ = [
-    "CookieError", "Jar", "Session", "Sessions", "decoded_pairs", "derive_key", "errors", "explain", "open_sealed",
-    "pairs", "print_cookie", "print_date", "read_cookie", "read_date", "read_decoded_cookie", "run", "seal", "sign",
-    "verify",
+    "CookieError", "Jar", "Session", "Sessions", "decoded_pairs", "derive_key", "errors", "explain", "keys_of",
+    "open_sealed", "pairs", "print_cookie", "print_date", "read_cookie", "read_date", "read_decoded_cookie", "run",
+    "seal", "sign", "verify",
 ]

@@ -4,7 +4,7 @@ from __future__ import annotations
 import ctypes
 import os
 import pathlib
-from typing import Any, Callable
+from typing import Any, Callable, NoReturn
 
 from .errors import BufferTooShort, CookieError, error_of
 
@@ -68,8 +68,18 @@ class OpenedSession(ctypes.Structure):
     ]
 
 
+def library_at(path: str) -> ctypes.CDLL:
+    """The library, or `ImportError` with what to do."""
+    try:
+        return ctypes.CDLL(path)
+    except OSError as error:
+        raise ImportError(
+            f"deomigal lacks its library: {error}. In the project, tools/c/install PREFIX makes a wheel that has it."
+        ) from error
+
+
 # The shared object is beside this file; the variable COOKIE_C names another one.
-LIBRARY = ctypes.CDLL(os.environ.get("COOKIE_C", str(pathlib.Path(__file__).parent / "libcookie_c.so")))
+LIBRARY = library_at(os.environ.get("COOKIE_C", str(pathlib.Path(__file__).parent / "libcookie_c.so")))
 TEXT: list[Any] = [ctypes.c_char_p, ctypes.c_size_t]
 HANDLE: list[Any] = [ctypes.POINTER(Handle)]
 SEEDS: list[Any] = [ctypes.c_uint64] * 2
@@ -111,9 +121,25 @@ SESSION_SAVE = declare(
 SESSION_END = declare("session_end", SETTINGS + [ctypes.c_uint64] + TEXT, Answer)
 
 
+class Uncopied:
+    """What holds memory or keys of the library, and so has no copies."""
+
+    def __reduce_ex__(self, _: Any) -> NoReturn:
+        raise TypeError(f"a {type(self).__name__} can't be copied or pickled: make another one")
+
+
 def bytes_of(text: str | bytes) -> bytes:
     """The text's bytes. A lone surrogate stands for a byte that isn't UTF-8, and its bytes aren't either."""
-    return text.encode("utf-8", "surrogatepass") if isinstance(text, str) else bytes(text)
+    if isinstance(text, str):
+        return text.encode("utf-8", "surrogatepass")
+    return key_of(text, "a text is a str or bytes")
+
+
+def key_of(key: bytes, rule: str = "a key is bytes") -> bytes:
+    """The key's bytes, or `TypeError` with the rule. `bytes` of a number would be as many zeros."""
+    if not isinstance(key, (bytes, bytearray, memoryview)):
+        raise TypeError(f"{rule}, and not of the type {type(key).__name__}")
+    return bytes(key)
 
 
 def header_of(header: str | bytes | None) -> bytes:
@@ -121,28 +147,28 @@ def header_of(header: str | bytes | None) -> bytes:
     return b"" if header is None else bytes_of(header)
 
 
-def arguments_of(inputs: tuple[Any, ...]) -> list[Any]:
-    """The arguments for C: each text as its bytes and their count."""
+def arguments_of(function: Any, inputs: tuple[Any, ...]) -> list[Any]:
+    """The arguments for C: where the function takes a text, its bytes and their count."""
     arguments: list[Any] = []
     for value in inputs:
-        if isinstance(value, (int, ctypes.Structure)):
-            arguments.append(value)
+        if function.argtypes[len(arguments)] is ctypes.c_char_p:
+            text = bytes_of(value)
+            arguments += [text, len(text)]
         else:
-            value = bytes_of(value)
-            arguments += [value, len(value)]
+            arguments.append(value)
     return arguments
 
 
 def done(function: Callable[..., Any], *inputs: Any) -> None:
     """Makes a call that returns no text."""
-    status = function(*arguments_of(inputs))
+    status = function(*arguments_of(function, inputs))
     if status != DONE:
         raise error_of(status)
 
 
 def told(function: Callable[..., Any], *inputs: Any, room: int = 256) -> tuple[Any, bytes]:
     """What a call returns, and its bytes. If the first buffer is too short, it is called again with one that fits."""
-    arguments = arguments_of(inputs)
+    arguments = arguments_of(function, inputs)
     while True:
         buffer = ctypes.create_string_buffer(room)
         answer = function(*arguments, buffer, room)
@@ -161,7 +187,7 @@ def given(function: Callable[..., Any], *inputs: Any, room: int = 256) -> bytes:
 
 def decoded(function: Callable[..., Any], *inputs: Any, room: int = 256) -> tuple[Any, bytes]:
     """What a call that decodes returns, and its buffer. If the first is too short, it is called again."""
-    arguments = arguments_of(inputs)
+    arguments = arguments_of(function, inputs)
     while True:
         buffer = ctypes.create_string_buffer(room)
         answer = function(*arguments, buffer, room)

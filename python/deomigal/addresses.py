@@ -29,6 +29,8 @@ def address_of(url: str, is_cross_site: bool = False) -> Address:
 
     Raises `ValueError` if the URL isn't one of http or https, or its host isn't in ASCII.
     """
+    if not isinstance(url, str):
+        raise TypeError("a URL is a str")
     url = re.sub(r"[\t\n\r]", "", url.strip("".join(map(chr, range(33)))))
     parts = re.fullmatch(r"(?is)(https?):[/\\]*(?:([^/\\?#]*)@)?([^/\\?#]*)([^?#]*).*", url)
     if not parts:

@@ -23,6 +23,8 @@ def date_of(moment: Moment) -> datetime.datetime | None:
 
 def numbers_of(moment: datetime.datetime) -> tuple[int, int, int, int, int, int]:
     """The six numbers of a date and time in UTC. One without a time zone counts as UTC."""
+    if not isinstance(moment, datetime.datetime):
+        raise TypeError("a time is a datetime.datetime")
     if moment.tzinfo is not None:
         moment = moment.astimezone(datetime.timezone.utc)
     return moment.year, moment.month, moment.day, moment.hour, moment.minute, moment.second

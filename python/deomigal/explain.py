@@ -135,9 +135,15 @@ def found_at(address: Address, text: bytes, suffixes: bytes, now: int) -> Found:
     answer = EXPLAIN(request, suffixes, len(suffixes), text, len(text), now, buffer, room)
     if answer.status != DONE:
         raise error_of(answer.status)
-    cookie = answer.stored
-    places = answer.sentence, answer.section, cookie.name, cookie.value, cookie.domain, cookie.path
-    return Found(answer.refusal, *(buffer.raw[at.start : at.start + at.length] for at in places), cookie)
+    cookie, texts = answer.stored, buffer.raw
+
+    def taken(at: Place) -> bytes:
+        return texts[at.start : at.start + at.length]
+
+    return Found(
+        answer.refusal, taken(answer.sentence), taken(answer.section), taken(cookie.name), taken(cookie.value),
+        taken(cookie.domain), taken(cookie.path), cookie,
+    )
 
 
 def refusal(
@@ -165,9 +171,9 @@ def explain(
     >>> explain("https://shop.example/", "lang=en; Domain=other.example")
     "refused: the host isn't in the domain: set the host or a domain above it, or none (RFC 6265bis, Storage Model)"
     """
-    now, text = second_of(now), bytes_of(text)
-    found = found_at(address_of(url, is_cross_site), text, list_text(suffixes), now)
-    return shown(told(found, text, now))
+    second, line = second_of(now), bytes_of(text)
+    found = found_at(address_of(url, is_cross_site), line, list_text(suffixes), second)
+    return shown(told(found, line, second))
 
 
 def told(found: Found, text: bytes, now: int, removal: bytes = b"would remove, if it were stored: ") -> bytes:
@@ -183,7 +189,8 @@ def told(found: Found, text: bytes, now: int, removal: bytes = b"would remove, i
     flags = b"; Secure" * cookie.is_secure + b"; HttpOnly" * cookie.is_http_only
     site = f"; SameSite={RULES[cookie.same_site]}".encode() if cookie.same_site else b""
     pair = b"stored: %b=%b" % (found.name, found.value)
-    return pair + scope + end_of(cookie, now) + flags + site + partition_of(text, cookie.is_secure)
+    line: bytes = pair + scope + end_of(cookie, now) + flags + site + partition_of(text, cookie.is_secure)
+    return line
 
 
 def end_of(cookie: StoredCookie, now: int) -> bytes:
@@ -191,7 +198,7 @@ def end_of(cookie: StoredCookie, now: int) -> bytes:
     if not cookie.is_persistent:
         return b"; until the browser closes"
     end = f"; until {print_date(date_after(now, cookie.lifetime))}".encode()
-    return end + b" (400 days, the most that a browser allows)" * (cookie.lifetime == LONGEST)
+    return end + b" (400 days, the most that a browser allows)" if cookie.lifetime == LONGEST else end
 
 
 def partition_of(text: bytes, is_secure: bool) -> bytes:
@@ -223,6 +230,8 @@ def list_text(suffixes: str | bytes | None) -> bytes:
 
 def second_of(now: datetime.datetime | None) -> int:
     """The time in whole seconds since 1970 in UTC, by default the clock's. A time without a zone counts as UTC."""
+    if not isinstance(now, (datetime.datetime, type(None))):
+        raise TypeError("a time is a datetime.datetime")
     now = now or datetime.datetime.now(datetime.timezone.utc)
     return int(now.replace(microsecond=0, tzinfo=now.tzinfo or datetime.timezone.utc).timestamp())
 

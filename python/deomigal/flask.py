@@ -2,31 +2,36 @@
 
     from deomigal.flask import SessionInterface
 
-    app.session_interface = SessionInterface(idle=1800)
+    SessionInterface(idle=1800).init_app(app)
 
 `flask.session` is a dict as before. Each of its values is saved as a text of its own, in Flask's tagged JSON.
 """
 from __future__ import annotations
 
 import time
-from typing import Any, Callable, Sequence
+from typing import Any, Callable, Sequence, cast
 
+import flask
 from flask import Flask, Request, Response
-from flask.sessions import SecureCookieSession, SessionMixin
+from flask.sessions import SecureCookieSession, SecureCookieSessionInterface, SessionMixin
 from flask.sessions import SessionInterface as FlaskSessionInterface
 from flask.sessions import session_json_serializer as tagged
+from itsdangerous import BadData
 
-from ._library import bytes_of
-from .secrets import derive_key
+from ._library import header_of
+from .cookies import pairs
+from .secrets import keys_of
 from .sessions import Session, Sessions
+from .values import with_expiry
 
 
 class FlaskSession(SecureCookieSession):
-    """What `flask.session` is. `kept` is the session that it was opened from, and `sessions` how the site keeps it."""
+    """What `flask.session` is. `kept` is the session that it was opened from, and `sessions` how the site keeps it.
+    `is_old` is whether it was a session of Flask's own class."""
 
-    def __init__(self, sessions: Sessions, kept: Session, values: dict[str, Any]) -> None:
+    def __init__(self, sessions: Sessions, kept: Session, values: dict[str, Any], is_old: bool = False) -> None:
         super().__init__(values)
-        self.sessions, self.kept, self.new = sessions, kept, kept.is_new
+        self.sessions, self.kept, self.new, self.is_old = sessions, kept, kept.is_new and not is_old, is_old
 
     @property
     def started(self) -> int:
@@ -43,22 +48,48 @@ class FlaskSession(SecureCookieSession):
         super().clear()
         self.renew()
 
+    def __repr__(self) -> str:
+        return f"<FlaskSession {list(self.keys())!r}>"
+
+
+# The session of the request, as `flask.session` is, but with the type that it has here.
+session = cast(FlaskSession, flask.session)
+
 
 class SessionInterface(FlaskSessionInterface):
-    """Keeps Flask's sessions. `keys` has keys of at least 64 random bytes, the newest first. Without it they are derived
-    from the application's SECRET_KEY and SECRET_KEY_FALLBACKS, of which each has at least 32 bytes.
+    """Keeps Flask's sessions. `keys` has keys of at least 64 random bytes, the newest first. Without it they are
+    derived from the application's SECRET_KEY and SECRET_KEY_FALLBACKS, of which each has at least 32 bytes, and from
+    `salt`.
 
     A session is over PERMANENT_SESSION_LIFETIME after its start, and `idle` seconds after it was last saved, if `idle`
-    is given. `clock` returns the time, in seconds since 1970.
+    is given. `refresh` is how many seconds after it was saved an unchanged session is saved again, by default a tenth
+    of `idle`. With `migrate` the sessions of Flask's own class are read too, and saved as these. `clock` returns the
+    time, in seconds since 1970. `serializer` prints and reads each value.
+
+    With Flask-Login each login starts the session anew.
     """
 
     session_class = FlaskSession
+    serializer: Any = tagged
+    salt: str | bytes | None = None
 
     def __init__(
-        self, keys: Sequence[bytes] | None = None, idle: int | None = None, clock: Callable[[], float] = time.time
+        self, keys: Sequence[bytes] | None = None, idle: int | None = None, clock: Callable[[], float] = time.time, *,
+        refresh: float | None = None, migrate: bool = False, serializer: Any = None, salt: str | bytes | None = None,
     ) -> None:
-        self.keys, self.idle, self.clock = keys, idle, clock
+        if keys is not None and salt is not None:
+            raise ValueError("a salt is for keys that are derived from secrets")
+        self.keys, self.idle, self.clock, self.refresh, self.migrate = keys, idle, clock, refresh, migrate
+        self.serializer = self.serializer if serializer is None else serializer
+        self.salt = self.salt if salt is None else salt
         self.made: tuple[Any, Sessions] | None = None
+        connect_to_logins(self.renew_at_login)
+
+    def init_app(self, app: Flask) -> None:
+        """Has the application keep its sessions so. Raises why, if no session could be saved with its settings: such as
+        `MasterTooShort` for a SECRET_KEY that is too short, with the line that makes a good one."""
+        self.sessions(app)
+        app.session_interface = self
 
     def sessions(self, app: Flask) -> Sessions:
         """The sessions of the application, by its keys and its settings as they are now."""
@@ -67,13 +98,15 @@ class SessionInterface(FlaskSessionInterface):
         attributes = {
             "path": self.get_cookie_path(app), "domain": self.get_cookie_domain(app),
             "secure": self.get_cookie_secure(app), "http_only": self.get_cookie_httponly(app),
-            "same_site": same_site and same_site.title(), "partitioned": app.config.get("SESSION_COOKIE_PARTITIONED", False),
+            "same_site": same_site and same_site.title(),
+            "partitioned": app.config.get("SESSION_COOKIE_PARTITIONED", False),
         }
-        secrets = self.keys or [app.secret_key, *(app.config.get("SECRET_KEY_FALLBACKS") or ())]
-        settings = (secrets, self.get_cookie_name(app), lifetime, lifetime if self.idle is None else self.idle, attributes)
+        secrets = self.keys or [app.secret_key or b"", *(app.config.get("SECRET_KEY_FALLBACKS") or ())]
+        idle = lifetime if self.idle is None else self.idle
+        settings = (secrets, self.get_cookie_name(app), lifetime, idle, attributes)
         made = self.made
         if made is None or made[0] != settings:
-            keys = self.keys or [derive_key(bytes_of(secret)) for secret in secrets]
+            keys = self.keys or keys_of(secrets, self.salt)
             self.made = made = (settings, Sessions(keys, *settings[1:4], **attributes))
         return made[1]
 
@@ -81,38 +114,83 @@ class SessionInterface(FlaskSessionInterface):
         """The session of the request, a new one, or None if the application has no key."""
         if not self.keys and not app.secret_key:
             return None
-        sessions = self.sessions(app)
-        kept = sessions.open(request.environ.get("HTTP_COOKIE", ""), self.clock())
+        sessions, header = self.sessions(app), request.environ.get("HTTP_COOKIE", "")
+        kept = sessions.open(header, self.clock())
         try:
-            values = {name: tagged.loads(text) for name, text in kept.items()}
-        except ValueError:
-            # Another program saved it, whose texts aren't JSON.
+            values = {name: self.serializer.loads(text) for name, text in kept.items()}
+        except Exception:
+            # Another program or another serializer saved it, and a serializer raises what it wants.
             kept, values = sessions.start(kept.now), {}
-        return self.session_class(sessions, kept, values)
+        old = self.old_values(app, header) if self.migrate and kept.is_new else None
+        return self.session_class(sessions, kept, values if old is None else old, old is not None)
+
+    def old_values(self, app: Flask, header: str) -> dict[str, Any] | None:
+        """The values of a session of Flask's own class, or None."""
+        signer = SecureCookieSessionInterface().get_signing_serializer(app)
+        lifetime, name = int(app.permanent_session_lifetime.total_seconds()), self.get_cookie_name(app)
+        if signer is None:
+            return None
+        for text in (text for found, text in pairs(header_of(header)) if found == name):
+            try:
+                return dict(signer.loads(text, max_age=lifetime))
+            except (BadData, TypeError, ValueError):
+                pass
+        return None
 
     def should_set_cookie(self, app: Flask, session: SessionMixin) -> bool:
-        """Whether to save the session: it was changed, an older key opened it, or its use is to count."""
+        """Whether to save the session: it was changed, an older key or Flask's own class opened it, or its use is to
+        count."""
         assert isinstance(session, FlaskSession)
+        return session.modified or session.is_old or bool(session.kept.place) or self.is_due(app, session)
+
+    def is_due(self, app: Flask, session: FlaskSession) -> bool:
+        """Whether the use of a session that wasn't changed is to count: it wasn't saved for a part of its idle time."""
+        limit = app.permanent_session_lifetime.total_seconds() if self.idle is None else self.idle
+        refresh = limit / 10 if self.refresh is None else self.refresh
         counts = app.config["SESSION_REFRESH_EACH_REQUEST"] and (session.permanent or self.idle is not None)
-        return session.modified or bool(session.kept.place) or counts
+        return bool(counts and session.kept.now - session.kept.seen >= refresh)
 
     def save_session(self, app: Flask, session: SessionMixin, response: Response) -> None:
-        """Saves the session in the response, or removes its cookie if it was emptied."""
-        assert isinstance(session, FlaskSession)
+        """Saves the session in the response, or removes its cookie if it was emptied. An error page or a file that
+        didn't use the session saves nothing."""
+        if not isinstance(session, FlaskSession):
+            # It couldn't be opened, which is the one error.
+            return
         if session.accessed:
             response.vary.add("Cookie")
-        if session:
-            if not self.should_set_cookie(app, session):
-                return
-            if session.modified:
-                session.kept.texts = {str(name): tagged.dumps(value) for name, value in session.items()}
-            text = session.sessions.save(session.kept)
-            if not session.permanent:
-                # Without an age the browser drops it when it closes.
-                text = text[: text.rindex("; Max-Age=")]
-        elif session.modified:
-            text = session.sessions.end(session.kept.now)
-        else:
+        elif not session.modified and (response.status_code >= 400 or is_static()):
             return
-        response.headers.add("Set-Cookie", text)
-        response.vary.add("Cookie")
+        text = self.text_of(app, session)
+        if text is not None:
+            response.headers.add("Set-Cookie", text)
+            response.vary.add("Cookie")
+
+    def text_of(self, app: Flask, session: FlaskSession) -> str | None:
+        """The text of the cookie that saves the session or has it dropped, or None."""
+        if not session:
+            return session.sessions.end(session.kept.now) if session.modified else None
+        if not self.should_set_cookie(app, session):
+            return None
+        if session.modified or session.is_old:
+            session.kept.texts = {str(name): self.serializer.dumps(value) for name, value in session.items()}
+        return with_expiry(session.sessions.save(session.kept), session.kept, session.permanent)
+
+    def renew_at_login(self, app: Flask, **_: Any) -> None:
+        """Starts the session anew at a login, if this keeps the application's sessions."""
+        if app.session_interface is self and isinstance(session, FlaskSession):
+            session.renew()
+
+
+def connect_to_logins(receiver: Callable[..., None]) -> None:
+    """Has it called at each login by Flask-Login, if that is installed, and blinker, which its signals need."""
+    try:
+        from flask_login import user_logged_in
+
+        user_logged_in.connect(receiver)
+    except (ImportError, RuntimeError):
+        pass
+
+
+def is_static() -> bool:
+    """Whether the request is for a file of the application or of a blueprint."""
+    return flask.has_request_context() and (flask.request.endpoint or "").rpartition(".")[2] == "static"

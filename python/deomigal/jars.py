@@ -6,13 +6,13 @@ import threading
 
 from ._library import (
     JAR_ADD, JAR_ADD_ORIGINALS, JAR_DELTA, JAR_FREE, JAR_GET, JAR_NEW, JAR_REMOVE_SCOPED, RUN, Handle, done, given,
-    header_of, read, seeds,
+    Uncopied, header_of, read, seeds,
 )
 from .dates import print_date
 from .errors import NotFound
 
 
-class Jar:
+class Jar(Uncopied):
     """A jar whose originals are the cookies in a `Cookie` header, decoded. `with Jar(header) as jar` frees it at last.
 
     Pieces of the header that aren't cookies or UTF-8 are left out, and so is a name that another host of the domain
@@ -31,8 +31,9 @@ class Jar:
         self.handle = Handle()
         # Only one call at a time may use the handle.
         self.lock = threading.Lock()
+        originals = header_of(header)
         done(JAR_NEW, *seeds(), self.handle)
-        done(JAR_ADD_ORIGINALS, self.handle, header_of(header))
+        done(JAR_ADD_ORIGINALS, self.handle, originals)
 
     def __enter__(self) -> Jar:
         return self

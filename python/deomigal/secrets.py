@@ -1,10 +1,16 @@
 """Keys, signed values and sealed values."""
 from __future__ import annotations
 
+import hmac
 import os
+from typing import Iterable
 
-from ._library import DERIVE_KEY, OPEN, SEAL, SIGN, VERIFY, given, read
-from .errors import NotSealed, NotSigned, NotUtf8
+from ._library import DERIVE_KEY, OPEN, SEAL, SIGN, VERIFY, bytes_of, given, key_of, read
+from .errors import MasterTooShort, NotSealed, NotSigned, NotUtf8
+
+# The fewest bytes of a master key.
+SHORTEST = 32
+ADVICE = "python3 -c 'import secrets; print(secrets.token_hex(32))'"
 
 
 def derive_key(master: bytes) -> bytes:
@@ -13,7 +19,27 @@ def derive_key(master: bytes) -> bytes:
     >>> len(derive_key(b"a master key of at least 32 bytes"))
     64
     """
-    return given(DERIVE_KEY, master)
+    return given(DERIVE_KEY, key_of(master))
+
+
+def keys_of(secrets: Iterable[str | bytes], salt: str | bytes | None = None) -> list[bytes]:
+    """The keys that are derived from a site's secrets, in their order. Each secret has at least 32 random bytes.
+
+    With a salt, or with another salt, they are other keys (HMAC-SHA256 of the salt under the secret, RFC 2104). So what
+    is sealed with one salt doesn't open with another. Raises `MasterTooShort`, and says how to make a secret.
+
+    >>> one, other = (keys_of(["a secret of at least thirty-two bytes"], salt) for salt in ("one", "other"))
+    >>> len(one[0]), one == other
+    (64, False)
+    """
+    if isinstance(secrets, (str, bytes)):
+        raise TypeError("the secrets are a list")
+    masters = [bytes_of(secret) for secret in secrets]
+    if any(len(master) < SHORTEST for master in masters):
+        raise MasterTooShort(f"a secret has fewer than {SHORTEST} bytes. This prints a good one: {ADVICE}")
+    if salt is not None:
+        masters = [hmac.new(master, bytes_of(salt), "sha256").digest() for master in masters]
+    return [derive_key(master) for master in masters]
 
 
 def sign(key: bytes, name: str, value: str) -> str:
@@ -24,12 +50,12 @@ def sign(key: bytes, name: str, value: str) -> str:
     >>> sign(derive_key(b"a master key of at least 32 bytes"), "session", "ann")
     'yfpi77iCbAHvzPqzaNqCydxDHw00Rx+/JAtbZtMf68U=ann'
     """
-    return given(SIGN, key, name, value).decode()
+    return given(SIGN, key_of(key), name, value).decode()
 
 
 def verify(key: bytes, name: str, text: str) -> str | None:
     """The value of a text that `sign` made under the same key and name, or None. Raises `KeyTooShort`."""
-    return read(VERIFY, (NotSigned, NotUtf8), key, name, text)
+    return read(VERIFY, (NotSigned, NotUtf8), key_of(key), name, text)
 
 
 def seal(key: bytes, name: str, value: str, nonce: bytes | None = None) -> str:
@@ -42,9 +68,10 @@ def seal(key: bytes, name: str, value: str, nonce: bytes | None = None) -> str:
     >>> open_sealed(key, "session", seal(key, "session", "ann"))
     'ann'
     """
-    return given(SEAL, key, os.urandom(12) if nonce is None else nonce, name, value).decode()
+    drawn = os.urandom(12) if nonce is None else key_of(nonce, "a nonce is bytes")
+    return given(SEAL, key_of(key), drawn, name, value).decode()
 
 
 def open_sealed(key: bytes, name: str, text: str) -> str | None:
     """The value of a text that `seal` made under the same key and name, or None. Raises `KeyTooShort`."""
-    return read(OPEN, (NotSealed, NotUtf8), key, name, text)
+    return read(OPEN, (NotSealed, NotUtf8), key_of(key), name, text)

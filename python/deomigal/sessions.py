@@ -7,7 +7,9 @@ import time
 from typing import Iterator, MutableMapping, Sequence
 from urllib.parse import parse_qsl, urlencode
 
-from ._library import DONE, SESSION_END, SESSION_OPEN, SESSION_SAVE, Settings, given, header_of, seeds, told
+from ._library import (
+    DONE, SESSION_END, SESSION_OPEN, SESSION_SAVE, Settings, Uncopied, given, header_of, key_of, seeds, told,
+)
 from .cookies import print_cookie
 from .errors import KeyTooShort, NoDate, NoSession, error_of
 
@@ -28,6 +30,8 @@ class Session(MutableMapping[str, str]):
     """
 
     def __init__(self, now: int) -> None:
+        if not isinstance(now, int):
+            raise TypeError("a second is an int")
         self.now = self.started = self.seen = now
         self.place: int | None = None
         self.header = b""
@@ -68,11 +72,16 @@ class Session(MutableMapping[str, str]):
     def __len__(self) -> int:
         return len(self.texts)
 
+    def __copy__(self) -> Session:
+        copied = Session(self.now)
+        copied.__dict__.update(self.__dict__, texts=dict(self.texts))
+        return copied
+
     def __repr__(self) -> str:
-        return f"<Session {self.texts!r}>"
+        return f"<Session {list(self.texts)!r}>"
 
 
-class Sessions:
+class Sessions(Uncopied):
     """How a site keeps its sessions: one encrypted cookie holds a session. Threads may share it.
 
     `keys` are the site's keys, each of at least 64 random bytes, the newest first. The newest encrypts, and each of them
@@ -107,7 +116,9 @@ class Sessions:
         same_site: str | None = "Lax",
         partitioned: bool = False,
     ) -> None:
-        if any(len(key) < 64 for key in keys):
+        if isinstance(keys, (str, bytes)):
+            raise TypeError("the keys are a list")
+        if any(len(key_of(key)) < 64 for key in keys):
             raise error_of(KeyTooShort.status)
         if not all(0 <= limit < 2**32 for limit in (lifetime, idle)):
             raise OverflowError("a limit has at most 32 bits")
@@ -125,6 +136,8 @@ class Sessions:
 
         Start one at a login, if no text of before it may survive.
         """
+        if not isinstance(now, (int, float, type(None))):
+            raise TypeError("a time is in seconds since 1970")
         return Session(int(time.time() if now is None else now))
 
     def open(self, header: str | bytes | None, now: float | None = None) -> Session:
@@ -168,6 +181,8 @@ class Sessions:
         ...     print(error.size > 4096)
         True
         """
+        if not isinstance(session, Session):
+            raise TypeError("what is saved is a Session")
         inputs = (session.header, urlencode(session.texts), session.is_renewed, seconds(session), os.urandom(12))
         return given(SESSION_SAVE, self.settings, *inputs, room=ROOM).decode()
 

@@ -1,6 +1,6 @@
-/* Plays rows.tsv through the library: each row with a buffer that fits, with one that is a byte too short, with none, and
- * with one that has room to spare. Every argument ends where its memory ends, so that a byte read or written past it is a
- * fault; an empty one is a null pointer. */
+/* Plays the calls that steps.py prints through the library: each with a buffer that fits, with one that is a byte too
+ * short, with none, and with one that has room to spare. Every argument ends where its memory ends, so that a byte read or
+ * written past it is a fault; an empty one is a null pointer. */
 #define _GNU_SOURCE
 #include "cookie.h"
 #include <stdio.h>
@@ -9,7 +9,7 @@
 #include <sys/mman.h>
 #include <unistd.h>
 
-enum { MOST_FIELDS = 16, COUNT = 23 };
+enum { MOST_FIELDS = 64, COUNT = 23 };
 
 typedef struct text {
     uint8_t *bytes;
@@ -31,10 +31,11 @@ void *__wrap_malloc(size_t size) { return ++asked == refused_at ? NULL : __real_
 void *__wrap_realloc(void *at, size_t size) { return ++asked == refused_at ? NULL : __real_realloc(at, size); }
 
 static int faults = 0;
-static int row_number = 0;
+/* The file, the line and the title of the row that is played. */
+static const char *row = "no row";
 
 static void fault(const char *what) {
-    fprintf(stderr, "row %d: %s\n", row_number, what);
+    fprintf(stderr, "%s: %s\n", row, what);
     faults++;
 }
 
@@ -86,12 +87,12 @@ static uint32_t status_named(const char *name) {
     exit(2);
 }
 
-/* The numbers of a row's text, or zeros if it has none. */
+/* The numbers of a row's text, or zeros if it has none. One of 64 bits without a sign has the same bits. */
 static void numbers_in(text list, int count, long long *numbers) {
     char copy[400] = {0}, *rest = copy;
     memcpy(copy, list.bytes == NULL ? (const uint8_t *)"" : list.bytes, list.length < 399 ? list.length : 399);
     for (int i = 0; i < count; i++)
-        numbers[i] = strtoll(rest, &rest, 10);
+        numbers[i] = (long long)strtoull(rest, &rest, 10);
 }
 
 static size_t number_in(text number) {
@@ -580,9 +581,6 @@ int main(int count, char **arguments) {
     size_t size = 0;
     int played = 0;
     while (getline(&line, &size, rows) > 0) {
-        row_number++;
-        if (line[0] == '#')
-            continue;
         char *fields[MOST_FIELDS], *rest = line;
         int n = 0;
         line[strcspn(line, "\n")] = '\0';
@@ -592,6 +590,7 @@ int main(int count, char **arguments) {
         for (int i = 5; i < n; i++)
             in[i - 5] = unhex(fields[i]);
         uint32_t status = status_named(fields[2]);
+        row = fields[1];
         if (strcmp(fields[0], "read_date") == 0)
             play_date(in[0], status, wanted);
         else if (strcmp(fields[0], "read") == 0)
@@ -609,9 +608,10 @@ int main(int count, char **arguments) {
     }
     free(line);
     fclose(rows);
+    row = "rows.c";
     overlap();
     starve();
     starve_decoding();
-    printf("C: %d rows, %d faults\n", played, faults);
+    printf("C: %d calls, %d faults\n", played, faults);
     return faults != 0;
 }

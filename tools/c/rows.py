@@ -1,4 +1,4 @@
-"""Plays rows.tsv through the library by ctypes, and some uses of the package `deomigal`."""
+"""Plays the calls that steps.py prints through the library by ctypes, and some uses of the package `deomigal`."""
 import concurrent.futures
 import ctypes
 import datetime
@@ -19,6 +19,12 @@ CALLS = {"derive_key": library.DERIVE_KEY, "sign": library.SIGN, "verify": libra
 STATUSES = ["DONE"] + [re.sub(r"(?<!^)(?=[A-Z])", "_", error.__name__).upper() for _, error in sorted(errors.ERRORS.items())]
 FIELDS = ("year", "month", "day", "hour", "minute", "second")
 faults = []
+# The file, the line and the title of the row that is played.
+row = ""
+
+
+def fault(what):
+    faults.append(f"{row}: {what}")
 
 
 def numbers_in(text, count):
@@ -70,7 +76,7 @@ def play_jar(steps, out, length):
     handle = library.Handle()
     for text in steps[:-1]:
         if step(handle, text, out, length).status != library.DONE:
-            faults.append(f"{text} is refused")
+            fault(f"{text} is refused")
     answer = step(handle, steps[-1], out, length)
     library.JAR_FREE(handle)
     return answer
@@ -120,7 +126,7 @@ def play_explain(inputs, out, length):
     lengths = [place.length for place in (why.sentence, why.section, it.name, it.value, it.domain, it.path)]
     rest = [it.lifetime, it.same_site, it.is_persistent, it.is_host_only, it.is_secure, it.is_http_only]
     if [why.refusal, *lengths, *rest] != numbers_in(told, 13) or [place.start for place in places] != [0, *ends[:-1]]:
-        faults.append(f"another explanation: {inputs}")
+        fault("another explanation")
     return library.Answer(why.status, ends[-1])
 
 
@@ -133,17 +139,17 @@ def play_session(call, inputs, out, length):
     if call == "session_open":
         opened = library.SESSION_OPEN(settings, *texts[:2], now, out, length)
         if [opened.place, opened.started, opened.seen] != numbers_in(rest[-1], 3):
-            faults.append(f"another key or another time: {inputs}")
+            fault("another key or another time")
         return opened
     if call == "session_save":
         return library.SESSION_SAVE(settings, *texts[:4], renew == [1], now, *texts[4:], out, length)
     return library.SESSION_END(settings, now, out, length)
 
 
-def check(number, call, inputs, length, status, count, text):
+def check(call, inputs, length, status, count, text):
     wanted = (STATUSES.index(status), count, text + b"\xa5" * (length + 1 - len(text)))
     if played(call, inputs, length) != wanted:
-        faults.append(f"row {number}: {call} with a buffer of {length}")
+        fault(f"{call} with a buffer of {length}")
 
 
 def decoded(call, inputs, length):
@@ -158,7 +164,7 @@ def decoded(call, inputs, length):
     return answer.status, numbers_of_pair(answer), buffer.raw
 
 
-def play_decoded(number, call, inputs, status, text):
+def play_decoded(call, inputs, status, text):
     numbers = numbers_in(inputs[-1], 23)
     short = {0, len(text) - 1} if text else ()
     for length, status, text in [(len(text), status, text), (len(text) + 7, status, text)] + [
@@ -166,36 +172,37 @@ def play_decoded(number, call, inputs, status, text):
     ]:
         wanted = (STATUSES.index(status), numbers, text + b"\xa5" * (length + 1 - len(text)))
         if decoded(call, inputs, length) != wanted:
-            faults.append(f"row {number}: {call} with a buffer of {length}")
+            fault(f"{call} with a buffer of {length}")
 
 
-def play(number, line):
-    call, _source, status, count, *fields = line.split("\t")
+def play(line):
+    global row
+    call, row, status, count, *fields = line.split("\t")
     text, *inputs = (b"" if field == "-" else bytes.fromhex(field) for field in fields)
     count = int(count)
     if call == "read_date":
         moment = library.READ_DATE(inputs[0] or None, len(inputs[0]))
         numbers = " ".join(str(getattr(moment, name)) for name in FIELDS).encode() if moment.status == 0 else b""
         if (moment.status, numbers) != (STATUSES.index(status), text):
-            faults.append(f"row {number}: another date")
+            fault("another date")
     elif call == "next_pair":
         pair = library.NEXT_PAIR(inputs[0] or None, len(inputs[0]), int(inputs[1]))
         if (pair.status, numbers_of_pair(pair)) != (STATUSES.index(status), numbers_in(text, 4) + [count]):
-            faults.append(f"row {number}: another pair")
+            fault("another pair")
     elif call == "read":
         reading = library.READ(inputs[0] or None, len(inputs[0]))
         if (reading.status, numbers_of(reading)) != (STATUSES.index(status), numbers_in(text, 23)):
-            faults.append(f"row {number}: another cookie")
+            fault("another cookie")
     elif call in ("read_decoded", "next_pair_decoded"):
-        play_decoded(number, call, inputs, status, text)
+        play_decoded(call, inputs, status, text)
     elif status != "DONE":
         for length in (0, 100):
-            check(number, call, inputs, length, status, count, b"")
+            check(call, inputs, length, status, count, b"")
     else:
         for length in (len(text), len(text) + 7):
-            check(number, call, inputs, length, status, count, text)
+            check(call, inputs, length, status, count, text)
         for length in {0, len(text) - 1} if text else ():
-            check(number, call, inputs, length, "BUFFER_TOO_SHORT", count, b"")
+            check(call, inputs, length, "BUFFER_TOO_SHORT", count, b"")
 
 
 def lacks(jar, name):
@@ -405,9 +412,9 @@ def use():
 
 
 lines = pathlib.Path(sys.argv[1]).read_text().splitlines()
-rows = [(number, line) for number, line in enumerate(lines, 1) if not line.startswith("#")]
-for number, line in rows:
-    play(number, line)
+for line in lines:
+    play(line)
+row = "rows.py"
 use()
-print("\n".join(faults + [f"Python: {len(rows)} rows, {len(faults)} faults"]))
+print("\n".join(faults + [f"Python: {len(lines)} calls, {len(faults)} faults"]))
 sys.exit(bool(faults))

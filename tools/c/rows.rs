@@ -1,6 +1,6 @@
-//! Plays rows.tsv through the library from Rust: each row with a buffer that fits, one that is a byte too short, none, and
-//! one that has room to spare.
-use std::{env, fs, process, ptr};
+//! Plays the calls that steps.py prints through the library from Rust: each with a buffer that fits, one that is a byte too
+//! short, none, and one that has room to spare.
+use std::{env, fs, panic, process, ptr};
 
 #[repr(C)]
 #[derive(Clone, Copy, Debug, PartialEq)]
@@ -388,13 +388,13 @@ fn start_of(text: &[u8]) -> Text {
     if text.is_empty() { ptr::null() } else { text.as_ptr() }
 }
 
-/// The numbers of a row's text, or the same number of zeros if it has none.
+/// The numbers of a row, or the same number of zeros if it has none. One of 64 bits without a sign has the same bits.
 fn numbers_in(text: &[u8], count: usize) -> Vec<i64> {
     if text.is_empty() {
         return vec![0; count];
     }
     let text = std::str::from_utf8(text).expect("numbers");
-    text.split(' ').map(|number| number.parse().expect("a number")).collect()
+    text.split(' ').map(|number| number.parse::<i128>().expect("a number") as i64).collect()
 }
 
 fn number_in(text: &[u8]) -> usize {
@@ -459,42 +459,47 @@ fn unhex(field: &str) -> Vec<u8> {
     (0..field.len() / 2).map(|i| u8::from_str_radix(&field[2 * i..2 * i + 2], 16).expect("a byte")).collect()
 }
 
+/// Whether the call returns what the row has, whatever buffer it is given.
+fn is_row_right(name: &str, status: u32, length: usize, wanted: &[u8], inputs: &[Vec<u8>]) -> bool {
+    let (answer, short) = (Answer { status, length }, Answer { status: 1, length });
+    match (name, status) {
+        ("read_date", _) => is_date(&inputs[0], status, wanted),
+        ("read", _) => is_reading(&inputs[0], status, wanted),
+        ("next_pair", _) => is_pair(&inputs[0], &inputs[1], answer, wanted),
+        ("read_decoded" | "next_pair_decoded", _) => {
+            is_decoded(name, inputs, length, status, wanted)
+                && is_decoded(name, inputs, length + 7, status, wanted)
+                && (length == 0 || is_decoded(name, inputs, length - 1, 1, b""))
+                && (length == 0 || is_decoded(name, inputs, 0, 1, b""))
+        }
+        (_, 0) => {
+            is_right(name, inputs, length, answer, wanted)
+                && is_right(name, inputs, length + 7, answer, wanted)
+                && (length == 0 || is_right(name, inputs, length - 1, short, wanted))
+                && (length == 0 || is_right(name, inputs, 0, short, wanted))
+        }
+        _ => is_right(name, inputs, 0, answer, wanted) && is_right(name, inputs, 100, answer, wanted),
+    }
+}
+
 fn main() {
     let path = env::args().nth(1).expect("the rows");
     let text = fs::read_to_string(path).expect("the rows");
     let (mut rows, mut faults) = (0, 0);
-    for (number, line) in text.lines().enumerate().filter(|(_, line)| !line.starts_with('#')) {
+    for line in text.lines() {
         let fields: Vec<&str> = line.split('\t').collect();
         let status = number_of(fields[2]);
         let length = fields[3].parse().expect("a number");
         let wanted = unhex(fields[4]);
         let inputs: Vec<Vec<u8>> = fields[5..].iter().map(|field| unhex(field)).collect();
-        let answer = Answer { status, length };
-        let right = match (fields[0], status) {
-            ("read_date", _) => is_date(&inputs[0], status, &wanted),
-            ("read", _) => is_reading(&inputs[0], status, &wanted),
-            ("next_pair", _) => is_pair(&inputs[0], &inputs[1], answer, &wanted),
-            (name @ ("read_decoded" | "next_pair_decoded"), _) => {
-                is_decoded(name, &inputs, length, status, &wanted)
-                    && is_decoded(name, &inputs, length + 7, status, &wanted)
-                    && (length == 0 || is_decoded(name, &inputs, length - 1, 1, b""))
-                    && (length == 0 || is_decoded(name, &inputs, 0, 1, b""))
-            }
-            (name, 0) => {
-                let short = Answer { status: 1, length };
-                is_right(name, &inputs, length, answer, &wanted)
-                    && is_right(name, &inputs, length + 7, answer, &wanted)
-                    && (length == 0 || is_right(name, &inputs, length - 1, short, &wanted))
-                    && (length == 0 || is_right(name, &inputs, 0, short, &wanted))
-            }
-            (name, _) => is_right(name, &inputs, 0, answer, &wanted) && is_right(name, &inputs, 100, answer, &wanted),
-        };
+        // A step of a jar that must be done, and isn't, panics.
+        let right = panic::catch_unwind(|| is_row_right(fields[0], status, length, &wanted, &inputs)).unwrap_or(false);
         if !right {
-            eprintln!("row {}: {} has another answer", number + 1, fields[0]);
+            eprintln!("{}: {} has another answer", fields[1], fields[0]);
             faults += 1;
         }
         rows += 1;
     }
-    println!("Rust: {rows} rows, {faults} faults");
+    println!("Rust: {rows} calls, {faults} faults");
     process::exit(i32::from(faults != 0));
 }

@@ -8,12 +8,12 @@ from flask import Flask, session
 NOON = 2_000_000_000
 
 
-def application(idle=None, **settings):
+def application(idle=None, refresh=None, **settings):
     """An application whose session is changed by /set and read by /, with a clock that stands at `app.now`."""
     app = Flask(__name__)
     app.testing, app.now = True, NOON
     app.config.update({"SECRET_KEY": "a secret key of at least 32 bytes", **settings})
-    app.session_interface = SessionInterface(idle=idle, clock=lambda: app.now)
+    app.session_interface = SessionInterface(idle=idle, clock=lambda: app.now, refresh=refresh)
     app.add_url_rule("/", "read", lambda: {"user": session.get("user"), "started": session.started, "new": session.new})
     app.add_url_rule("/plain", "plain", lambda: "")
     for path, change in CHANGES.items():
@@ -76,7 +76,8 @@ assert refused(application(), "/large", TooLarge)
 # Limits: without `idle` the lifetime is the only one, and it counts from the start.
 app = application(PERMANENT_SESSION_LIFETIME=datetime.timedelta(hours=1))
 text = ask(app, "/keep")[1]
-assert text.endswith("; Max-Age=3600") and reading(app, text.partition(";")[0]) == {"user": "ann", "started": NOON, "new": False}
+assert text.endswith("; Max-Age=3600; Expires=Wed, 18 May 2033 04:33:20 GMT")
+assert reading(app, text.partition(";")[0]) == {"user": "ann", "started": NOON, "new": False}
 app.now += 3599
 kept = set_by(app, "/keep", text.partition(";")[0])
 assert reading(app, kept)["user"] == "ann"
@@ -90,7 +91,7 @@ assert reading(app, cleared) == {"user": "bo", "started": NOON + 3599, "new": Fa
 for idle, page, refresh, is_saved in (
     (None, "/set", True, False), (None, "/keep", True, True), (60, "/set", True, True), (60, "/keep", False, False),
 ):
-    app = application(idle, SESSION_REFRESH_EACH_REQUEST=refresh)
+    app = application(idle, 0, SESSION_REFRESH_EACH_REQUEST=refresh)
     assert bool(ask(app, "/", set_by(app, page))[1]) == is_saved, (idle, page, refresh)
 
 # An older key opens it, and then it is saved under the newest.

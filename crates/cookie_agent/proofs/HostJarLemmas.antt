@@ -33,7 +33,7 @@ use Rattle.cookie_agent.specs.HostJars.{AreOwnOriginals, IsLastOwn, if_named, la
 use Rattle.cookie_agent.specs.Hosts.{AreFrom, AreInOrder, Response, host_cookies, is_own, kept_after_responses}
 use Rattle.cookie_agent.specs.Sent.{IsOrderedHeader, sent_pair, visible}
 use Rattle.cookie_agent.proofs.CutOutLemmas.{stored_cut_out}
-use Rattle.cookie_agent.proofs.HeaderLemmas.{passed, passing, same_length}
+use Rattle.cookie_agent.proofs.PassingLemmas.{passed, passing, same_length}
 use Rattle.cookie_agent.proofs.HostLemmas.{agree_all, filter-both, filter-turned, lasting-later, only_own, put_in, put_out, secure_verdict, verdict_host_set}
 use Rattle.cookie_agent.proofs.KeyLemmas.{alike, same_settled}
 use Rattle.cookie_agent.proofs.OrderLemmas.{longer}

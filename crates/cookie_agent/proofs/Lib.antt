@@ -1,8 +1,4 @@
-pub mod AlikeLemmas
-pub mod CallLemmas
 pub mod CutOutLemmas
-pub mod FollowLemmas
-pub mod HeaderLemmas
 pub mod HostJarLemmas
 pub mod HostLemmas
 pub mod KeyLemmas
@@ -10,7 +6,7 @@ pub mod LimitLemmas
 pub mod MissLemmas
 pub mod OrderLemmas
 pub mod PairLemmas
-pub mod PlanLemmas
+pub mod PassingLemmas
 pub mod PrefixLemmas
 pub mod PutLemmas
 pub mod RefusalLemmas
@@ -19,8 +15,4 @@ pub mod RowFacts
 pub mod SentFieldLemmas
 pub mod SiteLemmas
 pub mod StoreLemmas
-pub mod Utf8Lemmas
 pub mod VerdictLemmas
-pub mod VisitCallLemmas
-pub mod VisitLemmas
-pub mod VisitedLemmas

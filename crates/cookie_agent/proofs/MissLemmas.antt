@@ -6,7 +6,7 @@ use Rattle.std.specs.Str.{bytes_eq}
 use Rattle.jiff.specs.Types.{DateTime}
 use Rattle.cookie_browser.specs.Request.{RequestView}
 use Rattle.cookie_browser.specs.Storage.{KeptView, CookieStore, is_same_cookie, kept_after_text, kept_after_verdict, kept_with, lasts, lasting, is_sent, suits}
-use Rattle.cookie_agent.specs.Agreement.{seen}
+use Rattle.cookie_agent.specs.Sent.{seen}
 use Rattle.cookie_agent.specs.Removals.{IsMissed}
 use Rattle.cookie_agent.specs.Store.{AgentView, agent_after_text}
 use Rattle.cookie_agent.proofs.StoreLemmas.{gives, given, onto, skips, seen-given, seen-lasting}

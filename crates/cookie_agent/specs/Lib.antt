@@ -1,11 +1,8 @@
-pub mod Agreement
 pub mod Apart
-pub mod Calls
 pub mod HostJars
 pub mod Hosts
 pub mod Limits
 pub mod LimitsCode
-pub mod PlanCode
 pub mod Prefixes
 pub mod Removals
 pub mod Scopes
@@ -14,4 +11,3 @@ pub mod SentCode
 pub mod Site
 pub mod Store
 pub mod VerdictCode
-pub mod Visits

@@ -9,7 +9,7 @@ use Rattle.cookie_browser.specs.Printed.{IsReceivable}
 use Rattle.cookie_browser.specs.PrintedStored.{IsUncovered}
 use Rattle.cookie_browser.specs.Request.{RequestView}
 use Rattle.cookie_browser.specs.Storage.{CookieStore, KeptView, is_same_cookie, lasting, lasts, verdict}
-use Rattle.cookie_agent.specs.Agreement.{seen}
+use Rattle.cookie_agent.specs.Sent.{seen}
 use Rattle.cookie_agent.specs.Store.{AgentView, agent_verdict}
 
 -- If the agent would store an expired cookie, and no stored one is the same cookie, the site sees under each name what

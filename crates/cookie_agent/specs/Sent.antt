@@ -2,6 +2,7 @@
 use Rattle.std.specs.Prelude.{◌≡◌, ℕ, List, [], ◌∷◌, ◌++◌, map, filter, length, IsPermutation, IsSortedByKey, if◌then◌else◌}
 use Rattle.std.specs.List.Sorted.{IsStableByKey}
 use Rattle.std.specs.Ordering.{nat_cmp}
+use Rattle.std.specs.Str.{bytes_eq}
 use Rattle.std.specs.declared.cmp.Ordering.{Ordering}
 use Rattle.jiff.specs.Types.{DateTime}
 use Rattle.jiff.specs.Words.{civil_nanos}
@@ -12,6 +13,11 @@ use Rattle.cookie_browser.specs.Storage.{KeptView, CookieStore, is_sent}
 -- the cookies that are sent, in the order of their creation
 abbrev pub visible : RequestView → DateTime → CookieStore → CookieStore
 visible site now store = filter (is_sent site now) store
+
+-- the values, as they are stored, of the cookies of a stored name that the site sees
+abbrev pub seen : RequestView → DateTime → CookieStore → List ℕ → List (List ℕ)
+seen site now store name =
+    map (λ c. c.value) (filter (λ c. bytes_eq c.name name) (visible site now store))
 
 -- the cookie after the request: if it was sent, the time is its last access
 abbrev pub accessed : RequestView → DateTime → KeptView → KeptView

@@ -1,5 +1,5 @@
 -- A user agent: its rules of public suffixes, and the cookies that it stores (RFC 6265bis, Storage Model).
-use Rattle.std.specs.Prelude.{ℕ, List, [], ◌∷◌, Option, Some, None, Result, Ok, Err}
+use Rattle.std.specs.Prelude.{ℕ, List, Option, Some, None, Result, Ok, Err}
 use Rattle.jiff.specs.Types.{DateTime}
 use Rattle.cookie_browser.specs.Request.{RequestView}
 use Rattle.cookie_browser.specs.Storage.{KeptView, CookieStore, kept_after_text, lasting, verdict}
@@ -25,15 +25,3 @@ refusal_of (Err refusal) = Some refusal
 abbrev pub agent_after_text : RequestView → DateTime → List ℕ → AgentView → AgentView
 agent_after_text site now text agent =
     record agent { cookies = kept_after_text agent.rules site now text agent.cookies }
-
--- the stored cookies after texts, the first one first
-abbrev pub kept_after_texts : List Rule → RequestView → DateTime → List (List ℕ) → CookieStore
-    → CookieStore
-kept_after_texts rules site now [] store = store
-kept_after_texts rules site now (text ∷ texts) store =
-    kept_after_texts rules site now texts (kept_after_text rules site now text store)
-
--- the agent after them
-abbrev pub agent_after_texts : RequestView → DateTime → List (List ℕ) → AgentView → AgentView
-agent_after_texts site now texts agent =
-    record agent { cookies = kept_after_texts agent.rules site now texts agent.cookies }

@@ -1,10 +1,8 @@
 //! A user agent (RFC 6265bis, Storage Model, Retrieval Algorithm).
 ghost use Rattle.std.specs.Prelude.{◌≡◌, [], IfOk, OnOk, OnErr, Ok, map};
-ghost use Rattle.cookie.specs.Jar.{Name};
 ghost use Rattle.cookie_browser.specs.ReceivedCode.{received_view};
 ghost use Rattle.cookie_browser.specs.RefusedCode.{kept_view};
 ghost use Rattle.cookie_browser.specs.Storage.{kept_with, lasting, verdict_on};
-ghost use Rattle.cookie_agent.specs.Agreement.{IsOurStore, PlanView};
 ghost use Rattle.cookie_agent.specs.Apart.{IsApart};
 ghost use Rattle.cookie_agent.specs.HostJars.{AreOwnOriginals, IsLastOwn};
 ghost use Rattle.cookie_agent.specs.Hosts.{AreOnlyOwn};
@@ -53,8 +51,7 @@ impl<'r> Agent<'r> {
     /// A user agent that stores nothing. Without rules, each domain of one label is a public suffix, and no other.
     /// Example: `next_header` in crates/cookie_examples/src/agents.rt.
     pub fn new(alloc: Global, suffixes: &'r Suffixes) -> Agent<'r>
-        ensures empty { result ≡ record { rules = suffixes.now; cookies = [] } }
-        ensures ours { (plans : Name → PlanView) → IsOurStore plans result.cookies }
+        ensures { result ≡ record { rules = suffixes.now; cookies = [] } }
     {
         Agent {
             alloc,

@@ -3,6 +3,7 @@ use Rattle.std.proofs.Common.{◌≡◌, ◌↔◌, ◌⊎◌, ℕ, List, Option
 use Rattle.std.proofs.lemmas.Option.{none-some, same_Some}
 use Rattle.jiff.specs.Types.{DateTime}
 use Rattle.cookie.specs.Memory.{Gives}
+use Rattle.cookie.specs.Originals.{first_of_name}
 use Rattle.cookie.specs.Record.{Record}
 use Rattle.cookie_session.specs.Session.{SessionState}
 use Rattle.cookie_session.specs.Sessions.{HoldsOne, OpensFirst}
@@ -32,14 +33,15 @@ module _ (site : Sessions) (cookies : List Record) (time : DateTime) where
       → Gives refusal result (λ answer. (place : ℕ) (session : SessionState)
       → (answer ≡ Some (record { session = session; place = place })) ↔ OpensFirst site cookies time place session)
       → IfOk result (λ _. (place : ℕ) (session : SessionState) (first : OpensFirst site cookies time place session) → HoldsOne site (Some first.cookie))
+      → IfOk result (λ _. HoldsOne site (first_of_name site.cookie.now.fields.name cookies))
       → Gives refusal result (Finds site cookies time)
-  finds_of refusal (Ok answer) exact once = record { exact = exact; once = once }
-  finds_of refusal (Err error) is once = is
+  finds_of refusal (Ok answer) exact once first = record { exact = exact; once = once; first = first }
+  finds_of refusal (Err error) is once first = is
 
   -- if none is found, there is none
   pub opening_none : (answer : OpenedSession) (old new : List ℕ) → Finds site cookies time None → IsRefusedOpening status.NoSession answer old new
       → IsOpening site cookies time answer old new
-  opening_none answer old new finds refused = inr (inl (found_none finds, refused))
+  opening_none answer old new finds refused = inl (finds.first, inr (found_none finds, refused))
 
   -- it is given, or memory ran out
   pub opening_given : (opened : Opened) (answer : OpenedSession) (old new : List ℕ) → Finds site cookies time (Some opened)
@@ -47,5 +49,5 @@ module _ (site : Sessions) (cookies : List Record) (time : DateTime) where
       → IsOpening site cookies time answer old new
   opening_given opened answer old new finds (inl gives) =
       let first = found_is_open opened finds in
-      inl (opened.place, opened.session, first, finds.once opened.place opened.session first, gives)
-  opening_given opened answer old new finds (inr refused) = inr (inr refused)
+      inl (finds.first, inl (opened.place, opened.session, first, finds.once opened.place opened.session first, gives))
+  opening_given opened answer old new finds (inr refused) = inr refused

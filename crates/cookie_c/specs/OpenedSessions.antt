@@ -1,6 +1,7 @@
 -- A session that is found for C: `old` is the buffer at the call and `new` at the return.
 use Rattle.std.specs.Prelude.{◌≡◌, ◌↔◌, ◌⊎◌, ℕ, List, Option, Some}
 use Rattle.jiff.specs.Types.{DateTime}
+use Rattle.cookie.specs.Originals.{first_of_name}
 use Rattle.cookie.specs.Record.{Record}
 use Rattle.cookie_session.specs.Form.{form_of_texts}
 use Rattle.cookie_session.specs.Session.{SessionState}
@@ -18,8 +19,8 @@ abbrev pub HasNone : Sessions → List Record → DateTime → Type 0
 HasNone site cookies time =
     (place : ℕ) (session : SessionState) → ¬ OpensFirst site cookies time place session
 
--- the session that is found, if any, is the one of the first cookie in which one is open, and this cookie holds no
--- other, whatever the time
+-- The session that is found, if any, is the one of the first cookie in which one is open, and this cookie holds no
+-- other, whatever the time. The first cookie of the name holds one at most, whether one is open or not.
 pub record Finds (site : Sessions) (cookies : List Record) (time : DateTime)
     (found : Option Opened) : Type 0 where
   pub exact : (place : ℕ) (session : SessionState)
@@ -28,6 +29,7 @@ pub record Finds (site : Sessions) (cookies : List Record) (time : DateTime)
   pub once : (place : ℕ) (session : SessionState)
       → (first : OpensFirst site cookies time place session)
       → HoldsOne site (Some first.cookie)
+  pub first : HoldsOne site (first_of_name site.cookie.now.fields.name cookies)
 
 -- the answer of a call that has no session
 abbrev pub refused_opening : Status → OpenedSession
@@ -47,13 +49,14 @@ pub record GivesSession (key : ℕ) (session : SessionState) (answer : OpenedSes
   pub started : answer.started ≡ session.started
   pub seen : answer.seen ≡ session.seen
 
--- the session of the first cookie in which one is open is given, and this cookie holds no other; or there is none, or
--- memory ran out
+-- The session of the first cookie in which one is open is given, and this cookie holds no other; or there is none. In
+-- both cases the first cookie of the name holds one at most. Or else memory ran out.
 abbrev pub IsOpening : Sessions → List Record → DateTime → OpenedSession → List ℕ → List ℕ
     → Type 0
 IsOpening site cookies time answer old new =
-    ((place : ℕ) × (session : SessionState)
+    (HoldsOne site (first_of_name site.cookie.now.fields.name cookies)
+    × (((place : ℕ) × (session : SessionState)
     × (first : OpensFirst site cookies time place session)
     × HoldsOne site (Some first.cookie) × GivesSession place session answer old new)
-    ⊎ ((HasNone site cookies time × IsRefusedOpening status.NoSession answer old new)
-    ⊎ IsRefusedOpening status.OutOfMemory answer old new)
+    ⊎ (HasNone site cookies time × IsRefusedOpening status.NoSession answer old new)))
+    ⊎ IsRefusedOpening status.OutOfMemory answer old new

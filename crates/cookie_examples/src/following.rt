@@ -11,7 +11,7 @@ use jiff::civil::DateTime;
 use std::alloc::Global;
 
 // Whether a client can follow all the calls at the time `now` in UTC.
-fn are_fit(calls: &[JarCall<'_>], now: DateTime) -> bool
+pub(crate) fn are_fit(calls: &[JarCall<'_>], now: DateTime) -> bool
     ensures { IsTrue result ↔ All (IsFitCall now) calls.now }
 {
     calls.iter().all(|call| call.is_fit(now))

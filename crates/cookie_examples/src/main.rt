@@ -3,6 +3,7 @@
 
 mod agents;
 mod answer;
+mod carrying;
 mod counting;
 mod dates;
 mod flash;

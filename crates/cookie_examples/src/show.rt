@@ -1,7 +1,7 @@
 //! What `main` prints of each use.
 use crate::{
-    agents, answer, counting, dates, flash, following, handler, headers, printing, reading,
-    removal, requests, runtime, sealing, session, team,
+    agents, answer, carrying, counting, dates, flash, following, handler, headers, printing,
+    reading, removal, requests, runtime, sealing, session, team,
 };
 use anyhow::Result;
 use cookie::{Cookie, CookieBuilder, CookieJar, DateText, JarError, Key, SameSite};
@@ -173,13 +173,31 @@ pub fn calls(rt: &HostRuntime, now: DateTime) -> Result<()> {
         JarCall::Signed(&key, ChildCall::Add(Cookie::new("cart", "3"))),
         JarCall::Private(&key, [0; 12], ChildCall::Add(Cookie::new("user", "ann"))),
     ];
-    print_client(rt, &calls, now)
+    print_client(rt, &calls, now)?;
+    print_carried(rt, &calls, now)
 }
 
 fn print_client(rt: &HostRuntime, calls: &[JarCall<'_>], now: DateTime) -> Result<()> {
     match client_of(rt.alloc(), calls, now)? {
         Some(client) => print_held(rt, &client)?,
         None => println!(rt; "unfit")?,
+    }
+    Ok(())
+}
+
+fn print_carried(rt: &HostRuntime, calls: &[JarCall<'_>], now: DateTime) -> Result<()> {
+    match carrying::carry(rt.alloc(), calls, now)? {
+        Some(carried) => print_fields(rt, &carried.request),
+        None => {
+            println!(rt; "unfit")?;
+            Ok(())
+        }
+    }
+}
+
+fn print_fields(rt: &HostRuntime, request: &HeaderMap) -> Result<()> {
+    for value in request.get_all("cookie") {
+        println!(rt; "next request: {}", str::from_utf8(value.as_bytes())?)?;
     }
     Ok(())
 }

@@ -1,9 +1,8 @@
 -- The text of a cookie whose path and domain can stand in a field is UTF-8 and a field value (RFC 9110 5.5).
-use Rattle.std.proofs.Common.{◌≡◌, Bool, true, false, ℕ, ℤ, arith, codes, List, [], ◌∷◌, ◌++◌, map, Option, Some, None, option_map, IfSome, IsTrue, refl}
+use Rattle.std.proofs.Common.{◌≡◌, Bool, true, false, ℕ, ℤ, arith, codes, List, [], ◌++◌, Option, Some, None, option_map, IfSome, IsTrue, refl}
 use Rattle.std.proofs.lemmas.Bool.Decides.{nat_tests}
 use Rattle.std.proofs.lemmas.List.Elements.{All-append, All-weaker}
 use Rattle.std.proofs.lemmas.Str.{IsUtf8-append}
-use Rattle.std.specs.FinMap.{entries}
 use Rattle.std.specs.List.{list_all}
 use Rattle.std.specs.Str.{IsUtf8}
 use Rattle.jiff.specs.Words.{IsDurationNanos}
@@ -13,8 +12,6 @@ use Rattle.http_header.proofs.TokenLemmas.{AllPass-from_test, IsFieldValue-from_
 use Rattle.cookie_date.specs.Text.{moment_text}
 use Rattle.cookie.specs.AttributeValues.{FitsField, IsAttributeValue, is_attribute_byte}
 use Rattle.cookie.specs.Escapes.{escape}
-use Rattle.cookie.specs.Header.{joined_texts, more_joined}
-use Rattle.cookie.specs.Jar.{Name}
 use Rattle.cookie.specs.Record.{IsCookie, Record}
 use Rattle.cookie.specs.SameSite.{same_site_text}
 use Rattle.cookie.specs.Text.{attribute_text, attributes_text, scope_text, place_text, lifetime_text, cookie_text, expiry_text, flag_text, is_true, prints_secure, seconds_text}
@@ -23,7 +20,6 @@ use Rattle.cookie.proofs.AgeTextLemmas.{age_is_tokens}
 use Rattle.cookie.proofs.ByteLemmas.{all-weaker}
 use Rattle.cookie.proofs.DateTextLemmas.{date_passes, is_date_byte}
 use Rattle.cookie.proofs.EscapeTextLemmas.{escape_is_tokens, is_token}
-use Rattle.cookie_client.specs.Client.{Values, header_text, pair_text}
 
 token_is_shown : (b : ℕ) → is_token b ≡ true → is_visible_or_blank b ≡ true
 token_is_shown b h = grind (arith, nat_tests)
@@ -33,7 +29,7 @@ date_byte_is_shown b h = grind (arith, nat_tests)
 
 -- what holds of joined texts and of visible ASCII holds of a cookie's text, if it holds of the path and the domain
 module _ (P : List ℕ → Type 0) (join : (a b : List ℕ) → P a → P b → P (a ++ b)) (shown : (t : List ℕ) → IsVisibleAscii t → P t) where
-  written : (t : List ℕ) → list_all is_visible_or_blank t ≡ true → P t
+  pub written : (t : List ℕ) → list_all is_visible_or_blank t ≡ true → P t
   written t h = shown t (AllPass-from_test is_visible_or_blank t h)
 
   tokens : (t : List ℕ) → list_all is_token t ≡ true → P t
@@ -92,7 +88,7 @@ module _ (P : List ℕ → Type 0) (join : (a b : List ℕ) → P a → P b → 
       join (scope_text r) (place_text r ++ lifetime_text r) (scope r)
       (join (place_text r) (lifetime_text r) (place r path domain) (lifetime r known))
 
-  pair_then : (name value rest : List ℕ) → P rest → P (escape name ++ (codes "=" ++ (escape value ++ rest)))
+  pub pair_then : (name value rest : List ℕ) → P rest → P (escape name ++ (codes "=" ++ (escape value ++ rest)))
   pair_then name value rest h =
       join (escape name) (codes "=" ++ (escape value ++ rest)) (escaped name)
       (join (codes "=") (escape value ++ rest) (written (codes "=") refl) (join (escape value) rest (escaped value) h))
@@ -100,19 +96,7 @@ module _ (P : List ℕ → Type 0) (join : (a b : List ℕ) → P a → P b → 
   cookie : (r : Record) → IfSome r.max_age IsDurationNanos → IfSome r.path P → IfSome r.domain P → P (cookie_text true false r)
   cookie r known path domain = pair_then r.name r.value (attributes_text r) (attributes r known path domain)
 
-  pair : (p : Name × List ℕ) → P (pair_text p)
-  pair p = pair_then p.0 p.1 [] (written [] refl)
-
-  more_pairs : (ps : List (Name × List ℕ)) → P (more_joined (map pair_text ps))
-  more_pairs [] = written [] refl
-  more_pairs (p ∷ ps) =
-      join (codes "; ") (pair_text p ++ more_joined (map pair_text ps)) (written (codes "; ") refl) (join (pair_text p) (more_joined (map pair_text ps)) (pair p) (more_pairs ps))
-
-  pairs : (ps : List (Name × List ℕ)) → P (joined_texts (map pair_text ps))
-  pairs [] = written [] refl
-  pairs (p ∷ ps) = join (pair_text p) (more_joined (map pair_text ps)) (pair p) (more_pairs ps)
-
-join_values : (a b : List ℕ) → IsFieldValue a → IsFieldValue b → IsFieldValue (a ++ b)
+pub join_values : (a b : List ℕ) → IsFieldValue a → IsFieldValue b → IsFieldValue (a ++ b)
 join_values a b = All-append (λ c. IsTrue (is_value_byte c)) a b
 
 value_byte : (b : ℕ) → IsTrue (is_attribute_byte b) → IsTrue (is_value_byte b)
@@ -131,10 +115,3 @@ IsFieldValue-cookie_text r known fits =
 -- the text of each cookie is UTF-8
 pub IsUtf8-cookie_text : (r : Record) → IsCookie r → IsUtf8 (cookie_text true false r)
 IsUtf8-cookie_text r known = cookie IsUtf8 IsUtf8-append IsUtf8-from_visible r known.max_age known.path known.domain
-
--- a client's header is UTF-8, and a field value
-pub IsFieldValue-header_text : (values : Values) → IsFieldValue (header_text values)
-IsFieldValue-header_text values = pairs IsFieldValue join_values IsFieldValue-from_visible (entries values)
-
-pub IsUtf8-header_text : (values : Values) → IsUtf8 (header_text values)
-IsUtf8-header_text values = pairs IsUtf8 IsUtf8-append IsUtf8-from_visible (entries values)

@@ -1,4 +1,2 @@
-pub mod CarriedLemmas
 pub mod FieldTextLemmas
-pub mod ReadLemmas
 pub mod ResponseLemmas

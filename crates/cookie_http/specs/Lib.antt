@@ -1,4 +1,3 @@
-pub mod Carried
 pub mod Fields
 pub mod HttpError
 pub mod Response

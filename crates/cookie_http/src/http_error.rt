@@ -2,7 +2,6 @@
 ghost use Rattle.std.specs.Prelude.{◌≡◌};
 ghost use Rattle.cookie_http.specs.declared.http_error.HttpError.TheVariants as refusal;
 
-use cookie_client::ClientError;
 use http_header::HeaderMapError;
 use std::alloc::{AllocError, AllocFailed};
 use std::error::Error;
@@ -50,14 +49,6 @@ impl<T: Drop> From<AllocFailed<T>> for HttpError {
     ghost from_gives = { λ _ e. e ≡ refusal.OutOfMemory };
 
     fn from(_error: AllocFailed<T>) -> HttpError {
-        HttpError::OutOfMemory
-    }
-}
-
-impl From<ClientError> for HttpError {
-    ghost from_gives = { λ _ e. e ≡ refusal.OutOfMemory };
-
-    fn from(_error: ClientError) -> HttpError {
         HttpError::OutOfMemory
     }
 }

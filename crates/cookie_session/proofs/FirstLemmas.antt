@@ -1,6 +1,6 @@
 -- The first cookie of the site's name in which a session is open.
 use Rattle.std.proofs.Common.{◌≡◌, ◌↔◌, ℕ, ◌+◌, ◌<◌, Bool, true, false, cond, List, [], ◌∷◌, ◌++◌, All, length, take, drop, get_or, Option, None, Some, Result, Ok, Err, refl, sym, ap, subst, ◌∙◌}
-use Rattle.std.proofs.lemmas.List.{drop_more, take-append-drop}
+use Rattle.std.proofs.lemmas.List.{drop_more, take-append-drop, take_more}
 use Rattle.std.proofs.lemmas.List.Elements.{All-append, All-cons, All-head, All-nil, All-tail, filter-append, filter_more}
 use Rattle.std.proofs.lemmas.Option.{none-some}
 use Rattle.std.specs.FinMap.{get, get-empty}
@@ -113,6 +113,41 @@ module _ (site : Sessions) (now : DateTime) where
         once_here once place s first = subst (λ c. HoldsOne site (Some c)) (sym (first_is place s first)) once
 
   -- ---- the first cookie of the name
+
+  abbrev First : List Record → Option Record
+  First cookies = first_of_name site.cookie.now.fields.name cookies
+
+  -- of no cookie the first holds no session
+  one_of_none : HoldsOne site (first_of_name site.cookie.now.fields.name [])
+  one_of_none time later place other_place session other is also = absurd is.sealed
+
+  -- the first of two lists is the first of one of them
+  one_of_both : (xs ys : List Record) → HoldsOne site (First xs) → HoldsOne site (First ys) → HoldsOne site (First (xs ++ ys))
+  one_of_both [] ys before after = after
+  one_of_both (x ∷ xs) ys before after = by (bytes_eq site.cookie.now.fields.name x.name) before (λ one. one_of_both xs ys one after)
+    where
+      by : (b : Bool) → HoldsOne site (cond b (Some x) (First xs)) → (HoldsOne site (First xs) → HoldsOne site (First (xs ++ ys)))
+          → HoldsOne site (cond b (Some x) (First (xs ++ ys)))
+      by true one rest = one
+      by false one rest = rest one
+
+  module _ (cookies : List Record) (i : ℕ) (cookie : Record) (below : i < length cookies) (is : cookie ≡ get_or cookies i cookie) (before : HoldsOne site (First (take i cookies))) where
+    -- once one more was tried
+    pub one_of_more : (bytes_eq site.cookie.now.fields.name cookie.name ≡ true → HoldsOne site (Some cookie)) → HoldsOne site (First (take (i + 1) cookies))
+    one_of_more this =
+        subst (λ cs. HoldsOne site (First cs)) (sym (take_more cookies i cookie below ∙ ap (λ c. take i cookies ++ c ∷ []) (sym is)))
+        (one_of_both (take i cookies) (cookie ∷ []) before (by (bytes_eq site.cookie.now.fields.name cookie.name) refl))
+      where
+        by : (b : Bool) → bytes_eq site.cookie.now.fields.name cookie.name ≡ b → HoldsOne site (cond b (Some cookie) None)
+        by true same = this same
+        by false other = one_of_none
+
+    -- once one that has the name was tried, whatever comes after it
+    pub one_of_all : bytes_eq site.cookie.now.fields.name cookie.name ≡ true → HoldsOne site (Some cookie) → HoldsOne site (First cookies)
+    one_of_all same this =
+        subst (λ cs. HoldsOne site (First cs)) (ap (λ rest. take i cookies ++ rest) (sym (drop_more cookies i cookie below ∙ ap (λ c. c ∷ drop (i + 1) cookies) (sym is))) ∙ take-append-drop i cookies)
+        (one_of_both (take i cookies) (cookie ∷ drop (i + 1) cookies) before
+        (subst (λ b. HoldsOne site (cond b (Some cookie) (First (drop (i + 1) cookies)))) (sym same) this))
 
   -- if it opens, it is the first that does
   first_opens : (cookies : List Record) (place : ℕ) (s : SessionState) → IsOpen site (first_of_name site.cookie.now.fields.name cookies) now place s

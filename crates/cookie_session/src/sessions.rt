@@ -2,7 +2,7 @@
 ghost use Rattle.std.specs.Prelude.{◌≡◌, ◌↔◌, ◌<◌, ◌≤◌, ◌-◌, ◌+◌, min, true, ℕ, List, Some, Err, IfErr, IfOk, IfSome, OnOk, OnErr, map, string_bytes};
 ghost use Rattle.cookie.specs.Jar.{Add, Remove, after, view};
 ghost use Rattle.cookie.specs.Memory.{Gives};
-ghost use Rattle.cookie.specs.Originals.{field_cookies, jar_for};
+ghost use Rattle.cookie.specs.Originals.{field_cookies, first_of_name, jar_for};
 ghost use Rattle.cookie.specs.Record.{IsCookie};
 ghost use Rattle.cookie.specs.Sealing.{CanSeal, IsNonce};
 ghost use Rattle.cookie.specs.declared.jar_error.JarError.TheVariants as jar_refusal;
@@ -97,6 +97,10 @@ impl<'a> Sessions<'a> {
             → (first : OpensFirst self.now (field_cookies field.now) now place s)
             → HoldsOne self.now (Some first.cookie)) }
 
+        // The first cookie of the name holds one session at most, whether one is open or not.
+        ensures first { IfOk result (λ _. HoldsOne self.now
+            (first_of_name self.now.cookie.now.fields.name (field_cookies field.now))) }
+
         // The session that is open in the field's jar, if there is one, is the one that is found.
         ensures jar { Gives jar_refusal.OutOfMemory result (λ answer.
             (place : ℕ) (s : SessionState)
@@ -132,6 +136,10 @@ impl<'a> Sessions<'a> {
         ensures once { IfOk result (λ _. (place : ℕ) (s : SessionState)
             → (first : OpensFirst self.now (map (λ c. c.fields) cookies.now) now place s)
             → HoldsOne self.now (Some first.cookie)) }
+
+        // The first cookie of the name holds one session at most, whether one is open or not.
+        ensures first { IfOk result (λ _. HoldsOne self.now
+            (first_of_name self.now.cookie.now.fields.name (map (λ c. c.fields) cookies.now))) }
     {
         for cookie in cookies {
             if cookie.name() == self.cookie.name() {

@@ -6,6 +6,7 @@ use Rattle.std.specs.FinMap.{get}
 use Rattle.std.specs.Result.{IsErrAnd}
 use Rattle.jiff.specs.Types.{DateTime}
 use Rattle.cookie.specs.Memory.{Gives}
+use Rattle.cookie.specs.Originals.{first_of_name}
 use Rattle.cookie.specs.Record.{Record}
 use Rattle.cookie.specs.declared.texts_error.TextsError.{TextsError}
 use Rattle.cookie.specs.declared.texts_error.TextsError.TheVariants as unprinted
@@ -50,17 +51,22 @@ module _ (sessions : Sessions) (cookies : List Record) (now : DateTime) where
   abbrev OpensOnce : Type 0
   OpensOnce = (place : ℕ) (session : SessionState) (first : OpensFirst sessions cookies now place session) → HoldsOne sessions (Some first.cookie)
 
-  pub has_none : OpensAs None → OpensOnce → HasSession sessions cookies now None
-  has_none opens once = record {
+  -- the first cookie of the name holds one at most
+  abbrev HoldsFirst : Type 0
+  HoldsFirst = HoldsOne sessions (first_of_name sessions.cookie.now.fields.name cookies)
+
+  pub has_none : OpensAs None → OpensOnce → HoldsFirst → HasSession sessions cookies now None
+  has_none opens once first = record {
     exact = λ session. (
       λ is. absurd (none-some session is),
       λ is. absurd (none-some (opened is.0 session) ((opens is.0 session).1 is.1)),
     );
     once = once;
+    first = first;
   }
 
-  pub has_some : (found : Opened) → OpensAs (Some found) → OpensOnce → HasSession sessions cookies now (Some found.session)
-  has_some found opens once = record {
+  pub has_some : (found : Opened) → OpensAs (Some found) → OpensOnce → HoldsFirst → HasSession sessions cookies now (Some found.session)
+  has_some found opens once first = record {
     exact = λ session. (
       λ is.
           let same : found.session ≡ session = same_Some found.session session is in
@@ -70,6 +76,7 @@ module _ (sessions : Sessions) (cookies : List Record) (now : DateTime) where
           ap (λ (o : Opened). Some o.session) same,
     );
     once = once;
+    first = first;
   }
 
 -- ---- whom an answer greets

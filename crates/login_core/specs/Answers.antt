@@ -4,7 +4,7 @@ use Rattle.std.specs.FinMap.{get}
 use Rattle.jiff.specs.Types.{DateTime}
 use Rattle.cookie.specs.Jar.{Add, JarState, after, view}
 use Rattle.cookie.specs.Memory.{Gives}
-use Rattle.cookie.specs.Originals.{field_cookies}
+use Rattle.cookie.specs.Originals.{field_cookies, first_of_name}
 use Rattle.cookie.specs.Record.{IsCookie, Record}
 use Rattle.cookie.specs.Sealing.{CanSeal, IsNonce}
 use Rattle.cookie_session.specs.Seconds.{second_of}
@@ -32,6 +32,8 @@ pub record HasSession (sessions : Sessions) (cookies : List Record) (now : DateT
   pub once : (place : ℕ) (session : SessionState)
       → (first : OpensFirst sessions cookies now place session)
       → HoldsOne sessions (Some first.cookie)
+  -- and the first cookie of the name holds one session at most, whether one is open or not
+  pub first : HoldsOne sessions (first_of_name sessions.cookie.now.fields.name cookies)
 
 -- the request's cookies
 abbrev pub cookies_of : Request → List Record

@@ -8,11 +8,11 @@ returns-in-Some c =
     let sessions = c.args.sessions.now in
     let cookies = field_cookies c.args.field.now in
     let opens = c.in_ok-opened.ensures in
-    has_some sessions cookies c.args.now c.in-Some.opened (subst (OpensAs sessions cookies c.args.now) c.in-Some.is opens.answers) opens.once
+    has_some sessions cookies c.args.now c.in-Some.opened (subst (OpensAs sessions cookies c.args.now) c.in-Some.is opens.answers) opens.once opens.first
 
 pub returns-in-None : goal.returns-in-None
 returns-in-None c =
     let sessions = c.args.sessions.now in
     let cookies = field_cookies c.args.field.now in
     let opens = c.in_ok-opened.ensures in
-    has_none sessions cookies c.args.now (subst (OpensAs sessions cookies c.args.now) c.in-None.is opens.answers) opens.once
+    has_none sessions cookies c.args.now (subst (OpensAs sessions cookies c.args.now) c.in-None.is opens.answers) opens.once opens.first

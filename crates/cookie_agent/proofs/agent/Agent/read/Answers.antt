@@ -1,7 +1,7 @@
 -- What is stored stays apart, and a removal whose cookie no stored one is misses.
 use Rattle.std.proofs.Common.{◌≡◌, false, All, Ok, Err, sym, ap, subst, ◌∙◌}
 use Rattle.cookie_browser.specs.Storage.{is_same_cookie, kept_after_verdict, kept_with, lasts, lasting}
-use Rattle.cookie_agent.specs.Agreement.{seen}
+use Rattle.cookie_agent.specs.Sent.{seen}
 use Rattle.cookie_agent.specs.Apart.{IsApart}
 use Rattle.cookie_agent.specs.Store.{AgentView, agent_after_text, agent_verdict}
 use Rattle.cookie_agent.specs.VerdictCode.{verdict_result}

@@ -5,4 +5,5 @@ use Rattle.cookie_c.proofs.sessions.open.find.Goals as goal
 
 pub returns : goal.returns
 returns c =
-    finds_of c.args.sessions.now (field_cookies c.args.header.now) c.args.time refusal.OutOfMemory c.open_field.result c.open_field.ensures.answers c.open_field.ensures.once
+    let opens = c.open_field.ensures in
+    finds_of c.args.sessions.now (field_cookies c.args.header.now) c.args.time refusal.OutOfMemory c.open_field.result opens.answers opens.once opens.first

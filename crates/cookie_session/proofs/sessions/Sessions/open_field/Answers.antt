@@ -1,6 +1,6 @@
 use Rattle.std.proofs.Common.{◌≡◌, ◌↔◌, ℕ, List, Some, IfOk, ap, map, subst, ◌∙◌}
 use Rattle.cookie.specs.Memory.{Gives}
-use Rattle.cookie.specs.Originals.{field_cookies}
+use Rattle.cookie.specs.Originals.{field_cookies, first_of_name}
 use Rattle.cookie.specs.Record.{CookieView, Record}
 use Rattle.cookie.specs.declared.jar_error.JarError.TheVariants as refusal
 use Rattle.cookie_session.specs.Session.{SessionState}
@@ -26,6 +26,12 @@ returns-clause-once c =
     (first : OpensFirst c.args.self.now cookies c.args.now place s) → HoldsOne c.args.self.now (Some first.cookie)))
     (cookies_are c.deref.result.now c.in_ok-cookies.cookies.items (field_cookies c.args.field.now) c.deref.ensures.value c.in_ok-cookies.ensures)
     c.open_first.ensures.once
+
+pub returns-clause-first : goal.returns-clause-first
+returns-clause-first c =
+    subst (λ (cookies : List Record). IfOk c.open_first.result (λ _. HoldsOne c.args.self.now (first_of_name c.args.self.now.cookie.now.fields.name cookies)))
+    (cookies_are c.deref.result.now c.in_ok-cookies.cookies.items (field_cookies c.args.field.now) c.deref.ensures.value c.in_ok-cookies.ensures)
+    c.open_first.ensures.first
 
 pub returns-clause-jar : goal.returns-clause-jar
 returns-clause-jar c = jar_found c.args.self.now c.args.now refusal.OutOfMemory c.open_first.result c.args.field.now (returns-clause-answers c)

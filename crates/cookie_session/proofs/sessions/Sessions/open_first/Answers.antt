@@ -4,11 +4,12 @@ use Rattle.std.proofs.lemmas.List.{get_or-map, length-map, take_all}
 use Rattle.std.proofs.lemmas.Option.{none-some}
 use Rattle.std.proofs.lemmas.Slice.Eq.{bytes_eq-Decides, slice_eq-Decides}
 use Rattle.std.specs.Str.{bytes_eq}
+use Rattle.cookie.specs.Originals.{first_of_name}
 use Rattle.cookie.specs.Record.{CookieView, Record}
 use Rattle.cookie_session.specs.Session.{SessionState}
-use Rattle.cookie_session.specs.Sessions.{IsOpen, site_cookies}
+use Rattle.cookie_session.specs.Sessions.{HoldsOne, IsClosed, IsOpen, site_cookies}
 use Rattle.cookie_session.specs.declared.opened.Opened.{Opened}
-use Rattle.cookie_session.proofs.FirstLemmas.{Closed, closed_more, found_here, found_none, once_here, once_none}
+use Rattle.cookie_session.proofs.FirstLemmas.{Closed, closed_more, found_here, found_none, once_here, once_none, one_of_all, one_of_more}
 use Rattle.cookie_session.proofs.SessionLemmas.{opened}
 use Rattle.cookie_session.proofs.sessions.Sessions.open_first.Goals as goal
 use Rattle.cookie_session.proofs.sessions.Sessions.open_first.Goals.{then-eq+in_ok-opened+in_default, else-eq}
@@ -40,7 +41,7 @@ returns-in-Some-clause-answers c =
     let named = is_named cookie.fields.name site.cookie.now.fields.name _ _ c.eq.result decides c.name.ensures c.name-in-loop-cookie.ensures c.if-eq.true in
     let answers = λ (place : ℕ) (s : SessionState). subst (λ (o : Option Opened). (o ≡ Some (opened s place)) ↔ IsOpen site (Some cookie.fields) now place s) c.in-Some.is
     (c.in_ok-opened.ensures.answers place s) in
-    found_here site now (map fields c.args.cookies.now) i cookie.fields at.0 at.1 named c.loop-cookie.invariant c.in-Some.opened answers
+    found_here site now (map fields c.args.cookies.now) i cookie.fields at.0 at.1 named c.loop-cookie.invariant.0 c.in-Some.opened answers
 
 pub returns-in-Some-clause-once : goal.returns-in-Some-clause-once
 returns-in-Some-clause-once c =
@@ -53,7 +54,17 @@ returns-in-Some-clause-once c =
     let named = is_named cookie.fields.name site.cookie.now.fields.name _ _ c.eq.result decides c.name.ensures c.name-in-loop-cookie.ensures c.if-eq.true in
     let answers = λ (place : ℕ) (s : SessionState). subst (λ (o : Option Opened). (o ≡ Some (opened s place)) ↔ IsOpen site (Some cookie.fields) now place s) c.in-Some.is
     (c.in_ok-opened.ensures.answers place s) in
-    once_here site now (map fields c.args.cookies.now) i cookie.fields at.0 at.1 named c.loop-cookie.invariant c.in-Some.opened answers c.in_ok-opened.ensures.once
+    once_here site now (map fields c.args.cookies.now) i cookie.fields at.0 at.1 named c.loop-cookie.invariant.0 c.in-Some.opened answers c.in_ok-opened.ensures.once
+
+pub returns-in-Some-clause-first : goal.returns-in-Some-clause-first
+returns-in-Some-clause-first c =
+    let site = c.args.self.now in
+    let i = c.loop-cookie.cookie-index in
+    let cookie = c.cookie-item.result in
+    let at = in_records c.args.cookies.now i cookie c.loop-cookie-test.true c.cookie-item.is in
+    let decides = slice_eq-Decides Decides-eqb c.name.result.now c.name-in-loop-cookie.result.now c.eq.result c.eq.ensures in
+    let named = is_named cookie.fields.name site.cookie.now.fields.name _ _ c.eq.result decides c.name.ensures c.name-in-loop-cookie.ensures c.if-eq.true in
+    one_of_all site c.args.now (map fields c.args.cookies.now) i cookie.fields at.0 at.1 c.loop-cookie.invariant.1 named c.in_ok-opened.ensures.once
 
 pub loop-cookie-preserved : goal.loop-cookie-preserved
 loop-cookie-preserved c =
@@ -63,14 +74,18 @@ loop-cookie-preserved c =
     let cookie = c.cookie-item.result in
     let at = in_records c.args.cookies.now i cookie c.loop-cookie-test.true c.cookie-item.is in
     let decides = slice_eq-Decides Decides-eqb c.name.result.now c.name-in-loop-cookie.result.now c.eq.result c.eq.ensures in
-    closed_more site now (map fields c.args.cookies.now) i cookie.fields at.0 at.1 c.loop-cookie.invariant (λ named.
+    let tried : bytes_eq site.cookie.now.fields.name cookie.fields.name ≡ true → IsClosed site now cookie.fields × HoldsOne site (Some cookie.fields) = λ named.
     elim c.if-eq.branch [
-      | then-eq+in_ok-opened+in_default w ↦ λ place s is. none-some (opened s place) (sym w.in_default.is ∙ (w.in_ok-opened.ensures.answers place s).1 is)
+      | then-eq+in_ok-opened+in_default w ↦
+          (λ place s is. none-some (opened s place) (sym w.in_default.is ∙ (w.in_ok-opened.ensures.answers place s).1 is), w.in_ok-opened.ensures.once)
       | else-eq w ↦
           let same = (bytes_eq-Decides site.cookie.now.fields.name cookie.fields.name).0 named in
           let clash : true ≡ false = sym (decides.1 (c.name.ensures ∙ sym same ∙ sym c.name-in-loop-cookie.ensures)) ∙ w.if-eq.false in
           absurd (cc)
-    ])
+    ] in (
+      closed_more site now (map fields c.args.cookies.now) i cookie.fields at.0 at.1 c.loop-cookie.invariant.0 (λ named. (tried named).0),
+      one_of_more site now (map fields c.args.cookies.now) i cookie.fields at.0 at.1 c.loop-cookie.invariant.1 (λ named. (tried named).1),
+    )
 
 pub returns-clause-answers : goal.returns-clause-answers
 returns-clause-answers c =
@@ -78,7 +93,7 @@ returns-clause-answers c =
     let cookies = map fields c.args.cookies.now in
     let past : length cookies ≤ c.loop-cookie.cookie-index = omega (arith, length-map c.args.cookies.now fields) in
     found_none site c.args.now cookies
-    (subst (λ cs. Closed site c.args.now (site_cookies site cs)) (take_all c.loop-cookie.cookie-index cookies past) c.loop-cookie.invariant)
+    (subst (λ cs. Closed site c.args.now (site_cookies site cs)) (take_all c.loop-cookie.cookie-index cookies past) c.loop-cookie.invariant.0)
 
 pub returns-clause-once : goal.returns-clause-once
 returns-clause-once c =
@@ -86,4 +101,11 @@ returns-clause-once c =
     let cookies = map fields c.args.cookies.now in
     let past : length cookies ≤ c.loop-cookie.cookie-index = omega (arith, length-map c.args.cookies.now fields) in
     once_none site c.args.now cookies
-    (subst (λ cs. Closed site c.args.now (site_cookies site cs)) (take_all c.loop-cookie.cookie-index cookies past) c.loop-cookie.invariant)
+    (subst (λ cs. Closed site c.args.now (site_cookies site cs)) (take_all c.loop-cookie.cookie-index cookies past) c.loop-cookie.invariant.0)
+
+pub returns-clause-first : goal.returns-clause-first
+returns-clause-first c =
+    let site = c.args.self.now in
+    let cookies = map fields c.args.cookies.now in
+    let past : length cookies ≤ c.loop-cookie.cookie-index = omega (arith, length-map c.args.cookies.now fields) in
+    subst (λ cs. HoldsOne site (first_of_name site.cookie.now.fields.name cs)) (take_all c.loop-cookie.cookie-index cookies past) c.loop-cookie.invariant.1

@@ -1,3 +1,0 @@
-pub mod HeaderLemmas
-pub mod OwnLemmas
-pub mod ReturnLemmas

@@ -1,4 +1,0 @@
-pub mod Carrying
-pub mod OwnSessions
-pub mod ReturnError
-pub mod Returning

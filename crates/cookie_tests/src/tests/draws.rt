@@ -1,0 +1,23 @@
+/// Numbers from a seed, by the shifts of a xorshift generator (Marsaglia, 2003).
+#[derive(Drop)]
+pub struct Draws(pub u64);
+
+impl Draws {
+    fn next(&mut self) -> u64 {
+        self.0 ^= self.0 << 13;
+        self.0 ^= self.0 >> 7;
+        self.0 ^= self.0 << 17;
+        self.0
+    }
+
+    /// A number below the bound.
+    pub fn below(&mut self, bound: u64) -> usize {
+        self.next().checked_rem(bound).unwrap_or(0) as usize
+    }
+
+    /// One of the texts, which have bars between them. A text that is listed twice is drawn twice as often.
+    pub fn text(&mut self, texts: &'static str) -> &'static str {
+        let place = self.below(texts.split('|').count() as u64);
+        texts.split('|').nth(place).unwrap_or("")
+    }
+}

@@ -1,0 +1,89 @@
+//! Sessions of the program over readers and writers that fail, and a long one.
+use super::failing_reader::FailingReader;
+use super::failing_writer::FailingWriter;
+use cookie_client::{RunError, run};
+use std::alloc::{AllocError, Global};
+use std::io::Read;
+use std::test::Fail;
+
+const MOMENT: &str = "Wed, 21 Oct 2015 07:28:00 GMT";
+
+// A session with an original, two additions and a removal, and its text.
+const INPUT: &[u8] = b"\
+name=val; x=%C3%A9\nadd a=1; Path=/; Secure\nadd b=2%3B; HttpOnly\nremove name\nreset\nremove x\nadd c=3";
+
+const TEXT: &[u8] = b"\
+Set-Cookie: c=3\nSet-Cookie: x=; Max-Age=0; Expires=Tue, 21 Oct 2014 07:28:00 GMT\nCookie: c=3; name=val\n";
+
+// What comes of the session over a writer that takes so many bytes a call and fails after so many calls, and what it
+// took.
+fn outcome<R: Read + Drop>(
+    alloc: Global,
+    mut reader: R,
+    most: usize,
+    left: usize,
+) -> (Result<(), RunError>, Vec<u8>) {
+    let taken = Vec::new(alloc);
+    let mut writer = FailingWriter { taken, most, left };
+    (run(alloc, MOMENT, &mut reader, &mut writer), writer.taken)
+}
+
+// One writer takes whatever it is given, and one fails as soon as anything is written. A bad time is told before a
+// read.
+#[test]
+fn a_failed_read_writes_nothing(rt: HostRuntime) {
+    for reads in 0..=INPUT.len() {
+        for writes in [usize::MAX, 0] {
+            let reader = FailingReader(INPUT.get(..reads).unwrap_or(b""));
+            let (outcome, taken) = outcome(rt.alloc(), reader, 1, writes);
+            assert!(rt;
+                matches!(outcome, Err(RunError::Input)) && taken.is_empty(),
+                "{reads}"
+            );
+        }
+    }
+    let mut written = Vec::new(rt.alloc());
+    let outcome = run(rt.alloc(), "", &mut FailingReader(b""), &mut written);
+    assert!(rt; matches!(outcome, Err(RunError::BadMoment)));
+}
+
+// A writer that takes no byte is reported, too.
+#[test]
+fn a_failed_write_leaves_a_beginning(rt: HostRuntime) {
+    for writes in 0..TEXT.len() {
+        let (outcome, taken) = outcome(rt.alloc(), INPUT, 1, writes);
+        assert!(rt; matches!(outcome, Err(RunError::Output)), "{writes}");
+        assert!(rt; TEXT.get(..writes) == Some(taken.as_slice()), "{writes}");
+    }
+    for writes in [TEXT.len(), usize::MAX] {
+        let (outcome, taken) = outcome(rt.alloc(), INPUT, 1, writes);
+        assert!(rt; outcome.is_ok() && taken.as_slice() == TEXT, "{writes}");
+    }
+    let (unmoved, taken) = outcome(rt.alloc(), INPUT, 0, usize::MAX);
+    assert!(rt; matches!(unmoved, Err(RunError::Output)) && taken.is_empty());
+}
+
+// A session that adds a hundred names, each with a value of 500 bytes that no other has, and its text.
+fn long_session(alloc: Global) -> Result<(String, String), AllocError> {
+    let (mut input, mut text) = (String::new(alloc), String::new(alloc));
+    let mut header = String::new(alloc);
+    for number in 100..200 {
+        let name = format!(in alloc; "n{number}")?;
+        let value = name.as_str().repeat(alloc, 125)?;
+        let mark = if header.is_empty() { ':' } else { ';' };
+        write!(input, "\nadd {name}={value}")?;
+        write!(text, "Set-Cookie: {name}={value}\n")?;
+        write!(header, "{mark} {name}={value}")?;
+    }
+    write!(text, "Cookie{header}\n")?;
+    Ok((input, text))
+}
+
+#[test]
+fn a_long_text_is_written_whole(rt: HostRuntime) -> Result<(), Fail> {
+    let (input, text) = long_session(rt.alloc())?;
+    let (outcome, taken) = outcome(rt.alloc(), input.as_bytes(), usize::MAX, usize::MAX);
+    assert!(rt; outcome.is_ok() && taken.as_slice() == text.as_bytes());
+    assert!(rt; input.len() > 50_000);
+    Ok(())
+}

@@ -1,0 +1,13 @@
+pub mod Agreement
+pub mod Browsing
+pub mod Carrying
+pub mod Exchanges
+pub mod Holding
+pub mod OwnSessions
+pub mod PlanCode
+pub mod PlannedCalls
+pub mod Reading
+pub mod ReturnError
+pub mod Returning
+pub mod Standing
+pub mod Visits

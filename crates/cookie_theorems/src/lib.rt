@@ -1,0 +1,31 @@
+//! What holds over many requests: of a jar and its client, of a user agent, of sessions, and of the login.
+//!
+//! Each theorem is a function in the file of its name.
+#![tactic(auto)]
+
+mod agent_request;
+pub mod browse;
+mod carried;
+mod carrying;
+mod client;
+pub mod exchange;
+mod exchanged;
+pub mod open_for_agent;
+mod plan;
+mod return_error;
+mod returned;
+pub mod save_and_return;
+pub mod save_over_headers;
+mod timed_request;
+mod visited;
+pub mod visits;
+
+pub use agent_request::AgentRequest;
+pub use carried::Carried;
+pub use client::{cookie_of_client, read_response};
+pub use exchanged::Exchanged;
+pub use plan::Plan;
+pub use return_error::ReturnError;
+pub use returned::Returned;
+pub use timed_request::TimedRequest;
+pub use visited::Visited;

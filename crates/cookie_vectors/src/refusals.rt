@@ -1,0 +1,100 @@
+//! Refusals, and other values without a look of their own, as texts under each flag of a formatter.
+use crate::jar_calls::test_key;
+use crate::player::Player;
+use crate::printed::{debugged, printed};
+use crate::step::{Answer, Step};
+use cookie::prefix::{Host, Prefix, Secure};
+use cookie::{Error, Expiration, JarError, KeyError, ParseError, SameSite, TextsError};
+use cookie_client::{ClientError, PrefixKind, RunError};
+use cookie_http::HttpError;
+use login_core::{Refusal, Route};
+use std::fmt::{Debug, Display};
+
+/// What plays the rows on refusals.
+#[derive(Clone, Copy)]
+pub struct Refusals;
+
+impl Player for Refusals {
+    fn answer(&mut self, step: Step<'_>) -> Answer {
+        match step.words {
+            "JarError::OutOfMemory" => told(step, JarError::OutOfMemory),
+            "JarError::TooLong" => told(step, JarError::TooLong),
+            "JarError::Generator" => told(step, JarError::Generator),
+            "TextsError::OutOfMemory" => told(step, TextsError::OutOfMemory),
+            "TextsError::InvalidValue" => told(step, TextsError::InvalidValue),
+            "HttpError::OutOfMemory" => told(step, HttpError::OutOfMemory),
+            "HttpError::InvalidValue" => told(step, HttpError::InvalidValue),
+            "HttpError::TooManyFields" => told(step, HttpError::TooManyFields),
+            "ParseError::OutOfMemory" => told(step, ParseError::OutOfMemory),
+            "KeyError::TooShort(6)" => told(step, KeyError::TooShort(6)),
+            "KeyError::MasterTooShort(31)" => told(step, KeyError::MasterTooShort(31)),
+            "ClientError::OutOfMemory" => told(step, ClientError::OutOfMemory),
+            "Error::OutOfMemory" => told(step, Error::OutOfMemory),
+            "Error::InvalidValue" => told(step, Error::InvalidValue),
+            "Error::Key" => told(step, Error::Key(KeyError::TooShort(6))),
+            "Error::Parse" => told(step, Error::Parse(ParseError::EmptyName)),
+            "Error::TooLong" => told(step, Error::Jar(JarError::TooLong)),
+            "Error::Generator" => told(step, Error::Jar(JarError::Generator)),
+            "SameSite::Strict" => told(step, SameSite::Strict),
+            "SameSite::Lax" => told(step, SameSite::Lax),
+            "SameSite::None" => told(step, SameSite::None),
+            _ => fault_answer(step),
+        }
+    }
+}
+
+fn told<T: Display + Debug + Drop>(step: Step<'_>, value: T) -> Answer {
+    match step.call {
+        "text" => printed(step.alloc, &value),
+        _ => named(step, value),
+    }
+}
+
+fn named<T: Debug + Drop>(step: Step<'_>, value: T) -> Answer {
+    (step.call == "debug").then_some(())?;
+    step.escaped(debugged(step.alloc, &value)?.as_bytes())
+}
+
+fn fault_answer(step: Step<'_>) -> Answer {
+    let fault = match step.words {
+        "RunError::OutOfMemory" => RunError::OutOfMemory,
+        "RunError::from(ClientError::OutOfMemory)" => RunError::from(ClientError::OutOfMemory),
+        "RunError::Input" => RunError::Input,
+        "RunError::Output" => RunError::Output,
+        "RunError::BadMoment" => RunError::BadMoment,
+        "RunError::BadInput" => RunError::BadInput,
+        "RunError::BadLine(7)" => RunError::BadLine(7),
+        _ => return name_answer(step),
+    };
+    match step.call {
+        "status" => step.printed(fault.status()),
+        _ => told(step, fault),
+    }
+}
+
+// What has only a text for a programmer.
+fn name_answer(step: Step<'_>) -> Answer {
+    match step.words {
+        "Key" => named(step, test_key()),
+        "Host" => named(step, Host),
+        "Secure" => named(step, Secure),
+        "Host::PREFIX" => named(step, Host::PREFIX),
+        "PrefixKind::Host" => named(step, PrefixKind::Host),
+        "PrefixKind::Secure" => named(step, PrefixKind::Secure),
+        "Refusal::BadRequest" => named(step, Refusal::BadRequest),
+        "Refusal::Forbidden" => named(step, Refusal::Forbidden),
+        "Refusal::NotFound" => named(step, Refusal::NotFound),
+        "Refusal::OnlyGet" => named(step, Refusal::OnlyGet),
+        "Refusal::OnlyPost" => named(step, Refusal::OnlyPost),
+        "Route::Home" => named(step, Route::Home),
+        "Route::LogIn" => named(step, Route::LogIn),
+        "Route::LogOut" => named(step, Route::LogOut),
+        "Expiration::Session" => named(step, Expiration::Session),
+        words => {
+            let date = words
+                .strip_prefix("Expiration::DateTime(")?
+                .strip_suffix(')')?;
+            named(step, Expiration::DateTime(date.parse().ok()?))
+        }
+    }
+}

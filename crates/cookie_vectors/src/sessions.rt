@@ -1,0 +1,180 @@
+//! Sessions: rings of keys, sites that open and save sessions, and what clients and user agents bring back.
+//! data/sessions.tsv says what its calls return.
+mod returning;
+mod site;
+
+use crate::browsing::{outcome, site_of};
+use crate::jar_calls::{Sevens, after, moment};
+use crate::jars::Jars;
+use crate::player::Player;
+use crate::step::{Answer, Step};
+use cookie::{Cookie, CookieJar};
+use cookie_agent::Agent;
+use cookie_browser::Suffixes;
+use cookie_client::Client;
+use cookie_session::{Opened, Session};
+use jiff::civil::DateTime;
+use login_core::session_cookie;
+pub use site::Site;
+use std::alloc::Global;
+
+// The second of the rows' time, counted from 1970 on.
+const FIRST: u64 = 1_445_412_480;
+
+/// A site, the jar of a request, a client, a user agent, the time, how many bytes a generator returns, and a session.
+#[derive(Drop)]
+pub struct Visitors<'s> {
+    site: Site,
+    jars: Jars,
+    client: Client,
+    agent: Agent<'s>,
+    now: DateTime,
+    left: usize,
+    session: Session,
+}
+
+impl<'s> Visitors<'s> {
+    pub fn new(alloc: Global, suffixes: &'s Suffixes) -> Option<Visitors<'s>> {
+        Some(Visitors {
+            site: Site::new(alloc, session_cookie(true), 1200, 600)?,
+            jars: Jars::new(alloc),
+            client: Client::new(alloc),
+            agent: Agent::new(alloc, suffixes),
+            now: moment(),
+            left: 12,
+            session: Session::start(alloc, moment()),
+        })
+    }
+
+    // Changes the time, the generator, the session or the request.
+    fn change(&mut self, step: Step<'_>) -> Answer {
+        match step.call {
+            "at" => self.now = after(step.words)?,
+            "generator" => self.left = step.words.parse().ok()?,
+            "start" => self.session = Session::start(step.alloc, self.now),
+            "renew" => self.session.renew(self.now),
+            "set" => self.set(step)?,
+            "unset" => self.session.remove(&step.text()?),
+            _ => self.jars.jar = self.next_jar(step.alloc)?,
+        }
+        step.done()
+    }
+
+    // Sets a text, as `user=ann`, or one of a number of `y`, as `user*12`.
+    fn set(&mut self, step: Step<'_>) -> Option<()> {
+        let (name, content) = match step.words.split_once('*') {
+            Some((name, count)) => (name, "y".repeat(step.alloc, count.parse().ok()?).ok()?),
+            None => {
+                let (name, content) = step.words.split_once('=')?;
+                (name, step.with_words(content).text()?)
+            }
+        };
+        let name = step.with_words(name).text()?;
+        self.session.set(&name, &content).ok()
+    }
+
+    // The jar of the next request, of a client that had no cookie: those that the response sets.
+    fn next_jar(&self, alloc: Global) -> Option<CookieJar> {
+        let mut jar = CookieJar::new(alloc);
+        for cookie in self.jars.jar.delta() {
+            let returned = Cookie::new(cookie.name(), cookie.value());
+            jar.add_original(returned.into_owned(alloc).ok()?).ok()?;
+        }
+        Some(jar)
+    }
+
+    // What the session has, or the client.
+    fn looked(&self, step: Step<'_>) -> Answer {
+        let name = step.text()?;
+        let found = match step.call {
+            "session" => return self.texts(step),
+            "times" => return self.times(step),
+            "text" => self.session.get(&name),
+            _ => self.client.get(&name),
+        };
+        match found {
+            Some("") => step.said("(empty)"),
+            _ => step.shown(found.unwrap_or("").as_bytes()),
+        }
+    }
+
+    fn texts(&self, step: Step<'_>) -> Answer {
+        let mut texts = Vec::new(step.alloc);
+        for (name, content) in self.session.iter() {
+            texts.push(step.pair(name, content)?).ok()?;
+        }
+        step.list(&texts)
+    }
+
+    fn times(&self, step: Step<'_>) -> Answer {
+        let started = self.session.started().saturating_sub(FIRST);
+        let seen = self.session.seen().saturating_sub(FIRST);
+        format!(in step.alloc; "{started} {seen}").ok()
+    }
+
+    // Takes the session that was opened, and says the place of its key.
+    fn take(&mut self, step: Step<'_>, opened: Option<Opened>) -> Answer {
+        let Some(opened) = opened else {
+            return step.said("-");
+        };
+        self.session = opened.session;
+        step.printed(opened.place)
+    }
+
+    // The answer of a call that may be refused. The jar then has to be as it was.
+    fn settle(&mut self, step: Step<'_>) -> Answer {
+        let before = format!(in step.alloc; "{:?}", self.jars.jar).ok()?;
+        let answer = self.change_jar(step)?;
+        let after = format!(in step.alloc; "{:?}", self.jars.jar).ok()?;
+        if answer.as_str() != "done" && before != after {
+            return step.said("the jar changed");
+        }
+        Some(answer)
+    }
+
+    // Saves the session, adds a cookie under the newest key, or ends the session.
+    fn change_jar(&mut self, step: Step<'_>) -> Answer {
+        let (alloc, now, sessions) = (step.alloc, self.now, self.site.sessions());
+        let (jar, mut rng) = (&mut self.jars.jar, Sevens { left: self.left });
+        match step.call {
+            "save" => step.done_or_why(sessions.save(alloc, jar, &self.session, now, &mut rng)),
+            "keep" => step.done_or_why(sessions.keys.add(jar, step.cookie()?, &mut rng)),
+            _ => step.done_or_why(sessions.end(alloc, jar, now)),
+        }
+    }
+
+    // The place of the key that opens the cookie of that name, and the cookie.
+    fn find(&self, step: Step<'_>) -> Answer {
+        let keys = self.site.sessions().keys;
+        let Some(opening) = keys.get(&self.jars.jar, &step.text()?).ok()? else {
+            return step.said("-");
+        };
+        let cookie = step.found(Some(&opening.cookie))?;
+        format!(in step.alloc; "{} {cookie}", opening.place).ok()
+    }
+
+    // Has the user agent read a `Set-Cookie` text of a response, as `https://a.example/ | a=1; Path=/`.
+    fn read(&mut self, step: Step<'_>) -> Answer {
+        let (url, text) = step.halves();
+        let (site, text) = (site_of(step.alloc, url)?, step.with_words(text).bytes()?);
+        outcome(step, self.agent.read(&site, &text, self.now).ok()?)
+    }
+}
+
+impl Player for Visitors<'_> {
+    fn answer(&mut self, step: Step<'_>) -> Answer {
+        match step.call {
+            "at" | "generator" | "start" | "renew" | "set" | "unset" | "back" => self.change(step),
+            "text" | "session" | "times" | "held" => self.looked(step),
+            "open" | "open_field" | "open_for_agent" => self.open(step),
+            "save_and_return" | "save_over_headers" => self.come_back(step),
+            "save" | "end" | "keep" => self.settle(step),
+            "find" => self.find(step),
+            "read" => self.read(step),
+            "site" | "limits" | "ring" | "rotate" | "older" | "retire" | "keys" | "newest" => {
+                self.site.answer(step)
+            }
+            _ => self.jars.answer(step),
+        }
+    }
+}

@@ -1,5 +1,0 @@
-mod FailLemmas
-mod HeldLemmas
-mod PageLemmas
-mod SentLemmas
-mod StandingLemmas

@@ -1,3 +1,0 @@
-pub mod Browsing
-pub mod Holding
-pub mod Standing

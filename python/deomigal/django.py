@@ -1,0 +1,141 @@
+"""Sessions for Django in one encrypted cookie, over `deomigal.sessions`. In the settings:
+
+    SESSION_ENGINE = "deomigal.django"
+
+and in place of Django's own session middleware, so that no other host of the domain plants a session:
+
+    MIDDLEWARE = [.., "deomigal.django.SessionMiddleware", ..]
+"""
+from __future__ import annotations
+
+import datetime
+import re
+import time
+from typing import Any
+
+from django.conf import settings
+from django.contrib.sessions.backends.base import SessionBase
+from django.contrib.sessions.middleware import SessionMiddleware as DjangoMiddleware
+
+from .cookies import pairs, print_cookie
+from .secrets import keys_of
+from .sessions import Session, Sessions
+from .values import packed, unpacked
+from .wsgi import header_in
+
+SALT = "deomigal.django"
+made: tuple[Any, Sessions] | None = None
+
+
+def attributes() -> dict[str, Any]:
+    """The attributes of the cookie, which Django prints. They count for the prefix of its name."""
+    same_site = settings.SESSION_COOKIE_SAMESITE
+    return {
+        "path": settings.SESSION_COOKIE_PATH, "domain": settings.SESSION_COOKIE_DOMAIN,
+        "secure": bool(settings.SESSION_COOKIE_SECURE), "http_only": bool(settings.SESSION_COOKIE_HTTPONLY),
+        "same_site": same_site.title() if same_site else None,
+    }
+
+
+def site() -> Sessions:
+    """The sessions of the site, by its settings as they are now. The keys are derived from SECRET_KEY and
+    SECRET_KEY_FALLBACKS. A session is over DEOMIGAL_LIFETIME seconds after its start, by default SESSION_COOKIE_AGE."""
+    global made
+    secrets = (settings.SECRET_KEY, *(getattr(settings, "SECRET_KEY_FALLBACKS", None) or ()))
+    lifetime = getattr(settings, "DEOMIGAL_LIFETIME", None) or settings.SESSION_COOKIE_AGE
+    choice = (secrets, settings.SESSION_COOKIE_NAME, lifetime, attributes())
+    found = made
+    if found is None or found[0] != choice:
+        sessions = Sessions(keys_of(secrets, SALT), settings.SESSION_COOKIE_NAME, lifetime, lifetime, **attributes())
+        made = found = (choice, sessions)
+    return found[1]
+
+
+def opened(key: str) -> Session:
+    """The session in the value of the site's cookie, or a new one."""
+    if not re.fullmatch(r"[!-+\--:<-\[\]-~]+", key):
+        return site().start()
+    return site().open(print_cookie(settings.SESSION_COOKIE_NAME, "") + key)
+
+
+class SessionStore(SessionBase):
+    """A session, whose key is the value of its cookie. `kept` is the session that it was opened from."""
+
+    kept: Session | None = None
+    _session_cache: dict[str, Any]
+
+    def load(self) -> dict[str, Any]:
+        """The values of the session, or none if the cookie holds no session that is open."""
+        self.kept = opened(self.session_key or "")
+        if not self.kept.is_new:
+            try:
+                values: dict[str, Any] = self.serializer().loads(unpacked(self.kept))
+                if self.lives(values):
+                    return values
+            except Exception:
+                # Another program or another serializer saved it, as pickle, which raises what it wants.
+                pass
+        self.kept, self._session_key = None, ""
+        return {}
+
+    def lives(self, values: dict[str, Any]) -> bool:
+        """Whether the age that Django's settings or `set_expiry` allow isn't over."""
+        assert self.kept
+        zone = datetime.timezone.utc if settings.USE_TZ else None
+        saved = datetime.datetime.fromtimestamp(self.kept.seen, zone)
+        age: float = self.get_expiry_age(modification=saved, expiry=values.get("_session_expiry"))
+        return self.kept.now < self.kept.seen + age
+
+    def save(self, must_create: bool = False) -> None:
+        """Encrypts the session, as the value of its cookie. Raises `TooLarge` if a browser wouldn't store it."""
+        values = self._get_session(no_load=must_create)
+        self.kept = self.kept or site().start()
+        self.kept.texts = packed(self.serializer().dumps(values))
+        text = site().save(self.kept)
+        self._session_key = text.partition(";")[0].partition("=")[2]
+        self.modified = True
+
+    def create(self) -> None:
+        self.kept, self.modified = None, True
+
+    def delete(self, session_key: str | None = None) -> None:
+        """Drops the values and the key. A copy of the cookie stays open until its limits."""
+        self.kept, self._session_key, self._session_cache = None, "", {}
+        self.modified = True
+
+    def cycle_key(self) -> None:
+        """Starts it anew with the same values, so that the lifetime counts from this request. A login calls it."""
+        self._get_session()
+        if self.kept:
+            self.kept.renew()
+        self.save()
+
+    def exists(self, session_key: str | None = None) -> bool:
+        """Nothing is stored, so no key is taken."""
+        return False
+
+    @classmethod
+    def clear_expired(cls) -> None:
+        """Nothing is stored."""
+
+
+class SessionMiddleware(DjangoMiddleware):
+    """Django's middleware, but it reads the request's header as `deomigal.Sessions` does. So a name that another host
+    of the domain disguised doesn't count, and of several cookies of the name the first that holds an open session does.
+    """
+
+    def __init__(self, *words: Any, **named: Any) -> None:
+        super().__init__(*words, **named)
+        # Settings that no session could be saved with are refused now.
+        site()
+
+    def process_request(self, request: Any) -> None:
+        name = settings.SESSION_COOKIE_NAME
+        keys = [value for found, value in pairs(header_in(request.META)) if found == name] or [""]
+        # Of several the last counts if none is open, so that Django drops it.
+        request.session = self.SessionStore(next((key for key in keys[:-1] if not opened(key).is_new), keys[-1]))
+
+
+if settings.configured:
+    # Django's own middleware reads this file when the site starts.
+    site()

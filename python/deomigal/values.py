@@ -1,0 +1,206 @@
+"""Sessions of values, for the frameworks: a dict of what JSON has, which is saved as one text of a session."""
+from __future__ import annotations
+
+import base64
+import json
+import time
+from typing import TYPE_CHECKING, Any, Callable, Dict, Iterable, Iterator, Mapping, MutableMapping
+from urllib.parse import quote_plus
+
+from .dates import print_date
+from .explain import date_after
+from .secrets import keys_of
+from .sessions import Session, Sessions
+
+# The names of the one text that a session of values has: as it is, or in base64url.
+PLAIN, ENCODED = "j", "b"
+# The JSON of no values.
+EMPTY = b"{}"
+FORTNIGHT = 14 * 24 * 3600
+
+
+def packed(data: bytes) -> dict[str, str]:
+    """The bytes as the text of a session, in the shorter of two forms. Bytes that aren't UTF-8 have only the second.
+
+    >>> packed(b"12"), packed(b'{"a":1}')
+    ({'j': '12'}, {'b': 'eyJhIjoxfQ'})
+    """
+    encoded = base64.urlsafe_b64encode(data).rstrip(b"=").decode()
+    try:
+        text = data.decode()
+    except UnicodeDecodeError:
+        return {ENCODED: encoded}
+    return {PLAIN: text} if len(quote_plus(text)) <= len(encoded) else {ENCODED: encoded}
+
+
+def unpacked(texts: Mapping[str, str]) -> bytes:
+    """The bytes that `packed` made the text of. Raises `ValueError` if the texts are another program's.
+
+    >>> unpacked(packed(b"12")), unpacked(packed(b"\\xff"))
+    (b'12', b'\\xff')
+    """
+    if list(texts) == [PLAIN]:
+        return texts[PLAIN].encode()
+    if list(texts) == [ENCODED]:
+        encoded = texts[ENCODED]
+        return base64.b64decode(encoded + "=" * (-len(encoded) % 4), b"-_", validate=True)
+    raise ValueError("these texts aren't a session of values")
+
+
+def json_of(values: Mapping[str, Any]) -> bytes:
+    """The values in JSON. A lone surrogate has no UTF-8, and is escaped."""
+    try:
+        return json.dumps(values, separators=(",", ":"), ensure_ascii=False).encode()
+    except UnicodeEncodeError:
+        return json.dumps(values, separators=(",", ":")).encode()
+
+
+def with_expiry(text: str, session: Session, is_kept: bool = True) -> str:
+    """The text of the saved session's cookie with `Expires` beside its `Max-Age`, for browsers that know only one. With
+    neither if the browser isn't to keep it when it closes."""
+    head, _, age = text.rpartition("; Max-Age=")
+    return f"{text}; Expires={print_date(date_after(session.now, int(age)))}" if is_kept else head
+
+
+if TYPE_CHECKING:
+    Mapped = Dict[str, Any]
+else:
+
+    class Mapped(MutableMapping, dict):
+        """A dict whose calls go through the five of a `MutableMapping`."""
+
+
+class Values(Mapped):
+    """The values of a session: a dict of what JSON has. `accessed` is whether the request used it.
+
+    `opened` is their JSON as it was opened: a change within a value shows when they are printed again.
+    """
+
+    def __init__(self, kept: Session, values: Mapping[str, Any], opened: bytes) -> None:
+        dict.__init__(self, values)
+        self.kept, self.opened, self.accessed = kept, opened, False
+
+    def __getitem__(self, name: str) -> Any:
+        self.accessed = True
+        return dict.__getitem__(self, name)
+
+    def __setitem__(self, name: str, value: Any) -> None:
+        self.accessed = True
+        dict.__setitem__(self, name, value)
+
+    def __delitem__(self, name: str) -> None:
+        self.accessed = True
+        dict.__delitem__(self, name)
+
+    def __iter__(self) -> Iterator[str]:
+        self.accessed = True
+        return dict.__iter__(self)
+
+    def __len__(self) -> int:
+        self.accessed = True
+        return dict.__len__(self)
+
+    def __repr__(self) -> str:
+        return f"<Values {list(dict.keys(self))!r}>"
+
+    @property
+    def started(self) -> int:
+        """When the session started, in seconds since 1970."""
+        return self.kept.started
+
+    @property
+    def is_new(self) -> bool:
+        """Whether the request has no open session."""
+        return self.kept.is_new
+
+    def renew(self) -> None:
+        """Starts it anew with the same values, so that the lifetime counts from this request. Call it at a login."""
+        self.accessed = True
+        self.kept.renew()
+
+    def clear(self) -> None:
+        """Drops the values, and starts it anew."""
+        super().clear()
+        self.renew()
+
+
+class Middleware:
+    """What the middlewares for ASGI and WSGI share: how they open sessions, and when they save them.
+
+    `secret_key` has at least 32 bytes, and so has each key of `fallbacks`, which only open. A session is over `max_age`
+    seconds after its start, and `idle` seconds after it was last saved, if `idle` is given. If `max_age` is None, the
+    browser drops the cookie when it closes, and the session is over after 14 days. `refresh` is how many seconds after
+    it was saved a session that was only read is saved again, by default a tenth of `idle`. Settings that no session
+    could be saved with are refused at once.
+    """
+
+    def __init__(
+        self,
+        app: Callable[..., Any],
+        secret_key: Any,
+        session_cookie: str = "session",
+        max_age: int | None = FORTNIGHT,
+        path: str = "/",
+        same_site: str = "lax",
+        https_only: bool = False,
+        domain: str | None = None,
+        *,
+        http_only: bool = True,
+        partitioned: bool = False,
+        fallbacks: Iterable[str | bytes] = (),
+        salt: str | bytes = "deomigal.middleware",
+        idle: int | None = None,
+        refresh: float | None = None,
+        clock: Callable[[], float] = time.time,
+    ) -> None:
+        # Starlette's `Secret` shows its text only by `str`.
+        newest: str | bytes = secret_key if isinstance(secret_key, bytes) else str(secret_key)
+        lifetime = FORTNIGHT if max_age is None else max_age
+        self.app, self.clock, self.is_kept = app, clock, max_age is not None
+        # Only with an idle time does a session need to be saved that was only read.
+        self.refresh = idle / 10 if refresh is None and idle is not None else refresh
+        self.sessions = Sessions(
+            keys_of([newest, *fallbacks], salt), session_cookie, lifetime, lifetime if idle is None else idle,
+            path=path, domain=domain, secure=https_only, http_only=http_only, same_site=same_site.title(),
+            partitioned=partitioned,
+        )
+
+    def opened(self, header: bytes) -> Values:
+        """The values of the session in the request's `Cookie` header, or none."""
+        kept = self.sessions.open(header, self.clock())
+        if not kept.is_new:
+            try:
+                data = unpacked(kept)
+                values = json.loads(data)
+                if isinstance(values, dict):
+                    return Values(kept, values, data)
+            except ValueError:
+                # Another program saved it, under the same key.
+                pass
+            kept = self.sessions.start(kept.now)
+        return Values(kept, {}, EMPTY)
+
+    def fields(self, values: Values) -> list[tuple[str, str]]:
+        """The fields that the response needs: the cookie of a session that is to be saved or dropped, and that the page
+        depends on cookies, if it does."""
+        is_used = values.accessed
+        text = self.cookie_of(values)
+        fields = [] if text is None else [("Set-Cookie", text)]
+        return [*fields, ("Vary", "Cookie")] if is_used or fields else fields
+
+    def cookie_of(self, values: Values) -> str | None:
+        """The text of the `Set-Cookie` header that saves the session or has it dropped, or None."""
+        kept, data = values.kept, json_of(dict(dict.items(values)))
+        is_changed = data != values.opened or kept.is_renewed
+        if data == EMPTY:
+            return self.sessions.end(kept.now) if is_changed and not kept.is_new else None
+        if not (is_changed or self.is_due(values)):
+            return None
+        kept.texts = packed(data)
+        return with_expiry(self.sessions.save(kept), kept, self.is_kept)
+
+    def is_due(self, values: Values) -> bool:
+        """Whether to save a session that was only read: an older key opened it, or its idle time is to count from now."""
+        age = values.kept.now - values.kept.seen
+        is_old = self.refresh is not None and age >= self.refresh
+        return values.accessed and (is_old or bool(values.kept.place))

@@ -1,0 +1,42 @@
+"""Sessions for WSGI (PEP 3333) in one encrypted cookie:
+
+    from deomigal.wsgi import SessionMiddleware
+
+    application = SessionMiddleware(application, SECRET_KEY, https_only=True)
+
+`environ["deomigal.session"]` is a dict.
+"""
+from __future__ import annotations
+
+from typing import Any, Callable, Iterable, Mapping
+
+from .values import Middleware
+
+# The session's name in the environment.
+KEY = "deomigal.session"
+
+
+class SessionMiddleware(Middleware):
+    """Keeps the session of a request in `environ["deomigal.session"]`, and saves it when the response starts."""
+
+    def __call__(self, environ: dict[str, Any], start_response: Callable[..., Any]) -> Iterable[bytes]:
+        values = environ[KEY] = self.opened(header_in(environ))
+
+        def start_with_cookie(status: str, headers: list[tuple[str, str]], *error: Any) -> Any:
+            return start_response(status, [*headers, *self.fields(values)], *error)
+
+        pages: Iterable[bytes] = self.app(environ, start_with_cookie)
+        return pages
+
+
+def header_in(environ: Mapping[str, Any]) -> bytes:
+    """The bytes of the request's `Cookie` header."""
+    return wsgi_bytes(environ.get("HTTP_COOKIE", ""))
+
+
+def wsgi_bytes(text: str) -> bytes:
+    """The bytes of a text of WSGI, which has one in each character. A text that hasn't is taken as UTF-8."""
+    try:
+        return text.encode("latin-1")
+    except UnicodeEncodeError:
+        return text.encode("utf-8", "surrogatepass")

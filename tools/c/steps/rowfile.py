@@ -1,0 +1,98 @@
+"""Reads the rows of crates/cookie_vectors/data. That crate's README.md has their form."""
+import datetime
+import pathlib
+import re
+from typing import NamedTuple
+
+DATA = pathlib.Path(__file__).resolve().parent.parent.parent.parent / "crates/cookie_vectors/data"
+PLAYERS = {"rattle", "c", "python", "original"}
+
+
+class Step(NamedTuple):
+    line: int
+    call: str
+    words: str
+    wanted: str
+
+
+class Row(NamedTuple):
+    path: pathlib.Path
+    title: str
+    source: str
+    not_for: set
+    steps: list
+
+
+class Cookie(NamedTuple):
+    """A cookie's words: its name and value, and the words of its attributes by their names. Texts are bytes."""
+
+    name: bytes
+    value: bytes
+    attributes: dict
+
+
+def step(line, text):
+    made, arrow, wanted = text.rpartition(" -> ")
+    call, _, words = (made if arrow else text).partition(" ")
+    return Step(line, call, words, wanted if arrow else "done")
+
+
+def players_in(column):
+    players = set() if column == "-" else set(column.partition(":")[0].split(" "))
+    if not players <= PLAYERS:
+        raise ValueError(f"no player in {column}")
+    return players
+
+
+def rows(path):
+    """The rows of a file."""
+    made = []
+    for line, text in enumerate(path.read_text().split("\n"), 1):
+        if text.startswith("\t"):
+            made[-1].steps.append(step(line, text[1:]))
+        elif text and not text.startswith("#"):
+            title, source, not_for, *steps = text.split("\t")
+            made.append(Row(path, title, source, players_in(not_for), [step(line, text) for text in steps]))
+    return made
+
+
+def escape(match):
+    """What an escape stands for."""
+    letter, byte, character, repeated, count = match.groups()
+    if byte:
+        return bytes([int(byte, 16)])
+    if character:
+        return chr(int(character, 16)).encode()
+    return repeated * int(count) if repeated else {b"n": b"\n", b"r": b"\r", b"t": b"\t"}[letter]
+
+
+ESCAPE = re.compile(rb"\\(?:([nrt])|x([0-9a-f]{2})|u\{([0-9a-f]+)\}|\{(.*?)\*(\d+)\})", re.S)
+
+
+def unescaped(text):
+    """The bytes that the text stands for."""
+    return ESCAPE.sub(escape, text.encode())
+
+
+def cookie(words):
+    """The cookie of the words. Words without `=` are a name, with the empty value."""
+    pair, *fields = words.split("; ")
+    name, _, value = pair.partition("=")
+    attributes = dict(field.partition("=")[::2] for field in fields)
+    texts = {word: unescaped(attributes[word]) for word in ("Path", "Domain") if word in attributes}
+    return Cookie(unescaped(name), unescaped(value), {**attributes, **texts})
+
+
+def date(text):
+    """The six numbers of a date as ISO 8601 has it, such as `2015-10-21T07:28:00`."""
+    year, *rest = re.fullmatch(r"([+-]?\d+)-(\d\d)-(\d\d)T(\d\d):(\d\d):(\d\d)", text).groups()
+    return [int(year), *map(int, rest)]
+
+
+def date_text(numbers):
+    """The date as RFC 9110 5.6.7 has it, with only the digits of the year that it needs."""
+    year, month, day, hour, minute, second = numbers
+    # The calendar begins again after 400 years.
+    weekday = datetime.date(year % 400 + 2000, month, day).strftime("%a")
+    name = datetime.date(2000, month, 1).strftime("%b")
+    return f"{weekday}, {day:02} {name} {year} {hour:02}:{minute:02}:{second:02} GMT".encode()

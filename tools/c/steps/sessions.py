@@ -1,0 +1,150 @@
+"""Sessions. The inputs are the keys, the site's cookie, and numbers: lifetime, idle time, and now in seconds.
+`session_open` has the header then, and the place of the key with both times last. `session_save` has one number more, 1
+if the session is renewed, and then the header, the form of the texts, and the nonce."""
+from urllib.parse import urlencode
+
+import rowfile
+from jars import escaped, readable
+from play import LOOKS, Lacks, Play, done, each, lists, refused, status_of
+from rowfile import unescaped
+from signing import test_key
+
+FIRST = 1_445_412_480
+TOO_LARGE = "the cookie is too large: expected <= 4096 bytes, got "
+REFUSED_SAVES = {
+    "the cookie lacks what a browser asks of the prefix of its name": "BAD_PREFIX",
+    "the session is over": "OVER",
+}
+QUIET = LOOKS | {"get", "text", "keys", "newest"}
+
+
+def key_named(name):
+    return test_key() if name == "test" else bytes([int(name)] * 64)
+
+
+def form_of(texts):
+    """The texts as a form, in byte order of the names (URL Standard 5.2)."""
+    return urlencode(sorted(texts.items())).encode()
+
+
+class Sessions:
+    """What the calls of a row on a site and a request come to. What `open`, `save` and `end` return is known once the
+    steps after it have said it: `session` and `times`, or `texts`."""
+
+    def __init__(self):
+        self.keys = [test_key()]
+        self.site = rowfile.cookie("__Host-session=; Path=/; Secure; HttpOnly; SameSite=Lax")
+        self.limits, self.now, self.nonce = [1200, 600], FIRST, bytes([7] * 12)
+        self.originals, self.header = {}, None
+        self.texts, self.form, self.started = {}, None, FIRST
+        # The call that isn't known whole yet: its place and its inputs, or its name and its inputs.
+        self.opened = self.saved = None
+        self.told = {}
+
+    def settings(self, *numbers):
+        return [b"".join(self.keys), readable(self.site), lists([*self.limits, self.now, *numbers])]
+
+    def change_site(self, step):
+        """Whether the step changes the site, the time or the nonce."""
+        if step.call == "site":
+            self.site = rowfile.cookie(step.words)
+        elif step.call == "limits":
+            self.limits = [int(number) for number in step.words.split()]
+        elif step.call == "ring":
+            self.keys = [key_named(step.words)]
+        elif step.call == "rotate":
+            self.keys.insert(0, key_named(step.words))
+        elif step.call == "older":
+            self.keys.append(key_named(step.words))
+        elif step.call == "retire":
+            self.keys = self.keys[: max(1, len(self.keys) - 1)]
+        elif step.call == "at":
+            self.now = FIRST + int(step.words)
+        else:
+            return False
+        return True
+
+    def change_session(self, step):
+        """Whether the step changes the session or the request."""
+        if step.call in ("start", "renew"):
+            self.header, self.started = None, self.now
+            self.texts = {} if step.call == "start" else self.texts
+        elif step.call == "set":
+            name, mark, text = step.words.partition("*" if "*" in step.words else "=")
+            self.texts[unescaped(name)] = b"y" * int(text) if mark == "*" else unescaped(text)
+        elif step.call == "unset":
+            self.texts.pop(unescaped(step.words), None)
+        elif step.call == "form":
+            self.form = unescaped(step.words)
+        elif step.call == "original":
+            made = rowfile.cookie(step.words)
+            self.originals[made.name] = made.value
+        else:
+            return False
+        return True
+
+    def open(self, step):
+        header = unescaped(step.words)
+        if step.call == "open":
+            header = b"; ".join(escaped(name) + b"=" + escaped(value) for name, value in self.originals.items())
+        inputs = [*self.settings(), header]
+        if step.wanted == "-" or status_of(step.wanted):
+            return [refused("session_open", status_of(step.wanted) or "NO_SESSION", *inputs, lists([0, 0, 0]))]
+        self.opened, self.told, self.header = (int(step.wanted), inputs), {}, header
+        return []
+
+    def look(self, step):
+        """What a step says of the session that was opened."""
+        if self.opened is None:
+            return []
+        self.told[step.call] = step.wanted
+        if len(self.told) < 2:
+            return []
+        items = self.told["session"].split(" | ") if self.told["session"] != "-" else []
+        self.texts = dict(map(unescaped, item.split("=", 1)) for item in items)
+        times = [FIRST + int(number) for number in self.told["times"].split()]
+        (place, inputs), self.opened, self.started = self.opened, None, times[0]
+        return [done("session_open", form_of(self.texts), *inputs, lists([place, *times]))]
+
+    def save(self, step):
+        is_new = self.header is None and step.wanted != "refused NoSession"
+        if self.opened or is_new and self.started != self.now:
+            raise Lacks(step)
+        form = form_of(self.texts) if self.form is None else self.form
+        inputs = [*self.settings(int(is_new)), self.header or b"", form, self.nonce]
+        self.form = None
+        if step.wanted in REFUSED_SAVES or status_of(step.wanted):
+            return [refused("session_save", REFUSED_SAVES.get(step.wanted) or status_of(step.wanted), *inputs)]
+        if step.wanted.startswith(TOO_LARGE):
+            size = int(step.wanted.removeprefix(TOO_LARGE).removesuffix(" bytes"))
+            return [Play("session_save", "TOO_LARGE", size, b"", inputs)]
+        self.saved = "session_save", inputs
+        return []
+
+    def plays(self, step):
+        if step.call in ("session", "times"):
+            return self.look(step)
+        if step.call == "texts" and self.saved:
+            (call, inputs), self.saved = self.saved, None
+            return [done(call, unescaped(step.wanted), *inputs)]
+        if self.opened or self.saved and step.call not in ("get", "counts"):
+            raise Lacks(step)
+        if self.change_site(step) or self.change_session(step) or step.call in QUIET:
+            return []
+        if step.call in ("open", "open_field"):
+            return self.open(step)
+        if step.call == "save":
+            return self.save(step)
+        if step.call == "end" and status_of(step.wanted):
+            return [refused("session_end", status_of(step.wanted), *self.settings())]
+        if step.call == "end":
+            self.saved = "session_end", self.settings()
+            return []
+        raise Lacks(step)
+
+
+def sessions(row, _player):
+    site = Sessions()
+    yield from each(site, row)
+    if site.opened or site.saved:
+        raise Lacks(row.steps[-1])

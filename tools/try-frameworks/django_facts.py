@@ -1,0 +1,235 @@
+"""Django's own tests of sessions, with `deomigal.django` as the engine, and facts about it. DJANGO_TESTS is the folder
+`tests` of Django's sources."""
+import datetime
+import json
+import os
+import sys
+from unittest import mock
+
+import django
+from django.conf import settings
+from facts import NOON, OLDER, SECRET, age_of, damaged, disguised, not_shared, pair_of
+
+sys.path.append(os.environ["DJANGO_TESTS"])
+settings.configure(
+    SECRET_KEY=SECRET,
+    SESSION_ENGINE="deomigal.django",
+    ROOT_URLCONF="django_facts",
+    ALLOWED_HOSTS=["*"],
+    INSTALLED_APPS=["django.contrib.auth", "django.contrib.contenttypes", "django.contrib.sessions", "sessions_tests"],
+    MIDDLEWARE=["deomigal.django.SessionMiddleware"],
+    DEFAULT_AUTO_FIELD="django.db.models.AutoField",
+    USE_TZ=True,
+    DATABASES={"default": {"ENGINE": "django.db.backends.sqlite3", "NAME": ":memory:"}},
+)
+django.setup()
+
+from deomigal import Sessions
+from deomigal import django as engine
+from deomigal.errors import BadPrefix, InvalidValue, MasterTooShort, TooLarge
+from deomigal.secrets import derive_key
+from django.contrib.auth import login
+from django.contrib.auth.models import User
+from django.contrib.sessions.middleware import SessionMiddleware as DjangoMiddleware
+from django.db import connection
+from django.http import JsonResponse
+from django.test import RequestFactory, SimpleTestCase, override_settings
+from django.test.utils import setup_test_environment
+from sessions_tests import tests
+
+setup_test_environment()
+connection.creation.create_test_db(verbosity=0)
+urlpatterns = []
+
+
+class DjangoCookieSessionTests(tests.CookieSessionTests):
+    """Django's tests of signed-cookie sessions. Two that these skip, or expect to fail, pass."""
+
+    backend = engine.SessionStore
+    test_actual_expiry = tests.SessionTestsMixin.test_actual_expiry
+    test_session_load_does_not_create_record = tests.SessionTestsMixin.test_session_load_does_not_create_record
+
+    @not_shared("Django skips it for sessions in cookies: there is no store in which a logout could be seen")
+    def test_session_save_does_not_resurrect_session_logged_out_in_other_context(self):
+        pass
+
+
+class DjangoMiddlewareTests(tests.SessionMiddlewareTests):
+    """Django's tests of its middleware, which makes sessions of the engine."""
+
+    @not_shared("it reads the session in the table of Django's database engine")
+    def test_empty_session_saved(self):
+        pass
+
+
+def change(session, path):
+    """What a path does to the session of its request."""
+    changes = {
+        "/set": lambda: session.update({"user": "ann"}),
+        "/bo": lambda: session.update({"user": "bo"}),
+        "/large": lambda: session.update({"text": "x" * 5000}),
+        "/flush": session.flush,
+        "/cycle": session.cycle_key,
+        "/short": lambda: (session.update({"user": "ann"}), session.set_expiry(60)),
+        "/long": lambda: (session.update({"user": "ann"}), session.set_expiry(2 * settings.SESSION_COOKIE_AGE)),
+        "/until": lambda: (
+            session.update({"user": "ann"}),
+            session.set_expiry(datetime.datetime.fromtimestamp(NOON + 60, datetime.timezone.utc)),
+        ),
+    }
+    changes.get(path, lambda: None)()
+
+
+class EngineFacts(SimpleTestCase):
+    """Facts about `deomigal.django`."""
+
+    def ask(self, path, cookie=None, now=NOON):
+        """The values of the session, and the text of the cookie that is set, if any."""
+
+        def page(request):
+            change(request.session, request.path)
+            return JsonResponse(dict(request.session.items()), json_dumps_params={"default": str})
+
+        fields = {} if cookie is None else {"HTTP_COOKIE": cookie.encode().decode("latin-1")}
+        with mock.patch("time.time", lambda: now):
+            response = engine.SessionMiddleware(page)(RequestFactory().get(path, **fields))
+        set_cookie = response.cookies.get(settings.SESSION_COOKIE_NAME)
+        values = {name: value for name, value in json.loads(response.content).items() if name != "_session_expiry"}
+        return values, set_cookie and set_cookie.OutputString()
+
+    def kept(self, path="/set", **words):
+        return pair_of(self.ask(path, **words)[1])
+
+    def reads(self, cookie, values, now=NOON):
+        self.assertEqual(self.ask("/", cookie, now)[0], values)
+
+    def test_values(self):
+        """A session has what was put in, and the cookie doesn't show it."""
+        text = self.ask("/set")[1]
+        self.assertNotIn("ann", text)
+        self.assertEqual(age_of(text), settings.SESSION_COOKIE_AGE)
+        self.reads(pair_of(text), {"user": "ann"})
+        self.assertIsNone(self.ask("/", pair_of(text))[1])
+
+    def test_damaged(self):
+        """A damaged cookie is an empty session, and no error. Django has it dropped."""
+        for pair in damaged(self.kept()):
+            values, text = self.ask("/", pair)
+            self.assertEqual((values, age_of(text or "; Max-Age=0")), ({}, 0), pair)
+
+    def test_other_name_or_key(self):
+        """A session doesn't open under another name or another key, nor does one that `Sessions` or Flask saved."""
+        value = self.kept().partition("=")[2]
+        with override_settings(SESSION_COOKIE_NAME="other"):
+            self.reads(f"other={value}", {})
+        with override_settings(SECRET_KEY=OLDER):
+            self.reads(f"sessionid={value}", {})
+        sessions = Sessions([derive_key(SECRET.encode())], "sessionid", 1000, 1000)
+        session = sessions.start(NOON)
+        session["j"] = '{"user":"mallory"}'
+        self.reads(pair_of(sessions.save(session)), {})
+
+    def test_fallbacks(self):
+        """An older key opens a session (Django 4.1: SECRET_KEY_FALLBACKS). A saved one is under the newest."""
+        with override_settings(SECRET_KEY=OLDER):
+            cookie = self.kept()
+        self.reads(cookie, {})
+        with override_settings(SECRET_KEY_FALLBACKS=[OLDER]):
+            self.reads(cookie, {"user": "ann"})
+            saved = self.kept("/bo", cookie=cookie)
+        self.reads(saved, {"user": "bo"})
+
+    def test_lifetime(self):
+        """A session is over SESSION_COOKIE_AGE after its start. `cycle_key`, which a login calls, starts it anew."""
+        age = settings.SESSION_COOKIE_AGE
+        cookie = self.kept()
+        self.reads(cookie, {"user": "ann"}, NOON + age - 1)
+        self.reads(cookie, {}, NOON + age)
+        changed, cycled = (self.kept(path, cookie=cookie, now=NOON + age - 1) for path in ("/bo", "/cycle"))
+        self.reads(changed, {}, NOON + age)
+        self.reads(cycled, {"user": "ann"}, NOON + age)
+        self.reads(cycled, {}, NOON + 2 * age - 1)
+
+    def test_longer_lifetime(self):
+        """With a longer DEOMIGAL_LIFETIME the age counts from the last save, as in Django, up to that lifetime."""
+        age = settings.SESSION_COOKIE_AGE
+        with override_settings(DEOMIGAL_LIFETIME=3 * age):
+            cookie = self.kept()
+            self.reads(cookie, {}, NOON + age)
+            changed = self.kept("/bo", cookie=cookie, now=NOON + age - 1)
+            self.reads(changed, {"user": "bo"}, NOON + 2 * age - 2)
+            self.reads(changed, {}, NOON + 2 * age - 1)
+            long = self.kept("/long")
+            self.reads(long, {"user": "ann"}, NOON + 2 * age - 1)
+            self.reads(long, {}, NOON + 2 * age)
+
+    def test_own_expiry(self):
+        """The server checks what `set_expiry` set. Django's signed cookies don't (its ticket 19201)."""
+        short = self.kept("/short")
+        self.reads(short, {"user": "ann"}, NOON + 59)
+        self.reads(short, {}, NOON + 60)
+        with override_settings(SESSION_SERIALIZER="django.contrib.sessions.serializers.PickleSerializer"):
+            until = self.kept("/until", now=NOON - 60)
+            self.reads(until, {"user": "ann"}, NOON + 59)
+            self.reads(until, {}, NOON + 60)
+
+    def test_other_serializer(self):
+        """A session that another serializer made is empty."""
+        with override_settings(SESSION_SERIALIZER="django.contrib.sessions.serializers.PickleSerializer"):
+            cookie = self.kept()
+            self.reads(cookie, {"user": "ann"})
+        self.reads(cookie, {})
+
+    def test_login(self):
+        """Django's login starts the session anew, for a visitor who had one just before its end."""
+        request, end = RequestFactory().get("/"), NOON + settings.SESSION_COOKIE_AGE
+        cookie = self.kept()
+        with mock.patch("time.time", lambda: end - 1), mock.patch("django.contrib.auth.user_logged_in.send"):
+            request.session = engine.SessionStore(cookie.partition("=")[2])
+            login(request, User(pk=1, username="ann"), "django.contrib.auth.backends.ModelBackend")
+            request.session.save()
+        values = self.ask("/", f"sessionid={request.session.session_key}", end)[0]
+        self.assertEqual((values["user"], values["_auth_user_id"]), ("ann", "1"))
+
+    def test_flush(self):
+        """A session that was flushed has its cookie dropped."""
+        self.assertEqual(age_of(self.ask("/flush", self.kept())[1]), 0)
+
+    def test_too_large(self):
+        """A session that no browser would store raises `TooLarge`."""
+        with self.assertRaises(TooLarge):
+            self.ask("/large")
+
+    def test_settings(self):
+        """Settings that no session could be saved with are refused when the middleware is made."""
+        for refusal, changed in (
+            (MasterTooShort, {"SECRET_KEY": "short"}),
+            (MasterTooShort, {"SECRET_KEY_FALLBACKS": ["short"]}),
+            (BadPrefix, {"SESSION_COOKIE_NAME": "__Host-session"}),
+            (InvalidValue, {"SESSION_COOKIE_PATH": "/\r\nSet-Cookie: a=1"}),
+        ):
+            with override_settings(**changed), self.assertRaises(refusal, msg=changed):
+                engine.SessionMiddleware(lambda request: None)
+
+    @override_settings(SESSION_COOKIE_NAME="__Host-session", SESSION_COOKIE_SECURE=True)
+    def test_djangos_middleware(self):
+        """Django's own middleware takes a cookie whose name has other white space around it for the session's."""
+        request = RequestFactory().get("/", HTTP_COOKIE=f"\u2003{self.kept()}".encode().decode("latin-1"))
+        for middleware, key_is_found in ((DjangoMiddleware, True), (engine.SessionMiddleware, False)):
+            middleware(lambda request: None).process_request(request)
+            self.assertEqual(request.session.session_key is not None, key_is_found)
+
+    @override_settings(SESSION_COOKIE_NAME="__Host-session", SESSION_COOKIE_SECURE=True)
+    def test_disguised(self):
+        """A session under a disguised name isn't taken, before or after the user's own (RFC 6265bis 4.1.3)."""
+        ann, mallory = self.kept(), self.kept("/bo")
+        for pair in disguised(mallory):
+            self.reads(pair, {})
+            self.reads(f"{pair}; {ann}", {"user": "ann"})
+            self.reads(f"{ann}; {pair}", {"user": "ann"})
+
+    def test_several(self):
+        """Of several cookies of the name the first that holds an open session counts."""
+        ann, bo = self.kept(), self.kept("/bo")
+        self.reads(f"sessionid=junk; {ann}; {bo}", {"user": "ann"})
+        self.reads("sessionid=junk; sessionid=junk", {})
