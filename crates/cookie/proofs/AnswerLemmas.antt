@@ -1,9 +1,9 @@
 -- What is answered to a cookie that was added.
-use Rattle.std.proofs.Common.{◌≡◌, ℕ, List, cond, None, Some, option_map, Result, Ok, Err, IfOk, ap, sym, subst, refl, ◌∙◌}
+use Rattle.std.proofs.Common.{◌≡◌, ◌↔◌, ℕ, List, cond, Option, None, Some, option_map, Result, Ok, Err, IfOk, ap, sym, subst, refl, ◌∙◌}
 use Rattle.std.proofs.lemmas.Slice.Eq.{bytes_eq-Decides}
 use Rattle.cookie_core.specs.Memory.{Gives}
 use Rattle.cookie_core.specs.Record.{Record}
-use Rattle.cookie.specs.AnswersExactly.{AnswersPair}
+use Rattle.cookie.specs.AnswersExactly.{AnswersExactly, AnswersPair}
 use Rattle.cookie.specs.Jar.{JarState, Add, after, view}
 use Rattle.cookie.specs.Prefixes.{pair_of}
 use Rattle.cookie.specs.declared.jar_error.JarError.{JarError}
@@ -37,3 +37,17 @@ pub if_added : (Shows : JarState → Type 0) (stored made : Record) (old new : J
     → ((jar : JarState) → Shows (after (Add stored) jar)) → Gives refusal.OutOfMemory r (λ _. new ≡ after (Add made) old) → IfOk r (λ _. Shows new)
 if_added Shows stored made old new (Err _) is shows refused = tt
 if_added Shows stored made old new (Ok _) is shows added = subst Shows (sym (added ∙ ap (λ c. after (Add c) old) is)) (shows old)
+
+-- the answer to a stored cookie whose value stands for another
+pub answered_read : (StandsFor : List ℕ → List ℕ → List ℕ → Type 0) (name text : List ℕ) (cookie made : Record) (found : Option (List ℕ)) (value : List ℕ)
+    → name ≡ cookie.name → text ≡ cookie.value → found ≡ Some value → made ≡ record cookie { value = value }
+    → ((v : List ℕ) → (found ≡ Some v) ↔ StandsFor name text v) → AnswersExactly (λ c v. StandsFor c.name c.value v) (Some cookie) (Some made)
+answered_read StandsFor name text cookie made found value same_name same_text is_value is finds =
+    subst (λ c. AnswersExactly (λ c v. StandsFor c.name c.value v) (Some cookie) (Some c)) (sym is) (
+    record {
+      exact = λ v.
+          subst (λ n. (Some value ≡ Some v) ↔ StandsFor n cookie.value v) same_name (
+          subst (λ t. (Some value ≡ Some v) ↔ StandsFor name t v) same_text (
+          subst (λ o. (o ≡ Some v) ↔ StandsFor name text v) is_value (finds v)));
+      kept = refl;
+    })

@@ -17,6 +17,7 @@ use Rattle.cookie_core.specs.Record.{Record, IsCookie}
 use Rattle.cookie.specs.AnswersExactly.{AnswersExactly, AnswersPair}
 use Rattle.cookie.specs.Jar.{JarState, Add, after, view}
 use Rattle.cookie.specs.Opening.{IsSealedBytes}
+use Rattle.cookie.specs.SealingCalls.{IsSealedText}
 use Rattle.cookie.specs.Sealing.{IsNonce, IsSealable, IsSealed, IsSealingOf, sealed_cookie, sealed_bytes, sealing}
 use Rattle.cookie.specs.declared.jar_error.JarError.{JarError}
 use Rattle.cookie.specs.declared.jar_error.JarError.TheVariants as refusal
@@ -87,11 +88,14 @@ buffer-put nonce value text items whole n long same are even size =
     take_at put (drop (length put) items) n put_long ∙ put_is
 
 -- what an encoding of these bytes gives
-pub sealing-encoded : {X E : Type 0} (bytes_of : X → List ℕ) (key name nonce value bytes slice : List ℕ) (r : Result X E) → slice ≡ bytes
-    → bytes ≡ sealed_bytes key name nonce value → IfOk r (λ t. bytes_of t ≡ encode_of standard slice) → IfOk r (λ t. bytes_of t ≡ sealing key name nonce value)
+pub sealed_text_of : {X E : Type 0} (bytes_of : X → List ℕ) (key name nonce value bytes slice : List ℕ) (r : Result X E)
+    → IsUtf8 value → IsSealable name value → IsNonce nonce → slice ≡ bytes → bytes ≡ sealed_bytes key name nonce value
+    → IfOk r (λ t. bytes_of t ≡ encode_of standard slice) → IfOk r (λ t. IsSealedText key name value nonce (bytes_of t))
 unfolding sealing
-sealing-encoded bytes_of key name nonce value bytes slice (Ok t) same are encoded = encoded ∙ ap (encode_of standard) (same ∙ are)
-sealing-encoded bytes_of key name nonce value bytes slice (Err e) same are encoded = tt
+sealed_text_of bytes_of key name nonce value bytes slice (Ok t) text fits is same are encoded =
+    let made = encoded ∙ ap (encode_of standard) (same ∙ are) in
+    record { made = made; opens = record { is_text = text; sealable = fits; sealed = (nonce, is, made) } }
+sealed_text_of bytes_of key name nonce value bytes slice (Err e) text fits is same are encoded = tt
 
 bytes_sealed : (key name nonce value : List ℕ) → SealsToBytes key → IsNonce nonce → IsUtf8 value → IsSealable name value → IsBytes (sealed_bytes key name nonce value)
 unfolding sealed_bytes
@@ -262,20 +266,6 @@ IsCookie-sealed key nonce cookie is =
       domain = is.domain;
       max_age = is.max_age;
     }
-
--- the answer to a stored cookie whose value is a sealing
-pub decrypted : (key name text : List ℕ) (cookie made : Record) (opened : Option (List ℕ)) (value : List ℕ) → name ≡ cookie.name → text ≡ cookie.value
-    → opened ≡ Some value → made ≡ record cookie { value = value }
-    → ((v : List ℕ) → (opened ≡ Some v) ↔ IsSealed key name text v) → AnswersExactly (IsSealingOf key) (Some cookie) (Some made)
-decrypted key name text cookie made opened value same_name same_text is_value is opens =
-    subst (λ c. AnswersExactly (IsSealingOf key) (Some cookie) (Some c)) (sym is) (
-    record {
-      exact = λ v.
-          subst (λ n. (Some value ≡ Some v) ↔ IsSealed key n cookie.value v) same_name (
-          subst (λ t. (Some value ≡ Some v) ↔ IsSealed key name t v) same_text (
-          subst (λ o. (o ≡ Some v) ↔ IsSealed key name text v) is_value (opens v)));
-      kept = refl;
-    })
 
 -- a sealed cookie that was added is answered with the name and the value that it was added with
 pub sealed_shown : (key : List ℕ) (cookie made : Record) (old new : JarState) (r : Result (Unit {0}) JarError)

@@ -17,7 +17,7 @@ pub mod Opening
 pub mod Originals
 pub mod Prefixes
 pub mod SealedAdditions
-pub mod SealedCookies
+pub mod SealingCalls
 pub mod Sealing
 pub mod Shown
 pub mod Signing

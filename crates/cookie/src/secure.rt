@@ -1,13 +1,19 @@
-//! Keys, and the jars that need one.
+//! Keys, what signs and seals under them, and the jars that need one.
 
 mod key;
 mod key_error;
 mod private;
+mod reading;
+mod sealed_text;
+mod sealer;
 mod sealing;
 mod signed;
-mod signing;
+mod signer;
 
 pub use key::Key;
 pub use key_error::KeyError;
-pub use private::{PrivateJar, PrivateJarMut, Sealer};
-pub use signed::{SignedJar, SignedJarMut, Signer};
+pub use private::{PrivateJar, PrivateJarMut};
+pub use sealed_text::SealedText;
+pub use sealer::Sealer;
+pub use signed::{SignedJar, SignedJarMut};
+pub use signer::Signer;

@@ -4,12 +4,13 @@ ghost use Rattle.std.specs.Str.{bytes_eq};
 ghost use Rattle.std.specs.Cmp.{partial_equiv_from_equiv};
 ghost use Rattle.std.specs.Cmp.Lexicographic.{nat_list_eq_equiv};
 ghost use Rattle.rand_core.specs.Stream.{fill_bytes};
-ghost use Rattle.cookie_crypt.specs.Gcm.{SealsToBytes};
 ghost use Rattle.cookie.specs.Keys.{derived_key, encryption_half, key_length, key_bytes, master_length, signing_half};
 ghost use Rattle.cookie.specs.declared.secure.key_error.KeyError.TheVariants as refusal;
 
 use crate::secure::key_error::KeyError;
-use cookie_crypt::{Gcm, Mac, are_equal, expand64};
+use crate::secure::sealer::Sealer;
+use crate::secure::signer::Signer;
+use cookie_crypt::{are_equal, expand64};
 use rand_core::{Rng, TryRng};
 use std::alloc::AllocError;
 use std::fmt;
@@ -42,8 +43,8 @@ pub(crate) fn half_of(bytes: &[u8]) -> [u8; 32]
 #[derive(Drop)]
 pub struct Key {
     bytes: [u8; KEY_LENGTH],
-    mac: Mac,
-    cipher: Gcm,
+    signer: Signer,
+    sealer: Sealer,
 }
 
 impl Model for Key {
@@ -54,18 +55,18 @@ impl Model for Key {
 
     ghost view = { λ k. k.bytes };
 
-    ghost invariant = { λ k. HasHalves k.bytes k.mac k.cipher };
+    ghost invariant = { λ k. HasHalves k.bytes k.signer k.sealer };
 }
 
 impl Key {
-    // The key of these bytes, with a `Mac` of its first half and a `Gcm` of its second half.
+    // The key of these bytes: its first half signs, its second half seals.
     fn of(bytes: &[u8; KEY_LENGTH]) -> Key
         ensures { result ≡ bytes.now }
     {
         Key {
             bytes: *bytes,
-            mac: Mac::new(&half_of(&bytes[..SIGNING_LENGTH])),
-            cipher: Gcm::new(&half_of(&bytes[SIGNING_LENGTH..])),
+            signer: Signer::of(&half_of(&bytes[..SIGNING_LENGTH])),
+            sealer: Sealer::of(&half_of(&bytes[SIGNING_LENGTH..])),
         }
     }
 
@@ -163,25 +164,18 @@ impl Key {
         &self.bytes[..]
     }
 
-    // What signs under the first half.
-    pub(crate) fn mac(&self) -> Mac
-        ensures { result ≡ signing_half self.now }
+    /// What signs a text under the first half. The key must be random.
+    pub fn signer(&self) -> &Signer
+        ensures { result.now ≡ signing_half self.now }
     {
-        let Ok(mac) = self.mac.clone() else {
-            unreachable!();
-        };
-        mac
+        &self.signer
     }
 
-    // What encrypts under the second half.
-    pub(crate) fn cipher(&self) -> Gcm
-        ensures value { result ≡ encryption_half self.now }
-        ensures bytes { SealsToBytes result }
+    /// What seals a text under the second half. The key must be random.
+    pub fn sealer(&self) -> &Sealer
+        ensures { result.now ≡ encryption_half self.now }
     {
-        let Ok(cipher) = self.cipher.clone() else {
-            unreachable!();
-        };
-        cipher
+        &self.sealer
     }
 }
 
@@ -194,8 +188,8 @@ impl Clone for Key {
     fn clone(&self) -> Result<Key, AllocError> {
         Ok(Key {
             bytes: self.bytes,
-            mac: self.mac.clone()?,
-            cipher: self.cipher.clone()?,
+            signer: self.signer.copy(),
+            sealer: self.sealer.copy(),
         })
     }
 }

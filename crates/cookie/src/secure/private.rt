@@ -1,5 +1,5 @@
 //! Child jars whose cookies have sealed values.
-ghost use Rattle.std.specs.Prelude.{◌≡◌, ◌↔◌, None, Some, Err, IfOk, IfSome, IsOk, OnOk, OnErr, alloc_error, option_map};
+ghost use Rattle.std.specs.Prelude.{◌≡◌, None, Some, IfOk, IfSome, IsOk, OnErr, option_map};
 ghost use Rattle.std.specs.FinMap.{get};
 ghost use Rattle.cookie_core.specs.Memory.{Gives};
 ghost use Rattle.cookie.specs.AnswersExactly.{AnswersExactly, AnswersPair};
@@ -7,7 +7,7 @@ ghost use Rattle.cookie.specs.Jar.{Add, AddOriginal, Remove, after, view};
 ghost use Rattle.cookie.specs.Keys.{encryption_half};
 ghost use Rattle.cookie.specs.ChildJars.{Changes, ChangesSame, jar_of, key_of};
 ghost use Rattle.cookie.specs.SealedAdditions.{IsDrawnAddition, IsSealedAddition};
-ghost use Rattle.cookie.specs.SealedCookies.{IsDrawnSealing, IsNoncedSealing};
+ghost use Rattle.cookie.specs.SealingCalls.{IsDrawnCall, IsNoncedCall, IsSealedAs};
 ghost use Rattle.cookie.specs.Sealing.{CanSeal, IsSealingOf};
 ghost use Rattle.cookie.specs.declared.jar_error.JarError.TheVariants as refusal;
 
@@ -15,12 +15,11 @@ use crate::child::ChildJar;
 use crate::jar::CookieJar;
 use crate::jar_error::JarError;
 use crate::secure::key::Key;
-use crate::secure::sealing::{can_seal, decrypt, seal};
+use crate::secure::reading::read;
+use crate::secure::sealer::Sealer;
 use cookie_core::Cookie;
-use cookie_crypt::Gcm;
 use jiff::civil::DateTime;
 use rand_core::TryRng;
-use std::alloc::{AllocError, Global};
 use std::marker::Model;
 
 /// A jar, seen through a key that encrypts. Contracts see it as that jar and the key's second half.
@@ -43,78 +42,6 @@ impl<'a> Model for PrivateJar<'a> {
 /// A jar, seen and changed through a key that encrypts.
 pub type PrivateJarMut<'a> = ChildJar<'a, Sealer>;
 
-/// The half of a key that encrypts. Contracts see it as the list of its bytes.
-#[derive(Drop)]
-pub struct Sealer {
-    cipher: Gcm,
-}
-
-impl Model for Sealer {
-    ghost use Rattle.std.specs.Prelude.{List, ℕ};
-    ghost use Rattle.cookie_crypt.specs.Gcm.{SealsToBytes};
-
-    ghost Value = { List ℕ };
-
-    ghost view = { λ a. a.cipher };
-
-    ghost invariant = { λ a. SealsToBytes a.cipher };
-}
-
-impl Sealer {
-    // What seals under the second half of the key.
-    fn of(key: &Key) -> Sealer
-        ensures { result ≡ encryption_half key.now }
-    {
-        Sealer {
-            cipher: key.cipher(),
-        }
-    }
-
-    // The cookie with its value sealed under its name and a nonce from one draw.
-    fn encrypt<R: TryRng>(
-        &self,
-        alloc: Global,
-        cookie: Cookie<'static>,
-        rng: &mut R,
-    ) -> Result<Cookie<'static>, JarError>
-        ensures { IsDrawnSealing self.now (λ nonce. R.may_fill rng.old nonce rng.new)
-            (rng.new ≡ rng.old) R.Error cookie.entry result }
-    {
-        let nonce = nonce_for(&cookie, rng)?;
-        self.encrypt_with_nonce(alloc, cookie, nonce)
-    }
-
-    // The cookie with its value sealed under its name and the nonce.
-    fn encrypt_with_nonce(
-        &self,
-        alloc: Global,
-        cookie: Cookie<'static>,
-        nonce: [u8; 12],
-    ) -> Result<Cookie<'static>, JarError>
-        ensures { IsNoncedSealing self.now nonce cookie.entry result }
-    {
-        if !can_seal(&cookie) {
-            return Err(JarError::TooLong);
-        }
-        Ok(seal(alloc, &self.cipher, nonce, cookie)?)
-    }
-
-    // The cookie with the value that its own is a sealing of, if it is one.
-    fn decrypt(
-        &self,
-        alloc: Global,
-        cookie: Cookie<'static>,
-    ) -> Result<Option<Cookie<'static>>, AllocError>
-        ensures answers { Gives alloc_error result (λ answer.
-            AnswersExactly (IsSealingOf self.now) (Some cookie.entry.fields)
-            (option_map (λ c. c.fields) answer)) }
-        ensures raw { Gives alloc_error result (λ answer.
-            IfSome answer (λ c. c.raw ≡ record cookie.entry.raw { value = None })) }
-    {
-        decrypt(alloc, &self.cipher, cookie)
-    }
-}
-
 impl CookieJar {
     /// Views the jar through a key that encrypts, to look cookies up. It doesn't allocate. The key must be random.
     /// Example: `user_of` in crates/cookie_examples/src/session.rt.
@@ -123,7 +50,7 @@ impl CookieJar {
     {
         PrivateJar {
             jar: self,
-            sealer: Sealer::of(key),
+            sealer: key.sealer().copy(),
         }
     }
 
@@ -137,26 +64,7 @@ impl CookieJar {
     {
         ChildJar {
             jar: self,
-            storing: Sealer::of(key),
-        }
-    }
-
-    // The cookie that the jar shows under the name, with the value that its own is a sealing of.
-    fn get_decrypted(
-        &self,
-        sealer: &Sealer,
-        name: &str,
-    ) -> Result<Option<Cookie<'static>>, JarError>
-        ensures answers { Gives refusal.OutOfMemory result (λ answer.
-            AnswersExactly (IsSealingOf sealer.now) (view self.now name.now)
-            (option_map (λ c. c.fields) answer)) }
-        ensures raw { Gives refusal.OutOfMemory result (λ answer.
-            IfSome answer (λ c. c.raw.value ≡ None)) }
-    {
-        let alloc = self.allocator();
-        match self.get(name) {
-            Some(cookie) => Ok(sealer.decrypt(alloc, cookie.clone(alloc)?)?),
-            None => Ok(None),
+            storing: key.sealer().copy(),
         }
     }
 }
@@ -176,7 +84,7 @@ impl<'a> PrivateJar<'a> {
         ensures raw { Gives refusal.OutOfMemory result (λ answer.
             IfSome answer (λ c. c.raw.value ≡ None)) }
     {
-        self.jar.get_decrypted(&self.sealer, name)
+        Ok(self.jar.get_read(&self.sealer, name)?)
     }
 
     /// Returns the cookie with the value that was sealed, or `None` if its value isn't sealed under the key and its
@@ -192,8 +100,9 @@ impl<'a> PrivateJar<'a> {
         ensures raw { Gives refusal.OutOfMemory result (λ answer.
             IfSome answer (λ c. c.raw ≡ record cookie.entry.raw { value = None })) }
     {
-        Ok(self.sealer.decrypt(self.jar.allocator(), cookie)?)
+        Ok(read(self.jar.allocator(), &self.sealer, cookie)?)
     }
+
     /// Returns the cookie with its value encrypted under the key and its name, as `PrivateJarMut::add` stores it. The
     /// jar isn't changed. The nonce is one draw of twelve bytes from `rng`. `rng` must be a cryptographic generator,
     /// and under one key at most 2^32 nonces may be drawn (SP 800-38D 8.3).
@@ -205,8 +114,8 @@ impl<'a> PrivateJar<'a> {
         cookie: Cookie<'static>,
         rng: &mut R,
     ) -> Result<Cookie<'static>, JarError>
-        ensures { IsDrawnSealing self.now.key (λ nonce. R.may_fill rng.old nonce rng.new)
-            (rng.new ≡ rng.old) R.Error cookie.entry result }
+        ensures { IsDrawnCall (CanSeal cookie.entry.fields) (IsSealedAs self.now.key cookie.entry)
+            (λ nonce. R.may_fill rng.old nonce rng.new) (rng.new ≡ rng.old) R.Error result }
     {
         self.sealer.encrypt(self.jar.allocator(), cookie, rng)
     }
@@ -222,7 +131,8 @@ impl<'a> PrivateJar<'a> {
         cookie: Cookie<'static>,
         nonce: [u8; 12],
     ) -> Result<Cookie<'static>, JarError>
-        ensures { IsNoncedSealing self.now.key nonce cookie.entry result }
+        ensures { IsNoncedCall (CanSeal cookie.entry.fields) (IsSealedAs self.now.key cookie.entry)
+            nonce result }
     {
         self.sealer
             .encrypt_with_nonce(self.jar.allocator(), cookie, nonce)
@@ -243,7 +153,7 @@ impl<'a> PrivateJarMut<'a> {
         ensures raw { Gives refusal.OutOfMemory result (λ answer.
             IfSome answer (λ c. c.raw.value ≡ None)) }
     {
-        self.jar.get_decrypted(&self.storing, name)
+        Ok(self.jar.get_read(&self.storing, name)?)
     }
 
     /// Returns the cookie with the value that was sealed, or `None` if its value isn't sealed under the key and its
@@ -259,7 +169,7 @@ impl<'a> PrivateJarMut<'a> {
         ensures raw { Gives refusal.OutOfMemory result (λ answer.
             IfSome answer (λ c. c.raw ≡ record cookie.entry.raw { value = None })) }
     {
-        Ok(self.storing.decrypt(self.jar.allocator(), cookie)?)
+        Ok(read(self.jar.allocator(), &self.storing, cookie)?)
     }
 
     /// Adds an original cookie, with its value sealed under its name and a nonce. The nonce is one draw of twelve bytes
@@ -355,23 +265,4 @@ impl<'a> PrivateJarMut<'a> {
     {
         self.jar.remove(cookie, now)
     }
-}
-
-// Twelve bytes from one draw, to seal the cookie with.
-fn nonce_for<R: TryRng>(cookie: &Cookie<'_>, rng: &mut R) -> Result<[u8; 12], JarError>
-    ensures drawn { IfOk result (λ nonce. R.may_fill rng.old nonce rng.new) }
-    ensures within { OnOk result (CanSeal cookie.now.fields) }
-    ensures too_long { (¬ CanSeal cookie.now.fields) ↔ (result ≡ Err refusal.TooLong) }
-    ensures undrawn { ¬ CanSeal cookie.now.fields → rng.new ≡ rng.old }
-    ensures no_memory { ¬ (result ≡ Err refusal.OutOfMemory) }
-    ensures failed { result ≡ Err refusal.Generator → R.Error }
-{
-    if !can_seal(cookie) {
-        return Err(JarError::TooLong);
-    }
-    let mut nonce = [0; 12];
-    if rng.try_fill_bytes(&mut nonce).is_err() {
-        return Err(JarError::Generator);
-    }
-    Ok(nonce)
 }

@@ -1,21 +1,20 @@
 //! Child jars whose cookies have signed values.
-ghost use Rattle.std.specs.Prelude.{◌≡◌, None, Some, IfSome, ⊤, option_map};
+ghost use Rattle.std.specs.Prelude.{◌≡◌, None, Some, IfSome, option_map};
 ghost use Rattle.cookie_core.specs.Memory.{Gives};
-ghost use Rattle.cookie.specs.AnswersExactly.{AnswersExactly, AnswersPair};
+ghost use Rattle.cookie.specs.AnswersExactly.{AnswersExactly};
 ghost use Rattle.cookie.specs.Jar.{view};
 ghost use Rattle.cookie.specs.Keys.{signing_half};
 ghost use Rattle.cookie.specs.ChildJars.{Changes, jar_of, key_of};
-ghost use Rattle.cookie.specs.Signing.{CoversOnePair, IsSigningOf, signed_cookie};
+ghost use Rattle.cookie.specs.Signing.{CoversOnePair, IsSigningOf};
 ghost use Rattle.cookie.specs.declared.jar_error.JarError.TheVariants as refusal;
 
-use crate::child::{ChildJar, Storing};
+use crate::child::ChildJar;
 use crate::jar::CookieJar;
 use crate::jar_error::JarError;
 use crate::secure::key::Key;
-use crate::secure::signing::{sign, verify};
+use crate::secure::reading::read;
+use crate::secure::signer::Signer;
 use cookie_core::Cookie;
-use cookie_crypt::Mac;
-use std::alloc::{AllocError, Global};
 use std::marker::Model;
 
 /// A jar, seen through a key that signs. Contracts see it as that jar and the key's first half.
@@ -25,7 +24,7 @@ use std::marker::Model;
 #[derive(Drop)]
 pub struct SignedJar<'a> {
     jar: &'a CookieJar,
-    mac: Mac,
+    signer: Signer,
 }
 
 impl<'a> Model for SignedJar<'a> {
@@ -35,52 +34,11 @@ impl<'a> Model for SignedJar<'a> {
 
     ghost coded = { keyed_code };
 
-    ghost view = { λ a. record { jar = a.jar.now; key = a.mac } };
+    ghost view = { λ a. record { jar = a.jar.now; key = a.signer } };
 }
 
 /// A jar, seen and changed through a key that signs.
 pub type SignedJarMut<'a> = ChildJar<'a, Signer>;
-
-/// The half of a key that signs. Contracts see it as the list of its bytes.
-#[derive(Drop)]
-pub struct Signer {
-    mac: Mac,
-}
-
-impl Model for Signer {
-    ghost use Rattle.std.specs.Prelude.{List, ℕ};
-
-    ghost Value = { List ℕ };
-
-    ghost view = { λ a. a.mac };
-}
-
-impl Storing for Signer {
-    ghost stored = { signed_cookie };
-
-    ghost dropped = { λ _ cookie. cookie };
-
-    ghost DropsFreely = { ⊤ };
-
-    ghost ShowsPair = { λ key jar cookie.
-        AnswersPair (IsSigningOf key) (view jar cookie.name) cookie };
-
-    fn to_add(
-        &self,
-        alloc: Global,
-        cookie: Cookie<'static>,
-    ) -> Result<Cookie<'static>, AllocError> {
-        sign(alloc, &self.mac, cookie)
-    }
-
-    fn to_remove(
-        &self,
-        _alloc: Global,
-        cookie: Cookie<'static>,
-    ) -> Result<Cookie<'static>, AllocError> {
-        Ok(cookie)
-    }
-}
 
 impl CookieJar {
     /// Views the jar through a key that signs, to look cookies up. It doesn't allocate. The key must be random.
@@ -89,7 +47,7 @@ impl CookieJar {
     {
         SignedJar {
             jar: self,
-            mac: key.mac(),
+            signer: key.signer().copy(),
         }
     }
 
@@ -102,22 +60,7 @@ impl CookieJar {
     {
         ChildJar {
             jar: self,
-            storing: Signer { mac: key.mac() },
-        }
-    }
-
-    // The cookie that the jar shows under the name, with the value that its own is the signing of.
-    fn get_verified(&self, mac: &Mac, name: &str) -> Result<Option<Cookie<'static>>, JarError>
-        ensures answers { Gives refusal.OutOfMemory result (λ answer.
-            AnswersExactly (IsSigningOf mac.now) (view self.now name.now)
-            (option_map (λ c. c.fields) answer)) }
-        ensures raw { Gives refusal.OutOfMemory result (λ answer.
-            IfSome answer (λ c. c.raw.value ≡ None)) }
-    {
-        let alloc = self.allocator();
-        match self.get(name) {
-            Some(cookie) => Ok(verify(alloc, mac, cookie.clone(alloc)?)?),
-            None => Ok(None),
+            storing: key.signer().copy(),
         }
     }
 }
@@ -136,7 +79,7 @@ impl<'a> SignedJar<'a> {
         ensures raw { Gives refusal.OutOfMemory result (λ answer.
             IfSome answer (λ c. c.raw.value ≡ None)) }
     {
-        self.jar.get_verified(&self.mac, name)
+        Ok(self.jar.get_read(&self.signer, name)?)
     }
 
     /// Returns the cookie with the value that was signed, or `None` if its value isn't signed under the key and its
@@ -155,7 +98,7 @@ impl<'a> SignedJar<'a> {
         // What a signature covers says where the name ends and the value begins.
         ensures one_pair { CoversOnePair }
     {
-        Ok(verify(self.jar.allocator(), &self.mac, cookie)?)
+        Ok(read(self.jar.allocator(), &self.signer, cookie)?)
     }
 }
 
@@ -173,7 +116,7 @@ impl<'a> SignedJarMut<'a> {
         ensures raw { Gives refusal.OutOfMemory result (λ answer.
             IfSome answer (λ c. c.raw.value ≡ None)) }
     {
-        self.jar.get_verified(&self.storing.mac, name)
+        Ok(self.jar.get_read(&self.storing, name)?)
     }
 
     /// Returns the cookie with the value that was signed, or `None` if its value isn't signed under the key and its
@@ -192,6 +135,6 @@ impl<'a> SignedJarMut<'a> {
         // What a signature covers says where the name ends and the value begins.
         ensures one_pair { CoversOnePair }
     {
-        Ok(verify(self.jar.allocator(), &self.storing.mac, cookie)?)
+        Ok(read(self.jar.allocator(), &self.storing, cookie)?)
     }
 }

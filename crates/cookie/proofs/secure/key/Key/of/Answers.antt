@@ -13,8 +13,7 @@ invariant_of-result c =
     let half = c.half_of-2.ensures
     ∙ take_all 32 (drop 32 c.args.bytes.now) (omega (arith, length-drop 32 c.args.bytes.now, c.told-bytes)) in
     record {
-      signs = c.new.ensures ∙ c.half_of.ensures;
-      encrypts = c.new-2.ensures.value ∙ half;
-      seals = rw c.new-2.ensures.value c.new-2.ensures.bytes;
+      signs = c.of.ensures ∙ c.half_of.ensures;
+      encrypts = c.of-2.ensures ∙ half;
       long = c.told-bytes;
     }

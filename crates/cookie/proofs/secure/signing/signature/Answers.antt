@@ -1,9 +1,0 @@
-use Rattle.std.proofs.Common.{refl}
-use Rattle.cookie.proofs.SigningLemmas.{message-is, signature-from}
-use Rattle.cookie.proofs.secure.signing.signature.Goals as goal
-
-pub returns : goal.returns
-returns c =
-    signature-from c.args.mac.now c.args.name.now c.args.value.now _ c.code-digest.result _ _ c.encode_slice.result
-    (message-is _ _ _ _ _ c.to_be_bytes-length.ensures c.as_bytes.ensures.value c.as_bytes-2.ensures.value)
-    c.code-digest.ensures refl c.encode_slice.ensures.fits c.encode_slice.ensures.written

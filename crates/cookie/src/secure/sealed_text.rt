@@ -1,0 +1,55 @@
+//! A text that may be sealed.
+ghost use Rattle.std.specs.Prelude.{◌≡◌, ◌↔◌, ℕ, List, Some, IfOk, IfSome, option_map};
+ghost use Rattle.base64.specs.Engines.{standard};
+ghost use Rattle.base64.specs.GeneralPurpose.{encode_of};
+ghost use Rattle.cookie_crypt.specs.Bytes.{IsBytes};
+ghost use Rattle.cookie.specs.Opening.{DecodesTo};
+
+use base64::DecodeAllocError;
+use base64::engine::general_purpose::STANDARD;
+use std::alloc::{AllocError, Global};
+use std::marker::Model;
+
+/// A text that may be sealed, decoded from base64 once, so that it can be opened under each of several keys. Contracts
+/// see the text.
+#[derive(Drop)]
+pub struct SealedText<'t> {
+    text: &'t str,
+    bytes: Option<Vec<u8>>,
+}
+
+impl<'t> Model for SealedText<'t> {
+    ghost use Rattle.std.specs.Prelude.{List, ℕ};
+    ghost use Rattle.std.specs.Option.{option_map};
+    ghost use Rattle.cookie.specs.Opening.{DecodesTo};
+
+    ghost Value = { List ℕ };
+
+    ghost view = { λ s. s.text.now };
+
+    ghost invariant = { λ s. DecodesTo s.text.now (option_map (λ b. b.items) s.bytes) };
+}
+
+impl<'t> SealedText<'t> {
+    /// Decodes a text, which may be any. Fails only if out of memory.
+    pub fn of(alloc: Global, text: &'t str) -> Result<SealedText<'t>, AllocError>
+        ensures { IfOk result (λ sealed. sealed ≡ text.now) }
+    {
+        let bytes = match STANDARD.decode(alloc, text.as_bytes()) {
+            Ok(bytes) => Some(bytes),
+            Err(DecodeAllocError::DecodeError(_)) => None,
+            Err(DecodeAllocError::OutOfMemory) => return Err(AllocError),
+        };
+        Ok(SealedText { text, bytes })
+    }
+
+    // The bytes whose padded base64 is the text, or `None` if there are none.
+    pub(crate) fn bytes(&self) -> Option<&[u8]>
+        ensures { DecodesTo self.now (option_map (λ b. b.now) result) }
+    {
+        match &self.bytes {
+            Some(bytes) => Some(bytes.as_slice()),
+            None => None,
+        }
+    }
+}
