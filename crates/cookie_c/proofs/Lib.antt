@@ -8,8 +8,7 @@ mod KeyedLemmas
 mod OpenLemmas
 mod PairLemmas
 mod PrintLemmas
-mod ReadBackLemmas
+mod ReadLemmas
 mod ReadingLemmas
 mod SaveLemmas
 mod SiteLemmas
-mod StoredLemmas

@@ -1,13 +1,10 @@
 //! A key and two texts, as C passes them in.
-ghost use Rattle.std.specs.Prelude.{◌≡◌, ℕ, List, Some, None, MatchResult, option_map};
+ghost use Rattle.std.specs.Prelude.{◌≡◌, Some, None, MatchResult};
 ghost use Rattle.cookie.specs.Keys.{key_bytes};
-ghost use Rattle.cookie.specs.Jar.{view};
-ghost use Rattle.cookie_c.specs.Answers.{IsGiven};
 ghost use Rattle.cookie_c.specs.Keyed.{refusal_of, IsKeyed};
 
-use crate::answer::Answer;
 use crate::status::Status;
-use cookie::{CookieJar, Key};
+use cookie::Key;
 
 /// A key, the name of a cookie and its value.
 #[derive(Drop)]
@@ -36,16 +33,5 @@ impl<'a> Keyed<'a> {
             return Err(Status::NotUtf8);
         };
         Ok(Keyed { key, name, text })
-    }
-}
-
-// The value of the jar's cookie of that name, for the buffer.
-pub(crate) fn give_value(jar: &CookieJar, name: &str, out: &mut [u8]) -> Answer
-    ensures { (value : List ℕ) → option_map (λ c. c.value) (view jar.now name.now) ≡ Some value
-        → IsGiven value result out.old out.new }
-{
-    match jar.get(name) {
-        Some(cookie) => Answer::give(cookie.value().as_bytes(), out),
-        None => Answer::refusal(Status::OutOfMemory),
     }
 }

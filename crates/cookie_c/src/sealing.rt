@@ -1,21 +1,16 @@
 //! Sealed values for C (SP 800-38D 7).
-ghost use Rattle.std.specs.Prelude.{◌≡◌, ◌≢◌, ◌⊎◌, Err, Some, None, length, option_map};
-ghost use Rattle.cookie.specs.AnswersExactly.{AnswersExactly};
-ghost use Rattle.cookie.specs.Jar.{view};
+ghost use Rattle.std.specs.Prelude.{◌≡◌, ◌≢◌, Some, None, length};
 ghost use Rattle.cookie.specs.Keys.{encryption_half, key_bytes};
-ghost use Rattle.cookie.specs.Memory.{Gives};
-ghost use Rattle.cookie.specs.Record.{plain};
-ghost use Rattle.cookie.specs.Sealing.{IsSealable, IsSealingOf, sealing};
-ghost use Rattle.cookie.specs.declared.jar_error.JarError.TheVariants as refusal;
-ghost use Rattle.cookie_c.specs.Answers.{IsGivenInMemory, IsReadBack, IsRefused, IsRefusedInMemory};
+ghost use Rattle.cookie.specs.Sealing.{IsSealable, IsSealed, sealing};
+ghost use Rattle.cookie_c.specs.Answers.{IsGivenInMemory, IsReadInMemory, IsRefused};
 ghost use Rattle.cookie_c.specs.Keyed.{refusal_of};
 ghost use Rattle.cookie_c.specs.declared.status.Status.{Status as StatusValue};
 ghost use Rattle.cookie_c.specs.declared.status.Status.TheVariants as status;
 
 use crate::answer::Answer;
-use crate::keyed::{Keyed, give_value};
+use crate::keyed::Keyed;
 use crate::status::Status;
-use cookie::{Cookie, CookieJar, JarError};
+use cookie::JarError;
 use std::alloc::Global;
 
 /// Seals the value as a private jar stores it under the name, for the buffer: the base64 of nonce, encrypted value and
@@ -39,8 +34,7 @@ pub extern "C" fn cookie_seal(
     ensures bad_nonce { refusal_of key.now name.now value.now ≡ None → length nonce.now ≢ 12
         → IsRefused status.BadNonce result out.old out.new }
     ensures too_long { refusal_of key.now name.now value.now ≡ None → length nonce.now ≡ 12
-        → ¬ IsSealable name.now value.now
-        → IsRefusedInMemory status.TooLong result out.old out.new }
+        → ¬ IsSealable name.now value.now → IsRefused status.TooLong result out.old out.new }
     ensures sealed { refusal_of key.now name.now value.now ≡ None → length nonce.now ≡ 12
         → IsSealable name.now value.now → IsGivenInMemory
         (sealing (encryption_half (key_bytes key.now)) name.now nonce.now value.now)
@@ -57,7 +51,7 @@ pub extern "C" fn cookie_seal(
 ///
 /// Refuses a short key, and then a name or a text that isn't UTF-8, and then a text that isn't sealed under the key and
 /// the name. Else it fails only when memory runs out.
-#[tactic(auto, using(crate::proofs::KeyedLemmas::refused_only, crate::proofs::ReadBackLemmas::read_some, crate::proofs::ReadBackLemmas::read_none, crate::proofs::ReadBackLemmas::read_memory))]
+#[tactic(auto, using(crate::proofs::KeyedLemmas::refused_only))]
 #[unsafe(no_mangle)]
 pub extern "C" fn cookie_open(
     alloc: Global,
@@ -69,15 +63,11 @@ pub extern "C" fn cookie_open(
     ensures refused { (why : StatusValue) → refusal_of key.now name.now text.now ≡ Some why
         → IsRefused why result out.old out.new }
     ensures opened { refusal_of key.now name.now text.now ≡ None
-        → IsReadBack (IsSealingOf (encryption_half (key_bytes key.now)) (plain name.now text.now))
+        → IsReadInMemory (IsSealed (encryption_half (key_bytes key.now)) name.now text.now)
         status.NotSealed result out.old out.new }
 {
     match Keyed::of(key, name, text) {
-        Ok(keyed) => match opened_cookie(alloc, &keyed) {
-            Ok(Some(cookie)) => Answer::give(cookie.value().as_bytes(), out),
-            Ok(None) => Answer::refusal(Status::NotSealed),
-            Err(_) => Answer::refusal(Status::OutOfMemory),
-        },
+        Ok(keyed) => give_opened(alloc, &keyed, out),
         Err(why) => Answer::refusal(why),
     }
 }
@@ -86,7 +76,7 @@ pub extern "C" fn cookie_open(
 fn give_sealed(alloc: Global, keyed: &Keyed<'_>, nonce: &[u8], out: &mut [u8]) -> Answer
     ensures bad_nonce { length nonce.now ≢ 12 → IsRefused status.BadNonce result out.old out.new }
     ensures too_long { length nonce.now ≡ 12 → ¬ IsSealable keyed.now.name.now keyed.now.text.now
-        → IsRefusedInMemory status.TooLong result out.old out.new }
+        → IsRefused status.TooLong result out.old out.new }
     ensures sealed { length nonce.now ≡ 12 → IsSealable keyed.now.name.now keyed.now.text.now
         → IsGivenInMemory
         (sealing (encryption_half keyed.now.key) keyed.now.name.now nonce.now keyed.now.text.now)
@@ -97,38 +87,25 @@ fn give_sealed(alloc: Global, keyed: &Keyed<'_>, nonce: &[u8], out: &mut [u8]) -
     }
     let mut copy = [0; 12];
     copy.copy_from_slice(nonce);
-    match sealed_jar(alloc, keyed, copy) {
-        Ok(jar) => give_value(&jar, keyed.name, out),
+    let sealer = keyed.key.sealer();
+    match sealer.seal_with_nonce(alloc, keyed.name, keyed.text, copy) {
+        Ok(text) => Answer::give(text.as_bytes(), out),
         Err(JarError::TooLong) => Answer::refusal(Status::TooLong),
-        Err(JarError::OutOfMemory | JarError::Generator) => Answer::refusal(Status::OutOfMemory),
+        Err(JarError::OutOfMemory) => Answer::refusal(Status::OutOfMemory),
+        Err(JarError::Generator) => unreachable!(),
     }
 }
 
-// A jar that has the cookie, sealed.
-#[tactic(auto, using(crate::proofs::StoredLemmas::value_stored))]
-fn sealed_jar(alloc: Global, keyed: &Keyed<'_>, nonce: [u8; 12]) -> Result<CookieJar, JarError>
-    ensures sealed { IsSealable keyed.now.name.now keyed.now.text.now
-        → Gives refusal.OutOfMemory result (λ jar.
-        option_map (λ c. c.value) (view jar keyed.now.name.now)
-        ≡ Some (sealing (encryption_half keyed.now.key)
-        keyed.now.name.now nonce keyed.now.text.now)) }
-    ensures too_long { ¬ IsSealable keyed.now.name.now keyed.now.text.now
-        → (result ≡ Err refusal.TooLong) ⊎ (result ≡ Err refusal.OutOfMemory) }
+// The value that was sealed, if the text is a sealed value, for the buffer.
+#[tactic(auto, using(crate::proofs::ReadLemmas::read_some, crate::proofs::ReadLemmas::read_none))]
+fn give_opened(alloc: Global, keyed: &Keyed<'_>, out: &mut [u8]) -> Answer
+    ensures { IsReadInMemory
+        (IsSealed (encryption_half keyed.now.key) keyed.now.name.now keyed.now.text.now)
+        status.NotSealed result out.old out.new }
 {
-    let cookie = Cookie::new(keyed.name, keyed.text).into_owned(alloc)?;
-    let mut jar = CookieJar::new(alloc);
-    jar.private_mut(&keyed.key).add_with_nonce(cookie, nonce)?;
-    Ok(jar)
-}
-
-// The cookie with the value that was sealed, if the text is a sealed value.
-fn opened_cookie(alloc: Global, keyed: &Keyed<'_>) -> Result<Option<Cookie<'static>>, JarError>
-    ensures { Gives refusal.OutOfMemory result (λ answer.
-        AnswersExactly (IsSealingOf (encryption_half keyed.now.key))
-        (Some (plain keyed.now.name.now keyed.now.text.now))
-        (option_map (λ c. c.fields) answer)) }
-{
-    let cookie = Cookie::new(keyed.name, keyed.text).into_owned(alloc)?;
-    let jar = CookieJar::new(alloc);
-    jar.private(&keyed.key).decrypt(cookie)
+    match keyed.key.sealer().open(alloc, keyed.name, keyed.text) {
+        Ok(Some(value)) => Answer::give(value.as_bytes(), out),
+        Ok(None) => Answer::refusal(Status::NotSealed),
+        Err(_) => Answer::refusal(Status::OutOfMemory),
+    }
 }

@@ -1,15 +1,34 @@
 -- What a ring of keys opens.
-use Rattle.std.proofs.Common.{◌≡◌, ℕ, ◌+◌, ◌<◌, ◌≤◌, List, [], ◌∷◌, length, Option, None, Some, ⊎_elim, arith, refl, sym, ap, subst, ◌∙◌}
+use Rattle.std.proofs.Common.{◌≡◌, ◌↔◌, ℕ, ◌+◌, ◌<◌, ◌≤◌, List, [], ◌∷◌, length, Option, None, Some, ⊎_elim, arith, refl, sym, ap, subst, ◌∙◌}
 use Rattle.std.proofs.lemmas.Bool.{cases_lt}
 use Rattle.std.proofs.lemmas.Option.{none-some, same_Some, slice_get_past}
-use Rattle.std.specs.Prelude.{MatchOption, slice_get}
-use Rattle.cookie.specs.AnswersExactly.{AnswersExactly, IsStoredFor}
+use Rattle.std.specs.Prelude.{MatchOption, option_map, slice_get}
+use Rattle.cookie.specs.AnswersExactly.{AnswersExactly, IsStoredFor, with_value}
 use Rattle.cookie.specs.Keys.{encryption_half}
 use Rattle.cookie.specs.Prefixes.{pair_of}
 use Rattle.cookie.specs.Record.{Record}
 use Rattle.cookie.specs.Sealing.{IsSealed, IsSealingOf}
 use Rattle.cookie_session.specs.KeyRing.{KeyOpens, OpensAt, OpensExactly, newest}
 use Rattle.cookie_session.specs.declared.opening.Opening.{Opening}
+
+-- what a key answers to a stored cookie, by what it finds in its text
+pub answered_by : (half name text : List ℕ) (cookie : Record) (found : Option (List ℕ)) → name ≡ cookie.name → text ≡ cookie.value
+    → ((v : List ℕ) → (found ≡ Some v) ↔ IsSealed half name text v)
+    → AnswersExactly (IsSealingOf half) (Some cookie) (option_map (λ v. with_value v cookie) found)
+answered_by half name text cookie None named valued finds =
+    record {
+      exact = λ v.
+          subst (λ n. (◌≡◌ {A = Option (List ℕ)} None (Some v)) ↔ IsSealed half n cookie.value v) named (
+          subst (λ t. (◌≡◌ {A = Option (List ℕ)} None (Some v)) ↔ IsSealed half name t v) valued (finds v));
+      kept = tt;
+    }
+answered_by half name text cookie (Some value) named valued finds =
+    record {
+      exact = λ v.
+          subst (λ n. (Some value ≡ Some v) ↔ IsSealed half n cookie.value v) named (
+          subst (λ t. (Some value ≡ Some v) ↔ IsSealed half name t v) valued (finds v));
+      kept = refl;
+    }
 
 module _ (ring : List (List ℕ)) where
   -- what the key at a place opens

@@ -1,5 +1,5 @@
 //! The keys of a site.
-ghost use Rattle.std.specs.Prelude.{◌≡◌, ◌↔◌, ◌<◌, ◌++◌, [], ◌∷◌, ℕ, List, Some, Err, IfNone, IfOk, IfSome, OnErr, OnOk, length, slice_get};
+ghost use Rattle.std.specs.Prelude.{◌≡◌, ◌↔◌, ◌<◌, ◌++◌, [], ◌∷◌, ℕ, List, Some, Err, IfNone, IfOk, IfSome, OnErr, OnOk, alloc_error, length, slice_get};
 ghost use Rattle.cookie.specs.Jar.{Add, after, view};
 ghost use Rattle.cookie.specs.Keys.{encryption_half};
 ghost use Rattle.cookie.specs.Memory.{Gives};
@@ -8,7 +8,7 @@ ghost use Rattle.cookie.specs.declared.jar_error.JarError.TheVariants as refusal
 ghost use Rattle.cookie_session.specs.KeyRing.{KeepsOpening, LeavesOpening, OpensExactly, OpensNewest, newest};
 
 use crate::opening::Opening;
-use cookie::{Cookie, CookieJar, JarError, Key};
+use cookie::{Cookie, CookieJar, JarError, Key, SealedText};
 use rand_core::TryRng;
 use std::alloc::{AllocError, Global};
 use std::marker::Model;
@@ -109,9 +109,9 @@ impl KeyRing {
     /// Returns a copy of the cookie that `jar` has under `name`, with the value that was encrypted, and the place of
     /// the key that opened it: the newest that does. Returns `None` if no key opens it.
     ///
-    /// Fails only with `JarError::OutOfMemory`.
-    pub fn get(&self, jar: &CookieJar, name: &str) -> Result<Option<Opening>, JarError>
-        ensures { Gives refusal.OutOfMemory result (λ answer.
+    /// Fails only if out of memory.
+    pub fn get(&self, jar: &CookieJar, name: &str) -> Result<Option<Opening>, AllocError>
+        ensures { Gives alloc_error result (λ answer.
             OpensExactly self.now (view jar.now name.now) answer) }
     {
         match jar.get(name) {
@@ -120,16 +120,18 @@ impl KeyRing {
         }
     }
 
-    // A copy of the cookie, opened by the newest key that opens it.
-    pub(crate) fn open(&self, cookie: &Cookie<'static>) -> Result<Option<Opening>, JarError>
-        ensures { Gives refusal.OutOfMemory result (λ answer.
+    // A copy of the cookie, opened by the newest key that opens it. Its value is decoded once for all keys.
+    pub(crate) fn open(&self, cookie: &Cookie<'static>) -> Result<Option<Opening>, AllocError>
+        ensures { Gives alloc_error result (λ answer.
             OpensExactly self.now (Some cookie.now.fields) answer) }
     {
         let alloc = *self.keys.allocator();
-        let jar = CookieJar::new(alloc);
+        let text = SealedText::of(alloc, cookie.value())?;
         for place in 0..self.len() {
-            let copy = cookie.clone(alloc)?;
-            if let Some(cookie) = jar.private(self.at(place)).decrypt(copy)? {
+            let sealer = self.at(place).sealer();
+            if let Some(value) = sealer.open_decoded(alloc, cookie.name(), &text)? {
+                let mut cookie = cookie.clone(alloc)?;
+                cookie.set_value_owned(value);
                 return Ok(Some(Opening { cookie, place }));
             }
         }
@@ -168,7 +170,8 @@ impl KeyRing {
         // After any refusal the jar is as it was.
         ensures err { OnErr result (jar.new ≡ jar.old) }
     {
-        let sealed = jar.private(self.newest()).encrypt(cookie, rng)?;
+        let alloc = *self.keys.allocator();
+        let sealed = self.newest().sealer().encrypt(alloc, cookie, rng)?;
         jar.add(sealed)?;
         Ok(())
     }

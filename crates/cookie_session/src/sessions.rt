@@ -1,11 +1,10 @@
 //! The sessions of a site.
-ghost use Rattle.std.specs.Prelude.{◌≡◌, ◌↔◌, ◌<◌, ◌≤◌, ◌-◌, ◌+◌, min, true, ℕ, List, Some, Err, IfErr, IfOk, IfSome, OnOk, OnErr, map, string_bytes};
+ghost use Rattle.std.specs.Prelude.{◌≡◌, ◌↔◌, ◌<◌, ◌≤◌, ◌-◌, ◌+◌, min, true, ℕ, List, Some, Err, IfErr, IfOk, IfSome, OnOk, OnErr, alloc_error, map, string_bytes};
 ghost use Rattle.cookie.specs.Jar.{Add, Remove, after, view};
 ghost use Rattle.cookie.specs.Memory.{Gives};
 ghost use Rattle.cookie.specs.Originals.{field_cookies, first_of_name, jar_for};
 ghost use Rattle.cookie.specs.Record.{IsCookie};
 ghost use Rattle.cookie.specs.Sealing.{CanSeal, IsNonce};
-ghost use Rattle.cookie.specs.declared.jar_error.JarError.TheVariants as jar_refusal;
 ghost use Rattle.cookie_session.specs.Seconds.{second_of};
 ghost use Rattle.cookie_session.specs.Session.{IsSession, SessionState, seen_at};
 ghost use Rattle.cookie_session.specs.Sessions.{CanSave, HoldsOne, IsOpen, IsStored, OpensFirst, bare_cookie, meets_prefix, saved_cookie, session_cookie};
@@ -21,7 +20,7 @@ use crate::session::Session;
 use crate::session_error::SessionError;
 use crate::session_text::read_session;
 use crate::size::browser_length;
-use cookie::{Cookie, CookieJar, JarError, field_cookies};
+use cookie::{Cookie, CookieJar, field_cookies};
 use jiff::SignedDuration;
 use jiff::civil::DateTime;
 use rand_core::TryRng;
@@ -48,15 +47,15 @@ impl<'a> Sessions<'a> {
     /// it. It is the session whose text was encrypted in the cookie of the site's name, under a key of the ring, if the
     /// session lives. Returns `None` if there is no such session.
     ///
-    /// Fails only with `JarError::OutOfMemory`.
+    /// Fails only if out of memory.
     /// Example: `handle` in crates/cookie_examples/src/handler.rt.
     pub fn open(
         &self,
         alloc: Global,
         jar: &CookieJar,
         now: DateTime,
-    ) -> Result<Option<Opened>, JarError>
-        ensures answers { Gives jar_refusal.OutOfMemory result (λ answer.
+    ) -> Result<Option<Opened>, AllocError>
+        ensures answers { Gives alloc_error result (λ answer.
             (place : ℕ) (s : SessionState)
             → (answer ≡ Some (record { session = s; place = place }))
             ↔ IsOpen self.now (view jar.now self.now.cookie.now.fields.name) now place s) }
@@ -76,7 +75,7 @@ impl<'a> Sessions<'a> {
     /// the site's name the first in which a session is open counts. So no cookie that another host set can hide an open
     /// session. If `open` finds a session in the field's jar, this is the same. Returns `None` if no session is open.
     ///
-    /// Fails only with `JarError::OutOfMemory`.
+    /// Fails only if out of memory.
     ///
     /// ```
     /// let opened = sessions.open_field(alloc, b"session=junk; session=BwcHBwcHBwcHBw..", now)?;
@@ -86,8 +85,8 @@ impl<'a> Sessions<'a> {
         alloc: Global,
         field: &[u8],
         now: DateTime,
-    ) -> Result<Option<Opened>, JarError>
-        ensures answers { Gives jar_refusal.OutOfMemory result (λ answer.
+    ) -> Result<Option<Opened>, AllocError>
+        ensures answers { Gives alloc_error result (λ answer.
             (place : ℕ) (s : SessionState)
             → (answer ≡ Some (record { session = s; place = place }))
             ↔ OpensFirst self.now (field_cookies field.now) now place s) }
@@ -102,7 +101,7 @@ impl<'a> Sessions<'a> {
             (first_of_name self.now.cookie.now.fields.name (field_cookies field.now))) }
 
         // The session that is open in the field's jar, if there is one, is the one that is found.
-        ensures jar { Gives jar_refusal.OutOfMemory result (λ answer.
+        ensures jar { Gives alloc_error result (λ answer.
             (place : ℕ) (s : SessionState)
             → IsOpen self.now (view (jar_for field.now) self.now.cookie.now.fields.name)
             now place s
@@ -115,7 +114,7 @@ impl<'a> Sessions<'a> {
     /// Opens the session of a request, as `open_field` does, for cookies that were read already: of those that have the
     /// site's name the first in which a session is open counts. Returns `None` if no session is open.
     ///
-    /// Fails only with `JarError::OutOfMemory`.
+    /// Fails only if out of memory.
     ///
     /// ```
     /// let cookies = cookie::field_cookies(alloc, field)?;
@@ -126,8 +125,8 @@ impl<'a> Sessions<'a> {
         alloc: Global,
         cookies: &[Cookie<'static>],
         now: DateTime,
-    ) -> Result<Option<Opened>, JarError>
-        ensures answers { Gives jar_refusal.OutOfMemory result (λ answer.
+    ) -> Result<Option<Opened>, AllocError>
+        ensures answers { Gives alloc_error result (λ answer.
             (place : ℕ) (s : SessionState)
             → (answer ≡ Some (record { session = s; place = place }))
             ↔ OpensFirst self.now (map (λ c. c.fields) cookies.now) now place s) }
@@ -157,8 +156,8 @@ impl<'a> Sessions<'a> {
         alloc: Global,
         cookie: &Cookie<'static>,
         now: DateTime,
-    ) -> Result<Option<Opened>, JarError>
-        ensures answers { Gives jar_refusal.OutOfMemory result (λ answer.
+    ) -> Result<Option<Opened>, AllocError>
+        ensures answers { Gives alloc_error result (λ answer.
             (place : ℕ) (s : SessionState)
             → (answer ≡ Some (record { session = s; place = place }))
             ↔ IsOpen self.now (Some cookie.now.fields) now place s) }
@@ -240,7 +239,7 @@ impl<'a> Sessions<'a> {
         ensures err { OnErr result (jar.new ≡ jar.old) }
     {
         let cookie = self.bare_cookie(alloc, session, now)?;
-        let sealed = jar.private(self.keys.newest()).encrypt(cookie, rng)?;
+        let sealed = self.keys.newest().sealer().encrypt(alloc, cookie, rng)?;
         let size = browser_length(alloc, &sealed)?;
         if size > MOST_BYTES {
             return Err(SessionError::TooLarge(size));
@@ -253,14 +252,15 @@ impl<'a> Sessions<'a> {
     /// that the site sets. If the request had the cookie, the response tells the client to drop it. A copy of the
     /// cookie still opens until the session's limits.
     ///
-    /// Fails only with `JarError::OutOfMemory`, and then leaves the jar as it was.
+    /// Fails only if out of memory, and then leaves the jar as it was.
     /// Example: `handle` in crates/cookie_examples/src/handler.rt.
-    pub fn end(&self, alloc: Global, jar: &mut CookieJar, now: DateTime) -> Result<(), JarError>
-        ensures gives { Gives jar_refusal.OutOfMemory result (λ _.
+    pub fn end(&self, alloc: Global, jar: &mut CookieJar, now: DateTime) -> Result<(), AllocError>
+        ensures gives { Gives alloc_error result (λ _.
             jar.new ≡ after (Remove self.now.cookie.now.fields now) jar.old) }
         ensures err { OnErr result (jar.new ≡ jar.old) }
     {
-        jar.remove(self.cookie.clone(alloc)?, now)
+        let removed = jar.remove(self.cookie.clone(alloc)?, now);
+        removed.map_err(|_| AllocError)
     }
 
     // The cookie of a session that is saved at the time `now`, before it is encrypted.

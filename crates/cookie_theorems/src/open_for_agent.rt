@@ -1,14 +1,12 @@
 //! The session that a user agent's request opens.
-ghost use Rattle.std.specs.Prelude.{IfOk};
+ghost use Rattle.std.specs.Prelude.{IfOk, alloc_error};
 ghost use Rattle.cookie.specs.Memory.{Gives};
-ghost use Rattle.cookie.specs.declared.jar_error.JarError.TheVariants as refusal;
 ghost use Rattle.cookie_theorems.specs.OwnSessions.{IsRequestOpened, KeepsLastSave, OpensOnlyOwn};
 
-use cookie::JarError;
 use cookie_agent::{Agent, Site};
 use cookie_session::{Opened, Sessions};
 use jiff::civil::DateTime;
-use std::alloc::Global;
+use std::alloc::{AllocError, Global};
 
 /// Has a user agent make a request to a site, at the time `now` in UTC, and opens the session of its `Cookie` header as
 /// the site's server does, by [`Sessions::open_field`].
@@ -18,15 +16,15 @@ use std::alloc::Global;
 /// connections send changes nothing, whatever their texts are. This requires that the agent wasn't trimmed
 /// ([`Agent::trim`]).
 ///
-/// Fails only with `JarError::OutOfMemory`.
+/// Fails only if out of memory.
 pub fn open_for_agent(
     alloc: Global,
     sessions: &Sessions<'_>,
     agent: &Agent<'_>,
     site: &Site,
     now: DateTime,
-) -> Result<Option<Opened>, JarError>
-    ensures opened { Gives refusal.OutOfMemory result
+) -> Result<Option<Opened>, AllocError>
+    ensures opened { Gives alloc_error result
         (IsRequestOpened sessions.now agent.now site.now now) }
 
     // Only the site's own secure responses decide, if the cookie's name begins with `__Host-`.

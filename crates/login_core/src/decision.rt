@@ -1,11 +1,10 @@
 //! What the site answers a request.
-ghost use Rattle.std.specs.Prelude.{◌≡◌, ◌↔◌, ℕ, List, Option, IfOk, OnOk, Err, Some, map, option_map, string_bytes};
+ghost use Rattle.std.specs.Prelude.{◌≡◌, ◌↔◌, ℕ, List, Option, IfOk, OnOk, Err, Some, alloc_error, map, option_map, string_bytes};
 ghost use Rattle.cookie.specs.AttributeValues.{AllFitFields};
 ghost use Rattle.cookie.specs.DeltaTexts.{AreDeltaTextsOnce};
 ghost use Rattle.cookie.specs.Jar.{JarState};
 ghost use Rattle.cookie.specs.Memory.{Gives};
 ghost use Rattle.cookie.specs.Originals.{field_cookies, jar_for};
-ghost use Rattle.cookie.specs.declared.jar_error.JarError.TheVariants as jar_refusal;
 ghost use Rattle.cookie_session.specs.Session.{SessionState};
 ghost use Rattle.cookie_session.specs.declared.session_error.SessionError.{SessionError as SessionRefusal};
 ghost use Rattle.cookie_session.specs.declared.session_error.SessionError.TheVariants as refusal;
@@ -22,7 +21,7 @@ use crate::login_site::LoginSite;
 use crate::plan::{Plan, make_plan};
 use crate::request::Request;
 use crate::response::Response;
-use cookie::{CookieJar, JarError};
+use cookie::CookieJar;
 use cookie_session::{Session, SessionError, Sessions};
 use jiff::civil::DateTime;
 use rand_core::TryRng;
@@ -94,14 +93,14 @@ fn plan_of(
     site: &LoginSite<'_>,
     request: &Request<'_>,
     now: DateTime,
-) -> Result<Plan, JarError>
-    ensures { Gives jar_refusal.OutOfMemory result (λ plan. (found : Option SessionState)
+) -> Result<Plan, AllocError>
+    ensures { Gives alloc_error result (λ plan. (found : Option SessionState)
         × HasSession site.now.sessions (cookies_of request.now) now found
         × Plans site.now.users.now (route_of request.now.method.now request.now.path.now)
         (credentials_of request.now.form.now) now found plan.page plan.session) }
 {
     let found = open_session(alloc, &site.sessions, request.cookies, now)?;
-    Ok(make_plan(alloc, site.users, request, found, now)?)
+    make_plan(alloc, site.users, request, found, now)
 }
 
 // The session that the first of the field's cookies opens, if one opens.
@@ -110,8 +109,8 @@ fn open_session(
     sessions: &Sessions<'_>,
     field: &[u8],
     now: DateTime,
-) -> Result<Option<Session>, JarError>
-    ensures { Gives jar_refusal.OutOfMemory result
+) -> Result<Option<Session>, AllocError>
+    ensures { Gives alloc_error result
         (HasSession sessions.now (field_cookies field.now) now) }
 {
     match sessions.open_field(alloc, field, now)? {

@@ -1,7 +1,7 @@
 //! Opening a session for C.
+ghost use Rattle.std.specs.Prelude.{alloc_error};
 ghost use Rattle.cookie.specs.Memory.{Gives};
 ghost use Rattle.cookie.specs.Originals.{field_cookies};
-ghost use Rattle.cookie.specs.declared.jar_error.JarError.TheVariants as refusal;
 ghost use Rattle.cookie_c.specs.OpenedSessions.{Finds, IsOpening, IsRefusedOpening};
 ghost use Rattle.cookie_c.specs.Sites.{AtSite};
 
@@ -9,10 +9,9 @@ use super::SessionSettings;
 use super::site::Site;
 use crate::opened_session::OpenedSession;
 use crate::status::Status;
-use cookie::JarError;
 use cookie_session::{Opened, Sessions};
 use jiff::civil::DateTime;
-use std::alloc::Global;
+use std::alloc::{AllocError, Global};
 
 /// Opens the session of a request, and returns the place of the key that opened it. The session's texts are for the
 /// buffer, as a form in byte order of the names (URL Standard 5.2). `header` is the value of the request's `Cookie`
@@ -62,8 +61,8 @@ pub(super) fn find(
     sessions: &Sessions<'_>,
     header: &[u8],
     time: DateTime,
-) -> Result<Option<Opened>, JarError>
-    ensures { Gives refusal.OutOfMemory result
+) -> Result<Option<Opened>, AllocError>
+    ensures { Gives alloc_error result
         (Finds sessions.now (field_cookies header.now) time) }
 {
     sessions.open_field(alloc, header, time)

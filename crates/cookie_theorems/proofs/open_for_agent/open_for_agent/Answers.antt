@@ -1,5 +1,4 @@
-use Rattle.std.proofs.Common.{subst, sym}
-use Rattle.cookie.specs.declared.jar_error.JarError.TheVariants as refusal
+use Rattle.std.proofs.Common.{alloc_error, subst, sym}
 use Rattle.cookie_agent.specs.Sent.{IsOrderedHeader}
 use Rattle.cookie_theorems.proofs.OwnLemmas.{request_opened, request_own, request_saved}
 use Rattle.cookie_theorems.proofs.open_for_agent.open_for_agent.Goals as goal
@@ -7,14 +6,14 @@ use Rattle.cookie_theorems.proofs.open_for_agent.open_for_agent.Goals as goal
 pub returns-clause-opened : goal.returns-clause-opened
 returns-clause-opened c =
     let sent = subst (IsOrderedHeader c.args.site.now c.args.now c.args.agent.now.cookies) (sym c.deref.ensures.value) c.in_ok-header.ensures.value in
-    request_opened c.args.sessions.now c.args.agent.now c.args.site.now c.args.now refusal.OutOfMemory _ sent c.open_field.result c.open_field.ensures.answers
+    request_opened c.args.sessions.now c.args.agent.now c.args.site.now c.args.now alloc_error _ sent c.open_field.result c.open_field.ensures.answers
 
 pub returns-clause-own : goal.returns-clause-own
 returns-clause-own c =
     let sent = subst (IsOrderedHeader c.args.site.now c.args.now c.args.agent.now.cookies) (sym c.deref.ensures.value) c.in_ok-header.ensures.value in
-    request_own c.args.sessions.now c.args.agent.now c.args.site.now c.args.now refusal.OutOfMemory _ sent c.open_field.result c.open_field.ensures.answers
+    request_own c.args.sessions.now c.args.agent.now c.args.site.now c.args.now alloc_error _ sent c.open_field.result c.open_field.ensures.answers
 
 pub returns-clause-saved : goal.returns-clause-saved
 returns-clause-saved c =
     let sent = subst (IsOrderedHeader c.args.site.now c.args.now c.args.agent.now.cookies) (sym c.deref.ensures.value) c.in_ok-header.ensures.value in
-    request_saved c.args.sessions.now c.args.agent.now c.args.site.now c.args.now refusal.OutOfMemory _ sent c.open_field.result c.open_field.ensures.answers c.open_field.ensures.once
+    request_saved c.args.sessions.now c.args.agent.now c.args.site.now c.args.now alloc_error _ sent c.open_field.result c.open_field.ensures.answers c.open_field.ensures.once

@@ -1,5 +1,4 @@
 use Rattle.std.proofs.Common.{◌≡◌, ap, subst, ◌∙◌}
-use Rattle.cookie.specs.KeyedJars.{KeyedJar}
 use Rattle.cookie.specs.Keys.{encryption_half}
 use Rattle.cookie.specs.Record.{Record}
 use Rattle.cookie.specs.Sealing.{IsSealingOf}
@@ -14,7 +13,6 @@ returns-clause-opens g c =
     let cookie = c.args.cookie.fields in
     let sealed = c.in_ok-sealed.sealed.fields in
     let named : sealed.name ≡ cookie.name = ap (λ (r : Record). r.name) is.fields in
-    let key : c.private.result.key ≡ encryption_half (newest ring) =
-    ap (λ (k : KeyedJar). k.key) c.private.ensures ∙ ap encryption_half c.newest.ensures.value in
+    let key : c.sealer.result.now ≡ encryption_half (newest ring) = c.sealer.ensures ∙ ap encryption_half c.newest.ensures.value in
     shown_opens sealed cookie.name named c.args.jar.now c.add.new.self c.in_ok-add.ensures.gives ring cookie.value c.newest.ensures.some
     (subst (λ k. IsSealingOf k sealed cookie.value) key is.stands)

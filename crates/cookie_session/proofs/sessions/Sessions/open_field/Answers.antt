@@ -1,8 +1,7 @@
-use Rattle.std.proofs.Common.{◌≡◌, ◌↔◌, ℕ, List, Some, IfOk, ap, map, subst, ◌∙◌}
+use Rattle.std.proofs.Common.{◌≡◌, ◌↔◌, ℕ, List, Some, IfOk, alloc_error, ap, map, subst, ◌∙◌}
 use Rattle.cookie.specs.Memory.{Gives}
 use Rattle.cookie.specs.Originals.{field_cookies, first_of_name}
 use Rattle.cookie.specs.Record.{CookieView, Record}
-use Rattle.cookie.specs.declared.jar_error.JarError.TheVariants as refusal
 use Rattle.cookie_session.specs.Session.{SessionState}
 use Rattle.cookie_session.specs.Sessions.{HoldsOne, OpensFirst}
 use Rattle.cookie_session.proofs.FirstLemmas.{jar_found}
@@ -15,7 +14,7 @@ cookies_are tried read cookies same are = ap (map (λ (c : CookieView). c.fields
 
 pub returns-clause-answers : goal.returns-clause-answers
 returns-clause-answers c =
-    subst (λ (cookies : List Record). Gives refusal.OutOfMemory c.open_first.result (λ answer. (place : ℕ) (s : SessionState)
+    subst (λ (cookies : List Record). Gives alloc_error c.open_first.result (λ answer. (place : ℕ) (s : SessionState)
     → (answer ≡ Some (opened s place)) ↔ OpensFirst c.args.self.now cookies c.args.now place s))
     (cookies_are c.deref.result.now c.in_ok-cookies.cookies.items (field_cookies c.args.field.now) c.deref.ensures.value c.in_ok-cookies.ensures)
     c.open_first.ensures.answers
@@ -34,4 +33,4 @@ returns-clause-first c =
     c.open_first.ensures.first
 
 pub returns-clause-jar : goal.returns-clause-jar
-returns-clause-jar c = jar_found c.args.self.now c.args.now refusal.OutOfMemory c.open_first.result c.args.field.now (returns-clause-answers c)
+returns-clause-jar c = jar_found c.args.self.now c.args.now alloc_error c.open_first.result c.args.field.now (returns-clause-answers c)

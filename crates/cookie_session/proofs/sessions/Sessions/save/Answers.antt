@@ -1,5 +1,4 @@
 use Rattle.std.proofs.Common.{◌≡◌, ◌≤◌, ap, subst, ◌∙◌}
-use Rattle.cookie.specs.KeyedJars.{KeyedJar}
 use Rattle.cookie.specs.Keys.{encryption_half}
 use Rattle.cookie.specs.Record.{IsCookie, Record}
 use Rattle.cookie.specs.Sealing.{IsSealingOf}
@@ -37,7 +36,6 @@ returns-clause-opens g c =
     let name = site.cookie.now.fields.name in
     let named : sealed.name ≡ name = ap (λ (r : Record). r.name) is.fields ∙ ap (λ (r : Record). r.name) c.in_ok-cookie.ensures.ok in
     let value : cookie.value ≡ session_text saved = ap (λ (r : Record). r.value) c.in_ok-cookie.ensures.ok in
-    let key : c.private.result.key ≡ encryption_half (newest site.keys.now) =
-    ap (λ (k : KeyedJar). k.key) c.private.ensures ∙ ap encryption_half c.newest.ensures.value in
+    let key : c.sealer.result.now ≡ encryption_half (newest site.keys.now) = c.sealer.ensures ∙ ap encryption_half c.newest.ensures.value in
     shown_stored sealed name named c.args.jar.now c.add.new.self c.in_ok-add.ensures.gives site saved c.in_ok-cookie.ensures.session c.newest.ensures.some
     (subst (IsSealingOf (encryption_half (newest site.keys.now)) sealed) value (subst (λ k. IsSealingOf k sealed cookie.value) key is.stands))
