@@ -44,12 +44,7 @@ pub extern "C" fn cookie_sign(
 /// the name. It needs no memory.
 #[tactic(auto, using(crate::proofs::KeyedLemmas::refused_only))]
 #[unsafe(no_mangle)]
-pub extern "C" fn cookie_verify(
-    key: &[u8],
-    name: &[u8],
-    text: &[u8],
-    out: &mut [u8],
-) -> Answer
+pub extern "C" fn cookie_verify(key: &[u8], name: &[u8], text: &[u8], out: &mut [u8]) -> Answer
     ensures refused { (why : StatusValue) → refusal_of key.now name.now text.now ≡ Some why
         → IsRefused why result out.old out.new }
     ensures verified { refusal_of key.now name.now text.now ≡ None

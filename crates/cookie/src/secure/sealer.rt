@@ -107,12 +107,7 @@ impl Sealer {
 
     /// Returns the value that was sealed, or `None` if the text isn't sealed under the key and the name. Fails only if
     /// out of memory.
-    pub fn open(
-        &self,
-        alloc: Global,
-        name: &str,
-        text: &str,
-    ) -> Result<Option<String>, AllocError>
+    pub fn open(&self, alloc: Global, name: &str, text: &str) -> Result<Option<String>, AllocError>
         ensures { Gives alloc_error result (λ answer. (v : List ℕ)
             → (option_map string_bytes answer ≡ Some v) ↔ IsSealed self.now name.now text.now v) }
     {
