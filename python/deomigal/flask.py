@@ -27,11 +27,16 @@ from .values import with_expiry
 
 class FlaskSession(SecureCookieSession):
     """What `flask.session` is. `kept` is the session that it was opened from, and `sessions` how the site keeps it.
-    `is_old` is whether it was a session of Flask's own class."""
+    `is_old` is whether it was a session of Flask's own class. `serializer` prints each value."""
 
-    def __init__(self, sessions: Sessions, kept: Session, values: dict[str, Any], is_old: bool = False) -> None:
+    def __init__(
+        self, sessions: Sessions, kept: Session, values: dict[str, Any], is_old: bool = False, serializer: Any = tagged
+    ) -> None:
         super().__init__(values)
         self.sessions, self.kept, self.new, self.is_old = sessions, kept, kept.is_new and not is_old, is_old
+        self.serializer = serializer
+        # The texts for which a cookie was made last, and the cookie's text, or None if it was too large.
+        self.made: tuple[dict[str, str], str | None] | None = None
 
     @property
     def started(self) -> int:
@@ -42,11 +47,36 @@ class FlaskSession(SecureCookieSession):
         """Starts it anew with the same values, so that the lifetime counts from this request. Call it at a login."""
         self.kept.renew()
         self.modified = self.accessed = True
+        self.made = None
 
     def clear(self) -> None:
         """Drops the values, and starts it anew."""
         super().clear()
         self.renew()
+
+    def check(self) -> None:
+        """Raises `TooLarge` if no browser would store the session as it is now. It is checked so after each view, if
+        `SessionInterface.init_app` was called. What is too large isn't saved, and the browser keeps what it has."""
+        if self and self.modified:
+            self.save()
+
+    def save(self) -> str:
+        """The text of the cookie that saves it. It is made once for the same values."""
+        texts = self.texts()
+        if self.made is None or self.made[0] != texts or self.made[1] is None:
+            self.kept.texts, self.made = texts, (texts, None)
+            self.made = texts, self.sessions.save(self.kept)
+        return cast(str, self.made[1])
+
+    def texts(self) -> dict[str, str]:
+        """The texts of its values."""
+        if self.modified or self.is_old:
+            return {str(name): self.serializer.dumps(value) for name, value in self.items()}
+        return self.kept.texts
+
+    def is_refused(self) -> bool:
+        """Whether a check raised `TooLarge` for the values that it has."""
+        return self.made is not None and self.made[1] is None and self.made[0] == self.texts()
 
     def __repr__(self) -> str:
         return f"<FlaskSession {list(self.keys())!r}>"
@@ -86,10 +116,22 @@ class SessionInterface(FlaskSessionInterface):
         connect_to_logins(self.renew_at_login)
 
     def init_app(self, app: Flask) -> None:
-        """Has the application keep its sessions so. Raises why, if no session could be saved with its settings: such as
-        `MasterTooShort` for a SECRET_KEY that is too short, with the line that makes a good one."""
+        """Has the application keep its sessions so, and check after each view that a browser would store what it left.
+        Raises why, if no session could be saved with its settings: such as `MasterTooShort` for a SECRET_KEY that is
+        too short, with the line that makes a good one."""
         self.sessions(app)
         app.session_interface = self
+        setattr(app, "dispatch_request", self.checked(app, app.dispatch_request))
+
+    def checked(self, app: Flask, dispatch: Callable[..., Any]) -> Callable[..., Any]:
+        """Calls the view, and then checks the session. So `errorhandler(TooLarge)` answers what is raised."""
+        def dispatch_request(*given: Any) -> Any:
+            answer = dispatch(*given)
+            if app.session_interface is self and isinstance(session, FlaskSession):
+                session.check()
+            return answer
+
+        return dispatch_request
 
     def sessions(self, app: Flask) -> Sessions:
         """The sessions of the application, by its keys and its settings as they are now."""
@@ -122,7 +164,8 @@ class SessionInterface(FlaskSessionInterface):
             # Another program or another serializer saved it, and a serializer raises what it wants.
             kept, values = sessions.start(kept.now), {}
         old = self.old_values(app, header) if self.migrate and kept.is_new else None
-        return self.session_class(sessions, kept, values if old is None else old, old is not None)
+        values = values if old is None else old
+        return self.session_class(sessions, kept, values, old is not None, self.serializer)
 
     def old_values(self, app: Flask, header: str) -> dict[str, Any] | None:
         """The values of a session of Flask's own class, or None."""
@@ -169,11 +212,9 @@ class SessionInterface(FlaskSessionInterface):
         """The text of the cookie that saves the session or has it dropped, or None."""
         if not session:
             return session.sessions.end(session.kept.now) if session.modified else None
-        if not self.should_set_cookie(app, session):
+        if not self.should_set_cookie(app, session) or session.is_refused():
             return None
-        if session.modified or session.is_old:
-            session.kept.texts = {str(name): self.serializer.dumps(value) for name, value in session.items()}
-        return with_expiry(session.sessions.save(session.kept), session.kept, session.permanent)
+        return with_expiry(session.save(), session.kept, session.permanent)
 
     def renew_at_login(self, app: Flask, **_: Any) -> None:
         """Starts the session anew at a login, if this keeps the application's sessions."""
