@@ -66,7 +66,8 @@ fn send<R: TryRng>(
     request: &TimedRequest<'_>,
     rng: &mut R,
 ) -> Result<Page, AnswerError>
-    ensures answered { CanBrowse site.now.sessions → IfOk result (λ page. (held : Option SessionState)
+    ensures answered { CanBrowse site.now.sessions
+        → IfOk result (λ page. (held : Option SessionState)
         → Holds site.now.sessions client.old held
         → IsAnswered site.now request.now held page client.new) }
     ensures prefix { result ≡ Err (failure.Session refusal.Prefix)
