@@ -4,7 +4,7 @@ use Rattle.cookie_client.specs.Lines.{lines_of}
 use Rattle.cookie_client.specs.Run.{IsOfAgreement, Refuses}
 use Rattle.cookie_client.specs.Session.{session_of_lines, session_of_bytes}
 use Rattle.cookie_client.proofs.RunLemmas.{session_of_bytes-text, session_of_bytes-bad}
-use Rattle.cookie_client.proofs.session.answer.Goals as goal
+use Rattle.cookie_client.proofs.engine.answer.Goals as goal
 
 pub returns-in-Ok-clause-played : goal.returns-in-Ok-clause-played
 returns-in-Ok-clause-played c =

@@ -20,7 +20,7 @@ use Rattle.cookie_client.proofs.ExchangeLemmas.{exchanged}
 use Rattle.cookie_client.proofs.RoundLemmas.{client_shown, fresh_line, holds_line}
 use Rattle.cookie_client.proofs.RunLemmas.{matched, session_of_lines-refused, written_by}
 use Rattle.cookie_client.proofs.SessionLemmas.{lines_of-length}
-use Rattle.cookie_client.proofs.session.session_text.Goals as goal
+use Rattle.cookie_client.proofs.engine.session_text.Goals as goal
 
 pub calls_of-requires : goal.calls_of-requires
 calls_of-requires c =

@@ -6,7 +6,7 @@ use Rattle.cookie.specs.Jar.{AddOriginal}
 use Rattle.cookie.proofs.CookieOfLemmas.{header_cookies-texts}
 use Rattle.cookie.proofs.SplitLemmas.{NextCookie-decodes}
 use Rattle.cookie_client.proofs.LineLemmas.{added-next}
-use Rattle.cookie_client.proofs.session.with_line.Goals as goal
+use Rattle.cookie_client.proofs.engine.with_line.Goals as goal
 
 pub loop-outcome-init : goal.loop-outcome-init
 loop-outcome-init c =

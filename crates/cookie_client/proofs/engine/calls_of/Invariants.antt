@@ -2,7 +2,7 @@ use Rattle.std.proofs.Common.{◌≡◌, ◌+◌, ◌++◌, ◌<◌, ◌^◌, le
 use Rattle.std.specs.Result.{result_map_both}
 use Rattle.cookie_client.specs.Calls.{change_of}
 use Rattle.cookie_client.specs.Session.{changes_in}
-use Rattle.cookie_client.proofs.session.calls_of.Given as goal
+use Rattle.cookie_client.proofs.engine.calls_of.Given as goal
 
 -- the changes so far, and those of the lines that are left, are the changes of all lines
 abbrev pub invariant-loop-line : goal.invariant-loop-line

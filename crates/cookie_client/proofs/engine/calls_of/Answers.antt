@@ -5,7 +5,7 @@ use Rattle.cookie.specs.Jar.{Change}
 use Rattle.cookie_client.specs.Calls.{change_of}
 use Rattle.cookie_client.specs.Session.{call_of, changes_in}
 use Rattle.cookie_client.proofs.SessionLemmas.{changes_in-next, more_changes, no_changes, not_empty}
-use Rattle.cookie_client.proofs.session.calls_of.Goals as goal
+use Rattle.cookie_client.proofs.engine.calls_of.Goals as goal
 
 pub loop-line-init : goal.loop-line-init
 loop-line-init c = record {

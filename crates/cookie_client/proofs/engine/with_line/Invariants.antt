@@ -3,7 +3,7 @@ use Rattle.std.specs.List.{filter_map}
 use Rattle.cookie.specs.CookieOf.{cookie_of, header_cookies}
 use Rattle.cookie.specs.History.{after_all}
 use Rattle.cookie.specs.Jar.{AddOriginal}
-use Rattle.cookie_client.proofs.session.with_line.Given as goal
+use Rattle.cookie_client.proofs.engine.with_line.Given as goal
 
 -- the jar so far, with the cookies of the rest, is the whole
 abbrev pub invariant-loop-outcome : goal.invariant-loop-outcome

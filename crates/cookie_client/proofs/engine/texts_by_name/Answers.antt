@@ -7,7 +7,7 @@ use Rattle.cookie.specs.Jar.{Marked, name_cmp}
 use Rattle.cookie.specs.Record.{Record}
 use Rattle.cookie.specs.Text.{cookie_text}
 use Rattle.cookie_client.proofs.SessionLemmas.{entries-mapped, named, texts-first, texts-next, IsDistinct-rest}
-use Rattle.cookie_client.proofs.session.texts_by_name.Goals as goal
+use Rattle.cookie_client.proofs.engine.texts_by_name.Goals as goal
 
 pub loop-cookie-init : goal.loop-cookie-init
 loop-cookie-init c =

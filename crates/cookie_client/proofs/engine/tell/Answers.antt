@@ -5,7 +5,7 @@ use Rattle.std.specs.String.{string_bytes}
 use Rattle.cookie_client.specs.Client.{after_texts}
 use Rattle.cookie_client.specs.Session.{set_cookie_lines}
 use Rattle.cookie_client.proofs.SessionLemmas.{line-more}
-use Rattle.cookie_client.proofs.session.tell.Goals as goal
+use Rattle.cookie_client.proofs.engine.tell.Goals as goal
 
 pub loop-text-init : goal.loop-text-init
 loop-text-init c =

@@ -10,7 +10,7 @@ use Rattle.cookie.specs.Text.{cookie_text}
 use Rattle.cookie_client.specs.Client.{ReadsBack, after_texts}
 use Rattle.cookie_client.specs.Session.{cookie_line, delta_texts, set_cookie_lines}
 use Rattle.cookie_client.proofs.SessionLemmas.{map_map}
-use Rattle.cookie_client.proofs.session.output.Goals as goal
+use Rattle.cookie_client.proofs.engine.output.Goals as goal
 
 pub returns : goal.returns
 returns c =

@@ -3,7 +3,7 @@ use Rattle.std.specs.Io.KnownBytes.{Appends}
 use Rattle.std.proofs.KnownBytes.{Keeps-refl}
 use Rattle.std.proofs.lemmas.Result.{err_from_is_err_and, on_ok_weaker}
 use Rattle.cookie_client.proofs.RunLemmas.{refused}
-use Rattle.cookie_client.proofs.session.play.Goals as goal
+use Rattle.cookie_client.proofs.engine.play.Goals as goal
 
 pub returns-in_err-text-clause-played : goal.returns-in_err-text-clause-played
 returns-in_err-text-clause-played g c =

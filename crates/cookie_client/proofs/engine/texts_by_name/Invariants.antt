@@ -5,7 +5,7 @@ use Rattle.std.specs.Option.{option_or}
 use Rattle.std.specs.Str.{bytes_eq}
 use Rattle.cookie.specs.Record.{Record}
 use Rattle.cookie.specs.Text.{cookie_text}
-use Rattle.cookie_client.proofs.session.texts_by_name.Given as goal
+use Rattle.cookie_client.proofs.engine.texts_by_name.Given as goal
 
 -- at each name stands the text of the cookie that is left there, or what was set
 abbrev pub invariant-loop-cookie : goal.invariant-loop-cookie

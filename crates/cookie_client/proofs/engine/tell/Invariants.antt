@@ -3,7 +3,7 @@ use Rattle.std.specs.FinMap.{entries}
 use Rattle.std.specs.String.{string_bytes}
 use Rattle.cookie_client.specs.Client.{after_texts}
 use Rattle.cookie_client.specs.Session.{set_cookie_lines}
-use Rattle.cookie_client.proofs.session.tell.Given as goal
+use Rattle.cookie_client.proofs.engine.tell.Given as goal
 
 -- what is written, with the texts that are left, is the whole, and so is what the client has read
 abbrev pub invariant-loop-text : goal.invariant-loop-text
