@@ -3,7 +3,7 @@ use Rattle.std.specs.Char.{is_ascii_digit}
 use Rattle.std.specs.List.{list_all}
 use Rattle.std.proofs.lemmas.Str.Parse.{parse_signed_digits}
 use Rattle.cookie_core.proofs.AgeLemmas.{ascii_digits, seconds_of_digits-greatest}
-use Rattle.cookie_core.proofs.attributes.seconds.Goals as goal
+use Rattle.cookie_core.proofs.attributes.seconds_of_digits.Goals as goal
 
 pub returns-in-Err : goal.returns-in-Err
 returns-in-Err c =
