@@ -2,11 +2,12 @@
 use Rattle.std.specs.Prelude.{◌≡◌, ◌==◌, ◌&&◌, not, nat_le, ℕ, Bool, List, All, Some, IfSome, IsTrue}
 use Rattle.std.specs.FinMap.{FinMap, get}
 use Rattle.cookie_core.specs.Record.{Record}
+use Rattle.cookie_core.specs.Separators.{semicolon}
 use Rattle.cookie.specs.Jar.{Name, name_cmp, Marked}
 
 -- a byte of path-value or domain-value: no control character, such as a tab or a line break, and no `;`
 abbrev pub is_attribute_byte : ℕ → Bool
-is_attribute_byte b = nat_le 32 b && not (b == 127) && not (b == 59)
+is_attribute_byte b = nat_le 32 b && not (b == 127) && not (b == semicolon)
 
 -- the text can be the value of a path or a domain: it ends neither the header nor the attribute
 abbrev pub IsAttributeValue : List ℕ → Type 0

@@ -50,6 +50,8 @@ pub use Rattle.cookie_core.specs.Removal
 pub use Rattle.cookie_core.specs.Same
 pub use Rattle.cookie_core.specs.SameSite
 pub use Rattle.cookie_core.specs.SentNames
+pub use Rattle.cookie_core.specs.Separators
+pub use Rattle.cookie_core.specs.Size
 pub use Rattle.cookie_core.specs.Spans
 pub use Rattle.cookie_core.specs.SplitCookies
 pub use Rattle.cookie_core.specs.Text

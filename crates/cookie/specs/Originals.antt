@@ -8,6 +8,7 @@ use Rattle.cookie_core.specs.CookieOf.{header_cookies}
 use Rattle.cookie_core.specs.Pieces.{pieces}
 use Rattle.cookie_core.specs.Record.{Record}
 use Rattle.cookie_core.specs.SentNames.{is_named_as_sent}
+use Rattle.cookie_core.specs.Separators.{semicolon}
 use Rattle.cookie.specs.Jar.{AddOriginal, JarState, Name, after, empty_jar}
 
 -- a server reads the piece: it is UTF-8, and is read under the name that was sent
@@ -16,7 +17,7 @@ is_readable piece = is_utf8 piece && is_named_as_sent piece
 
 -- a `Cookie` field without its other pieces, between semicolons (RFC 6265 4.2.1)
 abbrev pub readable : List ℕ → List ℕ
-readable field = join_with_byte 59 (filter is_readable (pieces field))
+readable field = join_with_byte semicolon (filter is_readable (pieces field))
 
 -- the cookies of a `Cookie` field, decoded, in order
 abbrev pub field_cookies : List ℕ → List Record

@@ -1,8 +1,8 @@
 -- Cookies whose names have a prefix (RFC 6265bis 4.1.3).
-use Rattle.std.specs.Prelude.{◌≡◌, ◌++◌, ◌&&◌, ◌||◌, not, true, false, eqb, ℕ, Bool, List, Option, Some, None, codes, length, take, drop, option_map, if◌then◌else◌}
-use Rattle.std.specs.List.{starts_with}
-use Rattle.std.specs.Str.{bytes_eq, str_to_ascii_lowercase}
+use Rattle.std.specs.Prelude.{◌≡◌, ◌++◌, ◌&&◌, ◌||◌, not, true, false, ℕ, Bool, List, Option, Some, None, codes, length, take, drop, option_map, if◌then◌else◌}
+use Rattle.std.specs.Str.{bytes_eq}
 use Rattle.cookie_core.specs.Record.{Record, RawForms, CookieView}
+use Rattle.cookie_core.specs.SentNames.{begins_in_any_case}
 use Rattle.cookie_core.specs.Text.{is_true, is_unset}
 use Rattle.cookie.specs.Jar.{Name, JarState, view}
 
@@ -72,10 +72,6 @@ host_bound_raw cookie = record cookie.raw { path = None; domain = None }
 
 -- ---- what a browser asks of a cookie by its name (RFC 6265bis 4.1.3 and 5.7, steps 20 and 21)
 
--- the name begins with the prefix, in any ASCII case
-abbrev pub begins : Name → Name → Bool
-begins prefix name = starts_with eqb (str_to_ascii_lowercase name) (str_to_ascii_lowercase prefix)
-
 -- the cookie's path is set, and is `/`
 abbrev pub is_root : Option (List ℕ) → Bool
 is_root None = false
@@ -83,10 +79,10 @@ is_root (Some path) = bytes_eq path (codes "/")
 
 -- what a browser asks of a name that begins with `__Secure-`
 abbrev pub meets_secure : Record → Bool
-meets_secure cookie = not (begins secure_prefix cookie.name) || is_true cookie.secure
+meets_secure cookie = not (begins_in_any_case secure_prefix cookie.name) || is_true cookie.secure
 
 -- what a browser asks of a name that begins with `__Host-`
 abbrev pub meets_host : Record → Bool
 meets_host cookie =
-    not (begins host_prefix cookie.name)
+    not (begins_in_any_case host_prefix cookie.name)
     || (is_true cookie.secure && (is_unset cookie.domain && is_root cookie.path))

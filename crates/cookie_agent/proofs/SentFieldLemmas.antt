@@ -21,7 +21,7 @@ use Rattle.cookie.specs.Header.{joined_texts, more_joined}
 use Rattle.cookie.specs.Originals.{field_cookies, is_readable}
 use Rattle.cookie.specs.Pieces.{Lacks, pieces}
 use Rattle.cookie.specs.Record.{Record}
-use Rattle.cookie.specs.SentNames.{begins_in_any_case, has_printed_escapes, is_named_as_sent, is_printed, sent_name}
+use Rattle.cookie.specs.SentNames.{has_printed_escapes, is_named_as_sent, is_printed, sent_name}
 use Rattle.cookie.specs.Trim.{IsWhite}
 use Rattle.cookie.specs.Wsp.{is_wsp, trim_wsp, trim_wsp_end}
 use Rattle.cookie.proofs.ByteLemmas.{IsAscii-from_test, Lacks-append, Lacks-nil, Lacks-trimmed, false_from_not}
@@ -213,21 +213,8 @@ plain_same t kept = let h = plain_kept t kept in ap unescape (sym h.0) ∙ unesc
 
 -- ---- the prefix
 
-prefix_test : (p t : List ℕ) → bytes_eq (str_to_ascii_lowercase (take (length p) t)) p ≡ starts_with eqb (str_to_ascii_lowercase t) p
-prefix_test [] t = refl
-prefix_test (q ∷ qs) [] = refl
-prefix_test (q ∷ qs) (b ∷ t) =
-    ap (λ x. x && bytes_eq (str_to_ascii_lowercase (take (length qs) t)) qs) (turned (to_ascii_lowercase b) q)
-    ∙ ap (λ x. eqb q (to_ascii_lowercase b) && x) (prefix_test qs t)
-  where
-    turned : (c d : ℕ) → eqb c d ≡ eqb d c
-    turned c d = grind (arith, nat_tests)
-
-host_test : (t : List ℕ) → has_host_prefix t ≡ begins_in_any_case (codes "__host-") t
-host_test t = prefix_test (codes "__host-") t
-
 host_unescaped : (t : List ℕ) → has_printed_escapes t ≡ true → has_host_prefix (unescape t) ≡ has_host_prefix t
-host_unescaped t printed = host_test (unescape t) ∙ keeps_prefix (codes "__host-") t refl printed ∙ sym (host_test t)
+host_unescaped t printed = keeps_prefix (codes "__Host-") t refl printed
 
 begins-take : (p t : List ℕ) (n : ℕ) → starts_with eqb (str_to_ascii_lowercase (take n t)) p ≡ true → starts_with eqb (str_to_ascii_lowercase t) p ≡ true
 begins-take [] t n e = refl
@@ -238,7 +225,7 @@ begins-take (q ∷ qs) (b ∷ t) (suc n) e =
     ap (λ x. x && starts_with eqb (str_to_ascii_lowercase t) qs) at.0 ∙ begins-take qs t n at.1
 
 host-take : (t : List ℕ) (n : ℕ) → has_host_prefix (take n t) ≡ true → has_host_prefix t ≡ true
-host-take t n e = host_test t ∙ begins-take (codes "__host-") t n (sym (host_test (take n t)) ∙ e)
+host-take t n e = begins-take (codes "__host-") t n e
 
 -- ---- what a user agent stores as a name and a value
 

@@ -6,6 +6,7 @@ use Rattle.cookie.specs.Normal.{IsNamed}
 use Rattle.cookie.specs.Prefixes.{conforming_cookie, host_prefix, host_bound, secure_prefix, secure_cookie}
 use Rattle.cookie.specs.Record.{Record}
 use Rattle.cookie.specs.Removal.{removal}
+use Rattle.cookie.specs.Size.{most_bytes}
 use Rattle.cookie.specs.Text.{cookie_text}
 use Rattle.cookie_browser.specs.Printed.{IsReceivable}
 use Rattle.cookie_browser.specs.Received.{ReceivedView, received}
@@ -34,7 +35,7 @@ AreHostBound rules site =
     IsAtHome site → (now : DateTime) (cookie : Record)
     → IsNamed (conforming_cookie host_prefix host_bound cookie)
     → length (escape (conforming_cookie host_prefix host_bound cookie).name)
-    + length (escape cookie.value) ≤ 4096
+    + length (escape cookie.value) ≤ most_bytes
     → IsHostBound rules site now (conforming_cookie host_prefix host_bound cookie)
     × ((moment : DateTime)
     → IsHostBound rules site now

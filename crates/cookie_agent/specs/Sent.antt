@@ -7,6 +7,7 @@ use Rattle.std.specs.declared.cmp.Ordering.{Ordering}
 use Rattle.jiff.specs.Types.{DateTime}
 use Rattle.jiff.specs.Words.{civil_nanos}
 use Rattle.cookie.specs.Header.{joined_texts}
+use Rattle.cookie.specs.Separators.{equals_sign}
 use Rattle.cookie_browser.specs.Request.{RequestView}
 use Rattle.cookie_browser.specs.Storage.{KeptView, CookieStore, is_sent}
 
@@ -27,7 +28,7 @@ accessed site now cookie =
 -- the name and an `=`, or nothing if there is no name
 abbrev pub name_part : List ℕ → List ℕ
 name_part [] = []
-name_part (byte ∷ bytes) = (byte ∷ bytes) ++ 61 ∷ []
+name_part (byte ∷ bytes) = (byte ∷ bytes) ++ equals_sign ∷ []
 
 -- the cookie as it is in the header
 abbrev pub sent_pair : KeptView → List ℕ

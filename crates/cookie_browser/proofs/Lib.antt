@@ -1,4 +1,5 @@
 pub mod AcceptLemmas
+pub mod AgeLemmas
 pub mod AnyLemmas
 pub mod CutLemmas
 pub mod DomainLemmas

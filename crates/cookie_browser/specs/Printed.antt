@@ -6,6 +6,8 @@ use Rattle.cookie_core.specs.Escapes.{escape}
 use Rattle.cookie_core.specs.Normal.{IsNamed}
 use Rattle.cookie_core.specs.Pieces.{Lacks}
 use Rattle.cookie_core.specs.Record.{Record}
+use Rattle.cookie_core.specs.Separators.{semicolon}
+use Rattle.cookie_core.specs.Size.{most_bytes}
 use Rattle.cookie_core.specs.Text.{cookie_text, is_true, prints_secure}
 use Rattle.cookie_core.specs.declared.same_site.SameSite.{SameSite}
 use Rattle.cookie_core.specs.declared.same_site.SameSite.TheVariants as same_site
@@ -24,7 +26,7 @@ is_quiet byte = not (is_control byte)
 
 -- a text that is received as it is printed: no `;`, no control character, no blank at an end, at most 1024 bytes
 pub record IsPlainValue (text : List ℕ) : Type 0 where
-  pub whole : Lacks 59 text
+  pub whole : Lacks semicolon text
   pub quiet : list_all is_quiet text ≡ true
   pub trimmed : trim_wsp text ≡ text
   pub short : length text ≤ 1024
@@ -32,7 +34,7 @@ pub record IsPlainValue (text : List ℕ) : Type 0 where
 -- a cookie whose text a browser receives unchanged: it has a name, and each part is short enough and plain
 pub record IsReceivable (cookie : Record) : Type 0 where
   pub named : IsNamed cookie
-  pub size : length (escape cookie.name) + length (escape cookie.value) ≤ 4096
+  pub size : length (escape cookie.name) + length (escape cookie.value) ≤ most_bytes
   pub path : IfSome cookie.path IsPlainValue
   pub domain : IfSome cookie.domain IsPlainValue
 

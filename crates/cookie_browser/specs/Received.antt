@@ -6,6 +6,8 @@ use Rattle.std.specs.Str.{bytes_eq, str_to_ascii_lowercase}
 use Rattle.jiff.specs.Types.{DateTime}
 use Rattle.cookie_core.specs.Attributes.{max_age_seconds}
 use Rattle.cookie_core.specs.Pieces.{pieces}
+use Rattle.cookie_core.specs.Separators.{equals_sign, semicolon}
+use Rattle.cookie_core.specs.Size.{most_bytes}
 use Rattle.cookie_date.specs.CookieDate.{cookie_date_of}
 use Rattle.cookie_core.specs.Wsp.{trim_wsp}
 use Rattle.cookie_browser.specs.Bytes.{cut}
@@ -79,14 +81,14 @@ with_attribute attributes name value =
 
 -- the name of an attribute, and its value, empty if there is no `=`
 abbrev pub attribute_name : List ℕ → List ℕ
-attribute_name piece = trim_wsp (cut 61 piece).0
+attribute_name piece = trim_wsp (cut equals_sign piece).0
 
 abbrev pub value_after : Option (List ℕ) → List ℕ
 value_after None = []
 value_after (Some value) = trim_wsp value
 
 abbrev pub attribute_value : List ℕ → List ℕ
-attribute_value piece = value_after (cut 61 piece).1
+attribute_value piece = value_after (cut equals_sign piece).1
 
 -- the attributes after a piece; one whose value has more than 1024 bytes is passed over
 unfoldable pub with_piece : AttributesView → List ℕ → AttributesView
@@ -120,14 +122,15 @@ abbrev pub received_name_value : List ℕ × Option (List ℕ) → List ℕ × L
 received_name_value (value, None) = ([], trim_wsp value)
 received_name_value (name, Some value) = (trim_wsp name, trim_wsp value)
 
--- a name and a value of more than 4096 bytes in all are refused
+-- a name and a value of more than `most_bytes` bytes in all are refused
 abbrev pub received_pair : List ℕ × List ℕ → Option (List ℕ) → Result ReceivedView Refusal
 received_pair pair rest =
-    if nat_lt 4096 (length pair.0 + length pair.1) then Err refusal.TooLong
+    if nat_lt most_bytes (length pair.0 + length pair.1) then Err refusal.TooLong
     else Ok (record { name = pair.0; value = pair.1; attributes = attributes_of rest })
 
 -- what a text is received as, or why a browser ignores it in its entirety
 unfoldable pub received : List ℕ → Result ReceivedView Refusal
 received text =
     if list_any is_control text then Err refusal.ControlCharacter
-    else received_pair (received_name_value (cut 61 (cut 59 text).0)) (cut 59 text).1
+    else received_pair (received_name_value (cut equals_sign (cut semicolon text).0))
+    (cut semicolon text).1

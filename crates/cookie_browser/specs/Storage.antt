@@ -1,12 +1,13 @@
 -- What a received cookie is stored as, or the step that refuses it (RFC 6265bis, Storage Model), and what is sent
 -- (Retrieval Algorithm).
-use Rattle.std.specs.Prelude.{ℕ, ℤ, pos, ◌+ℤ◌, ◌*ℤ◌, int_lt, ◌&&◌, ◌||◌, not, Bool, true, false, nat_lt, List, [], ◌∷◌, codes, eqb, filter, length, take, Option, Some, None, Result, Ok, Err, if◌then◌else◌}
+use Rattle.std.specs.Prelude.{ℕ, ℤ, pos, ◌+ℤ◌, ◌*ℤ◌, int_lt, ◌&&◌, ◌||◌, not, Bool, true, false, nat_lt, List, [], ◌∷◌, codes, eqb, filter, Option, Some, None, Result, Ok, Err, if◌then◌else◌}
 use Rattle.std.specs.List.{list_all, list_any, starts_with}
 use Rattle.std.specs.Str.{bytes_eq, str_to_ascii_lowercase}
 use Rattle.jiff.specs.Types.{DateTime}
 use Rattle.jiff.specs.Words.{civil_nanos}
 use Rattle.cookie_core.specs.Record.{without_leading_dot}
-use Rattle.cookie_browser.specs.Received.{AttributesView, ReceivedView, received}
+use Rattle.cookie_core.specs.SentNames.{begins_in_any_case}
+use Rattle.cookie_browser.specs.Received.{AttributesView, ReceivedView, age_limit, received}
 use Rattle.cookie_browser.specs.Request.{RequestView, folder_of, is_in_domain, is_under_path}
 use Rattle.cookie_browser.specs.Suffixes.{Rule, is_public_suffix}
 use Rattle.cookie_browser.specs.declared.enforcement.Enforcement.{Enforcement}
@@ -46,7 +47,7 @@ earlier_of left right = if int_lt left right then left else right
 abbrev pub kept_until : DateTime → Option ℕ → Option DateTime → Option ℤ
 kept_until now (Some age) expires = Some (seconds_after now age)
 kept_until now None (Some moment) =
-    Some (earlier_of (civil_nanos moment) (seconds_after now 34560000))
+    Some (earlier_of (civil_nanos moment) (seconds_after now age_limit))
 kept_until now None None = None
 
 -- the value of the last `Domain`, without one leading dot, in lower case; empty if there is none (The Domain Attribute)
@@ -124,15 +125,12 @@ abbrev pub is_site_bound : Enforcement → Bool
 is_site_bound enforcement.None = false
 is_site_bound _ = true
 
--- the text begins with the prefix, in any ASCII case
-abbrev pub has_prefix : List ℕ → List ℕ → Bool
-has_prefix prefix text = bytes_eq (str_to_ascii_lowercase (take (length prefix) text)) prefix
-
+-- the text begins with a prefix of names, in any ASCII case (Cookie Name Prefixes)
 abbrev pub has_secure_prefix : List ℕ → Bool
-has_secure_prefix text = has_prefix (codes "__secure-") text
+has_secure_prefix text = begins_in_any_case (codes "__Secure-") text
 
 abbrev pub has_host_prefix : List ℕ → Bool
-has_host_prefix text = has_prefix (codes "__host-") text
+has_host_prefix text = begins_in_any_case (codes "__Host-") text
 
 -- what `__Host-` requires: secure-only, host-only, and a `Path` attribute that comes to `/` (Cookie Name Prefixes)
 abbrev pub meets_host_prefix : ReceivedView → KeptView → Bool

@@ -1,9 +1,6 @@
 //! The attributes of a `Set-Cookie` text, as a browser reads them.
-ghost use Rattle.std.specs.Prelude.{◌≡◌, min, true, option_copied, option_map};
-ghost use Rattle.std.specs.Char.{is_ascii_digit};
-ghost use Rattle.std.specs.List.{list_all};
+ghost use Rattle.std.specs.Prelude.{◌≡◌, min, option_copied, option_map};
 ghost use Rattle.std.specs.Str.{str_to_ascii_lowercase};
-ghost use Rattle.std.specs.Str.Parse.{digits_value};
 ghost use Rattle.cookie_core.specs.Attributes.{seconds_of_digits};
 ghost use Rattle.cookie_core.specs.Record.{without_leading_dot};
 ghost use Rattle.cookie_browser.specs.Received as spec;
@@ -11,9 +8,12 @@ ghost use Rattle.cookie_browser.specs.ReceivedCode.{attributes_view};
 
 use crate::bytes::cut;
 use crate::enforcement::Enforcement;
-use cookie_core::trim_wsp;
+use cookie_core::{seconds_of_digits, trim_wsp};
 use cookie_date::read_cookie_date;
 use jiff::civil::DateTime;
+
+/// 400 days in seconds (RFC 6265bis, Cookie Lifetime Limits).
+pub(crate) const AGE_LIMIT: u32 = 34_560_000;
 
 /// The attributes of a received cookie (RFC 6265bis, The Set-Cookie Header Field). The last attribute of a name counts,
 /// but an `Expires` or a `Max-Age` that can't be read is passed over, and so is a value of more than 1024 bytes.
@@ -60,33 +60,17 @@ fn enforcement_of(value: &[u8]) -> Enforcement
     Enforcement::Default
 }
 
-fn are_digits(text: &[u8]) -> bool
-    ensures { result ≡ list_all is_ascii_digit text.now }
-{
-    text.iter().all(|byte| byte.is_ascii_digit())
-}
-
 // The number of the digits, at most 400 days in seconds. `None` if there is no digit, or another byte.
 fn seconds(digits: &[u8]) -> Option<u32>
     ensures { result ≡ option_map (λ n. min n spec.age_limit) (seconds_of_digits digits.now) }
 {
-    if digits.is_empty() || !are_digits(digits) {
-        return None;
+    let digits = str::from_utf8(digits).ok()?;
+    let seconds = seconds_of_digits(digits)?;
+    if seconds < i64::from(AGE_LIMIT) {
+        Some(seconds as u32)
+    } else {
+        Some(AGE_LIMIT)
     }
-    Some(capped_value(digits))
-}
-
-// The number of the digits, at most 400 days in seconds.
-fn capped_value(digits: &[u8]) -> u32
-    requires { list_all is_ascii_digit digits.now ≡ true }
-    ensures { result ≡ min (digits_value 10 digits.now) spec.age_limit }
-{
-    let mut number: u32 = 0;
-    for digit in digits {
-        let more = number * 10 + u32::from(*digit - b'0');
-        number = if more < 34_560_000 { more } else { 34_560_000 };
-    }
-    number
 }
 
 // The age of a `Max-Age` value, if it is valid.

@@ -1,10 +1,11 @@
 //! When a stored cookie expires (RFC 6265bis, Storage Model).
-ghost use Rattle.std.specs.Prelude.{◌≡◌, pos, Some, None};
+ghost use Rattle.std.specs.Prelude.{◌≡◌, ◌*◌, pos, Some, None};
 ghost use Rattle.jiff.specs.Words.{signed_nanos};
 ghost use Rattle.cookie_browser.specs.ExpiryCode.{expiry_time};
+ghost use Rattle.cookie_browser.specs.Received.{age_limit};
 ghost use Rattle.cookie_browser.specs.Storage.{kept_until, lasts};
 
-use crate::attributes::ReceivedAttributes;
+use crate::attributes::{AGE_LIMIT, ReceivedAttributes};
 use jiff::SignedDuration;
 use jiff::civil::DateTime;
 
@@ -19,11 +20,10 @@ pub enum Expiry {
     After(DateTime, SignedDuration),
 }
 
-// 400 days (Cookie Lifetime Limits).
 fn age_limit() -> SignedDuration
-    ensures { signed_nanos result ≡ pos 34560000000000000 }
+    ensures { signed_nanos result ≡ pos (age_limit * 1000000000) }
 {
-    SignedDuration::from_secs(34_560_000)
+    SignedDuration::from_secs(i64::from(AGE_LIMIT))
 }
 
 fn limited(moment: DateTime, now: DateTime) -> Expiry

@@ -1,6 +1,7 @@
 //! A `Set-Cookie` text, as a browser reads it.
 ghost use Rattle.std.specs.Prelude.{◌≡◌, ◌+◌, length, nat_lt};
 ghost use Rattle.std.specs.List.{list_any};
+ghost use Rattle.cookie_core.specs.Size.{most_bytes};
 ghost use Rattle.cookie_browser.specs.Bytes.{cut};
 ghost use Rattle.cookie_browser.specs.Printed.{IsPrintedReceived};
 ghost use Rattle.cookie_browser.specs.Received as spec;
@@ -9,7 +10,7 @@ ghost use Rattle.cookie_browser.specs.ReceivedCode.{received_result};
 use crate::attributes::ReceivedAttributes;
 use crate::bytes::cut;
 use crate::refusal::Refusal;
-use cookie_core::trim_wsp;
+use cookie_core::{MOST_BYTES, trim_wsp};
 
 /// A received cookie: name, value and attributes, borrowed from the text (RFC 6265bis, The Set-Cookie Header Field).
 #[derive(Clone, Copy)]
@@ -40,9 +41,9 @@ fn name_value(piece: &[u8]) -> (&[u8], &[u8])
 }
 
 fn are_too_long(name: &[u8], value: &[u8]) -> bool
-    ensures { result ≡ nat_lt 4096 (length name.now + length value.now) }
+    ensures { result ≡ nat_lt most_bytes (length name.now + length value.now) }
 {
-    name.len() + value.len() > 4096
+    name.len() + value.len() > MOST_BYTES
 }
 
 impl<'t> Received<'t> {

@@ -1,7 +1,7 @@
 //! Which step of a browser refuses a cookie (RFC 6265bis, Storage Model).
 ghost use Rattle.std.specs.Prelude.{◌≡◌, ◌&&◌, ◌||◌, not, [], map};
 ghost use Rattle.std.specs.List.{list_any};
-ghost use Rattle.std.specs.Str.{bytes_eq, str_to_ascii_lowercase};
+ghost use Rattle.std.specs.Str.{bytes_eq};
 ghost use Rattle.cookie_browser.specs.PrintedStored.{IsPrintedSent, IsPrintedStored};
 ghost use Rattle.cookie_browser.specs.Storage as spec;
 ghost use Rattle.cookie_browser.specs.ReceivedCode.{received_view};
@@ -13,6 +13,7 @@ use crate::received::Received;
 use crate::refusal::Refusal;
 use crate::request::{BrowserRequest, is_in_domain, is_under_path};
 use crate::suffixes::Suffixes;
+use cookie_core::begins_in_any_case;
 
 pub(crate) fn is_site_bound(enforcement: Enforcement) -> bool
     ensures { result ≡ spec.is_site_bound enforcement }
@@ -26,27 +27,16 @@ fn is_ascii(text: &[u8]) -> bool
     text.iter().all(|&byte| byte < 128)
 }
 
-// Whether the text begins with the prefix, in any ASCII case.
-fn has_prefix(prefix: &[u8], text: &[u8]) -> bool
-    requires { str_to_ascii_lowercase prefix.now ≡ prefix.now }
-    ensures { result ≡ spec.has_prefix prefix.now text.now }
-{
-    match text.get(..prefix.len()) {
-        Some(front) => front.eq_ignore_ascii_case(prefix),
-        None => false,
-    }
-}
-
 fn has_secure_prefix(text: &[u8]) -> bool
     ensures { result ≡ spec.has_secure_prefix text.now }
 {
-    has_prefix(b"__secure-", text)
+    begins_in_any_case(b"__Secure-", text)
 }
 
 fn has_host_prefix(text: &[u8]) -> bool
     ensures { result ≡ spec.has_host_prefix text.now }
 {
-    has_prefix(b"__host-", text)
+    begins_in_any_case(b"__Host-", text)
 }
 
 fn is_empty_pair(received: &Received<'_>) -> bool

@@ -2,6 +2,7 @@
 use Rattle.std.specs.Prelude.{◌≡◌, ◌<◌, ◌+◌, ℕ, List, length, IsUtf8, Some, None}
 use Rattle.std.specs.Str.{trim}
 use Rattle.cookie.specs.Pieces.{offset_of}
+use Rattle.cookie.specs.Separators.{equals_sign}
 use Rattle.cookie_c.specs.Pairs.{HeaderPiece, end_of, mark_of, next_piece, rest_after}
 use Rattle.cookie_c.specs.Places.{IsBetween}
 use Rattle.cookie_c.specs.declared.next_piece.NextPiece.{NextPiece}
@@ -13,7 +14,8 @@ pub record IsTextOf (header : List ℕ) (p : HeaderPiece) (text : List ℕ) (sta
   pub trimmed : text ≡ trim p.bytes
   pub place : IsBetween header p.start (end_of p)
       (record { start = start; length = length text }) text
-  pub mark : offset_of 61 text < length text → mark_of p ≡ start + offset_of 61 text
+  pub mark : offset_of equals_sign text < length text
+      → mark_of p ≡ start + offset_of equals_sign text
   pub next : rest ≡ rest_after p
 
 -- it is what comes next

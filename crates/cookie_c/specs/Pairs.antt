@@ -7,6 +7,7 @@ use Rattle.cookie.specs.Pieces.{offset_of, pieces}
 use Rattle.cookie.specs.Reads.{Reads}
 use Rattle.cookie.specs.Record.{Record}
 use Rattle.cookie.specs.SentNames.{is_named_as_sent}
+use Rattle.cookie.specs.Separators.{equals_sign}
 use Rattle.cookie.specs.declared.ParseError.{ParseError}
 use Rattle.cookie_c.specs.Codes.{code_of, refusal_status}
 use Rattle.cookie_c.specs.Places.{IsBetween, no_place}
@@ -25,7 +26,7 @@ end_of piece = piece.start + length piece.bytes
 
 -- the offset of the piece's first `=`, or its end
 abbrev pub mark_of : HeaderPiece → ℕ
-mark_of piece = piece.start + offset_of 61 piece.bytes
+mark_of piece = piece.start + offset_of equals_sign piece.bytes
 
 -- where the rest of the header begins: after the piece and its semicolon
 abbrev pub rest_after : HeaderPiece → ℕ

@@ -4,6 +4,7 @@ use Rattle.cookie.specs.CookieOf.{cookie_of}
 use Rattle.cookie.specs.Pieces.{offset_of}
 use Rattle.cookie.specs.Reads.{Reads}
 use Rattle.cookie.specs.Record.{Record}
+use Rattle.cookie.specs.Separators.{equals_sign, semicolon}
 use Rattle.cookie.specs.declared.ParseError.{ParseError}
 use Rattle.cookie_c.specs.Codes.{code_of, refusal_status}
 use Rattle.cookie_c.specs.Numbers.{numbers_of, no_numbers}
@@ -28,8 +29,9 @@ refused_reading why =
 -- and the first `;`, and its attributes have the answer's numbers
 pub record ShowsCookie (text : List ℕ) (r : Record) (answer : Reading) : Type 0 where
   pub status : answer.status ≡ code_of status.Done
-  pub name : IsBetween text 0 (offset_of 61 text) answer.name r.name
-  pub value : IsBetween text (offset_of 61 text + 1) (offset_of 59 text) answer.value r.value
+  pub name : IsBetween text 0 (offset_of equals_sign text) answer.name r.name
+  pub value : IsBetween text (offset_of equals_sign text + 1) (offset_of semicolon text)
+      answer.value r.value
   pub path : IsOptionalAt text answer.path r.path
   pub domain : IsOptionalAt text answer.domain r.domain
   pub attributes : answer.attributes ≡ numbers_of r

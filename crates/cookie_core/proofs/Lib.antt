@@ -22,6 +22,7 @@ pub mod OutcomeLemmas
 pub mod PartLemmas
 pub mod PieceLemmas
 pub mod PieceWalkLemmas
+pub mod PrefixLemmas
 pub mod ReadingLemmas
 pub mod SentHeaderLemmas
 pub mod SentNameLemmas

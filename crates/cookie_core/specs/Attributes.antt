@@ -8,6 +8,7 @@ use Rattle.std.specs.Str.Parse.{digits_value}
 use Rattle.cookie_date.specs.Forms.{IsDateText}
 use Rattle.cookie_core.specs.Pieces.{Lacks}
 use Rattle.cookie_core.specs.Record.{Record, without_leading_dot}
+use Rattle.cookie_core.specs.Separators.{equals_sign, hyphen}
 use Rattle.cookie_core.specs.declared.attributes.Key.{Key}
 use Rattle.cookie_core.specs.declared.attributes.Key.TheVariants as key
 use Rattle.cookie_core.specs.declared.same_site.SameSite.{SameSite}
@@ -18,12 +19,12 @@ use Rattle.cookie_core.specs.declared.expiration.Expiration.TheVariants as expir
 -- the piece is a name and a value, which are trimmed, around its first `=`
 abbrev pub IsPair : List ℕ → List ℕ → List ℕ → Type 0
 IsPair piece name value =
-    (before : List ℕ) × (after : List ℕ) × (piece ≡ before ++ 61 ∷ after)
-    × Lacks 61 before × (name ≡ trim before) × (value ≡ trim after)
+    (before : List ℕ) × (after : List ℕ) × (piece ≡ before ++ equals_sign ∷ after)
+    × Lacks equals_sign before × (name ≡ trim before) × (value ≡ trim after)
 
 -- the piece has this word before its first `=`, and the value after it if there is a `=`
 abbrev pub IsAttribute : List ℕ → List ℕ → Option (List ℕ) → Type 0
-IsAttribute piece word None = Lacks 61 piece × (word ≡ trim piece)
+IsAttribute piece word None = Lacks equals_sign piece × (word ≡ trim piece)
 IsAttribute piece word (Some value) = IsPair piece word value
 
 -- the text is the word, in any ASCII case
@@ -41,7 +42,7 @@ seconds_of_digits (digit ∷ digits) =
 -- makes them zero
 abbrev pub max_age_seconds : List ℕ → Option ℕ
 max_age_seconds value =
-    if starts_with eqb value (45 ∷ [])
+    if starts_with eqb value (hyphen ∷ [])
     then option_map (λ _. 0) (seconds_of_digits (drop 1 value)) else seconds_of_digits value
 
 -- the age of this many seconds, in nanoseconds

@@ -10,6 +10,7 @@ use Rattle.cookie_core.specs.Escapes.{unescape}
 use Rattle.cookie_core.specs.Header.{kept_texts}
 use Rattle.cookie_core.specs.Pieces.{pieces}
 use Rattle.cookie_core.specs.Record.{Record, without_leading_dot}
+use Rattle.cookie_core.specs.Separators.{equals_sign}
 use Rattle.cookie_core.specs.declared.attributes.Key.{Key}
 use Rattle.cookie_core.specs.declared.attributes.Key.TheVariants as key
 use Rattle.cookie_core.specs.declared.same_site.SameSite.{SameSite}
@@ -18,13 +19,13 @@ use Rattle.cookie_core.specs.declared.expiration.Expiration.TheVariants as expir
 
 -- the key of a piece: what stands before its first `=`, or all of it, trimmed
 abbrev pub key_text : List ℕ → List ℕ
-key_text piece = trim (before_first (λ byte. byte == 61) piece)
+key_text piece = trim (before_first (λ byte. byte == equals_sign) piece)
 
 -- the value of a piece: what stands after its first `=`, trimmed, where there is one
 abbrev pub value_text : List ℕ → Option (List ℕ)
 value_text piece =
-    if list_any (λ byte. byte == 61) piece
-    then Some (trim (after_first (λ byte. byte == 61) piece)) else None
+    if list_any (λ byte. byte == equals_sign) piece
+    then Some (trim (after_first (λ byte. byte == equals_sign) piece)) else None
 
 -- the text, if it is not empty
 abbrev pub unless_empty : List ℕ → Option (List ℕ)

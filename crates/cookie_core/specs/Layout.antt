@@ -4,6 +4,7 @@ use Rattle.std.specs.Result.{result_map_both}
 use Rattle.jiff.specs.Words.{signed_nanos}
 use Rattle.cookie_core.specs.Pieces.{offset_of}
 use Rattle.cookie_core.specs.Record.{Record, without_leading_dot}
+use Rattle.cookie_core.specs.Separators.{equals_sign, semicolon}
 use Rattle.cookie_core.specs.Spans.{StandsIn, span_text}
 use Rattle.cookie_core.specs.declared.attributes.Attributes.{Attributes}
 use Rattle.cookie_core.specs.declared.layout.Layout.{Layout}
@@ -43,9 +44,9 @@ AreIn text attributes =
 pub record IsLayoutIn (text : List ℕ) (layout : Layout) : Type 0 where
   pub name : StandsIn text layout.name
   pub value : StandsIn text layout.value
-  pub before : layout.name.end ≤ offset_of 61 text
-  pub after : offset_of 61 text < layout.value.start
-  pub within : layout.value.end ≤ offset_of 59 text
+  pub before : layout.name.end ≤ offset_of equals_sign text
+  pub after : offset_of equals_sign text < layout.value.start
+  pub within : layout.value.end ≤ offset_of semicolon text
   pub attributes : AreIn text layout.attributes
 
 -- the record of the layout in the text, or the refusal

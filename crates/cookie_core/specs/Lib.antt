@@ -29,7 +29,9 @@ pub mod Removal
 pub mod Same
 pub mod SameSite
 pub mod SentNames
+pub mod Separators
 pub mod Settings
+pub mod Size
 pub mod Spans
 pub mod SplitCode
 pub mod SplitCookies

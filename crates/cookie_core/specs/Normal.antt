@@ -5,6 +5,7 @@ use Rattle.cookie_date.specs.Forms.{IsReadBack}
 use Rattle.cookie_core.specs.Expiration.{whole_second}
 use Rattle.cookie_core.specs.Pieces.{Lacks}
 use Rattle.cookie_core.specs.Record.{Record, IsCookie}
+use Rattle.cookie_core.specs.Separators.{semicolon}
 use Rattle.cookie_core.specs.Text.{is_true, prints_secure}
 use Rattle.cookie_core.specs.declared.same_site.SameSite.TheVariants as same_site
 use Rattle.cookie_core.specs.declared.expiration.Expiration.{Expiration}
@@ -38,7 +39,7 @@ normal_form cookie =
 
 -- a text that a printed attribute can hold: no `;`, and no white space at either end (RFC 6265 4.1.1, 5.2)
 pub record IsPlainText (text : List ℕ) : Type 0 where
-  pub whole : Lacks 59 text
+  pub whole : Lacks semicolon text
   pub trimmed : trim text ≡ text
 
 -- a domain that is read as it is printed (RFC 6265 5.2.3)
@@ -67,8 +68,8 @@ pub record IsNamed (fields : Record) : Type 0 where
 
 -- its path and its domain, where they are set, hold no `;`, so what is printed of them sets no other field
 pub record IsUncut (cookie : Record) : Type 0 where
-  pub path : IfSome cookie.path (Lacks 59)
-  pub domain : IfSome cookie.domain (Lacks 59)
+  pub path : IfSome cookie.path (Lacks semicolon)
+  pub domain : IfSome cookie.domain (Lacks semicolon)
 
 -- what a printed expiry is read as: the date-time of the year rule, in whole seconds (RFC 6265 5.1.1), and nothing
 -- where it is no date-time

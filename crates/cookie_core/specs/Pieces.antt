@@ -1,6 +1,7 @@
 -- The pieces of a text between its semicolons (RFC 6265 5.2).
 use Rattle.std.specs.Prelude.{◌≡◌, ◌≢◌, ℕ, ◌<◌, ◌==◌, List, [], ◌∷◌, ◌++◌, All, length, slice_index}
 use Rattle.std.specs.List.{position_or_len, slice_split}
+use Rattle.cookie_core.specs.Separators.{semicolon}
 
 -- no byte of the text is the mark
 abbrev pub Lacks : ℕ → List ℕ → Type 0
@@ -17,10 +18,10 @@ joined_pieces mark piece (next ∷ later) = piece ++ mark ∷ joined_pieces mark
 
 -- the piece and the others are the texts without `;` that, joined by `;`, give the text
 pub record IsPieces (text piece : List ℕ) (others : List (List ℕ)) : Type 0 where
-  pub joined : text ≡ joined_pieces 59 piece others
-  pub first : Lacks 59 piece
-  pub later : All (Lacks 59) others
+  pub joined : text ≡ joined_pieces semicolon piece others
+  pub first : Lacks semicolon piece
+  pub later : All (Lacks semicolon) others
 
 -- the one list of the text's pieces
 abbrev pub pieces : List ℕ → List (List ℕ)
-pieces text = slice_split (λ byte. byte == 59) text
+pieces text = slice_split (λ byte. byte == semicolon) text

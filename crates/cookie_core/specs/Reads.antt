@@ -5,6 +5,7 @@ use Rattle.cookie_core.specs.Attributes.{IsPair, SetsAttributes}
 use Rattle.cookie_core.specs.Escapes.{unescape}
 use Rattle.cookie_core.specs.Pieces.{Lacks, IsPieces}
 use Rattle.cookie_core.specs.Record.{Record, CookieView}
+use Rattle.cookie_core.specs.Separators.{equals_sign}
 use Rattle.cookie_core.specs.declared.parse_error.ParseError.{ParseError}
 use Rattle.cookie_core.specs.declared.parse_error.ParseError.TheVariants as refusal
 
@@ -20,7 +21,7 @@ IsUndecodable true name value = (¬ (IsUtf8 (unescape name))) ⊎ (¬ (IsUtf8 (u
 
 -- what the first piece and the later ones are read as
 abbrev pub ReadsPieces : Bool → List ℕ → List (List ℕ) → Result Record ParseError → Type 0
-ReadsPieces decode piece later (Err refusal.MissingPair) = Lacks 61 piece
+ReadsPieces decode piece later (Err refusal.MissingPair) = Lacks equals_sign piece
 ReadsPieces decode piece later (Err refusal.EmptyName) = (value : List ℕ) × IsPair piece [] value
 ReadsPieces decode piece later (Err (refusal.Utf8Error error)) =
     (name : List ℕ) × (value : List ℕ) × IsPair piece name value × (name ≢ [])

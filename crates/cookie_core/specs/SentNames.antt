@@ -8,11 +8,12 @@ use Rattle.std.specs.Str.{bytes_eq, str_to_ascii_lowercase}
 use Rattle.percent_encoding.specs.Percent.{is_escape}
 use Rattle.cookie_core.specs.CookieOf.{key_text}
 use Rattle.cookie_core.specs.Escapes.{is_escaped, unescape}
+use Rattle.cookie_core.specs.Separators.{equals_sign}
 use Rattle.cookie_core.specs.Wsp.{trim_wsp}
 
 -- the name of a piece of a `Cookie` header, as the user agent has it
 abbrev pub sent_name : List ℕ → List ℕ
-sent_name piece = trim_wsp (before_first (λ byte. byte == 61) piece)
+sent_name piece = trim_wsp (before_first (λ byte. byte == equals_sign) piece)
 
 -- the three bytes are no escape, or one of a byte that printing escapes
 abbrev pub is_printed : ℕ → ℕ → ℕ → Bool

@@ -3,6 +3,7 @@ use Rattle.std.specs.Prelude.{◌≡◌, ℕ, Bool, true, false, List, [], ◌�
 use Rattle.std.specs.Arc.{arc_value}
 use Rattle.cookie_core.specs.Header.{header_texts}
 use Rattle.cookie_core.specs.Pieces.{Lacks}
+use Rattle.cookie_core.specs.Separators.{semicolon}
 use Rattle.cookie_core.specs.Spans.{StandsIn, span_text}
 use Rattle.cookie_core.specs.SplitCookies.{texts_left}
 use Rattle.cookie_core.specs.declared.split.Header.{Header}
@@ -43,4 +44,4 @@ IsFirst text rest None = header_texts (span_text text rest) ≡ []
 IsFirst text rest (Some found) =
     StandsIn text found.0 × IfSome found.1 (StandsIn text)
     × (header_texts (span_text text rest) ≡ span_text text found.0 ∷ texts_in text found.1)
-    × Lacks 59 (span_text text found.0)
+    × Lacks semicolon (span_text text found.0)

@@ -64,8 +64,9 @@ fn are_digits(text: &str) -> bool
     text.as_bytes().iter().all(|byte| byte.is_ascii_digit())
 }
 
-// The number of seconds that the digits write, at most `i64::MAX`. `None` if there is no digit, or another character.
-fn seconds(digits: &str) -> Option<i64>
+/// The number of seconds that the digits write, at most `i64::MAX`. `None` if there is no digit, or another character
+/// (RFC 6265 5.2.2).
+pub fn seconds_of_digits(digits: &str) -> Option<i64>
     ensures { result ≡ option_map pos (seconds_of_digits digits.now) }
 {
     if digits.is_empty() || !are_digits(digits) {
@@ -83,10 +84,10 @@ fn max_age(value: &str) -> Option<SignedDuration>
         ≡ option_map nanos_of_seconds (max_age_seconds value.now) }
 {
     if value.starts_with("-") {
-        let _seconds = seconds(&value[1..])?;
+        let _seconds = seconds_of_digits(&value[1..])?;
         return Some(SignedDuration::ZERO);
     }
-    Some(SignedDuration::from_secs(seconds(value)?))
+    Some(SignedDuration::from_secs(seconds_of_digits(value)?))
 }
 
 /// The key of an attribute.

@@ -73,9 +73,17 @@ tag_by_steps key nonce aad text =
 
 -- ---- sealing
 
--- the limits on the lengths of data and text, in bytes (5.2.1.1)
+-- the most bytes of associated data (5.2.1.1)
+abbrev pub longest_data : ℕ
+longest_data = 2 ^ 61 - 1
+
+-- the most bytes of a text (5.2.1.1)
+abbrev pub longest_text : ℕ
+longest_text = 2 ^ 36 - 32
+
+-- the lengths of data and text, in bytes, are within the limits
 abbrev pub IsWithin : ℕ → ℕ → Type 0
-IsWithin aad text = (aad ≤ 2 ^ 61 - 1) × (text ≤ 2 ^ 36 - 32)
+IsWithin aad text = (aad ≤ longest_data) × (text ≤ longest_text)
 
 -- text and tag are the sealing of a plain text (7.1)
 pub record IsSealing (key nonce aad plain text tag : List ℕ) : Type 0 where

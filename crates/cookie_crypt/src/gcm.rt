@@ -2,7 +2,7 @@
 ghost use Rattle.std.specs.Prelude.{◌≡◌, ◌<◌, ◌≤◌, ◌+◌, ◌-◌, ◌^◌, ◌↔◌, ⊤, ℕ, List, length, IsSome, IfSome, IfNone, OnSome};
 ghost use Rattle.std.specs.Bool.{OnTrue, OnFalse};
 ghost use Rattle.cookie_crypt.specs.Bytes.{IsBytes};
-ghost use Rattle.cookie_crypt.specs.Gcm.{gctr, tag_of, tag_by_steps, hash_subkey, IsWithin, IsSealing, SealsToBytes};
+ghost use Rattle.cookie_crypt.specs.Gcm.{gctr, tag_of, tag_by_steps, hash_subkey, longest_text, IsWithin, IsSealing, SealsToBytes};
 ghost use Rattle.cookie_crypt.specs.Ghash.{HasSum, HasPowersFirst};
 ghost use Rattle.cookie_crypt.specs.Steps.{block_count, with_blocks, no_steps, tag_steps, sealing_steps};
 
@@ -15,14 +15,15 @@ use crate::steps::Steps;
 use std::alloc::AllocError;
 use std::marker::Model;
 
-// The most bytes of a text, and of associated data (SP 800-38D 5.2.1.1).
-const LONGEST_TEXT: usize = (1 << 36) - 32;
+/// The most bytes of a text: 2^36 - 32 (SP 800-38D 5.2.1.1).
+pub const LONGEST_TEXT: usize = (1 << 36) - 32;
 
-const LONGEST_DATA: usize = (1 << 61) - 1;
+/// The most bytes of associated data: 2^61 - 1 (SP 800-38D 5.2.1.1).
+pub const LONGEST_DATA: usize = (1 << 61) - 1;
 
 // Adds the stream under the nonce to the text (SP 800-38D 6.5).
 fn add_key_stream(cipher: &Aes256, nonce: &[u8; 12], text: &mut [u8], steps: &mut Steps)
-    requires within { length text.old ≤ 2 ^ 36 - 32 }
+    requires within { length text.old ≤ longest_text }
     requires room { steps.old.blocks + block_count (length text.old) < 2 ^ 64 }
     ensures made { text.new ≡ gctr cipher.now nonce.now text.old }
     ensures counted { steps.new ≡ with_blocks (block_count (length text.old)) steps.old }

@@ -16,6 +16,6 @@ mod steps;
 pub use aes::Aes256;
 pub use equal::are_equal;
 pub use expand::expand64;
-pub use gcm::Gcm;
+pub use gcm::{Gcm, LONGEST_DATA, LONGEST_TEXT};
 pub use mac::{Mac, hmac};
 pub use steps::Steps;

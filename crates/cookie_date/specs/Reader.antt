@@ -66,11 +66,19 @@ unfoldable pub read_number : List ℕ → Front ℕ
 read_number text =
     let r = read_digits 4 0 text in if length r.1 == length text then None else Some r
 
+-- `-`
+abbrev pub minus : ℕ
+minus = 45
+
+-- `+`
+abbrev pub plus : ℕ
+plus = 43
+
 -- whether `-` stands at the front, and the text after the sign
 abbrev pub read_sign : List ℕ → Bool × List ℕ
 read_sign [] = (false, [])
 read_sign (c ∷ text) =
-    if c == 45 then (true, text) else if c == 43 then (false, text) else (false, c ∷ text)
+    if c == minus then (true, text) else if c == plus then (false, text) else (false, c ∷ text)
 
 -- a sign, if there is one, and one to four digits
 unfoldable pub read_year : List ℕ → Front ℤ
@@ -148,7 +156,7 @@ read_month_first text = do
 -- with blanks or hyphens round the month, as the byte after the day tells
 unfoldable pub read_either_mark : List ℕ → Option Fields
 read_either_mark text =
-    if slice_index text 2 == 45 then read_day_first (codes "-") text
+    if slice_index text 2 == minus then read_day_first (codes "-") text
     else read_day_first (codes " ") text
 
 -- a date without a weekday

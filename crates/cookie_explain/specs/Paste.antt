@@ -4,7 +4,7 @@ use Rattle.std.specs.List.{list_any, slice_split, starts_with}
 use Rattle.std.specs.Io.BufRead.{strip_last}
 use Rattle.std.specs.Str.{bytes_eq}
 use Rattle.cookie_core.specs.Wsp.{trim_wsp}
-use Rattle.cookie_browser.specs.Storage.{has_prefix}
+use Rattle.cookie_core.specs.SentNames.{begins_in_any_case}
 use Rattle.cookie_explain.specs.declared.paste.Kind.{Kind}
 use Rattle.cookie_explain.specs.declared.paste.Kind.TheVariants.{Blank, Field, Url, Get, Now, Text}
 
@@ -23,7 +23,7 @@ unmarked line = if starts_with eqb line (codes "< ") then drop 2 line else line
 
 -- a `Set-Cookie` field, in any case (RFC 9110 5.1)
 unfoldable pub is_field : List ℕ → Bool
-is_field line = has_prefix (codes "set-cookie:") (unmarked line)
+is_field line = begins_in_any_case (codes "set-cookie:") (unmarked line)
 
 -- a word, and the address or the date that it names
 unfoldable pub is_url : List ℕ → Bool

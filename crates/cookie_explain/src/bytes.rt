@@ -1,8 +1,6 @@
 //! Small steps on bytes.
 ghost use Rattle.std.specs.Prelude.{◌≡◌, option_copied};
-ghost use Rattle.std.specs.Str.{str_to_ascii_lowercase};
 ghost use Rattle.cookie_browser.specs.Bytes as spec;
-ghost use Rattle.cookie_browser.specs.Storage.{has_prefix};
 
 // The text before the first `mark`, or all of it, and the text after that mark, if there is one.
 pub fn cut(text: &[u8], mark: u8) -> (&[u8], Option<&[u8]>)
@@ -12,16 +10,5 @@ pub fn cut(text: &[u8], mark: u8) -> (&[u8], Option<&[u8]>)
     match text.iter().position(|&byte| byte == mark) {
         Some(at) => (&text[..at], Some(&text[at + 1..])),
         None => (text, None),
-    }
-}
-
-// Whether the text begins with the prefix, in any ASCII case.
-pub fn has_prefix(prefix: &[u8], text: &[u8]) -> bool
-    requires { str_to_ascii_lowercase prefix.now ≡ prefix.now }
-    ensures { result ≡ has_prefix prefix.now text.now }
-{
-    match text.get(..prefix.len()) {
-        Some(front) => front.eq_ignore_ascii_case(prefix),
-        None => false,
     }
 }

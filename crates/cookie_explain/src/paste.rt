@@ -4,8 +4,8 @@ ghost use Rattle.std.specs.Io.BufRead.{strip_last};
 ghost use Rattle.std.specs.List.{list_any};
 ghost use Rattle.cookie_explain.specs.Paste as spec;
 
-use crate::bytes::{cut, has_prefix};
-use cookie_core::trim_wsp;
+use crate::bytes::cut;
+use cookie_core::{begins_in_any_case, trim_wsp};
 use std::alloc::{AllocError, Global};
 use std::marker::Model;
 
@@ -80,7 +80,7 @@ fn unmarked(line: &[u8]) -> &[u8]
 fn is_field(line: &[u8]) -> bool
     ensures { result ≡ spec.is_field line.now }
 {
-    has_prefix(b"set-cookie:", unmarked(line))
+    begins_in_any_case(b"set-cookie:", unmarked(line))
 }
 
 #[tactic(auto, unfolding(crate::specs::Paste::is_url))]

@@ -1,7 +1,6 @@
 pub mod FillLemmas
 pub mod FirstLemmas
 pub mod KeyRingLemmas
-pub mod PrefixLemmas
 pub mod ReadLemmas
 pub mod RotateLemmas
 pub mod SaveLemmas

@@ -5,4 +5,4 @@ pub mod Seconds
 pub mod Session
 pub mod SessionError
 pub mod Sessions
-pub mod Size
+pub use Rattle.cookie.specs.Size

@@ -1,10 +1,11 @@
 //! What a browser requires of a cookie by its name (RFC 6265bis 4.1.3 and 5.7, steps 20 and 21).
 ghost use Rattle.std.specs.Prelude.{◌≡◌, string_bytes};
-ghost use Rattle.cookie.specs.Prefixes.{begins, meets_host, meets_secure};
+ghost use Rattle.cookie.specs.Prefixes.{meets_host, meets_secure};
+ghost use Rattle.cookie.specs.SentNames.{begins_in_any_case};
 ghost use Rattle.cookie_session.specs.Sessions.{meets_prefix};
 
-use cookie::Cookie;
 use cookie::prefix::{Host, NamePrefix, Prefix, Secure};
+use cookie::{Cookie, begins_in_any_case};
 
 // Whether the cookie has what a browser requires of its name.
 pub(crate) fn meets_prefix(cookie: &Cookie<'_>) -> bool
@@ -30,11 +31,7 @@ fn meets_host(cookie: &Cookie<'_>) -> bool
 
 // Whether the name begins with the prefix, in any ASCII case.
 fn begins(prefix: &NamePrefix, name: &str) -> bool
-    ensures { result ≡ begins prefix.now name.now }
+    ensures { result ≡ begins_in_any_case prefix.now name.now }
 {
-    let prefix = prefix.as_str().as_bytes();
-    match name.as_bytes().get(..prefix.len()) {
-        Some(front) => prefix.eq_ignore_ascii_case(front),
-        None => false,
-    }
+    begins_in_any_case(prefix.as_str().as_bytes(), name.as_bytes())
 }

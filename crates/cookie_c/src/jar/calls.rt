@@ -11,7 +11,7 @@ ghost use Rattle.cookie_c.specs.Jars.{AtJar, IsAdded, IsChanged, IsFitAdded, IsK
 ghost use Rattle.cookie_c.specs.declared.status.Status.TheVariants as status;
 
 use super::Jar;
-use crate::session::Seed;
+use crate::run::Seed;
 use crate::status::Status;
 use cookie::{Cookie, CookieJar, fits_field, read_date};
 use std::alloc::{AllocError, Global};
