@@ -24,8 +24,8 @@ pub use attribute_value::{fits_field, is_attribute_value};
 pub use child::{ChildJar, Storing};
 pub use cookie_core::{
     Attributes, Builder, Cookie, CookieBuilder, DateText, Display, EncodedText, Expiration, Layout,
-    ParseError, SameSite, Span, SplitCookies, begins_in_any_case, days_after, encode,
-    is_named_as_sent, read_date, trim_wsp,
+    MOST_BYTES, ParseError, SameSite, Span, SplitCookies, begins_in_any_case, days_after, encode,
+    is_escaped, is_named_as_sent, read_date, trim_wsp,
 };
 pub use error::Error;
 pub use field::field_cookies;

@@ -1,7 +1,7 @@
 //! The escapes of names and values (RFC 3986 2.1).
 ghost use Rattle.std.specs.Prelude.{◌≡◌, ◌≤◌, ◌++◌, Some, length, take, drop, nat_lt};
 ghost use Rattle.cookie_core.specs.EscapeTest.{starts_with_escape, has_escape};
-ghost use Rattle.cookie_core.specs.Escapes.{escape, unescape};
+ghost use Rattle.cookie_core.specs.Escapes.{escape, is_escaped, unescape};
 
 use memchr::memchr;
 use percent_encoding::{AsciiSet, CONTROLS, ascii_set, utf8_percent_encode};
@@ -9,7 +9,7 @@ use std::fmt;
 use std::marker::Model;
 
 /// The ASCII bytes that are escaped in names and values.
-pub(crate) const ESCAPED: AsciiSet = ascii_set!(
+const ESCAPED: AsciiSet = ascii_set!(
     CONTROLS
         .add(b' ')
         .add(b'"')
@@ -35,6 +35,14 @@ pub(crate) const ESCAPED: AsciiSet = ascii_set!(
         .add(b'|')
         .add(b'}')
 );
+
+/// Whether [`encode`] escapes the byte: a control, the space, a byte past ASCII, or a mark that a header or a URL gives a
+/// meaning (RFC 3986 2.1).
+pub fn is_escaped(byte: u8) -> bool
+    ensures { result ≡ is_escaped byte }
+{
+    ESCAPED.should_percent_encode(byte)
+}
 
 /// A text that is printed with its escapes.
 #[derive(Drop)]

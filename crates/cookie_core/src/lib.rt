@@ -30,7 +30,7 @@ pub use builder::{Builder, CookieBuilder};
 pub use cookie::Cookie;
 pub use cookie_date::{DateText, days_after, read_date};
 pub use display::Display;
-pub use encoding::{EncodedText, encode};
+pub use encoding::{EncodedText, encode, is_escaped};
 pub use expiration::Expiration;
 pub use layout::Layout;
 pub use parse_error::ParseError;

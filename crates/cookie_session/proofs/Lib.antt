@@ -5,4 +5,5 @@ pub mod ReadLemmas
 pub mod RotateLemmas
 pub mod SaveLemmas
 pub mod SessionLemmas
+pub mod SizeLemmas
 pub mod TextLemmas

@@ -20,13 +20,11 @@ use crate::session::Session;
 use crate::session_error::SessionError;
 use crate::session_text::read_session;
 use crate::size::browser_length;
-use cookie::{Cookie, CookieJar, field_cookies};
+use cookie::{Cookie, CookieJar, MOST_BYTES, field_cookies};
 use jiff::SignedDuration;
 use jiff::civil::DateTime;
 use rand_core::TryRng;
 use std::alloc::{AllocError, Global};
-
-const MOST_BYTES: usize = 4096;
 
 /// How a site keeps its sessions: one encrypted cookie holds a session.
 #[derive(Clone, Copy)]

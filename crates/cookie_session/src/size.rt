@@ -1,9 +1,10 @@
 //! The size of a cookie as a browser counts it.
-ghost use Rattle.std.specs.Prelude.{◌≡◌, IfOk};
+ghost use Rattle.std.specs.Prelude.{◌≡◌, ◌<◌, ◌^◌, IfOk, length};
+ghost use Rattle.cookie.specs.Escapes.{escape};
 ghost use Rattle.cookie.specs.Record.{IsCookie};
-ghost use Rattle.cookie_session.specs.Size.{browser_length};
+ghost use Rattle.cookie.specs.Size.{browser_length};
 
-use cookie::{Cookie, encode};
+use cookie::{Cookie, MOST_BYTES, encode, is_escaped};
 use std::alloc::{AllocError, Global};
 
 // The bytes of the name and the value as they are printed, escaped (RFC 6265bis 5.7).
@@ -12,7 +13,23 @@ pub(crate) fn browser_length(alloc: Global, cookie: &Cookie<'_>) -> Result<usize
     ensures cookie { IsCookie cookie.now.fields }
 {
     let (name, value) = cookie.name_value();
-    let name = encode(name).to_string(alloc)?;
-    let value = encode(value).to_string(alloc)?;
-    Ok(name.len() + value.len())
+    let name = printed_length(alloc, name)?;
+    let value = printed_length(alloc, value)?;
+    Ok(name + value)
+}
+
+// The bytes of the text as it is printed. A text that is longer than a browser takes is printed to count them, since
+// they may be more than a number holds.
+fn printed_length(alloc: Global, text: &str) -> Result<usize, AllocError>
+    ensures length { IfOk result (λ count. count ≡ length (escape text.now)) }
+    ensures small { IfOk result (λ count. count < 2 ^ 63) }
+{
+    if text.len() > MOST_BYTES {
+        return Ok(encode(text).to_string(alloc)?.len());
+    }
+    let mut count = 0;
+    for byte in text.as_bytes() {
+        count += if is_escaped(*byte) { 3 } else { 1 };
+    }
+    Ok(count)
 }

@@ -24,7 +24,7 @@ use std::marker::Model;
 ///
 /// ```
 /// let text = key.sealer().seal(alloc, "user", "ann", &mut rng)?;
-/// let user = key.sealer().open(alloc, "user", &text)?;
+/// let user = key.sealer().open(alloc, "user", &text)?; // Some("ann")
 /// ```
 #[derive(Drop)]
 pub struct Sealer {

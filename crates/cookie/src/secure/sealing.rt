@@ -3,23 +3,18 @@ ghost use Rattle.std.specs.Prelude.{◌≡◌, ◌↔◌, ℕ, List, Some, IfOk,
 ghost use Rattle.cookie.specs.Opening.{IsSealedBytes};
 ghost use Rattle.cookie.specs.Sealing.{IsSealable, sealed_bytes};
 
-use cookie_crypt::{Gcm, Steps};
+use cookie_crypt::{Gcm, LONGEST_DATA, LONGEST_TEXT, Steps};
 use std::alloc::{AllocError, Global};
 
 const NONCE_LENGTH: usize = 12;
 
 const TAG_LENGTH: usize = 16;
 
-// The most bytes of a name and of a value (SP 800-38D 5.2.1.1).
-const LONGEST_NAME: usize = (1 << 61) - 1;
-
-const LONGEST_VALUE: usize = (1 << 36) - 32;
-
 // Whether the name and the value are within the limits of the cipher.
 pub(crate) fn is_sealable(name: &str, value: &str) -> bool
     ensures { IsTrue result ↔ IsSealable name.now value.now }
 {
-    name.len() <= LONGEST_NAME && value.len() <= LONGEST_VALUE
+    name.len() <= LONGEST_DATA && value.len() <= LONGEST_TEXT
 }
 
 // The nonce, the encrypted value and the tag.

@@ -23,7 +23,7 @@ const SIGNATURE_LENGTH: usize = 44;
 ///
 /// ```
 /// let text = key.signer().sign(alloc, "user", "ann")?;
-/// assert!(key.signer().verify("user", &text) == Some("ann"));
+/// let user = key.signer().verify("user", &text);       // Some("ann")
 /// ```
 #[derive(Drop)]
 pub struct Signer {
