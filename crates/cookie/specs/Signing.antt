@@ -28,10 +28,14 @@ signature key name value = encode_of standard (hmac key (signed_message name val
 unfoldable pub signing : List ℕ → Name → List ℕ → List ℕ
 signing key name value = signature key name value ++ value
 
+-- the text is the signing of the value under the name
+abbrev pub IsSigned : List ℕ → Name → List ℕ → List ℕ → Type 0
+IsSigned key name text value = text ≡ signing key name value
+
 -- the cookie as a signed jar stores it
 abbrev pub signed_cookie : List ℕ → Record → Record
 signed_cookie key cookie = record cookie { value = signing key cookie.name cookie.value }
 
 -- the cookie's value is the signing of v
 abbrev pub IsSigningOf : List ℕ → Record → List ℕ → Type 0
-IsSigningOf key cookie v = cookie.value ≡ signing key cookie.name v
+IsSigningOf key cookie v = IsSigned key cookie.name cookie.value v

@@ -1,7 +1,7 @@
 //! Signed values for C (RFC 2104).
 ghost use Rattle.std.specs.Prelude.{◌≡◌, Some, None};
 ghost use Rattle.cookie.specs.Keys.{key_bytes, signing_half};
-ghost use Rattle.cookie.specs.Signing.{signing};
+ghost use Rattle.cookie.specs.Signing.{IsSigned, signing};
 ghost use Rattle.cookie_c.specs.Answers.{IsGivenInMemory, IsRead, IsRefused};
 ghost use Rattle.cookie_c.specs.Keyed.{refusal_of};
 ghost use Rattle.cookie_c.specs.declared.status.Status.{Status as StatusValue};
@@ -48,7 +48,7 @@ pub extern "C" fn cookie_verify(key: &[u8], name: &[u8], text: &[u8], out: &mut 
     ensures refused { (why : StatusValue) → refusal_of key.now name.now text.now ≡ Some why
         → IsRefused why result out.old out.new }
     ensures verified { refusal_of key.now name.now text.now ≡ None
-        → IsRead (λ value. text.now ≡ signing (signing_half (key_bytes key.now)) name.now value)
+        → IsRead (IsSigned (signing_half (key_bytes key.now)) name.now text.now)
         status.NotSigned result out.old out.new }
 {
     match Keyed::of(key, name, text) {
@@ -72,8 +72,7 @@ fn give_signed(alloc: Global, keyed: &Keyed<'_>, out: &mut [u8]) -> Answer
 // The value that was signed, if the text is a signed value, for the buffer.
 #[tactic(auto, using(crate::proofs::ReadLemmas::read_some, crate::proofs::ReadLemmas::read_none))]
 fn give_verified(keyed: &Keyed<'_>, out: &mut [u8]) -> Answer
-    ensures { IsRead (λ value. keyed.now.text.now
-        ≡ signing (signing_half keyed.now.key) keyed.now.name.now value)
+    ensures { IsRead (IsSigned (signing_half keyed.now.key) keyed.now.name.now keyed.now.text.now)
         status.NotSigned result out.old out.new }
 {
     match keyed.key.signer().verify(keyed.name, keyed.text) {

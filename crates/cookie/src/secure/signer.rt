@@ -4,7 +4,7 @@ ghost use Rattle.std.specs.Option.{option_copied};
 ghost use Rattle.cookie_core.specs.Memory.{Gives};
 ghost use Rattle.cookie.specs.AnswersExactly.{AnswersPair};
 ghost use Rattle.cookie.specs.Jar.{view};
-ghost use Rattle.cookie.specs.Signing.{CoversOnePair, IsSigningOf, signature, signed_cookie, signing};
+ghost use Rattle.cookie.specs.Signing.{CoversOnePair, IsSigned, IsSigningOf, signature, signed_cookie, signing};
 
 use crate::child::Storing;
 use crate::secure::reading::Reading;
@@ -77,7 +77,7 @@ impl Signer {
     /// are compared to their last byte, wherever they differ.
     pub fn verify<'t>(&self, name: &str, text: &'t str) -> Option<&'t str>
         ensures exact { (v : List ℕ)
-            → (option_copied result ≡ Some v) ↔ (text.now ≡ signing self.now name.now v) }
+            → (option_copied result ≡ Some v) ↔ IsSigned self.now name.now text.now v }
 
         // What a signature covers says where the name ends and the value begins.
         ensures one_pair { CoversOnePair }
@@ -134,7 +134,7 @@ impl Storing for Signer {
 }
 
 impl Reading for Signer {
-    ghost StandsFor = { λ key name text v. text ≡ signing key name v };
+    ghost StandsFor = { IsSigned };
 
     fn value_of(
         &self,
