@@ -26,6 +26,7 @@ pub use Rattle.cookie_core.proofs.DateTextLemmas
 pub use Rattle.cookie_core.proofs.DecodeLemmas
 pub use Rattle.cookie_core.proofs.DotLemmas
 pub use Rattle.cookie_core.proofs.EscapeLemmas
+pub use Rattle.cookie_core.proofs.EscapeLengthLemmas
 pub use Rattle.cookie_core.proofs.EscapeTextLemmas
 pub use Rattle.cookie_core.proofs.ExpiryLemmas
 pub use Rattle.cookie_core.proofs.ExpiryTextLemmas

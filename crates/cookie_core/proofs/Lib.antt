@@ -8,6 +8,7 @@ pub mod DateTextLemmas
 pub mod DecodeLemmas
 pub mod DotLemmas
 pub mod EscapeLemmas
+pub mod EscapeLengthLemmas
 pub mod EscapeTextLemmas
 pub mod ExpiryLemmas
 pub mod ExpiryTextLemmas

@@ -5,5 +5,4 @@ pub mod ReadLemmas
 pub mod RotateLemmas
 pub mod SaveLemmas
 pub mod SessionLemmas
-pub mod SizeLemmas
 pub mod TextLemmas
