@@ -14,7 +14,7 @@ use Rattle.cookie_crypt.proofs.BytesLemmas.{bytes_either, bytes_first, bytes_joi
 use Rattle.cookie_crypt.proofs.GcmLemmas.{length-gctr, length-sealed, length-tag_of, sealing_of}
 use Rattle.cookie_core.specs.Memory.{Gives}
 use Rattle.cookie_core.specs.Record.{Record, IsCookie}
-use Rattle.cookie.specs.AnswersExactly.{AnswersExactly, AnswersPair}
+use Rattle.cookie.specs.AnswersExactly.{AnswersPair}
 use Rattle.cookie.specs.Jar.{JarState, Add, after, view}
 use Rattle.cookie.specs.Opening.{IsSealedBytes}
 use Rattle.cookie.specs.SealingCalls.{IsSealedText}

@@ -3,7 +3,7 @@
 use Rattle.std.specs.Prelude.{◌≡◌, ◌↔◌, ℕ, List, None, Result, Err, IfOk, OnOk}
 use Rattle.cookie_core.specs.Memory.{Gives}
 use Rattle.cookie_core.specs.Record.{CookieView}
-use Rattle.cookie.specs.Sealing.{CanSeal, IsNonce, IsSealed, IsSealingOf, sealed_cookie, sealing}
+use Rattle.cookie.specs.Sealing.{IsNonce, IsSealed, IsSealingOf, sealed_cookie, sealing}
 use Rattle.cookie.specs.declared.jar_error.JarError.{JarError}
 use Rattle.cookie.specs.declared.jar_error.JarError.TheVariants as refusal
 

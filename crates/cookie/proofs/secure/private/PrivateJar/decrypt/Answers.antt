@@ -1,7 +1,6 @@
 use Rattle.std.proofs.Common.{Some, subst}
 use Rattle.std.specs.Option.{option_map}
 use Rattle.cookie.specs.AnswersExactly.{AnswersExactly}
-use Rattle.cookie.specs.Jar.{view}
 use Rattle.cookie.specs.KeyedJars.{KeyedJar}
 use Rattle.cookie.specs.Sealing.{IsSealingOf}
 use Rattle.cookie.proofs.secure.private.PrivateJar.decrypt.Goals as goal

@@ -1,4 +1,4 @@
-use Rattle.std.proofs.Common.{Some, subst}
+use Rattle.std.proofs.Common.{subst}
 use Rattle.std.specs.Option.{option_map}
 use Rattle.cookie.specs.AnswersExactly.{AnswersExactly}
 use Rattle.cookie.specs.Jar.{view}

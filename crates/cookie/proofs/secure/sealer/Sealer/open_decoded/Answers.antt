@@ -1,4 +1,4 @@
-use Rattle.std.proofs.Common.{ap, refl, subst, rules}
+use Rattle.std.proofs.Common.{ap, refl, subst}
 use Rattle.std.proofs.lemmas.Str.{IsUtf8-string_bytes}
 use Rattle.std.specs.Option.{option_map}
 use Rattle.std.specs.Prelude.{IfSome}
