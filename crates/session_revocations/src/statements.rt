@@ -48,7 +48,8 @@ pub fn add<S: Alter>(conn: &mut Connection<S>, id: &[u8], until: i64) -> Result<
     requires { IsKept (state S.Store conn.old) }
     ensures added { HasCleanDisk (state S.Store conn.new) → OnOk result
         (IsTrue (state S.Store conn.new).is_open
-        → IsAdded (rows_of (state S.Store conn.old)) id.now until (rows_of (state S.Store conn.new))) }
+        → IsAdded (rows_of (state S.Store conn.old)) id.now until
+        (rows_of (state S.Store conn.new))) }
     ensures still { OnErr result (IsStill (state S.Store conn.old) (state S.Store conn.new)) }
     ensures kept { IsKept (state S.Store conn.new) }
     ensures crash { Survives (state S.Store conn.old) (state S.Store conn.new)
@@ -78,8 +79,9 @@ pub fn create<S: Alter>(conn: &mut Connection<S>) -> Result<usize, Error>
 pub fn extend<S: Alter>(conn: &mut Connection<S>, id: &[u8], until: i64) -> Result<(), Error>
     requires { IsKept (state S.Store conn.old) }
     ensures revoked { HasCleanDisk (state S.Store conn.new) → OnOk result
-        (IsTrue (state S.Store conn.new).is_open → IsExtended (rows_of (state S.Store conn.old)) id.now
-        until (rows_of (state S.Store conn.new))) }
+        (IsTrue (state S.Store conn.new).is_open
+        → IsExtended (rows_of (state S.Store conn.old)) id.now until
+        (rows_of (state S.Store conn.new))) }
     ensures still { OnErr result (IsStill (state S.Store conn.old) (state S.Store conn.new)) }
     ensures kept { IsKept (state S.Store conn.new) }
     ensures crash { Survives (state S.Store conn.old) (state S.Store conn.new)
