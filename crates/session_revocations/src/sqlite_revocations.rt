@@ -1,5 +1,5 @@
 //! The set of revoked sessions in an SQLite database.
-ghost use Rattle.std.specs.Prelude.{◌≡◌, ◌⊎◌, ◌≤◌, ◌^◌, [], Err, IfOk, IsTrue, MatchOption, OnErr, OnOk, pos};
+ghost use Rattle.std.specs.Prelude.{◌≡◌, ◌≢◌, ◌⊎◌, ◌↔◌, ◌≤◌, ◌^◌, [], Err, false, IfOk, IsTrue, MatchOption, Ok, OnErr, OnOk, pos};
 ghost use Rattle.session_revocations.specs.Held.{Forgets, IsKept, IsStill, Keeps, Revokes, is_revoked_in, rows_of};
 ghost use Rattle.session_revocations.specs.Table.{no_schema, revoked_schema};
 ghost use Rattle.session_revocations.specs.declared.revocation_error.RevocationError.TheVariants as refusal;
@@ -68,6 +68,10 @@ fn prepare<S: Alter>(conn: &mut Connection<S>) -> Result<bool, RevocationError>
     ensures known { IfOk result (λ ours. IsTrue ours
         → ((state S.Store conn.old).now.schema ≡ revoked_schema)
         ⊎ ((state S.Store conn.old).now.schema ≡ no_schema)) }
+    ensures other { (result ≡ Ok false) ↔ (IsTrue (state S.Store conn.old).in_transaction
+        ⊎ (((state S.Store conn.old).now.schema ≢ revoked_schema)
+        × ((state S.Store conn.old).now.schema ≢ no_schema))) }
+    ensures named { result ≢ Err refusal.OtherSchema }
 {
     if !conn.is_autocommit() {
         return Ok(false);
@@ -92,7 +96,7 @@ fn adopt<S: Alter + Drop>(conn: Connection<S>) -> Result<SqliteRevocations<S>, R
 impl<S: Alter + Drop> SqliteRevocations<S> {
     /// Takes a connection to a database of revoked sessions. If the database is empty, it makes the table.
     ///
-    /// Fails with `OtherSchema` if the database has other tables, or if a transaction is open.
+    /// Fails with `OtherSchema` exactly if the database has another schema, or if a transaction is open.
     pub fn new(mut conn: Connection<S>) -> Result<SqliteRevocations<S>, RevocationError>
         // A database of revoked sessions is taken as it is.
         ensures found { IfOk result (λ r. (state S.Store conn).now.schema ≡ revoked_schema
@@ -106,6 +110,12 @@ impl<S: Alter + Drop> SqliteRevocations<S> {
         // Any other is refused.
         ensures known { OnOk result (((state S.Store conn).now.schema ≡ revoked_schema)
             ⊎ ((state S.Store conn).now.schema ≡ no_schema)) }
+
+        // `OtherSchema` means that, or an open transaction.
+        ensures other { (result ≡ Err refusal.OtherSchema)
+            ↔ (IsTrue (state S.Store conn).in_transaction
+            ⊎ (((state S.Store conn).now.schema ≢ revoked_schema)
+            × ((state S.Store conn).now.schema ≢ no_schema))) }
     {
         if prepare(&mut conn)? {
             Ok(SqliteRevocations { conn })
