@@ -33,6 +33,20 @@ none_left filter params p is (r ∷ rs) = elim (cases_Bool (p r)) [
   | inr f ↦ rw (is r, f) (none_left filter params p is rs)
 ]
 
+-- what shows rows changes nothing
+pub query_same : (text : List ℕ) (params : Row) (old new : State) → IsPlain (understood revoked_schema text) → old.now.schema ≡ revoked_schema → (rows : List Row)
+    → Shown text params old new rows → IsUnchanged old new
+unfolding Shown
+query_same text params old new plain has rows h = keeps h.0.returning (subst IsPlain (sym (ap (λ s. understood s text) has) ∙ h.1.is) plain).0 h.2
+  where
+    keeps : (o : Option Returning) → o ≡ None → ShowsRows old new text h.0 (timed params h.0.formats h.1.now) rows o → IsUnchanged old new
+    keeps None none s = s.3
+    keeps (Some what) none s = absurd cc
+
+-- and commits nothing
+pub query_commits : (text : List ℕ) (params : Row) (old : State) → IsPlain (understood revoked_schema text) → old.now.schema ≡ revoked_schema → (db : Trees) → CommitsShowing text params old db → ⊥
+query_commits text params old plain has db = never_commits text params old db (subst (λ k. IsPlain (understood k text)) (sym has) plain)
+
 module _ (text : List ℕ) (filter : List Term) (params : Row) (old new : State) (means : Finds text filter) (plain : IsPlain (understood revoked_schema text)) (has : old.now.schema ≡ revoked_schema) where
   pub finds : (p : Row → Bool) → ((r : Row) → list_all (holds (params ∷ r ∷ [])) filter ≡ p r) → (rows : List Row) → Shown text params old new rows
       → not (length rows == 0) ≡ list_any p (rows_of old)
@@ -50,18 +64,11 @@ module _ (text : List ℕ) (filter : List Term) (params : Row) (old new : State)
       twice true = refl
       twice false = refl
 
-  -- what shows rows changes nothing
   pub find_same : (rows : List Row) → Shown text params old new rows → IsUnchanged old new
-  unfolding Shown
-  find_same rows h = keeps h.0.returning (subst IsPlain (sym (ap (λ s. understood s text) has) ∙ h.1.is) plain).0 h.2
-    where
-      keeps : (o : Option Returning) → o ≡ None → ShowsRows old new text h.0 (timed params h.0.formats h.1.now) rows o → IsUnchanged old new
-      keeps None none s = s.3
-      keeps (Some what) none s = absurd cc
+  find_same rows h = query_same text params old new plain has rows h
 
-  -- and commits nothing
   pub find_commits : (db : Trees) → CommitsShowing text params old db → ⊥
-  find_commits db = never_commits text params old db (subst (λ k. IsPlain (understood k text)) (sym has) plain)
+  find_commits db = query_commits text params old plain has db
 
 -- what showed rows found the connection open
 pub was_open : (text : List ℕ) (params : Row) (old new : State) (rows : List Row) → Shown text params old new rows → IsTrue old.is_open

@@ -1,7 +1,11 @@
+pub mod AnswerLemmas
 pub mod TextLemmas
+pub mod RowidLemmas
 pub mod StateLemmas
 pub mod RowLemmas
 pub mod FindLemmas
+pub mod PruneLemmas
+pub mod ForgetLemmas
 pub mod AddLemmas
 pub mod CreateLemmas
 pub mod MemoryLemmas

@@ -25,7 +25,7 @@ use Rattle.sqlite_value.specs.Order.{value_cmp}
 use Rattle.session_revocations.specs.Revoked.{IsAdded, IsExtended, entry, has_id, is_among, is_among_until, is_blob, is_since, lasts}
 use Rattle.session_revocations.proofs.TextLemmas.{id_is, until_since}
 
-truth_is : (b : Bool) → is_true (from_truth (Some b)) ≡ b
+pub truth_is : (b : Bool) → is_true (from_truth (Some b)) ≡ b
 truth_is true = refl
 truth_is false = refl
 
@@ -38,7 +38,7 @@ equals_blob id (Real x) = refl
 equals_blob id (Text t) = refl
 equals_blob id (Blob b) = ap (λ o. is_true (from_truth (Some (is_eq o)))) (value_cmp-Blob b id) ∙ truth_is (is_eq (slice_cmp nat_cmp b id)) ∙ is_eq-slice_cmp b id
 
-and_true : (b : Bool) → (b && true) ≡ b
+pub and_true : (b : Bool) → (b && true) ≡ b
 and_true true = refl
 and_true false = refl
 

@@ -2,7 +2,7 @@
 use Rattle.std.proofs.Common.{◌≡◌, ℕ, pos, negsuc, List, [], ◌∷◌, codes, false, None, Ok, refl}
 use Rattle.sqlite.proofs.Callers.{IsPlain, command_of, statement_of}
 use Rattle.sqlite.specs.Collation.TheVariants.{Binary}
-use Rattle.sqlite.specs.Command.TheVariants.{CreateTable, Insert, Select}
+use Rattle.sqlite.specs.Command.TheVariants.{CreateTable, Delete, Insert, Select}
 use Rattle.sqlite.specs.Compile.{table_defined_by}
 use Rattle.sqlite.specs.Listing.{reads_listing, understood}
 use Rattle.sqlite.specs.Query.{Query, end, inner}
@@ -10,9 +10,11 @@ use Rattle.sqlite.specs.Source.TheVariants.{Values}
 use Rattle.sqlite.specs.Term.{Term, col, lit, op2}
 use Rattle.sqlite.specs.declared.types.Value.TheVariants.{Int, Null}
 use Rattle.sqlite_sql.specs.declared.ops.BinaryOp.TheVariants.{Compare}
-use Rattle.sqlite_sql.specs.declared.ops.CompareOp.TheVariants.{Eq, Ge}
+use Rattle.sqlite_sql.specs.declared.ops.CompareOp.TheVariants.{Eq, Ge, Le}
 use Rattle.sqlite_tied.specs.Compute.{everything}
+use Rattle.sqlite_value.specs.Keys.{ascending}
 use Rattle.session_revocations.specs.Table.{no_schema, revoked, revoked_schema}
+use Rattle.session_revocations.proofs.AnswerLemmas.{query_of}
 
 abbrev pub create_text : List ℕ
 create_text = codes "CREATE TABLE revoked (id BLOB NOT NULL, until INTEGER NOT NULL, PRIMARY KEY (id, until)) STRICT"
@@ -84,3 +86,33 @@ until_is = (refl, refl)
 pub until_plain : IsPlain (understood revoked_schema until_text)
 unfolding understood everything
 until_plain = (refl, refl)
+
+abbrev pub keyed_text : List ℕ
+keyed_text = codes "SELECT rowid, until FROM revoked ORDER BY rowid"
+
+abbrev pub delete_text : List ℕ
+delete_text = codes "DELETE FROM revoked WHERE until <= ?1"
+
+-- the rowid and the second
+abbrev pub keyed : List Term
+keyed = col 1 0 ∷ col 1 2 ∷ []
+
+abbrev pub past : List Term
+past = op2 (Compare Le Binary) (col 1 2) (col 0 0) ∷ []
+
+pub keyed_is : (command_of (understood revoked_schema keyed_text) ≡ Select (record { lets = []; body = query_of [] keyed ((col 1 0, ascending Binary) ∷ []) }) (codes "rowid" ∷ codes "until" ∷ []))
+    × (reads_listing revoked_schema keyed_text ≡ false)
+unfolding understood everything
+keyed_is = (refl, refl)
+
+pub keyed_plain : IsPlain (understood revoked_schema keyed_text)
+unfolding understood everything
+keyed_plain = (refl, refl)
+
+pub delete_is : command_of (understood revoked_schema delete_text) ≡ Delete 0 (record { lets = []; body = query_of past (col 1 0 ∷ []) [] })
+unfolding understood everything
+delete_is = refl
+
+pub delete_plain : IsPlain (understood revoked_schema delete_text)
+unfolding understood everything
+delete_plain = (refl, refl)

@@ -1,8 +1,8 @@
 -- What a connection to the table shows between two calls.
-use Rattle.std.specs.Prelude.{◌≡◌, ℕ, pos, Bool, false, List, IsTrue}
+use Rattle.std.specs.Prelude.{◌≡◌, ℕ, ◌+◌, pos, Bool, false, List, IsTrue}
 use Rattle.sqlite.specs.Order.{Row}
 use Rattle.sqlite.specs.State.{State, HasCleanDisk}
-use Rattle.session_revocations.specs.Revoked.{IsExtended, is_among}
+use Rattle.session_revocations.specs.Revoked.{IsExtended, IsPruned, is_among}
 use Rattle.session_revocations.specs.Table.{no_schema, revoked_schema}
 
 -- the rows of the table
@@ -39,3 +39,7 @@ IsStill old new = HasCleanDisk new → IsTrue new.is_open → rows_of new ≡ ro
 -- The id is revoked until this second, or until a later one if it was before, and every other id is as before.
 abbrev pub Revokes : List ℕ → ℕ → List Row → List Row → Type 0
 Revokes id until old new = IsExtended old id (pos until) new
+
+-- Exactly the ids stay whose second comes after now, each until the same second.
+abbrev pub Forgets : ℕ → List Row → List Row → Type 0
+Forgets now old new = IsPruned old (pos (now + 1)) new

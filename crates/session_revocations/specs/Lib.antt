@@ -2,4 +2,5 @@ pub mod Held
 pub mod Memory
 pub mod RevocationError
 pub mod Revoked
+pub mod Rowids
 pub mod Table

@@ -3,6 +3,7 @@
 
 mod memory_revocations;
 mod revocation_error;
+mod rowids;
 mod schema;
 mod sqlite_revocations;
 mod statements;

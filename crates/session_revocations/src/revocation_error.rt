@@ -8,7 +8,7 @@ use std::fmt;
 pub enum RevocationError {
     /// Memory ran out.
     OutOfMemory,
-    /// `until` is after 2^63 - 1 seconds since 1970, the last second that SQLite keeps.
+    /// The second is after 2^63 - 1 since 1970, the last one that SQLite keeps.
     TooLate,
     /// The database has another schema than this crate's, or a transaction is open in it.
     OtherSchema,
@@ -16,7 +16,7 @@ pub enum RevocationError {
     Busy,
     /// The file can't be opened for reading and writing: it is read-only, or the path isn't that of a file.
     CannotOpen,
-    /// The file isn't a database, or what was read isn't what was written.
+    /// The file isn't a database, what was read isn't what was written, or a rowid names two rows.
     Damaged,
     /// The disk is full.
     Full,

@@ -1,5 +1,5 @@
 //! Whether a database has this crate's table and nothing else.
-ghost use Rattle.std.specs.Prelude.{◌≡◌, [], ◌∷◌, IsTrue};
+ghost use Rattle.std.specs.Prelude.{◌≡◌, ◌↔◌, [], ◌∷◌, IsTrue};
 ghost use Rattle.session_revocations.specs.Table.{column_of, no_schema, revoked, revoked_key, revoked_schema};
 
 use sqlite_schema::schema::{Column, Index, Kind, Schema, Table};
@@ -10,7 +10,7 @@ use sqlite_value::value::Value;
 const PLAIN: u64 = 0;
 
 fn is_null(value: &Value) -> bool
-    ensures { IsTrue result → value.now ≡ Value.Null }
+    ensures { IsTrue result ↔ (value.now ≡ Value.Null) }
 {
     match value {
         Value::Null => true,
@@ -19,7 +19,7 @@ fn is_null(value: &Value) -> bool
 }
 
 fn is_column(column: &Column, name: &[u8], kind: Kind) -> bool
-    ensures { IsTrue result → column.now ≡ column_of name.now kind }
+    ensures { IsTrue result ↔ (column.now ≡ column_of name.now kind) }
 {
     column.is_strict
         && column.not_null
@@ -30,7 +30,7 @@ fn is_column(column: &Column, name: &[u8], kind: Kind) -> bool
 }
 
 fn are_columns(columns: &[Column]) -> bool
-    ensures { IsTrue result → columns.now ≡ revoked.columns }
+    ensures { IsTrue result ↔ (columns.now ≡ revoked.columns) }
 {
     let [id, until] = columns else {
         return false;
@@ -40,14 +40,14 @@ fn are_columns(columns: &[Column]) -> bool
 
 // No INTEGER PRIMARY KEY, rule, default or count.
 fn is_bare(table: &Table) -> bool
-    ensures { IsTrue result → table.now ≡ record revoked {
+    ensures { IsTrue result ↔ (table.now ≡ record revoked {
       name = table.now.name;
       tree = table.now.tree;
       columns = table.now.columns;
       primary = table.now.primary;
       uniques = table.now.uniques;
       orders = table.now.orders;
-    } }
+    }) }
 {
     table.key.is_none()
         && table.checks.roots.is_empty()
@@ -60,13 +60,13 @@ fn is_bare(table: &Table) -> bool
 }
 
 fn is_plain(order: &Order) -> bool
-    ensures { IsTrue result → order.now ≡ revoked_key.order }
+    ensures { IsTrue result ↔ (order.now ≡ revoked_key.order) }
 {
     order.digits == PLAIN
 }
 
 fn are_places(places: &[usize]) -> bool
-    ensures { IsTrue result → places.now ≡ revoked.primary }
+    ensures { IsTrue result ↔ (places.now ≡ revoked.primary) }
 {
     let [first, second] = places else {
         return false;
@@ -75,7 +75,7 @@ fn are_places(places: &[usize]) -> bool
 }
 
 fn has_one_unique(table: &Table) -> bool
-    ensures { IsTrue result → table.now.uniques ≡ revoked.uniques }
+    ensures { IsTrue result ↔ (table.now.uniques ≡ revoked.uniques) }
 {
     let [unique] = table.uniques.as_slice() else {
         return false;
@@ -84,7 +84,7 @@ fn has_one_unique(table: &Table) -> bool
 }
 
 fn has_one_order(table: &Table) -> bool
-    ensures { IsTrue result → table.now.orders ≡ revoked.orders }
+    ensures { IsTrue result ↔ (table.now.orders ≡ revoked.orders) }
 {
     let [order] = table.orders.as_slice() else {
         return false;
@@ -93,17 +93,17 @@ fn has_one_order(table: &Table) -> bool
 }
 
 fn is_keyed(table: &Table) -> bool
-    ensures { IsTrue result → (table.now.primary ≡ revoked.primary)
+    ensures { IsTrue result ↔ ((table.now.primary ≡ revoked.primary)
         × (table.now.uniques ≡ revoked.uniques)
-        × (table.now.orders ≡ revoked.orders) }
+        × (table.now.orders ≡ revoked.orders)) }
 {
     are_places(table.primary.as_slice()) && has_one_unique(table) && has_one_order(table)
 }
 
 fn is_placed(table: &Table) -> bool
-    ensures { IsTrue result → (table.now.name ≡ revoked.name)
+    ensures { IsTrue result ↔ ((table.now.name ≡ revoked.name)
         × (table.now.tree ≡ 0)
-        × (table.now.columns ≡ revoked.columns) }
+        × (table.now.columns ≡ revoked.columns)) }
 {
     table.name.as_slice() == b"revoked".as_slice()
         && table.tree == 0
@@ -111,13 +111,13 @@ fn is_placed(table: &Table) -> bool
 }
 
 fn is_table(table: &Table) -> bool
-    ensures { IsTrue result → table.now ≡ revoked }
+    ensures { IsTrue result ↔ (table.now ≡ revoked) }
 {
     is_bare(table) && is_placed(table) && is_keyed(table)
 }
 
 fn is_key(index: &Index) -> bool
-    ensures { IsTrue result → index.now ≡ revoked_key }
+    ensures { IsTrue result ↔ (index.now ≡ revoked_key) }
 {
     index.name.as_slice() == b"sqlite_autoindex_revoked_1".as_slice()
         && index.tree == 1
@@ -128,7 +128,7 @@ fn is_key(index: &Index) -> bool
 }
 
 fn has_key(schema: &Schema) -> bool
-    ensures { IsTrue result → schema.now.indexes ≡ revoked_key ∷ [] }
+    ensures { IsTrue result ↔ (schema.now.indexes ≡ revoked_key ∷ []) }
 {
     let [index] = schema.indexes.as_slice() else {
         return false;
@@ -137,7 +137,7 @@ fn has_key(schema: &Schema) -> bool
 }
 
 fn has_table(schema: &Schema) -> bool
-    ensures { IsTrue result → schema.now.tables ≡ revoked ∷ [] }
+    ensures { IsTrue result ↔ (schema.now.tables ≡ revoked ∷ []) }
 {
     let [table] = schema.tables.as_slice() else {
         return false;
@@ -147,14 +147,14 @@ fn has_table(schema: &Schema) -> bool
 
 // It has the table and nothing else.
 pub fn is_ours(schema: &Schema) -> bool
-    ensures { IsTrue result → schema.now ≡ revoked_schema }
+    ensures { IsTrue result ↔ (schema.now ≡ revoked_schema) }
 {
     has_table(schema) && has_key(schema) && schema.views.is_empty()
 }
 
 // It has nothing.
 pub fn is_blank(schema: &Schema) -> bool
-    ensures { IsTrue result → schema.now ≡ no_schema }
+    ensures { IsTrue result ↔ (schema.now ≡ no_schema) }
 {
     schema.tables.is_empty() && schema.indexes.is_empty() && schema.views.is_empty()
 }

@@ -1,6 +1,6 @@
 //! The set of revoked sessions in an SQLite database.
-ghost use Rattle.std.specs.Prelude.{◌≡◌, ◌⊎◌, ◌≤◌, ◌^◌, [], Err, IfOk, IsTrue, MatchOption, OnErr, OnOk, pos};
-ghost use Rattle.session_revocations.specs.Held.{IsKept, IsStill, Keeps, Revokes, is_revoked_in, rows_of};
+ghost use Rattle.std.specs.Prelude.{◌≡◌, ◌≢◌, ◌⊎◌, ◌↔◌, ◌≤◌, ◌^◌, [], Err, false, IfOk, IsTrue, MatchOption, Ok, OnErr, OnOk, pos};
+ghost use Rattle.session_revocations.specs.Held.{Forgets, IsKept, IsStill, Keeps, Revokes, is_revoked_in, rows_of};
 ghost use Rattle.session_revocations.specs.Table.{no_schema, revoked_schema};
 ghost use Rattle.session_revocations.specs.declared.revocation_error.RevocationError.TheVariants as refusal;
 ghost use Rattle.sqlite.specs.Files.{file_state};
@@ -68,6 +68,10 @@ fn prepare<S: Alter>(conn: &mut Connection<S>) -> Result<bool, RevocationError>
     ensures known { IfOk result (λ ours. IsTrue ours
         → ((state S.Store conn.old).now.schema ≡ revoked_schema)
         ⊎ ((state S.Store conn.old).now.schema ≡ no_schema)) }
+    ensures other { (result ≡ Ok false) ↔ (IsTrue (state S.Store conn.old).in_transaction
+        ⊎ (((state S.Store conn.old).now.schema ≢ revoked_schema)
+        × ((state S.Store conn.old).now.schema ≢ no_schema))) }
+    ensures named { result ≢ Err refusal.OtherSchema }
 {
     if !conn.is_autocommit() {
         return Ok(false);
@@ -92,7 +96,7 @@ fn adopt<S: Alter + Drop>(conn: Connection<S>) -> Result<SqliteRevocations<S>, R
 impl<S: Alter + Drop> SqliteRevocations<S> {
     /// Takes a connection to a database of revoked sessions. If the database is empty, it makes the table.
     ///
-    /// Fails with `OtherSchema` if the database has other tables, or if a transaction is open.
+    /// Fails with `OtherSchema` exactly if the database has another schema, or if a transaction is open.
     pub fn new(mut conn: Connection<S>) -> Result<SqliteRevocations<S>, RevocationError>
         // A database of revoked sessions is taken as it is.
         ensures found { IfOk result (λ r. (state S.Store conn).now.schema ≡ revoked_schema
@@ -106,6 +110,12 @@ impl<S: Alter + Drop> SqliteRevocations<S> {
         // Any other is refused.
         ensures known { OnOk result (((state S.Store conn).now.schema ≡ revoked_schema)
             ⊎ ((state S.Store conn).now.schema ≡ no_schema)) }
+
+        // `OtherSchema` means that, or an open transaction.
+        ensures other { (result ≡ Err refusal.OtherSchema)
+            ↔ (IsTrue (state S.Store conn).in_transaction
+            ⊎ (((state S.Store conn).now.schema ≢ revoked_schema)
+            × ((state S.Store conn).now.schema ≢ no_schema))) }
     {
         if prepare(&mut conn)? {
             Ok(SqliteRevocations { conn })
@@ -164,6 +174,49 @@ impl<S: Alter + Drop> SqliteRevocations<S> {
             None => Err(RevocationError::TooLate),
             Some(second) => Ok(statements::extend(&mut self.conn, id.as_slice(), second)?),
         }
+    }
+
+    /// Forgets each id whose second isn't after `now`, in seconds since 1970 in UTC. Such a session is over, so no copy
+    /// of its cookie opens any more. Every other id stays revoked, until the same second. Once it returns `Ok`, so it
+    /// is after a crash. It reads all rows.
+    ///
+    /// If the clock goes back after that, a forgotten session is no longer revoked.
+    ///
+    /// Fails with `TooLate` if `now` is after 2^63 - 1. After any error each session is revoked as before.
+    ///
+    /// ```
+    /// revocations.revoke(&id, 200)?;
+    /// revocations.forget(199)?;
+    /// let still = revocations.is_revoked(&id)?;
+    /// revocations.forget(200)?;
+    /// ```
+    pub fn forget(&mut self, now: u64) -> Result<(), RevocationError>
+        // Exactly the ids stay whose second comes after `now`, each until the same second.
+        ensures forgotten { HasCleanDisk (state S.Store self.new) → OnOk result
+            (IsTrue (state S.Store self.new).is_open → Forgets now
+            (rows_of (state S.Store self.old)) (rows_of (state S.Store self.new))) }
+        ensures still { OnErr result (IsStill (state S.Store self.old) (state S.Store self.new)) }
+
+        // What is past SQLite's last second is refused, and then nothing is done.
+        ensures too_late { 2 ^ 63 ≤ now → (result ≡ Err refusal.TooLate) × (self.new ≡ self.old) }
+        ensures within { result ≡ Err refusal.TooLate → 2 ^ 63 ≤ now }
+
+        // It is committed: after a crash an open finds the same rows.
+        ensures durable { HasCleanDisk (state S.Store self.new)
+            → IsTrue (state S.Store self.new).is_open
+            → (db : Trees) → (state S.Store self.new).may_leave db
+            → db ≡ (state S.Store self.new).now.trees }
+
+        // A crash within it leaves what it could leave before, or what it commits.
+        ensures crash { Survives (state S.Store self.old) (state S.Store self.new)
+            (λ db. IsTrue (state S.Store self.old).is_open → Forgets now
+            (rows_of (state S.Store self.old)) (db 0)) }
+    {
+        let conn = &mut self.conn;
+        let Some(second) = second_of(now) else {
+            return Err(RevocationError::TooLate);
+        };
+        Ok(statements::forget(conn, second)?)
     }
 
     /// The connection, to close its files.

@@ -1,11 +1,13 @@
 //! The statements on the table.
-ghost use Rattle.std.specs.Prelude.{◌≡◌, [], IfOk, IsTrue, OnErr, OnOk};
+ghost use Rattle.std.specs.Prelude.{◌≡◌, ◌+ℤ◌, [], IfOk, IsTrue, OnErr, OnOk, pos};
 ghost use Rattle.session_revocations.specs.Held.{IsBlank, IsKept, IsStill, Keeps, is_revoked_in, rows_of};
-ghost use Rattle.session_revocations.specs.Revoked.{IsAdded, IsExtended, is_among_until};
+ghost use Rattle.session_revocations.specs.Revoked.{IsAdded, IsExtended, IsPruned, is_among_until};
+ghost use Rattle.session_revocations.specs.Rowids.{HasRowids};
 ghost use Rattle.sqlite.specs.Held.{state};
 ghost use Rattle.sqlite.specs.State.{HasCleanDisk, IsUnchanged, Survives};
 
-use sqlite::{Alter, Connection, Error, params};
+use crate::rowids::has_rowids;
+use sqlite::{Alter, Connection, Error, ErrorCode, params};
 
 // Whether a row revokes the id.
 pub fn find<S: Alter>(conn: &mut Connection<S>, id: &[u8]) -> Result<bool, Error>
@@ -48,7 +50,8 @@ pub fn add<S: Alter>(conn: &mut Connection<S>, id: &[u8], until: i64) -> Result<
     requires { IsKept (state S.Store conn.old) }
     ensures added { HasCleanDisk (state S.Store conn.new) → OnOk result
         (IsTrue (state S.Store conn.new).is_open
-        → IsAdded (rows_of (state S.Store conn.old)) id.now until (rows_of (state S.Store conn.new))) }
+        → IsAdded (rows_of (state S.Store conn.old)) id.now until
+        (rows_of (state S.Store conn.new))) }
     ensures still { OnErr result (IsStill (state S.Store conn.old) (state S.Store conn.new)) }
     ensures kept { IsKept (state S.Store conn.new) }
     ensures crash { Survives (state S.Store conn.old) (state S.Store conn.new)
@@ -78,8 +81,9 @@ pub fn create<S: Alter>(conn: &mut Connection<S>) -> Result<usize, Error>
 pub fn extend<S: Alter>(conn: &mut Connection<S>, id: &[u8], until: i64) -> Result<(), Error>
     requires { IsKept (state S.Store conn.old) }
     ensures revoked { HasCleanDisk (state S.Store conn.new) → OnOk result
-        (IsTrue (state S.Store conn.new).is_open → IsExtended (rows_of (state S.Store conn.old)) id.now
-        until (rows_of (state S.Store conn.new))) }
+        (IsTrue (state S.Store conn.new).is_open
+        → IsExtended (rows_of (state S.Store conn.old)) id.now until
+        (rows_of (state S.Store conn.new))) }
     ensures still { OnErr result (IsStill (state S.Store conn.old) (state S.Store conn.new)) }
     ensures kept { IsKept (state S.Store conn.new) }
     ensures crash { Survives (state S.Store conn.old) (state S.Store conn.new)
@@ -90,5 +94,43 @@ pub fn extend<S: Alter>(conn: &mut Connection<S>, id: &[u8], until: i64) -> Resu
         return Ok(());
     }
     add(conn, id, until)?;
+    Ok(())
+}
+
+// Deletes each row whose second isn't after `now`.
+pub fn delete<S: Alter>(conn: &mut Connection<S>, now: i64) -> Result<usize, Error>
+    requires { IsKept (state S.Store conn.old) }
+    ensures deleted { HasCleanDisk (state S.Store conn.new) → OnOk result
+        (IsTrue (state S.Store conn.new).is_open
+        → HasRowids (rows_of (state S.Store conn.old))
+        → IsPruned (rows_of (state S.Store conn.old)) (now +ℤ pos 1)
+        (rows_of (state S.Store conn.new))) }
+    ensures still { OnErr result (IsStill (state S.Store conn.old) (state S.Store conn.new)) }
+    ensures kept { IsKept (state S.Store conn.new) }
+    ensures crash { Survives (state S.Store conn.old) (state S.Store conn.new)
+        (λ db. IsTrue (state S.Store conn.old).is_open
+        → HasRowids (rows_of (state S.Store conn.old))
+        → IsPruned (rows_of (state S.Store conn.old)) (now +ℤ pos 1) (db 0)) }
+{
+    conn.execute("DELETE FROM revoked WHERE until <= ?1", params![now])
+}
+
+// Deletes each row whose second isn't after `now`, once it has seen that a rowid names one row.
+pub fn forget<S: Alter>(conn: &mut Connection<S>, now: i64) -> Result<(), Error>
+    requires { IsKept (state S.Store conn.old) }
+    ensures forgotten { HasCleanDisk (state S.Store conn.new) → OnOk result
+        (IsTrue (state S.Store conn.new).is_open
+        → IsPruned (rows_of (state S.Store conn.old)) (now +ℤ pos 1)
+        (rows_of (state S.Store conn.new))) }
+    ensures still { OnErr result (IsStill (state S.Store conn.old) (state S.Store conn.new)) }
+    ensures kept { IsKept (state S.Store conn.new) }
+    ensures crash { Survives (state S.Store conn.old) (state S.Store conn.new)
+        (λ db. IsTrue (state S.Store conn.old).is_open
+        → IsPruned (rows_of (state S.Store conn.old)) (now +ℤ pos 1) (db 0)) }
+{
+    if !has_rowids(conn)? {
+        return Err(Error::SqliteFailure(ErrorCode::DatabaseCorrupt));
+    }
+    delete(conn, now)?;
     Ok(())
 }

@@ -125,3 +125,101 @@ fn revokes_in_memory(rt: HostRuntime) -> Result<(), Fail> {
     assert!(rt; !revocations.is_revoked(&ANN)?);
     Ok(())
 }
+
+// Ann is revoked until 100 and then until 200, in two rows, and Bob until 150.
+fn revoke_two<S: Alter + Drop>(
+    revocations: &mut SqliteRevocations<S>,
+) -> Result<(), RevocationError> {
+    revocations.revoke(&ANN, 100)?;
+    revocations.revoke(&ANN, 200)?;
+    revocations.revoke(&BOB, 150)
+}
+
+// Which of the two is revoked once those are forgotten whose second isn't after `now`.
+fn left_after<S: Alter + Drop>(
+    revocations: &mut SqliteRevocations<S>,
+    now: u64,
+) -> Result<[bool; 2], RevocationError> {
+    revocations.forget(now)?;
+    Ok([revocations.is_revoked(&ANN)?, revocations.is_revoked(&BOB)?])
+}
+
+// Bob's session is open in the second 149, and over in the second 150.
+#[test]
+fn forgets_in_the_second_that_a_session_is_over(rt: HostRuntime) -> Result<(), Fail> {
+    let mut revocations = SqliteRevocations::new(Connection::open_in_memory(rt.alloc())?)?;
+    revoke_two(&mut revocations)?;
+    assert_eq!(rt; left_after(&mut revocations, 149)?, [true, true]);
+    assert_eq!(rt; left_after(&mut revocations, 150)?, [true, false]);
+    assert_eq!(rt; left_after(&mut revocations, 200)?, [false, false]);
+    Ok(())
+}
+
+#[test]
+fn drops_rows_that_it_forgets(rt: HostRuntime) -> Result<(), Fail> {
+    let mut revocations = SqliteRevocations::new(Connection::open_in_memory(rt.alloc())?)?;
+    revoke_two(&mut revocations)?;
+    revocations.forget(150)?;
+    let mut conn = revocations.into_connection();
+    let row = conn.query_row("SELECT count(*), max(until) FROM revoked", &[])?;
+    assert_eq!(rt; row.get::<i64>(0)?, 1);
+    assert_eq!(rt; row.get::<i64>(1)?, 200);
+    Ok(())
+}
+
+// A clock that goes back shows a forgotten session as not revoked, and it can be revoked again.
+#[test]
+fn revokes_again_what_it_forgot(rt: HostRuntime) -> Result<(), Fail> {
+    let mut revocations = SqliteRevocations::new(Connection::open_in_memory(rt.alloc())?)?;
+    revoke_two(&mut revocations)?;
+    assert_eq!(rt; left_after(&mut revocations, 150)?, [true, false]);
+    assert_eq!(rt; left_after(&mut revocations, 120)?, [true, false]);
+    revocations.revoke(&BOB, 150)?;
+    assert_eq!(rt; left_after(&mut revocations, 149)?, [true, true]);
+    Ok(())
+}
+
+#[test]
+fn forgets_nothing_at_a_second_past_the_last(rt: HostRuntime) -> Result<(), Fail> {
+    let mut revocations = SqliteRevocations::new(Connection::open_in_memory(rt.alloc())?)?;
+    revoke_two(&mut revocations)?;
+    let past_the_last = i64::MAX as u64 + 1;
+    assert_eq!(rt;
+        revocations.forget(past_the_last),
+        Err(RevocationError::TooLate)
+    );
+    assert_eq!(rt; left_after(&mut revocations, 0)?, [true, true]);
+    Ok(())
+}
+
+#[test]
+fn forgets_after_it_is_closed(rt: HostRuntime) -> Result<(), Fail> {
+    let _ = fs::remove_dir_all(&rt, "session_revocations_forgotten");
+    fs::create_dir(&rt, "session_revocations_forgotten")?;
+    let path = "session_revocations_forgotten/revoked.db";
+    let mut revocations = SqliteRevocations::new(Connection::open(&rt, path)?)?;
+    revoke_two(&mut revocations)?;
+    revocations.forget(150)?;
+    let mut again = revocations.reopen(rt.alloc(), Options::new(7))?;
+    assert_eq!(rt; left_after(&mut again, 0)?, [true, false]);
+    drop(again);
+    fs::remove_dir_all(&rt, "session_revocations_forgotten")?;
+    Ok(())
+}
+
+// It isn't closed, as after a crash.
+#[test]
+fn forgets_across_a_crash(rt: HostRuntime) -> Result<(), Fail> {
+    let _ = fs::remove_dir_all(&rt, "session_revocations_crashed");
+    fs::create_dir(&rt, "session_revocations_crashed")?;
+    let path = "session_revocations_crashed/revoked.db";
+    let mut revocations = SqliteRevocations::new(Connection::open(&rt, path)?)?;
+    revoke_two(&mut revocations)?;
+    revocations.forget(150)?;
+    drop(revocations);
+    let mut last = SqliteRevocations::new(Connection::open(&rt, path)?)?;
+    assert_eq!(rt; left_after(&mut last, 0)?, [true, false]);
+    drop(last);
+    fs::remove_dir_all(&rt, "session_revocations_crashed")?;
+    Ok(())
+}

@@ -1,0 +1,35 @@
+use Rattle.std.proofs.Common.{arith, to_z-of_z}
+use Rattle.sqlite.proofs.StateLemmas.{survives_weaker}
+use Rattle.sqlite.specs.Held.{state}
+use Rattle.sqlite.specs.State.{HasCleanDisk}
+use Rattle.session_revocations.proofs.ForgetLemmas.{crash_deletes, delete_kept, delete_still, deleted}
+use Rattle.session_revocations.proofs.statements.delete.Goals as goal
+
+pub returns-clause-deleted : goal.returns-clause-deleted
+returns-clause-deleted g c clean =
+    let old = state g.S.Store c.args.conn.now in
+    let new = state g.S.Store c.execute.new.self in
+    let was : HasCleanDisk old = omega (arith, c.execute.ensures.survives.clean, clean) in
+    deleted old new c.args.now c.execute.result (c.requires was) (rw (c.params-to_sql.ensures, to_z-of_z c.ranges.now) at (c.execute.ensures.runs clean))
+
+pub returns-clause-still : goal.returns-clause-still
+returns-clause-still g c =
+    let old = state g.S.Store c.args.conn.now in
+    let new = state g.S.Store c.execute.new.self in
+    delete_still old new c.args.now c.execute.result
+    (λ clean. c.requires (omega (arith, c.execute.ensures.survives.clean, clean)))
+    (λ clean. rw (c.params-to_sql.ensures, to_z-of_z c.ranges.now) at (c.execute.ensures.runs clean))
+
+pub returns-clause-kept : goal.returns-clause-kept
+returns-clause-kept g c clean live =
+    let old = state g.S.Store c.args.conn.now in
+    let new = state g.S.Store c.execute.new.self in
+    let was : HasCleanDisk old = omega (arith, c.execute.ensures.survives.clean, clean) in
+    delete_kept old new c.args.now c.execute.result (c.requires was) (rw (c.params-to_sql.ensures, to_z-of_z c.ranges.now) at (c.execute.ensures.runs clean)) live
+
+pub returns-clause-crash : goal.returns-clause-crash
+returns-clause-crash g c =
+    let old = state g.S.Store c.args.conn.now in
+    let new = state g.S.Store c.execute.new.self in
+    let survives = rw (c.params-to_sql.ensures, to_z-of_z c.ranges.now) at c.execute.ensures.survives in
+    survives_weaker old new _ _ (λ clean db commits live. crash_deletes old c.args.now db (c.requires (omega (arith, c.execute.ensures.survives.clean, clean)) live) commits) survives
