@@ -19,6 +19,8 @@ mod sealing;
 mod session;
 mod show;
 mod team;
+#[cfg(test)]
+mod tests;
 
 use anyhow::Result;
 use cookie::read_date;

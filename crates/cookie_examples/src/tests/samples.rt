@@ -1,4 +1,4 @@
-//! The samples of pages that `cookie_examples` doesn't have: a request's handler, and a response over header maps.
+//! The samples of pages that `main` doesn't run: a request's handler, and a response over header maps.
 use super::moment;
 use cookie::{Cookie, CookieBuilder, CookieJar, Key};
 use cookie_http::{append_delta, with_headers};
