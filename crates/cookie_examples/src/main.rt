@@ -1,6 +1,7 @@
 //! Uses of the cookie crates, as a caller writes them: each a short function with its contract. `main` runs them all.
 #![tactic(auto)]
 
+mod acting;
 mod agents;
 mod answer;
 mod carrying;
@@ -14,11 +15,14 @@ mod printing;
 mod reading;
 mod removal;
 mod requests;
+mod responding;
 mod runtime;
 mod sealing;
 mod session;
 mod show;
 mod team;
+#[cfg(test)]
+mod tests;
 
 use anyhow::Result;
 use cookie::read_date;

@@ -53,7 +53,8 @@ fn is_list_alike(alloc: Global, draws: &mut Draws) -> Result<bool, AllocError> {
     let suffixes = Suffixes::new(alloc, b"com\n")?;
     let (mut agent, mut plain) = (Agent::new(alloc, &suffixes), PlainAgent::new(alloc));
     for _ in 0..draws.below(21) {
-        let spot = Spot::of(draws.below(4), draws.below(16) as i64);
+        let (number, second) = (draws.below(4), i64::try_from(draws.below(16)));
+        let spot = Spot::of(number, second.unwrap_or(0));
         let (text, cookie) = drawn(alloc, draws)?;
         let refusal = agent.read(&spot.site(alloc)?, text.as_bytes(), spot.moment())?;
         if refusal.is_none() != plain.read(spot, cookie)? {

@@ -2,12 +2,15 @@
 mod agents;
 mod collisions;
 mod cookies;
+mod drawn_call;
 mod draws;
 mod failing_reader;
 mod failing_writer;
+mod jars;
 mod orders;
 mod plain_agent;
-mod samples;
+mod raw_forms;
+mod slot;
 mod streams;
 mod values;
 

@@ -1,6 +1,0 @@
-//! The tests that no row of `cookie_vectors` can say. They are in a crate of their own, since a crate with tests is
-//! proved a second time with them.
-#![tactic(auto)]
-
-#[cfg(test)]
-mod tests;
