@@ -14,7 +14,7 @@ pub enum RevocationError {
     OtherSchema,
     /// Another process has the file open.
     Busy,
-    /// The file can't be opened for reading and writing: it is read-only, or the path isn't that of a file.
+    /// The file can't be opened for reading and writing: it is read-only, or the path names no file.
     CannotOpen,
     /// The file isn't a database, what was read isn't what was written, or a rowid names two rows.
     Damaged,

@@ -16,8 +16,8 @@ use rand_core::TryRng;
 use std::alloc::{AllocError, Global};
 use std::marker::Model;
 
-/// The half of a key that encrypts: `Key::sealer` lends it. It makes the text that a private jar stores for a name and
-/// a value, and opens it again. Contracts see the list of its bytes.
+/// The half of a key that encrypts, of `Key::sealer`. It makes the text that a private jar stores for a name and a
+/// value, and opens it again. Contracts see the list of its bytes.
 ///
 /// The text is the base64 of the nonce, the encrypted value and the tag. The tag covers the name, so that a sealed value
 /// can't be moved to another name.

@@ -16,8 +16,8 @@ use std::marker::Model;
 
 const SIGNATURE_LENGTH: usize = 44;
 
-/// The half of a key that signs: `Key::signer` lends it. It makes the text that a signed jar stores for a name and a
-/// value, and reads it again. Contracts see the list of its bytes.
+/// The half of a key that signs, of `Key::signer`. It makes the text that a signed jar stores for a name and a value,
+/// and reads it again. Contracts see the list of its bytes.
 ///
 /// A signature covers the name, so that a signed value can't be moved to another name. It hides nothing.
 ///
@@ -58,8 +58,8 @@ impl Signer {
         Signer { mac }
     }
 
-    /// Returns the signature of the value under the key and the name, 44 characters, with the value behind it. Fails
-    /// only if out of memory.
+    /// Returns the signature of the value under the key and the name, 44 characters, and then the value. Fails only
+    /// if out of memory.
     pub fn sign(&self, alloc: Global, name: &str, value: &str) -> Result<String, AllocError>
         ensures { Gives alloc_error result (λ text.
             string_bytes text ≡ signing self.now name.now value.now) }

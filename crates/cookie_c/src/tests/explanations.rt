@@ -3,7 +3,7 @@ use super::holds;
 use crate::explanation::{Explanation, Request, cookie_explain};
 use std::alloc::Global;
 
-// What a browser makes of the text at https://github.io, at Wed, 21 Oct 2015 07:28:00 GMT or so many seconds later.
+// What a browser makes of the text at https://github.io, at Wed, 21 Oct 2015 07:28:00 GMT, or `later` seconds after.
 fn explain(alloc: Global, path: &[u8], text: &[u8], later: u64, out: &mut [u8]) -> Explanation {
     let request = Request {
         host: b"github.io",
