@@ -10,6 +10,7 @@ mod jars;
 mod orders;
 mod plain_agent;
 mod raw_forms;
+mod samples;
 mod slot;
 mod streams;
 mod values;

@@ -1,7 +1,8 @@
 //! AES-256, HMAC-SHA256, its expansion, and AES-256-GCM. data/cipher.tsv has the calls.
 mod inputs;
 
-use crate::step::{Answer, Player, Step};
+use crate::player::Player;
+use crate::step::{Answer, Step};
 use cookie_crypt::{Aes256, Gcm, Mac, Steps, are_equal, expand64, hmac};
 use hex::encode;
 use inputs::Inputs;

@@ -1,7 +1,8 @@
 //! Clients that follow jars, and calls as values. data/clients.tsv says what its calls return.
 use crate::jar_calls::{call_of, calls_of, moment, test_key};
 use crate::jars::Jars;
-use crate::step::{Answer, Player, Step};
+use crate::player::Player;
+use crate::step::{Answer, Step};
 use cookie::{CookieJar, Key};
 use cookie_client::{Client, ClientRequest, JarCall, Played, mirror, replay, rounds};
 use jiff::civil::DateTime;

@@ -3,8 +3,9 @@ mod looking;
 mod way;
 
 use crate::cookie_words;
+use crate::player::Player;
 use crate::row::{Row, Wrong};
-use crate::step::{Answer, Player, Step};
+use crate::step::{Answer, Step};
 use cookie_core::{Cookie, ParseError, SplitCookies};
 use std::slice::Iter;
 use way::Way;

@@ -1,7 +1,9 @@
 //! Dates that are read, printed and moved by days, and edited texts of dates. data/dates.tsv has the calls.
+use crate::player::Player;
 use crate::printed::printed;
-use crate::step::{Answer, Player, Step};
+use crate::step::{Answer, Step};
 use cookie_date::{DateText, days_after, read_cookie_date, read_date};
+use jiff::civil::DateTime;
 
 /// What plays the rows on dates.
 #[derive(Clone, Copy)]
@@ -10,20 +12,29 @@ pub struct Dates;
 impl Player for Dates {
     fn answer(&mut self, step: Step<'_>) -> Answer {
         match step.call {
-            "read" => step.optional(read_date(&step.text()?)),
-            "browser" => step.optional(read_cookie_date(&step.bytes()?)),
+            "read" => shown(step, read_date(&step.text()?)),
+            "browser" => shown(step, read_cookie_date(&step.bytes()?)),
             "print" => date_text(step),
-            "back" => step.optional(read_date(&date_text(step)?)),
+            "back" => shown(step, read_date(&date_text(step)?)),
             "add" => {
                 let (days, start) = step.halves();
-                let (days, start) = (days.words.parse().ok()?, start.words.parse().ok()?);
-                step.printed(days_after(start, days))
+                shown(
+                    step,
+                    Some(days_after(start.parse().ok()?, days.parse().ok()?)),
+                )
             }
             "with" => with(step),
             "without" => shortened(step, &step.text()?, 1),
             "cut" => shortened(step, &step.text()?, usize::MAX),
             _ => None,
         }
+    }
+}
+
+fn shown(step: Step<'_>, date: Option<DateTime>) -> Answer {
+    match date {
+        Some(date) => step.printed(date),
+        None => step.said("-"),
     }
 }
 
@@ -54,8 +65,8 @@ fn push_edited(
 
 // What is read with each other character of ASCII in a place, or one of two bytes, or one of four, as in `5 | TEXT`.
 fn with(step: Step<'_>) -> Answer {
-    let (place, text) = step.halves();
-    let (place, text) = (place.words.parse().ok()?, text.text()?);
+    let (place, words) = step.halves();
+    let (place, text) = (place.parse().ok()?, step.with_words(words).text()?);
     let mut list = Vec::new(step.alloc);
     for other in ('\0'..'\u{80}').chain(['\u{e9}', '\u{1f36a}']) {
         let other = step.printed(other)?;

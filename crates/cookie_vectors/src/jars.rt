@@ -8,7 +8,8 @@ mod team;
 
 use crate::fixed_source::hash_keys;
 use crate::jar_calls::{Sevens, make, test_key};
-use crate::step::{Answer, Player, Step};
+use crate::player::Player;
+use crate::step::{Answer, Step};
 use bare::Bare;
 use children::{prefixed, secret};
 use cookie::prefix::{Host, Secure};

@@ -17,6 +17,7 @@ mod http;
 mod jar_calls;
 mod jars;
 mod login;
+mod player;
 mod printed;
 mod refusal;
 mod refusals;

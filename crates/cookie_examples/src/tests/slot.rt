@@ -49,18 +49,22 @@ impl Slot {
     pub fn is_like(&self, jar: &CookieJar) -> bool {
         let change = self.change.map(|value| value.unwrap_or(""));
         let found = jar.get(self.name).map(|cookie| cookie.value());
-        found == self.shown()
-            && changed(jar, self.name) == change
-            && walked(jar, self.name) == found
+        found == self.shown() && walked(jar, self.name) == (change, found)
     }
 }
 
-fn changed<'j>(jar: &'j CookieJar, name: &str) -> Option<&'j str> {
-    let change = jar.delta().find(|cookie| cookie.name() == name)?;
-    Some(change.value())
-}
-
-fn walked<'j>(jar: &'j CookieJar, name: &str) -> Option<&'j str> {
-    let cookie = jar.iter().find(|cookie| cookie.name() == name)?;
-    Some(cookie.value())
+// The values that walks over the jar's changes, and over what it shows, meet under the name.
+fn walked<'j>(jar: &'j CookieJar, name: &str) -> (Option<&'j str>, Option<&'j str>) {
+    let (mut change, mut shown) = (None, None);
+    for cookie in jar.delta() {
+        if cookie.name() == name {
+            change = Some(cookie.value());
+        }
+    }
+    for cookie in jar.iter() {
+        if cookie.name() == name {
+            shown = Some(cookie.value());
+        }
+    }
+    (change, shown)
 }
