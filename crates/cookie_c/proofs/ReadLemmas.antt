@@ -1,5 +1,5 @@
 -- What is read of a text, by what a key finds in it.
-use Rattle.std.proofs.Common.{◌≡◌, ◌↔◌, ℕ, List, Option, Some, None, inl, inr, refl, subst}
+use Rattle.std.proofs.Common.{◌≡◌, ◌↔◌, ℕ, List, Option, Some, None, inl, inr}
 use Rattle.cookie_c.specs.Answers.{IsGiven, IsRead, IsRefused}
 use Rattle.cookie_c.specs.declared.answer.Answer.{Answer}
 use Rattle.cookie_c.specs.declared.status.Status.{Status}
