@@ -177,8 +177,8 @@ impl<S: Alter + Drop> SqliteRevocations<S> {
     }
 
     /// Forgets each id whose second isn't after `now`, in seconds since 1970 in UTC. Such a session is over, so no copy
-    /// of its cookie opens any more. Every other id stays revoked, until the same second. Once it returns `Ok`, so it
-    /// is after a crash. It reads all rows.
+    /// of its cookie opens any more. Every other id stays revoked, until the same second. Once it returns `Ok`, a crash
+    /// brings no id back. It reads all rows.
     ///
     /// If the clock goes back after that, a forgotten session is no longer revoked.
     ///
