@@ -1,5 +1,4 @@
 pub mod Form
-pub mod Id
 pub mod KeyRing
 pub mod Reading
 pub mod Seconds
