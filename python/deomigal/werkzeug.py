@@ -81,7 +81,7 @@ def ascii_of(domain: str) -> str:
 
 
 def expiry(expires: Expiry, age: int | None) -> datetime.datetime | None:
-    """When the cookie expires: as it was said, or so many seconds from now."""
+    """When the cookie expires: as it was said, or a number of seconds from now."""
     if expires is None and age is not None:
         expires = time.time() + age
     if isinstance(expires, (int, float)):

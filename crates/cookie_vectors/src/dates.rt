@@ -42,7 +42,7 @@ fn date_text(step: Step<'_>) -> Answer {
     printed(step.alloc, &DateText(step.words.parse().ok()?))
 }
 
-// Appends `KEY: DATE` if the text is read as a date with `new` in the place of so many bytes from `place` on.
+// Appends `KEY: DATE` if the text is read as a date with `new` in the place of some bytes from `place` on.
 fn push_edited(
     list: &mut Vec<String>,
     key: &str,
@@ -75,7 +75,7 @@ fn with(step: Step<'_>) -> Answer {
     step.list(&list)
 }
 
-// What is read if so many bytes are left out, at each place.
+// What is read if this number of bytes is left out, at each place.
 fn shortened(step: Step<'_>, text: &str, count: usize) -> Answer {
     let mut list = Vec::new(step.alloc);
     for place in 0..text.len() {

@@ -53,7 +53,7 @@ impl Headers {
         Some(())
     }
 
-    // Appends `Cookie` fields, each of so many cookies with names of their own, as `100 10`.
+    // Appends `Cookie` fields, each of some cookies with names of their own, as `100 10`.
     fn append_numbered(&mut self, step: Step<'_>) -> Option<()> {
         let (fields, count) = step.words.split_once(' ')?;
         let count: usize = count.parse().ok()?;
@@ -67,7 +67,7 @@ impl Headers {
         Some(())
     }
 
-    // Appends so many fields, each of a name of its own.
+    // Appends this number of fields, each of a name of its own.
     fn fill(&mut self, step: Step<'_>) -> Option<()> {
         for number in 0..step.words.parse::<usize>().ok()? {
             let name = format!(in step.alloc; "x-{number}").ok()?;

@@ -52,7 +52,8 @@ IsAdded rows id until after =
 pub record IsExtended (rows : List Row) (id : List ℕ) (until : ℤ) (after : List Row) : Type 0 where
   pub ids : (x : List ℕ) → is_among after x ≡ (bytes_eq id x || is_among rows x)
   pub untils : (x : List ℕ) (second : ℤ)
-      → is_among_until after x second ≡ ((bytes_eq id x && int_le second until) || is_among_until rows x second)
+      → is_among_until after x second
+      ≡ ((bytes_eq id x && int_le second until) || is_among_until rows x second)
 
 -- Exactly what lasts until this second or a later one stays, and lasts as long as before.
 pub record IsPruned (rows : List Row) (from : ℤ) (after : List Row) : Type 0 where

@@ -7,7 +7,8 @@ use Rattle.sqlite_rules.specs.Lists.{Has}
 
 -- each row has an integer rowid and an integer second, and rows of one rowid have one second
 pub record HasRowids (rows : List Row) : Type 0 where
-  pub numbers : (r : Row) → Has rows r → (n : ℤ) × (until : ℤ) × (rowid r ≡ Int n) × (column r 2 ≡ Int until)
+  pub numbers : (r : Row) → Has rows r
+      → (n : ℤ) × (until : ℤ) × (rowid r ≡ Int n) × (column r 2 ≡ Int until)
   pub alike : (r s : Row) → Has rows r → Has rows s → rowid r ≡ rowid s → column r 2 ≡ column s 2
 
 -- the number comes after the one before it, if there is one

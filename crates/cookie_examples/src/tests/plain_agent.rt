@@ -73,7 +73,8 @@ fn is_below(path: &str, other: &str) -> bool {
     rest.is_some_and(|rest| rest.is_empty() || rest.starts_with('/') || other.ends_with('/'))
 }
 
-/// A cookie that a site sends, or that is stored. It ends at a second: of one that is sent, after so many.
+/// A cookie that a site sends, or that is stored. `expiry` is the second at
+/// which it ends, or the number of seconds after which one that is sent ends.
 #[derive(Clone, Copy)]
 pub struct Held {
     pub name: &'static str,

@@ -15,8 +15,8 @@ name=val; x=%C3%A9\nadd a=1; Path=/; Secure\nadd b=2%3B; HttpOnly\nremove name\n
 const TEXT: &[u8] = b"\
 Set-Cookie: c=3\nSet-Cookie: x=; Max-Age=0; Expires=Tue, 21 Oct 2014 07:28:00 GMT\nCookie: c=3; name=val\n";
 
-// What comes of the session over a writer that takes so many bytes a call and fails after so many calls, and what it
-// took.
+// What comes of the session over a writer that takes at most `most` bytes a call and fails after `left` calls, and what
+// it took.
 fn outcome<R: Read + Drop>(
     alloc: Global,
     mut reader: R,

@@ -7,7 +7,7 @@ pub fn moment() -> DateTime {
     DateTime::constant(2015, 10, 21, 7, 28, 0, 0)
 }
 
-/// The time so many seconds after it.
+/// The time this number of seconds after it.
 pub fn after(seconds: &str) -> Option<DateTime> {
     let seconds = SignedDuration::from_secs(seconds.parse().ok()?);
     moment().checked_add(seconds).ok()

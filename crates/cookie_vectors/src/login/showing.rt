@@ -65,7 +65,7 @@ pub fn part(step: Step<'_>, whole: &str) -> Answer {
     }
 }
 
-// The request of words such as `1799 GET /` or `1800 POST /login user=ann`, so many seconds after the first second.
+// The request of words such as `1799 GET /` or `1800 POST /login user=ann`, at that number of seconds after the first.
 fn request(words: Option<&str>) -> TimedRequest<'_> {
     let mut words = words.unwrap_or("").splitn(4, ' ');
     let seconds = words.next().unwrap_or("");
