@@ -12,9 +12,13 @@ use Rattle.std.specs.Fmt.{decimal}
 use Rattle.std.specs.Str.Lossy.{utf8_lossy}
 use Rattle.form_urlencoded.specs.Form.{decode, extend_pairs, raw_pairs}
 use Rattle.form_urlencoded.proofs.FormLemmas.{IsBytePair, round_trip}
+use Rattle.base64.specs.Engines.{url_safe_no_pad}
+use Rattle.base64.specs.GeneralPurpose.{encode_of}
+use Rattle.base64.proofs.EngineFacts.{IsAscii-encode_of}
 use Rattle.cookie.specs.Bytes.{IsBytes}
 use Rattle.cookie.proofs.SealingLemmas.{bytes_text}
 use Rattle.cookie_session.specs.Form.{form_pairs}
+use Rattle.cookie_session.specs.Id.{id_text}
 use Rattle.cookie_session.specs.Session.{IsSession, SessionState, session_pairs, session_text}
 
 abbrev IsTextPair : List ℕ × List ℕ → Type 0
@@ -47,15 +51,20 @@ ascii bs are = IsUtf8-from_ascii bs (IsAscii-from_all bs (below bs are))
 text_decimal : (n : ℕ) → n < 2 ^ 64 → IsUtf8 (decimal n)
 text_decimal n below = IsUtf8-from_ascii (decimal n) (IsAscii-decimal n below)
 
+text_id : (id : List ℕ) → IsUtf8 (id_text id)
+text_id id = IsUtf8-from_ascii (encode_of url_safe_no_pad id) (IsAscii-encode_of url_safe_no_pad id)
+
 -- the pairs of a session are texts
 text_pairs-session : (s : SessionState) → IsSession s → All IsTextPair (session_pairs s)
 text_pairs-session s is =
-    let version : IsTextPair (codes "v", codes "1") = (ascii (codes "v") (search rules), ascii (codes "1") (search rules)) in
+    let version : IsTextPair (codes "v", codes "2") = (ascii (codes "v") (search rules), ascii (codes "2") (search rules)) in
+    let id : IsTextPair (codes "id", id_text s.id) = (ascii (codes "id") (search rules), text_id s.id) in
     let started : IsTextPair (codes "started", decimal s.started) = (ascii (codes "started") (search rules), text_decimal s.started is.started) in
     let seen : IsTextPair (codes "seen", decimal s.seen) = (ascii (codes "seen") (search rules), text_decimal s.seen is.seen) in
-    All-cons IsTextPair (codes "v", codes "1") ((codes "started", decimal s.started) ∷ (codes "seen", decimal s.seen) ∷ entries s.texts) version
+    All-cons IsTextPair (codes "v", codes "2") ((codes "id", id_text s.id) ∷ (codes "started", decimal s.started) ∷ (codes "seen", decimal s.seen) ∷ entries s.texts) version
+    (All-cons IsTextPair (codes "id", id_text s.id) ((codes "started", decimal s.started) ∷ (codes "seen", decimal s.seen) ∷ entries s.texts) id
     (All-cons IsTextPair (codes "started", decimal s.started) ((codes "seen", decimal s.seen) ∷ entries s.texts) started
-    (All-cons IsTextPair (codes "seen", decimal s.seen) (entries s.texts) seen is.texts))
+    (All-cons IsTextPair (codes "seen", decimal s.seen) (entries s.texts) seen is.texts)))
 
 -- a form of texts has these texts as its pairs
 pub form_pairs-extended : (es : List (List ℕ × List ℕ)) → All IsTextPair es → form_pairs (extend_pairs [] es) ≡ es

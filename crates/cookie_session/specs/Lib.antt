@@ -1,4 +1,5 @@
 pub mod Form
+pub mod Id
 pub mod KeyRing
 pub mod Reading
 pub mod Seconds

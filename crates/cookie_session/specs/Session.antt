@@ -1,14 +1,16 @@
 -- A session, its text, and how long it lives.
 use Rattle.std.specs.Prelude.{◌≡◌, ℕ, ◌+◌, ◌<◌, ◌≤◌, ◌^◌, List, [], ◌∷◌, codes, refl}
-use Rattle.std.specs.Coded.{Coded, code_by, coded×, coded_ℕ}
+use Rattle.std.specs.Coded.{Coded, code_by, coded×, coded_list, coded_ℕ}
 use Rattle.std.specs.FinMap.{FinMap, entries}
 use Rattle.std.specs.Fmt.{decimal}
 use Rattle.form_urlencoded.specs.Form.{extend_pairs}
 use Rattle.cookie.specs.Jar.{name_cmp}
 use Rattle.cookie.specs.TextMap.{AreTexts, texts_code}
+use Rattle.cookie_session.specs.Id.{IsId, id_text}
 
--- the second in which it started, the second in which it was last saved, and its texts by name
+-- its id, the second in which it started, the second in which it was last saved, and its texts by name
 pub record SessionState : Type 0 where
+  pub id : List ℕ
   pub started : ℕ
   pub seen : ℕ
   pub texts : FinMap name_cmp (List ℕ)
@@ -16,21 +18,29 @@ pub record SessionState : Type 0 where
 -- how a session is stored, as a pair
 abbrev pub session_code : Coded SessionState
 session_code =
-    code_by (ℕ × (ℕ × FinMap name_cmp (List ℕ))) (coded× coded_ℕ (coded× coded_ℕ texts_code))
-    (λ state. (state.started, (state.seen, state.texts)))
-    (λ pair. record { started = pair.0; seen = pair.1.0; texts = pair.1.1 }) (λ _. refl)
+    code_by (List ℕ × (ℕ × (ℕ × FinMap name_cmp (List ℕ))))
+    (coded× (coded_list coded_ℕ) (coded× coded_ℕ (coded× coded_ℕ texts_code)))
+    (λ state. (state.id, (state.started, (state.seen, state.texts))))
+    (λ parts. record {
+      id = parts.0;
+      started = parts.1.0;
+      seen = parts.1.1.0;
+      texts = parts.1.1.1;
+    }) (λ _. refl)
 
--- its seconds are numbers of 64 bits, and its names and texts are UTF-8
+-- its id has sixteen bytes, its seconds are numbers of 64 bits, and its names and texts are UTF-8
 pub record IsSession (state : SessionState) : Type 0 where
+  pub id : IsId state.id
   pub started : state.started < 2 ^ 64
   pub seen : state.seen < 2 ^ 64
   pub texts : AreTexts (entries state.texts)
 
--- the version, the two seconds, and then the texts in byte order of their names
+-- the version, the id, the two seconds, and then the texts in byte order of their names
 abbrev pub session_pairs : SessionState → List (List ℕ × List ℕ)
 session_pairs state =
-    (codes "v", codes "1") ∷ (codes "started", decimal state.started)
-    ∷ (codes "seen", decimal state.seen) ∷ entries state.texts
+    (codes "v", codes "2") ∷ (codes "id", id_text state.id)
+    ∷ (codes "started", decimal state.started) ∷ (codes "seen", decimal state.seen)
+    ∷ entries state.texts
 
 -- these pairs as a form (URL Standard 5.2)
 abbrev pub session_text : SessionState → List ℕ

@@ -1,6 +1,7 @@
 //! Sessions in one encrypted cookie: keys that rotate, limits that the server checks, and a size that browsers take.
 #![tactic(auto)]
 
+mod id;
 mod key_ring;
 mod opened;
 mod opening;

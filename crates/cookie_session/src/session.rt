@@ -1,63 +1,99 @@
 //! A session.
-ghost use Rattle.std.specs.Prelude.{◌≡◌, ◌↔◌, ◌<◌, ◌^◌, IfOk, IsTrue, OnErr, OnOk, length, string_bytes};
+ghost use Rattle.std.specs.Prelude.{◌≡◌, ◌↔◌, ◌<◌, ◌^◌, IfErr, IfOk, IsTrue, OnErr, OnOk, length, string_bytes};
 ghost use Rattle.std.specs.FinMap.{empty, entries, get, insert, remove};
 ghost use Rattle.std.specs.Option.{option_copied};
 ghost use Rattle.cookie_session.specs.Form.{form_of_texts, texts_of_form};
 ghost use Rattle.cookie_session.specs.Seconds.{second_of};
+ghost use Rattle.cookie_session.specs.Id.{IsId};
 ghost use Rattle.cookie_session.specs.Session.{IsAlive, IsSessionText, seen_at};
+ghost use Rattle.cookie_session.specs.declared.session_error.SessionError.TheVariants as refusal;
 
+use crate::id::{ID_LENGTH, draw_id};
 use crate::seconds::second_of;
+use crate::session_error::SessionError;
+use base64::engine::general_purpose::URL_SAFE_NO_PAD;
 use cookie::{Pairs, TextMap};
 use form_urlencoded::Serializer;
 use jiff::civil::DateTime;
+use rand_core::TryRng;
 use std::alloc::{AllocError, Global};
 use std::marker::Model;
 
-/// A session: when it started, when it was last saved, and texts by name. Contracts see these as a `SessionState`.
+/// A session: its id, when it started, when it was last saved, and texts by name. Contracts see these as a
+/// `SessionState`.
 ///
 /// ```
-/// let mut session = Session::start(alloc, now);
+/// let mut session = Session::start(alloc, now, &mut rng)?;
 /// session.set("user", "ann")?;
 /// ```
 #[derive(Drop)]
 pub struct Session {
+    id: [u8; ID_LENGTH],
     started: u64,
     seen: u64,
     texts: TextMap,
 }
 
 impl Model for Session {
+    ghost use Rattle.cookie_session.specs.Id.{IsId};
     ghost use Rattle.cookie_session.specs.Session.{SessionState, session_code};
 
     ghost Value = { SessionState };
 
     ghost coded = { session_code };
 
-    ghost view = { λ s. record { started = s.started; seen = s.seen; texts = s.texts } };
+    ghost view = { λ s. record {
+      id = s.id;
+      started = s.started;
+      seen = s.seen;
+      texts = s.texts;
+    } };
+
+    ghost invariant = { λ s. IsId s.id };
 }
 
 impl Session {
-    /// A session that starts at the time `now` in UTC, without texts. It doesn't allocate.
-    pub fn start(alloc: Global, now: DateTime) -> Session
-        ensures { result ≡ record {
+    /// A session that starts at the time `now` in UTC, without texts. Its id is one draw of sixteen bytes from `rng`,
+    /// which must be a cryptographic generator. It doesn't allocate.
+    ///
+    /// Fails only with `Generator`, if the draw failed.
+    pub fn start<R: TryRng>(
+        alloc: Global,
+        now: DateTime,
+        rng: &mut R,
+    ) -> Result<Session, SessionError>
+        ensures drawn { IfOk result (λ session. R.may_fill rng.old session.id rng.new) }
+        ensures started { IfOk result (λ session. session ≡ record {
+          id = session.id;
           started = second_of now;
           seen = second_of now;
           texts = empty;
-        } }
+        }) }
+        ensures failed { IfErr result (λ why. (why ≡ refusal.Generator) × R.Error) }
     {
+        let id = draw_id(rng)?;
         let second = second_of(now);
-        Session::of(second, second, TextMap::new(alloc))
+        Ok(Session::of(id, second, second, TextMap::new(alloc)))
     }
 
     // A session of these parts.
-    pub(crate) fn of(started: u64, seen: u64, texts: TextMap) -> Session
-        ensures { result ≡ record { started = started; seen = seen; texts = texts } }
+    pub(crate) fn of(id: [u8; 16], started: u64, seen: u64, texts: TextMap) -> Session
+        ensures { result ≡ record { id = id; started = started; seen = seen; texts = texts } }
     {
         Session {
+            id,
             started,
             seen,
             texts,
         }
+    }
+
+    /// Its id. Each copy of its cookie has it, whenever it was saved, until it is renewed.
+    pub fn id(&self) -> &[u8; 16]
+        ensures value { result.now ≡ self.now.id }
+        ensures is_id { IsId self.now.id }
+    {
+        &self.id
     }
 
     /// When it started, in seconds since 1970 in UTC.
@@ -109,15 +145,27 @@ impl Session {
         self.texts.remove(name);
     }
 
-    /// Starts it anew at the time `now` in UTC, with the same texts, so that the lifetime counts from now. If no text
-    /// from before the login may survive, use `start`.
+    /// Starts it anew at the time `now` in UTC, with the same texts and another id, so that the lifetime counts from
+    /// now. The id is one draw of sixteen bytes from `rng`, which must be a cryptographic generator. If no text from
+    /// before the login may survive, use `start`.
+    ///
+    /// Fails only with `Generator`, if the draw failed, and then leaves the session as it was.
     /// Example: `handle` in crates/cookie_examples/src/handler.rt.
-    pub fn renew(&mut self, now: DateTime)
-        ensures { self.new ≡ record self.old { started = second_of now; seen = second_of now } }
+    pub fn renew<R: TryRng>(&mut self, now: DateTime, rng: &mut R) -> Result<(), SessionError>
+        ensures drawn { OnOk result (R.may_fill rng.old self.new.id rng.new) }
+        ensures renewed { OnOk result (self.new ≡ record self.old {
+          id = self.new.id;
+          started = second_of now;
+          seen = second_of now;
+        }) }
+        ensures failed { IfErr result (λ why. (why ≡ refusal.Generator) × R.Error) }
+        ensures err { OnErr result (self.new ≡ self.old) }
     {
+        self.id = draw_id(rng)?;
         let second = second_of(now);
         self.started = second;
         self.seen = second;
+        Ok(())
     }
 
     /// Its texts as a form, `name=value&name=value`, in byte order of the names (URL Standard 5.2). `with_form` reads
@@ -151,7 +199,8 @@ impl Session {
         ensures { IfOk result (λ text. IsSessionText (string_bytes text) (seen_at seen self.now)) }
     {
         let mut form = Serializer::new(String::new(alloc));
-        form.append_pair("v", "1")?;
+        form.append_pair("v", "2")?;
+        form.append_pair("id", URL_SAFE_NO_PAD.encode(alloc, &self.id)?.as_str())?;
         let started = self.started;
         form.append_pair("started", started.to_string(alloc)?.as_str())?;
         form.append_pair("seen", seen.to_string(alloc)?.as_str())?;

@@ -17,6 +17,6 @@ impl Session {
             ≡ record self { texts = texts_of_form form.now }) }
     {
         let texts = texts_of(alloc, raw_pairs(form))?;
-        Ok(Session::of(self.started(), self.seen(), texts))
+        Ok(Session::of(*self.id(), self.started(), self.seen(), texts))
     }
 }

@@ -4,9 +4,10 @@ ghost use Rattle.std.specs.FinMap.{empty};
 ghost use Rattle.std.specs.Fmt.{decimal};
 ghost use Rattle.form_urlencoded.specs.Parse.{raw_pairs_left};
 ghost use Rattle.cookie_session.specs.Form.{decoded_pairs, filled, form_pairs, form_text};
-ghost use Rattle.cookie_session.specs.Reading.{ReadsNumber};
+ghost use Rattle.cookie_session.specs.Reading.{ReadsId, ReadsNumber};
 ghost use Rattle.cookie_session.specs.Session.{IsSession, IsSessionText, SessionState, session_pairs};
 
+use crate::id::id_of;
 use crate::session::Session;
 use cookie::TextMap;
 use form_urlencoded::{RawPairs, decode, raw_pairs};
@@ -34,10 +35,21 @@ fn parse_session(alloc: Global, text: &str) -> Result<Session, AllocError>
 {
     let mut pairs = raw_pairs(text.as_bytes());
     let _version = next_number(alloc, &mut pairs)?;
+    let id = next_id(alloc, &mut pairs)?;
     let started = next_number(alloc, &mut pairs)?;
     let seen = next_number(alloc, &mut pairs)?;
     let texts = texts_of(alloc, pairs)?;
-    Ok(Session::of(started, seen, texts))
+    Ok(Session::of(id, started, seen, texts))
+}
+
+// The id that is the value of the next pair, else zeros.
+fn next_id(alloc: Global, pairs: &mut RawPairs<'_>) -> Result<[u8; 16], AllocError>
+    ensures { IfOk result (λ id. ReadsId pairs.old pairs.new id) }
+{
+    match pairs.next() {
+        Some((_, value)) => id_of(alloc, form_text(alloc, value)?.as_str()),
+        None => Ok([0; 16]),
+    }
 }
 
 // The number that is the value of the next pair, else 0.

@@ -9,6 +9,7 @@ returns c =
     record {
       session = subst (λ (s : SessionState). IsSession (seen_at c.args.seen s)) c.self.view_is (
           record {
+            id = c.self.invariant;
             started = search rules;
             seen = search rules;
             texts = subst AreTexts pairs.listed pairs.texts;
