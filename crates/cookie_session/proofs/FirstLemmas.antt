@@ -1,4 +1,4 @@
--- The first cookie of the site's name in which a session is open.
+-- The first cookie of the site's name in which a session is open that isn't revoked.
 use Rattle.std.proofs.Common.{◌≡◌, ◌↔◌, ℕ, ◌+◌, ◌<◌, Bool, true, false, cond, List, [], ◌∷◌, ◌++◌, All, length, take, drop, get_or, Option, None, Some, Result, Ok, Err, refl, sym, ap, subst, ◌∙◌}
 use Rattle.std.proofs.lemmas.List.{drop_more, take-append-drop, take_more}
 use Rattle.std.proofs.lemmas.List.Elements.{All-append, All-cons, All-head, All-nil, All-tail, filter-append, filter_more}
@@ -12,8 +12,9 @@ use Rattle.cookie.specs.Memory.{Gives}
 use Rattle.cookie.specs.Originals.{field_cookies, first_of_name, jar_for}
 use Rattle.cookie.specs.Record.{Record}
 use Rattle.cookie.proofs.OriginalLemmas.{has_first, same_delta}
+use Rattle.cookie_session.specs.Revocations.{none_revoked}
 use Rattle.cookie_session.specs.Session.{SessionState}
-use Rattle.cookie_session.specs.Sessions.{HoldsOne, IsClosed, IsOpen, OpensFirst, site_cookies}
+use Rattle.cookie_session.specs.Sessions.{HoldsOne, IsClosed, IsOpen, IsOpenUnrevoked, OpensFirst, OpensUnrevoked, site_cookies}
 use Rattle.cookie_session.specs.declared.opened.Opened.{Opened}
 use Rattle.cookie_session.specs.declared.sessions.Sessions.{Sessions}
 use Rattle.cookie_session.proofs.SessionLemmas.{opened}
@@ -21,27 +22,28 @@ use Rattle.cookie_session.proofs.SessionLemmas.{opened}
 same_heads : (a b : Record) (xs ys : List Record) → a ∷ xs ≡ b ∷ ys → (a ≡ b) × (xs ≡ ys)
 same_heads a b xs ys e = (cc, cc)
 
-module _ (site : Sessions) (now : DateTime) where
+module _ (IsRevoked : List ℕ → Type 0) (site : Sessions) (now : DateTime) where
   abbrev pub Closed : List Record → Type 0
-  Closed cookies = All (IsClosed site now) cookies
+  Closed cookies = All (IsClosed IsRevoked site now) cookies
 
   -- the first that isn't closed is the same, however the list is split there
   same_first : (xs ys : List Record) (c d : Record) (cs ds : List Record) → xs ++ c ∷ cs ≡ ys ++ d ∷ ds → Closed xs → Closed ys
-      → ¬ (IsClosed site now c) → ¬ (IsClosed site now d) → c ≡ d
+      → ¬ (IsClosed IsRevoked site now c) → ¬ (IsClosed IsRevoked site now d) → c ≡ d
   same_first [] [] c d cs ds e left right here there = (same_heads c d cs ds e).0
   same_first [] (y ∷ ys) c d cs ds e left right here there =
-      absurd (here (subst (IsClosed site now) (sym (same_heads c y cs (ys ++ d ∷ ds) e).0) (All-head (IsClosed site now) y ys right)))
+      absurd (here (subst (IsClosed IsRevoked site now) (sym (same_heads c y cs (ys ++ d ∷ ds) e).0) (All-head (IsClosed IsRevoked site now) y ys right)))
   same_first (x ∷ xs) [] c d cs ds e left right here there =
-      absurd (there (subst (IsClosed site now) (same_heads x d (xs ++ c ∷ cs) ds e).0 (All-head (IsClosed site now) x xs left)))
+      absurd (there (subst (IsClosed IsRevoked site now) (same_heads x d (xs ++ c ∷ cs) ds e).0 (All-head (IsClosed IsRevoked site now) x xs left)))
   same_first (x ∷ xs) (y ∷ ys) c d cs ds e left right here there =
-      same_first xs ys c d cs ds (same_heads x y (xs ++ c ∷ cs) (ys ++ d ∷ ds) e).1 (All-tail (IsClosed site now) x xs left)
-      (All-tail (IsClosed site now) y ys right) here there
+      same_first xs ys c d cs ds (same_heads x y (xs ++ c ∷ cs) (ys ++ d ∷ ds) e).1 (All-tail (IsClosed IsRevoked site now) x xs left)
+      (All-tail (IsClosed IsRevoked site now) y ys right) here there
 
   back_closed : (xs ys : List Record) → Closed (xs ++ ys) → Closed ys
   back_closed [] ys closed = closed
-  back_closed (x ∷ xs) ys closed = back_closed xs ys (All-tail (IsClosed site now) x (xs ++ ys) closed)
+  back_closed (x ∷ xs) ys closed = back_closed xs ys (All-tail (IsClosed IsRevoked site now) x (xs ++ ys) closed)
 
-  is_not_closed : (cookie : Record) (place : ℕ) (s : SessionState) → IsOpen site (Some cookie) now place s → ¬ (IsClosed site now cookie)
+  is_not_closed : (cookie : Record) (place : ℕ) (s : SessionState) → IsOpenUnrevoked IsRevoked site (Some cookie) now place s
+      → ¬ (IsClosed IsRevoked site now cookie)
   is_not_closed cookie place s is closed = closed place s is
 
   module _ (cookies : List Record) where
@@ -49,30 +51,30 @@ module _ (site : Sessions) (now : DateTime) where
 
     -- if none of those so far opens, nor this one if it has the name, then none of these opens
     pub closed_more : (i : ℕ) (cookie : Record) → i < length cookies → cookie ≡ get_or cookies i cookie → Closed (site_cookies site (take i cookies))
-        → (bytes_eq site.cookie.now.fields.name cookie.name ≡ true → IsClosed site now cookie) → Closed (site_cookies site (take (i + 1) cookies))
+        → (bytes_eq site.cookie.now.fields.name cookie.name ≡ true → IsClosed IsRevoked site now cookie) → Closed (site_cookies site (take (i + 1) cookies))
     closed_more i cookie below is closed this =
         subst Closed (sym (filter_more named cookies i cookie below))
-        (All-append (IsClosed site now) (site_cookies site (take i cookies)) _ closed
+        (All-append (IsClosed IsRevoked site now) (site_cookies site (take i cookies)) _ closed
         (subst (λ c. Closed (cond (named c) (c ∷ []) [])) is (one (named cookie) refl)))
       where
         named : Record → Bool
         named c = bytes_eq site.cookie.now.fields.name c.name
 
         one : (b : Bool) → named cookie ≡ b → Closed (cond b (cookie ∷ []) [])
-        one true same = All-cons (IsClosed site now) cookie [] (this same) (All-nil (IsClosed site now))
-        one false other = All-nil (IsClosed site now)
+        one true same = All-cons (IsClosed IsRevoked site now) cookie [] (this same) (All-nil (IsClosed IsRevoked site now))
+        one false other = All-nil (IsClosed IsRevoked site now)
 
     -- if none of them opens, no session is found
     pub found_none : Closed (site_cookies site cookies) → (place : ℕ) (s : SessionState)
-        → (◌≡◌ {A = Option Opened} None (Some (opened s place))) ↔ OpensFirst site cookies now place s
+        → (◌≡◌ {A = Option Opened} None (Some (opened s place))) ↔ OpensUnrevoked IsRevoked site cookies now place s
     found_none closed place s = (
       λ e. absurd (none-some (opened s place) e),
       λ first.
           let rest = back_closed first.earlier (first.cookie ∷ first.later) (subst Closed first.split closed) in
-          absurd (is_not_closed first.cookie place s first.opens (All-head (IsClosed site now) first.cookie first.later rest)),
+          absurd (is_not_closed first.cookie place s (first.opens, first.unrevoked) (All-head (IsClosed IsRevoked site now) first.cookie first.later rest)),
     )
 
-    pub once_none : Closed (site_cookies site cookies) → (place : ℕ) (s : SessionState) (first : OpensFirst site cookies now place s)
+    pub once_none : Closed (site_cookies site cookies) → (place : ℕ) (s : SessionState) (first : OpensUnrevoked IsRevoked site cookies now place s)
         → HoldsOne site (Some first.cookie)
     once_none closed place s first = absurd (none-some (opened s place) ((found_none closed place s).1 first))
 
@@ -87,16 +89,16 @@ module _ (site : Sessions) (now : DateTime) where
           (drop_more cookies i cookie below ∙ ap (λ c. c ∷ drop (i + 1) cookies) (sym is))
           ∙ ap (λ b. site_cookies site (take i cookies) ++ cond b (cookie ∷ site_cookies site (drop (i + 1) cookies)) (site_cookies site (drop (i + 1) cookies))) same
 
-      module _ (found : Opened) (answers : (place : ℕ) (s : SessionState) → (Some found ≡ Some (opened s place)) ↔ IsOpen site (Some cookie) now place s) where
+      module _ (found : Opened) (answers : (place : ℕ) (s : SessionState) → (Some found ≡ Some (opened s place)) ↔ IsOpenUnrevoked IsRevoked site (Some cookie) now place s) where
         -- the cookie that opens is this one
-        first_is : (place : ℕ) (s : SessionState) (first : OpensFirst site cookies now place s) → first.cookie ≡ cookie
+        first_is : (place : ℕ) (s : SessionState) (first : OpensUnrevoked IsRevoked site cookies now place s) → first.cookie ≡ cookie
         first_is place s first =
             same_first first.earlier (site_cookies site (take i cookies)) first.cookie cookie first.later (site_cookies site (drop (i + 1) cookies))
-            (sym first.split ∙ split_here) first.closed closed (is_not_closed first.cookie place s first.opens)
+            (sym first.split ∙ split_here) first.closed closed (is_not_closed first.cookie place s (first.opens, first.unrevoked))
             (is_not_closed cookie found.place found.session ((answers found.place found.session).0 refl))
 
         -- so its session is the one that is found
-        pub found_here : (place : ℕ) (s : SessionState) → (Some found ≡ Some (opened s place)) ↔ OpensFirst site cookies now place s
+        pub found_here : (place : ℕ) (s : SessionState) → (Some found ≡ Some (opened s place)) ↔ OpensUnrevoked IsRevoked site cookies now place s
         found_here place s = (
           λ e. record {
             earlier = site_cookies site (take i cookies);
@@ -104,14 +106,16 @@ module _ (site : Sessions) (now : DateTime) where
             later = site_cookies site (drop (i + 1) cookies);
             split = split_here;
             closed = closed;
-            opens = (answers place s).0 e;
+            opens = ((answers place s).0 e).0;
+            unrevoked = ((answers place s).0 e).1;
           },
-          λ first. (answers place s).1 (subst (λ c. IsOpen site (Some c) now place s) (first_is place s first) first.opens),
+          λ first. (answers place s).1 (subst (λ c. IsOpen site (Some c) now place s) (first_is place s first) first.opens, first.unrevoked),
         )
 
-        pub once_here : HoldsOne site (Some cookie) → (place : ℕ) (s : SessionState) (first : OpensFirst site cookies now place s) → HoldsOne site (Some first.cookie)
+        pub once_here : HoldsOne site (Some cookie) → (place : ℕ) (s : SessionState) (first : OpensUnrevoked IsRevoked site cookies now place s) → HoldsOne site (Some first.cookie)
         once_here once place s first = subst (λ c. HoldsOne site (Some c)) (sym (first_is place s first)) once
 
+module _ (site : Sessions) (now : DateTime) where
   -- ---- the first cookie of the name
 
   abbrev First : List Record → Option Record
@@ -166,8 +170,9 @@ module _ (site : Sessions) (now : DateTime) where
         cookie = cookie;
         later = site_cookies site cookies;
         split = ap (λ b. cond b (cookie ∷ site_cookies site cookies) (site_cookies site cookies)) same;
-        closed = All-nil (IsClosed site now);
+        closed = All-nil (IsClosed none_revoked site now);
         opens = opens;
+        unrevoked = λ never. never;
       }
       by false other opens later =
           let first = later opens in
@@ -178,6 +183,7 @@ module _ (site : Sessions) (now : DateTime) where
             split = ap (λ b. cond b (cookie ∷ site_cookies site cookies) (site_cookies site cookies)) other ∙ first.split;
             closed = first.closed;
             opens = first.opens;
+            unrevoked = first.unrevoked;
           }
 
   -- what the jar of a field has under a name is the first cookie of the name

@@ -6,3 +6,4 @@ pub mod RotateLemmas
 pub mod SaveLemmas
 pub mod SessionLemmas
 pub mod TextLemmas
+pub mod UnrevokedLemmas

@@ -2,6 +2,7 @@ pub mod Form
 pub mod Id
 pub mod KeyRing
 pub mod Reading
+pub mod Revocations
 pub mod Seconds
 pub mod Session
 pub mod SessionError

@@ -8,6 +8,7 @@ use Rattle.cookie.specs.Prefixes.{meets_host, meets_secure, pair_of}
 use Rattle.cookie.specs.Record.{Record}
 use Rattle.cookie.specs.Sealing.{sealed_cookie}
 use Rattle.cookie_session.specs.KeyRing.{OpensAt, newest}
+use Rattle.cookie_session.specs.Revocations.{none_revoked}
 use Rattle.cookie_session.specs.Seconds.{second_of}
 use Rattle.cookie_session.specs.Session.{IsAlive, IsSession, SessionState, seen_at, session_text}
 use Rattle.cookie_session.specs.declared.sessions.Sessions.{Sessions}
@@ -31,25 +32,45 @@ HoldsOne site stored =
     → IsOpen site stored now place session → IsOpen site stored later other_place other
     → session ≡ other
 
--- no session is open in the cookie
-abbrev pub IsClosed : Sessions → DateTime → Record → Type 0
-IsClosed site now cookie =
-    (place : ℕ) (state : SessionState) → ¬ (IsOpen site (Some cookie) now place state)
+-- the same of a session that isn't revoked
+abbrev pub IsOpenUnrevoked : (List ℕ → Type 0) → Sessions → Option Record → DateTime → ℕ
+    → SessionState → Type 0
+IsOpenUnrevoked IsRevoked site stored now place state =
+    IsOpen site stored now place state × ¬ IsRevoked state.id
+
+-- no session is open in the cookie but revoked ones
+abbrev pub IsClosed : (List ℕ → Type 0) → Sessions → DateTime → Record → Type 0
+IsClosed IsRevoked site now cookie = (place : ℕ) (state : SessionState)
+    → ¬ (IsOpenUnrevoked IsRevoked site (Some cookie) now place state)
 
 -- the cookies that have the site's name
 abbrev pub site_cookies : Sessions → List Record → List Record
 site_cookies site cookies =
     filter (λ cookie. bytes_eq site.cookie.now.fields.name cookie.name) cookies
 
--- The session is open in one of these cookies: of those that have the site's name the first in which one is open.
-pub record OpensFirst (site : Sessions) (cookies : List Record) (now : DateTime) (place : ℕ)
-    (state : SessionState) : Type 0 where
+-- the session is open in one of these cookies, which has the site's name
+abbrev pub OpensOne : Sessions → List Record → DateTime → ℕ → SessionState → Type 0
+OpensOne site cookies now place state =
+    (earlier later : List Record) × (cookie : Record)
+    × (site_cookies site cookies ≡ earlier ++ cookie ∷ later)
+    × IsOpen site (Some cookie) now place state
+
+-- The session is open in one of these cookies and isn't revoked: of those that have the site's name the first in which
+-- such a session is open.
+pub record OpensUnrevoked (IsRevoked : List ℕ → Type 0) (site : Sessions) (cookies : List Record)
+    (now : DateTime) (place : ℕ) (state : SessionState) : Type 0 where
   pub earlier : List Record
   pub cookie : Record
   pub later : List Record
   pub split : site_cookies site cookies ≡ earlier ++ cookie ∷ later
-  pub closed : All (IsClosed site now) earlier
+  pub closed : All (IsClosed IsRevoked site now) earlier
   pub opens : IsOpen site (Some cookie) now place state
+  pub unrevoked : ¬ IsRevoked state.id
+
+-- the same where no session is revoked
+abbrev pub OpensFirst : Sessions → List Record → DateTime → ℕ → SessionState → Type 0
+OpensFirst site cookies now place state =
+    OpensUnrevoked none_revoked site cookies now place state
 
 -- saved now, it lives
 abbrev pub CanSave : Sessions → DateTime → SessionState → Type 0

@@ -3,9 +3,13 @@
 
 mod id;
 mod key_ring;
+mod never_revoked;
+mod open_error;
+mod open_unrevoked;
 mod opened;
 mod opening;
 mod prefix;
+mod revocations;
 mod seconds;
 mod session;
 mod session_error;
@@ -15,8 +19,11 @@ mod sessions;
 mod size;
 
 pub use key_ring::KeyRing;
+pub use never_revoked::NeverRevoked;
+pub use open_error::OpenError;
 pub use opened::Opened;
 pub use opening::Opening;
+pub use revocations::Revocations;
 pub use session::Session;
 pub use session_error::SessionError;
 pub use sessions::Sessions;

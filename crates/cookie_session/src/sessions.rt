@@ -13,6 +13,8 @@ ghost use Rattle.cookie_session.specs.Size.{browser_length, most_bytes};
 ghost use Rattle.cookie_session.specs.declared.session_error.SessionError.TheVariants as refusal;
 
 use crate::key_ring::KeyRing;
+use crate::never_revoked::NeverRevoked;
+use crate::open_error::OpenError;
 use crate::opened::Opened;
 use crate::prefix::meets_prefix;
 use crate::seconds::second_of;
@@ -138,18 +140,15 @@ impl<'a> Sessions<'a> {
         ensures first { IfOk result (λ _. HoldsOne self.now
             (first_of_name self.now.cookie.now.fields.name (map (λ c. c.fields) cookies.now))) }
     {
-        for cookie in cookies {
-            if cookie.name() == self.cookie.name() {
-                if let Some(opened) = self.open_cookie(alloc, cookie, now)? {
-                    return Ok(Some(opened));
-                }
-            }
+        match self.open_first_unrevoked(alloc, cookies, now, &mut NeverRevoked) {
+            Ok(found) => Ok(found),
+            Err(OpenError::OutOfMemory) => Err(AllocError),
+            Err(OpenError::Revocations(never)) => match never {},
         }
-        Ok(None)
     }
 
     // The session that is open in the cookie, if one is, with the place of its key.
-    fn open_cookie(
+    pub(crate) fn open_cookie(
         &self,
         alloc: Global,
         cookie: &Cookie<'static>,

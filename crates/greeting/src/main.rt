@@ -79,7 +79,7 @@ fn keep_name(
     name: &str,
     now: DateTime,
 ) -> Result<()> {
-    session.renew(now);
+    session.renew(now, &mut SysRng::new(rt))?;
     session.set("name", name)?;
     let cookies = save(rt, sessions, session, now)?;
     greet(rt, &cookies, name)
@@ -90,7 +90,7 @@ fn session_of(rt: &HostRuntime, sessions: &Sessions<'_>, now: DateTime) -> Resul
     let field = variable(rt, "HTTP_COOKIE")?;
     match sessions.open_field(rt.alloc(), field.as_bytes(), now)? {
         Some(opened) => Ok(opened.session),
-        None => Ok(Session::start(rt.alloc(), now)),
+        None => Ok(Session::start(rt.alloc(), now, &mut SysRng::new(rt))?),
     }
 }
 

@@ -1,0 +1,166 @@
+//! Opening and revoking sessions that can be revoked.
+ghost use Rattle.std.specs.Prelude.{◌≡◌, ◌↔◌, ℕ, Some, IfOk, OnErr, OnOk, map};
+ghost use Rattle.cookie.specs.Originals.{field_cookies, first_of_name};
+ghost use Rattle.cookie_session.specs.Revocations.{AreSame, IsRevoked, IsRevokedToo, end_of};
+ghost use Rattle.cookie_session.specs.Session.{SessionState};
+ghost use Rattle.cookie_session.specs.Sessions.{HoldsOne, IsOpen, IsOpenUnrevoked, OpensOne, OpensUnrevoked};
+
+use crate::open_error::OpenError;
+use crate::opened::Opened;
+use crate::revocations::Revocations;
+use crate::session::Session;
+use crate::sessions::Sessions;
+use cookie::{Cookie, field_cookies};
+use jiff::civil::DateTime;
+use std::alloc::Global;
+
+impl<'a> Sessions<'a> {
+    /// Opens the session of a request, as `open_field` does, unless it is revoked: of several cookies of the site's
+    /// name the first counts in which a session is open that isn't revoked. It looks up only the ids of sessions that
+    /// are open. Returns `None` if there is no such session.
+    ///
+    /// Fails if a session can't be looked up, or if out of memory. Refuse the request then.
+    ///
+    /// ```
+    /// let opened = sessions.open_unrevoked(alloc, field, now, &mut revocations)?;
+    /// ```
+    pub fn open_unrevoked<R: Revocations>(
+        &self,
+        alloc: Global,
+        field: &[u8],
+        now: DateTime,
+        revocations: &mut R,
+    ) -> Result<Option<Opened>, OpenError<R::Error>>
+        ensures answers { R.is_kept revocations.new → IfOk result (λ answer.
+            (place : ℕ) (s : SessionState)
+            → (answer ≡ Some (record { session = s; place = place }))
+            ↔ OpensUnrevoked (IsRevoked (R.revoked_until revocations.old)) self.now
+            (field_cookies field.now) now place s) }
+
+        // Whatever the look-up says, only a session opens that is open in one of the cookies.
+        ensures sealed { IfOk result (λ answer. (place : ℕ) (s : SessionState)
+            → answer ≡ Some (record { session = s; place = place })
+            → OpensOne self.now (field_cookies field.now) now place s) }
+
+        // The cookie that opens holds no other session, whatever the time.
+        ensures once { R.is_kept revocations.new → IfOk result (λ _. (place : ℕ) (s : SessionState)
+            → (first : OpensUnrevoked (IsRevoked (R.revoked_until revocations.old)) self.now
+            (field_cookies field.now) now place s)
+            → HoldsOne self.now (Some first.cookie)) }
+
+        // The first cookie of the name holds one session at most, whether one is open or not.
+        ensures first { IfOk result (λ _. HoldsOne self.now
+            (first_of_name self.now.cookie.now.fields.name (field_cookies field.now))) }
+
+        // It revokes nothing.
+        ensures same { R.is_kept revocations.new
+            → AreSame (R.revoked_until revocations.old) (R.revoked_until revocations.new) }
+        ensures kept { R.is_kept revocations.new → R.is_kept revocations.old }
+    {
+        let cookies = field_cookies(alloc, field)?;
+        self.open_first_unrevoked(alloc, &cookies, now, revocations)
+    }
+
+    /// Opens the session of a request, as `open_unrevoked` does, for cookies that were read already.
+    ///
+    /// Fails if a session can't be looked up, or if out of memory. Refuse the request then.
+    ///
+    /// ```
+    /// let cookies = cookie::field_cookies(alloc, field)?;
+    /// let opened = sessions.open_first_unrevoked(alloc, &cookies, now, &mut revocations)?;
+    /// ```
+    pub fn open_first_unrevoked<R: Revocations>(
+        &self,
+        alloc: Global,
+        cookies: &[Cookie<'static>],
+        now: DateTime,
+        revocations: &mut R,
+    ) -> Result<Option<Opened>, OpenError<R::Error>>
+        ensures answers { R.is_kept revocations.new → IfOk result (λ answer.
+            (place : ℕ) (s : SessionState)
+            → (answer ≡ Some (record { session = s; place = place }))
+            ↔ OpensUnrevoked (IsRevoked (R.revoked_until revocations.old)) self.now
+            (map (λ c. c.fields) cookies.now) now place s) }
+
+        // Whatever the look-up says, only a session opens that is open in one of the cookies.
+        ensures sealed { IfOk result (λ answer. (place : ℕ) (s : SessionState)
+            → answer ≡ Some (record { session = s; place = place })
+            → OpensOne self.now (map (λ c. c.fields) cookies.now) now place s) }
+
+        // The cookie that opens holds no other session, whatever the time.
+        ensures once { R.is_kept revocations.new → IfOk result (λ _. (place : ℕ) (s : SessionState)
+            → (first : OpensUnrevoked (IsRevoked (R.revoked_until revocations.old)) self.now
+            (map (λ c. c.fields) cookies.now) now place s)
+            → HoldsOne self.now (Some first.cookie)) }
+
+        // The first cookie of the name holds one session at most, whether one is open or not.
+        ensures first { IfOk result (λ _. HoldsOne self.now
+            (first_of_name self.now.cookie.now.fields.name (map (λ c. c.fields) cookies.now))) }
+
+        // It revokes nothing.
+        ensures same { R.is_kept revocations.new
+            → AreSame (R.revoked_until revocations.old) (R.revoked_until revocations.new) }
+        ensures kept { R.is_kept revocations.new → R.is_kept revocations.old }
+    {
+        for cookie in cookies {
+            if cookie.name() == self.cookie.name() {
+                if let Some(opened) = self.open_one(alloc, cookie, now, revocations)? {
+                    return Ok(Some(opened));
+                }
+            }
+        }
+        Ok(None)
+    }
+
+    // The session that is open in the cookie and isn't revoked, if there is one, with the place of its key.
+    fn open_one<R: Revocations>(
+        &self,
+        alloc: Global,
+        cookie: &Cookie<'static>,
+        now: DateTime,
+        revocations: &mut R,
+    ) -> Result<Option<Opened>, OpenError<R::Error>>
+        ensures answers { R.is_kept revocations.new → IfOk result (λ answer.
+            (place : ℕ) (s : SessionState)
+            → (answer ≡ Some (record { session = s; place = place }))
+            ↔ IsOpenUnrevoked (IsRevoked (R.revoked_until revocations.old)) self.now
+            (Some cookie.now.fields) now place s) }
+        ensures sealed { IfOk result (λ answer. (place : ℕ) (s : SessionState)
+            → answer ≡ Some (record { session = s; place = place })
+            → IsOpen self.now (Some cookie.now.fields) now place s) }
+        ensures once { IfOk result (λ _. HoldsOne self.now (Some cookie.now.fields)) }
+        ensures same { R.is_kept revocations.new
+            → AreSame (R.revoked_until revocations.old) (R.revoked_until revocations.new) }
+        ensures kept { R.is_kept revocations.new → R.is_kept revocations.old }
+    {
+        let Some(opened) = self.open_cookie(alloc, cookie, now)? else {
+            return Ok(None);
+        };
+        match revocations.is_revoked(opened.session.id()) {
+            Ok(false) => Ok(Some(opened)),
+            Ok(true) => Ok(None),
+            Err(error) => Err(OpenError::Revocations(error)),
+        }
+    }
+
+    /// Revokes the session: after it returned `Ok`, no copy of the session's cookie opens any more by `open_unrevoked`,
+    /// whenever the copy was saved. The session is kept as revoked until its lifetime ends.
+    ///
+    /// Fails if that can't be kept, and then each session is revoked as before. Tell the user so.
+    ///
+    /// ```
+    /// sessions.revoke(&opened.session, &mut revocations)?;
+    /// sessions.end(alloc, &mut jar, now)?;
+    /// ```
+    pub fn revoke<R: Revocations>(&self, session: &Session, revocations: &mut R) -> Result<(), R::Error>
+        ensures revoked { R.is_kept revocations.new → R.can_revoke revocations.old → OnOk result
+            (IsRevokedToo session.now.id (end_of self.now.lifetime session.now)
+            (R.revoked_until revocations.old) (R.revoked_until revocations.new)) }
+        ensures err { R.is_kept revocations.new → OnErr result
+            (AreSame (R.revoked_until revocations.old) (R.revoked_until revocations.new)) }
+        ensures kept { R.is_kept revocations.new → R.is_kept revocations.old }
+    {
+        let end = session.started().saturating_add(self.lifetime as u64);
+        revocations.revoke(session.id(), end)
+    }
+}
