@@ -1,27 +1,36 @@
 //! `login`: a small web application as a CGI program (RFC 3875), which keeps all that it knows of a visitor in one
-//! session cookie.
+//! session cookie, and which sessions are revoked in a database, if there is one.
 #![tactic(auto)]
 
 mod clock;
 mod gateway;
+mod revoked;
 mod users;
 
 use anyhow::Result;
-use cookie_session::{KeyRing, Sessions};
+use cookie_session::{KeyRing, NeverRevoked, Sessions};
 use gateway::Gateway;
+use jiff::civil::DateTime;
 use login_core::{
-    IDLE, LIFETIME, LoginSite, Page, Refusal, Response, User, answer, session_cookie,
+    AnswerError, IDLE, LIFETIME, LoginSite, Page, Refusal, Request, Response, Route, User, answer,
+    find_route, session_cookie,
 };
 use rand::rngs::SysRng;
+use session_revocations::RevocationError;
 use std::hash::RandomState;
 use std::io::Write;
 use std::process::ExitCode;
+
+// What the home page has in its text if no database is named.
+const NO_DATABASE: &[u8] =
+    b"<!-- LOGIN_REVOKED isn't set: after a logout, a copy of the cookie still opens the session. -->\n";
 
 // The response to a request that could be read.
 fn respond<'s>(
     rt: &HostRuntime,
     keys: &'s KeyRing,
     users: &'s [User],
+    database: Option<&str>,
     gateway: &Gateway,
 ) -> Result<Response> {
     let cookie = session_cookie(gateway.is_secure);
@@ -32,36 +41,95 @@ fn respond<'s>(
         idle: IDLE,
     };
     let site = LoginSite { sessions, users };
-    let state = RandomState::new(rt)?;
-    let now = clock::now(rt)?;
     let request = gateway.request();
+    let now = clock::now(rt)?;
+    if let Some(path) = database {
+        // A request without an open session needs no look-up, and an open of the database is slow.
+        if sessions
+            .open_field(rt.alloc(), request.cookies, now)?
+            .is_some()
+        {
+            return respond_looking_up(rt, path, &site, &request, now);
+        }
+    }
+    let state = RandomState::new(rt)?;
+    let mut rng = SysRng::new(rt);
+    let mut revoked = NeverRevoked;
     let response = answer(
         rt.alloc(),
         state,
         &site,
         &request,
         now,
-        &mut SysRng::new(rt),
+        &mut rng,
+        &mut revoked,
     )?;
     Ok(response)
+}
+
+// The response to a request that has an open session, if that isn't revoked in the database. If that can't be said, the
+// client is to try again.
+fn respond_looking_up(
+    rt: &HostRuntime,
+    path: &str,
+    site: &LoginSite<'_>,
+    request: &Request<'_>,
+    now: DateTime,
+) -> Result<Response> {
+    let mut revoked = match revoked::open(rt, path) {
+        Ok(revoked) => revoked,
+        Err(why) => return Ok(unavailable(rt, Some(why))),
+    };
+    let state = RandomState::new(rt)?;
+    let mut rng = SysRng::new(rt);
+    match answer(
+        rt.alloc(),
+        state,
+        site,
+        request,
+        now,
+        &mut rng,
+        &mut revoked,
+    ) {
+        Ok(response) => {
+            if let Ok(Route::LogOut) = find_route(request.method, request.path) {
+                revoked.forget_past(rt, now);
+            }
+            Ok(response)
+        }
+        Err(AnswerError::Revocations) => Ok(unavailable(rt, revoked.failure)),
+        Err(error) => Err(error.into()),
+    }
+}
+
+// The response that has the client try again, once the reason is on the standard error.
+fn unavailable(rt: &HostRuntime, why: Option<RevocationError>) -> Response {
+    if let Some(why) = why {
+        let _ = eprintln!(rt; "LOGIN_REVOKED: {why}");
+    }
+    refused(rt, Refusal::Unavailable)
+}
+
+fn refused(rt: &HostRuntime, refusal: Refusal) -> Response {
+    Response {
+        page: Page::Refused(refusal),
+        cookies: Vec::new(rt.alloc()),
+    }
 }
 
 // The response, and the request's parts.
 fn serve(rt: &HostRuntime) -> Result<()> {
     let keys = users::keys(rt)?;
     let users = users::users(rt)?;
+    let database = revoked::path(rt)?;
     match gateway::read(rt)? {
         Some(gateway) => {
-            let response = respond(rt, &keys, &users, &gateway)?;
-            write(rt, &response, gateway.base.as_str(), gateway.is_head)
+            let path = database.as_ref().map(|path| path.as_str());
+            let response = respond(rt, &keys, &users, path, &gateway)?;
+            write(rt, &response, gateway.base.as_str(), gateway.is_head)?;
+            note(rt, &response, path, gateway.is_head)
         }
-        None => {
-            let response = Response {
-                page: Page::Refused(Refusal::BadRequest),
-                cookies: Vec::new(rt.alloc()),
-            };
-            write(rt, &response, "", false)
-        }
+        None => write(rt, &refused(rt, Refusal::BadRequest), "", false),
     }
 }
 
@@ -73,6 +141,19 @@ fn write(rt: &HostRuntime, response: &Response, base: &str, is_head: bool) -> Re
         response.text(rt.alloc(), base)?
     };
     rt.stdout().write_all(&text)?;
+    Ok(())
+}
+
+// Says at the end of the home page what the program can't do without a database.
+fn note(
+    rt: &HostRuntime,
+    response: &Response,
+    database: Option<&str>,
+    is_head: bool,
+) -> Result<()> {
+    if let (Page::Home(_), None, false) = (&response.page, database, is_head) {
+        rt.stdout().write_all(NO_DATABASE)?;
+    }
     Ok(())
 }
 

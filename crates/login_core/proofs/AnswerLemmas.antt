@@ -11,17 +11,16 @@ use Rattle.cookie.specs.Record.{Record}
 use Rattle.cookie.specs.declared.texts_error.TextsError.{TextsError}
 use Rattle.cookie.specs.declared.texts_error.TextsError.TheVariants as unprinted
 use Rattle.cookie_session.specs.Session.{SessionState}
-use Rattle.cookie_session.specs.Sessions.{HoldsOne, OpensFirst}
+use Rattle.cookie_session.specs.Sessions.{HoldsOne, OpensUnrevoked}
 use Rattle.cookie_session.specs.declared.opened.Opened.{Opened}
 use Rattle.cookie_session.specs.declared.session_error.SessionError.{SessionError}
 use Rattle.cookie_session.specs.declared.session_error.SessionError.TheVariants as failure
 use Rattle.cookie_session.specs.declared.sessions.Sessions.{Sessions}
 use Rattle.login_core.specs.AnswerError.{texts_failure}
-use Rattle.login_core.specs.Answers.{FailsFor, HasSession, IsGreeted, IsPlan, cookies_of}
+use Rattle.login_core.specs.Answers.{FailsFor, HasSession, IsGreeted, IsPlan, cookies_of, route_for}
 use Rattle.login_core.specs.Forms.{credentials_of}
 use Rattle.login_core.specs.Pages.{greeted}
 use Rattle.login_core.specs.Plans.{LogsIn, Moves, Plans, Refuses, logged_in}
-use Rattle.login_core.specs.Routes.{route_of}
 use Rattle.login_core.specs.Users.{is_known}
 use Rattle.login_core.specs.Visitors.{text_of}
 use Rattle.login_core.specs.declared.answer_error.AnswerError.{AnswerError}
@@ -38,24 +37,24 @@ use Rattle.login_core.specs.declared.user.User.{User}
 -- ---- which session is found
 
 -- a session that the key at this place opened
-abbrev opened : ℕ → SessionState → Opened
+abbrev pub opened : ℕ → SessionState → Opened
 opened place session = record { session = session; place = place }
 
-module _ (sessions : Sessions) (cookies : List Record) (now : DateTime) where
+module _ (IsRevoked : List ℕ → Type 0) (sessions : Sessions) (cookies : List Record) (now : DateTime) where
   -- the answer of a call that opens a session
   abbrev pub OpensAs : Option Opened → Type 0
   OpensAs answer =
-      (place : ℕ) (session : SessionState) → (answer ≡ Some (opened place session)) ↔ OpensFirst sessions cookies now place session
+      (place : ℕ) (session : SessionState) → (answer ≡ Some (opened place session)) ↔ OpensUnrevoked IsRevoked sessions cookies now place session
 
   -- the cookie that opens holds no other session
   abbrev OpensOnce : Type 0
-  OpensOnce = (place : ℕ) (session : SessionState) (first : OpensFirst sessions cookies now place session) → HoldsOne sessions (Some first.cookie)
+  OpensOnce = (place : ℕ) (session : SessionState) (first : OpensUnrevoked IsRevoked sessions cookies now place session) → HoldsOne sessions (Some first.cookie)
 
   -- the first cookie of the name holds one at most
   abbrev HoldsFirst : Type 0
   HoldsFirst = HoldsOne sessions (first_of_name sessions.cookie.now.fields.name cookies)
 
-  pub has_none : OpensAs None → OpensOnce → HoldsFirst → HasSession sessions cookies now None
+  pub has_none : OpensAs None → OpensOnce → HoldsFirst → HasSession IsRevoked sessions cookies now None
   has_none opens once first = record {
     exact = λ session. (
       λ is. absurd (none-some session is),
@@ -65,7 +64,7 @@ module _ (sessions : Sessions) (cookies : List Record) (now : DateTime) where
     first = first;
   }
 
-  pub has_some : (found : Opened) → OpensAs (Some found) → OpensOnce → HoldsFirst → HasSession sessions cookies now (Some found.session)
+  pub has_some : (found : Opened) → OpensAs (Some found) → OpensOnce → HoldsFirst → HasSession IsRevoked sessions cookies now (Some found.session)
   has_some found opens once first = record {
     exact = λ session. (
       λ is.
@@ -87,23 +86,23 @@ is_home (Ok LogIn) = false
 is_home (Ok LogOut) = false
 is_home (Err refusal) = false
 
-module _ (users : List User) (now : DateTime) (page : Page) (saved : Option SessionState) where
+module _ (IsDrawn : List ℕ → Type 0) (users : List User) (now : DateTime) (page : Page) (saved : Option SessionState) where
   -- a form to log in greets nobody yet
-  entering : (credentials : Option (List ℕ × List ℕ)) → LogsIn users credentials now page saved → greeted page ≡ None
+  entering : (credentials : Option (List ℕ × List ℕ)) → LogsIn IsDrawn users credentials now page saved → greeted page ≡ None
   entering None (refused, same) = ap greeted refused
   entering (Some (user, password)) answered = by (is_known user password users) answered
     where
-      by : (known : Bool) → MatchBool known (Moves (logged_in now user) page saved) (Refuses Forbidden page saved) → greeted page ≡ None
-      by true (moved, is) = ap greeted moved
+      by : (known : Bool) → MatchBool known (Moves IsDrawn (λ id. logged_in id now user) page saved) (Refuses Forbidden page saved) → greeted page ≡ None
+      by true (moved, id, drawn, is) = ap greeted moved
       by false (refused, is) = ap greeted refused
 
-  module _ (sessions : Sessions) (cookies : List Record) (user : List ℕ) where
+  module _ (IsRevoked : List ℕ → Type 0) (sessions : Sessions) (cookies : List Record) (user : List ℕ) where
     -- the session that is open first has the user
-    abbrev HasUser : Type 0
-    HasUser = (place : ℕ) × (session : SessionState) × OpensFirst sessions cookies now place session × (get session.texts (codes "user") ≡ Some user)
+    abbrev HasOpenUser : Type 0
+    HasOpenUser = (place : ℕ) × (session : SessionState) × OpensUnrevoked IsRevoked sessions cookies now place session × (get session.texts (codes "user") ≡ Some user)
 
     -- the user whom the session names that was found
-    named : (found : Option SessionState) → HasSession sessions cookies now found → (text_of found (codes "user") ≡ Some user) ↔ HasUser
+    named : (found : Option SessionState) → HasSession IsRevoked sessions cookies now found → (text_of found (codes "user") ≡ Some user) ↔ HasOpenUser
     named None finds = (
       λ is. absurd (none-some user is),
       λ has. absurd (none-some has.1 ((finds.exact has.1).1 (has.0, has.2))),
@@ -117,37 +116,54 @@ module _ (users : List User) (now : DateTime) (page : Page) (saved : Option Sess
 
     -- a page that greets nobody, of another route than the home page's
     nobody : (route : Result Route Refusal) → is_home route ≡ false → greeted page ≡ None
-        → (greeted page ≡ Some user) ↔ ((route ≡ Ok Home) × HasUser)
+        → (greeted page ≡ Some user) ↔ ((route ≡ Ok Home) × HasOpenUser)
     nobody route other none = (
       λ greets. absurd (none-some user (sym none ∙ greets)),
       λ both. let never : false ≡ true = sym other ∙ ap is_home both.0 in cc,
     )
 
     exactly : (route : Result Route Refusal) (credentials : Option (List ℕ × List ℕ)) (found : Option SessionState)
-        → HasSession sessions cookies now found → Plans users route credentials now found page saved
-        → (greeted page ≡ Some user) ↔ ((route ≡ Ok Home) × HasUser)
+        → HasSession IsRevoked sessions cookies now found → Plans IsDrawn users route credentials now found page saved
+        → (greeted page ≡ Some user) ↔ ((route ≡ Ok Home) × HasOpenUser)
     exactly (Ok Home) credentials found finds (visitor, is, shows, saves) =
         let same = named found finds in (
           λ greets. (refl, same.0 (sym is.user ∙ (sym (ap greeted shows) ∙ greets))),
           λ both. ap greeted shows ∙ (is.user ∙ same.1 both.1),
         )
     exactly (Ok LogIn) credentials found finds answered = nobody (Ok LogIn) refl (entering credentials answered)
-    exactly (Ok LogOut) credentials found finds (moved, is) = nobody (Ok LogOut) refl (ap greeted moved)
+    exactly (Ok LogOut) credentials found finds (moved, id, drawn, is) = nobody (Ok LogOut) refl (ap greeted moved)
     exactly (Err refusal) credentials found finds (refused, is) = nobody (Err refusal) refl (ap greeted refused)
 
--- a user is greeted exactly where the route is the home page, and the session that is open first has the user
-pub greeted_exactly : (site : LoginSite) (request : Request) (now : DateTime) (page : Page) (saved : Option SessionState)
-    → IsPlan site request now page saved → (user : List ℕ) → (greeted page ≡ Some user) ↔ IsGreeted site request now user
-greeted_exactly site request now page saved plan user =
-    exactly site.users.now now page saved site.sessions (cookies_of request) user (route_of request.method.now request.path.now)
-    (credentials_of request.form.now) plan.found plan.finds plan.plans
+-- a user who is greeted is that of the session that was found
+pub greets_found : (IsDrawn : List ℕ → Type 0) (users : List User) (route : Result Route Refusal) (credentials : Option (List ℕ × List ℕ)) (now : DateTime)
+    (found : Option SessionState) (page : Page) (saved : Option SessionState) (user : List ℕ) → Plans IsDrawn users route credentials now found page saved
+    → greeted page ≡ Some user → (session : SessionState) × (found ≡ Some session) × (get session.texts (codes "user") ≡ Some user)
+greets_found IsDrawn users (Ok Home) credentials now found page saved user (visitor, is, shows, saves) greets =
+    by found (sym is.user ∙ (sym (ap greeted shows) ∙ greets))
+  where
+    by : (has : Option SessionState) → text_of has (codes "user") ≡ Some user → (session : SessionState) × (has ≡ Some session) × (get session.texts (codes "user") ≡ Some user)
+    by None same = absurd (none-some user same)
+    by (Some session) same = (session, refl, same)
+greets_found IsDrawn users (Ok LogIn) credentials now found page saved user answered greets =
+    absurd (none-some user (sym (entering IsDrawn users now page saved credentials answered) ∙ greets))
+greets_found IsDrawn users (Ok LogOut) credentials now found page saved user (moved, id, drawn, is) greets =
+    absurd (none-some user (sym (ap greeted moved) ∙ greets))
+greets_found IsDrawn users (Err refusal) credentials now found page saved user (refused, is) greets =
+    absurd (none-some user (sym (ap greeted refused) ∙ greets))
 
--- what is planned by the session that the request carries
-pub plan_is : (site : LoginSite) (request : Request) (now : DateTime) (page : Page) (saved : Option SessionState)
-    → (found : Option SessionState) × HasSession site.sessions (cookies_of request) now found
-    × Plans site.users.now (route_of request.method.now request.path.now) (credentials_of request.form.now) now found page saved
-    → IsPlan site request now page saved
-plan_is site request now page saved (found, finds, plans) = record { found = found; finds = finds; plans = plans }
+module _ (IsRevoked IsDrawn : List ℕ → Type 0) (site : LoginSite) (request : Request) (now : DateTime) (page : Page) (saved : Option SessionState) where
+  -- a user is greeted exactly where the route is the home page, and the session that is open first has the user
+  pub greeted_exactly : IsPlan IsRevoked IsDrawn site request now page saved
+      → (user : List ℕ) → (greeted page ≡ Some user) ↔ IsGreeted IsRevoked site request now user
+  greeted_exactly plan user =
+      exactly IsDrawn site.users.now now page saved IsRevoked site.sessions (cookies_of request) user (route_for request)
+      (credentials_of request.form.now) plan.found plan.finds plan.plans
+
+  -- what is planned by the session that the request carries
+  pub plan_is : (found : Option SessionState) → HasSession IsRevoked site.sessions (cookies_of request) now found
+      → Plans IsDrawn site.users.now (route_for request) (credentials_of request.form.now) now found page saved
+      → IsPlan IsRevoked IsDrawn site request now page saved
+  plan_is found finds plans = record { found = found; finds = finds; plans = plans }
 
 -- ---- how a call fails
 

@@ -1,5 +1,5 @@
 -- The texts of a request's refusal, and what it is of a refusal to print the response's cookies.
-use Rattle.std.specs.Prelude.{ℕ, List}
+use Rattle.std.specs.Prelude.{ℕ, List, codes}
 use Rattle.cookie.specs.TextsError.{texts_refusal_text}
 use Rattle.cookie.specs.declared.texts_error.TextsError.{TextsError}
 use Rattle.cookie.specs.declared.texts_error.TextsError.TheVariants as unprinted
@@ -12,6 +12,8 @@ use Rattle.login_core.specs.declared.answer_error.AnswerError.TheVariants as fai
 abbrev pub answer_refusal_text : AnswerError → List ℕ
 answer_refusal_text (failure.Session error) = session_refusal_text error
 answer_refusal_text failure.InvalidValue = texts_refusal_text unprinted.InvalidValue
+answer_refusal_text failure.Revocations =
+    codes "whether the session is revoked can't be looked up or kept"
 
 -- what it is of a refusal to print: out of memory, or the case of the same name
 abbrev pub texts_failure : TextsError → AnswerError

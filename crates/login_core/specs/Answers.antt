@@ -1,5 +1,5 @@
 -- What the site answers a request.
-use Rattle.std.specs.Prelude.{◌≡◌, ◌↔◌, ◌<◌, ◌≤◌, ℕ, true, List, Option, Some, None, Result, Ok, Err, IfSome, codes}
+use Rattle.std.specs.Prelude.{◌≡◌, ◌↔◌, ◌<◌, ◌≤◌, ℕ, Bool, true, List, Option, Some, None, Result, Ok, Err, IfSome, codes}
 use Rattle.std.specs.FinMap.{get}
 use Rattle.jiff.specs.Types.{DateTime}
 use Rattle.cookie.specs.Jar.{Add, JarState, after, view}
@@ -7,30 +7,33 @@ use Rattle.cookie.specs.Memory.{Gives}
 use Rattle.cookie.specs.Originals.{field_cookies, first_of_name}
 use Rattle.cookie.specs.Record.{IsCookie, Record}
 use Rattle.cookie.specs.Sealing.{CanSeal, IsNonce}
+use Rattle.cookie_session.specs.Revocations.{IsRevokedToo, end_of}
 use Rattle.cookie_session.specs.Seconds.{second_of}
 use Rattle.cookie_session.specs.Session.{SessionState, seen_at}
-use Rattle.cookie_session.specs.Sessions.{CanSave, HoldsOne, IsStored, OpensFirst, bare_cookie, meets_prefix, saved_cookie}
+use Rattle.cookie_session.specs.Sessions.{CanSave, HoldsOne, IsStored, OpensOne, OpensUnrevoked, bare_cookie, meets_prefix, saved_cookie}
 use Rattle.cookie_session.specs.Size.{browser_length, most_bytes}
 use Rattle.cookie_session.specs.declared.session_error.SessionError.{SessionError}
 use Rattle.cookie_session.specs.declared.session_error.SessionError.TheVariants as failure
 use Rattle.cookie_session.specs.declared.sessions.Sessions.{Sessions}
 use Rattle.login_core.specs.Forms.{credentials_of}
-use Rattle.login_core.specs.Plans.{Plans}
+use Rattle.login_core.specs.Plans.{Plans, is_start}
 use Rattle.login_core.specs.Routes.{route_of}
 use Rattle.login_core.specs.declared.login_site.LoginSite.{LoginSite}
 use Rattle.login_core.specs.declared.page.Page.{Page}
+use Rattle.login_core.specs.declared.refusal.Refusal.{Refusal}
 use Rattle.login_core.specs.declared.request.Request.{Request}
-use Rattle.login_core.specs.declared.routes.Route.TheVariants.{Home}
+use Rattle.login_core.specs.declared.routes.Route.{Route}
+use Rattle.login_core.specs.declared.routes.Route.TheVariants.{Home, LogOut}
 
 -- What is found in cookies, if anything.
-pub record HasSession (sessions : Sessions) (cookies : List Record) (now : DateTime)
-    (found : Option SessionState) : Type 0 where
-  -- the session that is open at this time in the first cookie of the site's name in which one is
+pub record HasSession (IsRevoked : List ℕ → Type 0) (sessions : Sessions) (cookies : List Record)
+    (now : DateTime) (found : Option SessionState) : Type 0 where
+  -- the session that is open at this time and isn't revoked, in the first cookie of the site's name in which one is
   pub exact : (session : SessionState) → (found ≡ Some session)
-      ↔ ((place : ℕ) × OpensFirst sessions cookies now place session)
+      ↔ ((place : ℕ) × OpensUnrevoked IsRevoked sessions cookies now place session)
   -- and this cookie holds no other, whatever the time
   pub once : (place : ℕ) (session : SessionState)
-      → (first : OpensFirst sessions cookies now place session)
+      → (first : OpensUnrevoked IsRevoked sessions cookies now place session)
       → HoldsOne sessions (Some first.cookie)
   -- and the first cookie of the name holds one session at most, whether one is open or not
   pub first : HoldsOne sessions (first_of_name sessions.cookie.now.fields.name cookies)
@@ -39,22 +42,50 @@ pub record HasSession (sessions : Sessions) (cookies : List Record) (now : DateT
 abbrev pub cookies_of : Request → List Record
 cookies_of request = field_cookies request.cookies.now
 
--- the request asks for the home page, and the session that is open in the first of its cookies in which one is has the
--- user
-abbrev pub IsGreeted : LoginSite → Request → DateTime → List ℕ → Type 0
-IsGreeted site request now user =
-    (route_of request.method.now request.path.now ≡ Ok Home)
+-- the page that the request asks for, or its refusal
+abbrev pub route_for : Request → Result Route Refusal
+route_for request = route_of request.method.now request.path.now
+
+-- the request starts a session: it logs out, or its form has the name and the password of a user
+abbrev pub starts : LoginSite → Request → Bool
+starts site request =
+    is_start site.users.now (route_for request) (credentials_of request.form.now)
+
+-- the request asks for the home page, and the session that is open and not revoked in the first of its cookies in which
+-- one is has the user
+abbrev pub IsGreeted : (List ℕ → Type 0) → LoginSite → Request → DateTime → List ℕ → Type 0
+IsGreeted IsRevoked site request now user =
+    (route_for request ≡ Ok Home)
     × ((place : ℕ) × (session : SessionState)
-    × OpensFirst site.sessions (cookies_of request) now place session
+    × OpensUnrevoked IsRevoked site.sessions (cookies_of request) now place session
     × (get session.texts (codes "user") ≡ Some user))
 
+-- a session that is open in one of the request's cookies has the user, revoked or not
+abbrev pub HasUser : LoginSite → Request → DateTime → List ℕ → Type 0
+HasUser site request now user =
+    (place : ℕ) × (session : SessionState)
+    × OpensOne site.sessions (cookies_of request) now place session
+    × (get session.texts (codes "user") ≡ Some user)
+
+-- the request logs out, and this is the session that it has
+abbrev pub LogsOut : (List ℕ → Type 0) → LoginSite → Request → DateTime → SessionState → Type 0
+LogsOut IsRevoked site request now session =
+    (route_for request ≡ Ok LogOut)
+    × ((place : ℕ) × OpensUnrevoked IsRevoked site.sessions (cookies_of request) now place session)
+
+-- that session is revoked too, until its lifetime ends, and every other one is as before
+abbrev pub Ends : LoginSite → SessionState → (List ℕ → ℕ → Type 0) → (List ℕ → ℕ → Type 0)
+    → Type 0
+Ends site session old new =
+    IsRevokedToo session.id (end_of site.sessions.lifetime session) old new
+
 -- what is shown and saved is what the site makes of the request and of the session that it finds there
-pub record IsPlan (site : LoginSite) (request : Request) (now : DateTime) (page : Page)
-    (saved : Option SessionState) : Type 0 where
+pub record IsPlan (IsRevoked IsDrawn : List ℕ → Type 0) (site : LoginSite) (request : Request)
+    (now : DateTime) (page : Page) (saved : Option SessionState) : Type 0 where
   pub found : Option SessionState
-  pub finds : HasSession site.sessions (cookies_of request) now found
-  pub plans : Plans site.users.now (route_of request.method.now request.path.now)
-      (credentials_of request.form.now) now found page saved
+  pub finds : HasSession IsRevoked site.sessions (cookies_of request) now found
+  pub plans : Plans IsDrawn site.users.now (route_for request) (credentials_of request.form.now)
+      now found page saved
 
 -- The session is saved in the jar, under a nonce that was drawn.
 pub record IsSaved (IsDrawn : List ℕ → Type 0) (sessions : Sessions) (now : DateTime)

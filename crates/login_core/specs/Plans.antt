@@ -1,5 +1,5 @@
 -- What a page shows, and the session that it saves.
-use Rattle.std.specs.Prelude.{◌≡◌, ℕ, List, Option, Some, None, Result, Ok, Err, is_some, codes, option_map, if◌then◌else◌}
+use Rattle.std.specs.Prelude.{◌≡◌, ℕ, List, Bool, true, false, Option, Some, None, Result, Ok, Err, is_some, codes, option_map, if◌then◌else◌}
 use Rattle.std.specs.Bool.{MatchBool}
 use Rattle.std.specs.FinMap.{FinMap, empty, insert, remove}
 use Rattle.std.specs.Fmt.{decimal}
@@ -7,6 +7,8 @@ use Rattle.jiff.specs.Types.{DateTime}
 use Rattle.cookie.specs.Jar.{name_cmp}
 use Rattle.cookie_session.specs.Seconds.{second_of}
 use Rattle.cookie_session.specs.Session.{SessionState}
+use Rattle.cookie_session.specs.declared.session_error.SessionError.{SessionError}
+use Rattle.cookie_session.specs.declared.session_error.SessionError.TheVariants as failure
 use Rattle.login_core.specs.Users.{is_known}
 use Rattle.login_core.specs.Visitors.{IsVisitor}
 use Rattle.login_core.specs.declared.page.Page.{Page}
@@ -28,20 +30,21 @@ abbrev pub shown : Visitor → SessionState → SessionState
 shown visitor session =
     record session { texts = counted visitor (remove session.texts (codes "notice")) }
 
--- a session that starts now, with these texts
-abbrev pub started_with : DateTime → FinMap name_cmp (List ℕ) → SessionState
-started_with now texts =
-    record { started = second_of now; seen = second_of now; texts = texts }
+-- a session that starts now, with this id and these texts
+abbrev pub started_with : List ℕ → DateTime → FinMap name_cmp (List ℕ) → SessionState
+started_with id now texts =
+    record { id = id; started = second_of now; seen = second_of now; texts = texts }
 
 -- the session of a user who logs in
-abbrev pub logged_in : DateTime → List ℕ → SessionState
-logged_in now user =
-    started_with now
+abbrev pub logged_in : List ℕ → DateTime → List ℕ → SessionState
+logged_in id now user =
+    started_with id now
     (insert (insert empty (codes "user") user) (codes "notice") (codes "You are logged in."))
 
 -- the session of a visitor who logs out
-abbrev pub logged_out : DateTime → SessionState
-logged_out now = started_with now (insert empty (codes "notice") (codes "You are logged out."))
+abbrev pub logged_out : List ℕ → DateTime → SessionState
+logged_out id now =
+    started_with id now (insert empty (codes "notice") (codes "You are logged out."))
 
 -- the home page shows what the session says, and the session, if there is one, is saved as shown
 abbrev pub Shows : Option SessionState → Page → Option SessionState → Type 0
@@ -53,23 +56,46 @@ Shows found page saved =
 abbrev pub Refuses : Refusal → Page → Option SessionState → Type 0
 Refuses refusal page saved = (page ≡ Refused refusal) × (saved ≡ None)
 
--- the visitor is sent to the home page with this session
-abbrev pub Moves : SessionState → Page → Option SessionState → Type 0
-Moves session page saved = (page ≡ Moved) × (saved ≡ Some session)
+-- the visitor is sent to the home page with this session, whose id was drawn
+abbrev pub Moves : (List ℕ → Type 0) → (List ℕ → SessionState) → Page → Option SessionState
+    → Type 0
+Moves IsDrawn session page saved =
+    (page ≡ Moved) × (id : List ℕ) × IsDrawn id × (saved ≡ Some (session id))
 
 -- a form to log in is answered: a user whose password is right is logged in
-abbrev pub LogsIn : List User → Option (List ℕ × List ℕ) → DateTime → Page
+abbrev pub LogsIn : (List ℕ → Type 0) → List User → Option (List ℕ × List ℕ) → DateTime → Page
     → Option SessionState → Type 0
-LogsIn users None now page saved = Refuses BadRequest page saved
-LogsIn users (Some (user, password)) now page saved =
-    MatchBool (is_known user password users) (Moves (logged_in now user) page saved)
-    (Refuses Forbidden page saved)
+LogsIn IsDrawn users None now page saved = Refuses BadRequest page saved
+LogsIn IsDrawn users (Some (user, password)) now page saved =
+    MatchBool (is_known user password users)
+    (Moves IsDrawn (λ id. logged_in id now user) page saved) (Refuses Forbidden page saved)
 
--- Of the site's users, the request's route, its form's user and password, the time and the session that was found: the
--- page that is shown, and the session that is saved.
-abbrev pub Plans : List User → Result Route Refusal → Option (List ℕ × List ℕ) → DateTime
-    → Option SessionState → Page → Option SessionState → Type 0
-Plans users (Ok Home) credentials now found page saved = Shows found page saved
-Plans users (Ok LogIn) credentials now found page saved = LogsIn users credentials now page saved
-Plans users (Ok LogOut) credentials now found page saved = Moves (logged_out now) page saved
-Plans users (Err refusal) credentials now found page saved = Refuses refusal page saved
+-- Of the ids that may have been drawn, the site's users, the request's route, its form's user and password, the time and
+-- the session that was found: the page that is shown, and the session that is saved.
+abbrev pub Plans : (List ℕ → Type 0) → List User → Result Route Refusal
+    → Option (List ℕ × List ℕ) → DateTime → Option SessionState → Page → Option SessionState
+    → Type 0
+Plans IsDrawn users (Ok Home) credentials now found page saved = Shows found page saved
+Plans IsDrawn users (Ok LogIn) credentials now found page saved =
+    LogsIn IsDrawn users credentials now page saved
+Plans IsDrawn users (Ok LogOut) credentials now found page saved =
+    Moves IsDrawn (λ id. logged_out id now) page saved
+Plans IsDrawn users (Err refusal) credentials now found page saved = Refuses refusal page saved
+
+-- the user of the form is logged in
+abbrev pub is_let_in : List User → Option (List ℕ × List ℕ) → Bool
+is_let_in users None = false
+is_let_in users (Some (user, password)) = is_known user password users
+
+-- a session is started: at a logout, and at a login with the right password
+abbrev pub is_start : List User → Result Route Refusal → Option (List ℕ × List ℕ) → Bool
+is_start users (Ok Home) credentials = false
+is_start users (Ok LogIn) credentials = is_let_in users credentials
+is_start users (Ok LogOut) credentials = true
+is_start users (Err refusal) credentials = false
+
+-- why no session is started: memory ran out, or one was to be started and the generator failed, if it can
+abbrev pub FailsToStart : Type 0 → Bool → SessionError → Type 0
+FailsToStart CanFail is_starting why =
+    ¬ (why ≡ failure.OutOfMemory)
+    → (why ≡ failure.Generator) × CanFail × (is_starting ≡ true)

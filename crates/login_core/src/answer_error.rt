@@ -12,10 +12,13 @@ use std::fmt;
 /// Why a request isn't answered.
 #[derive(Clone, Copy, Debug, PartialEq, Eq)]
 pub enum AnswerError {
-    /// The session isn't saved, or memory ran out.
+    /// The session isn't saved, its id isn't drawn, or memory ran out.
     Session(SessionError),
     /// The path or the domain of the site's cookie holds a control character or a `;` (RFC 6265 4.1.1).
     InvalidValue,
+    /// Whether the request's session is revoked couldn't be looked up, or its revocation couldn't be kept. Answer with
+    /// 503 (RFC 9110 15.6.4).
+    Revocations,
 }
 
 impl fmt::Display for AnswerError {
@@ -29,6 +32,9 @@ impl fmt::Display for AnswerError {
             AnswerError::Session(error) => write!(f, "{error}"),
             AnswerError::InvalidValue => {
                 f.write_str("a cookie's path or domain is no attribute value")
+            }
+            AnswerError::Revocations => {
+                f.write_str("whether the session is revoked can't be looked up or kept")
             }
         }
     }

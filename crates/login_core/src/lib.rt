@@ -5,6 +5,7 @@
 
 mod answer_error;
 mod decision;
+mod finding;
 mod form;
 mod login_site;
 mod markup;

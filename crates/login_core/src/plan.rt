@@ -1,7 +1,7 @@
 //! What the site makes of a request and of the session that it has: what is shown, and what is saved.
-ghost use Rattle.std.specs.Prelude.{◌≡◌, IfOk, Some, None};
+ghost use Rattle.std.specs.Prelude.{◌≡◌, ℕ, List, IfErr, IfOk, Some, None, false, true};
 ghost use Rattle.login_core.specs.Forms.{credentials_of, credential_texts};
-ghost use Rattle.login_core.specs.Plans.{LogsIn, Plans, Shows, logged_in, logged_out, shown};
+ghost use Rattle.login_core.specs.Plans.{FailsToStart, LogsIn, Moves, Plans, Shows, is_let_in, is_start, logged_in, logged_out, shown};
 ghost use Rattle.login_core.specs.Routes.{route_of};
 ghost use Rattle.login_core.specs.declared.page.Page.TheVariants as shows;
 
@@ -12,8 +12,9 @@ use crate::request::Request;
 use crate::routes::{Route, find_route};
 use crate::user::{User, is_known};
 use crate::visitor::{Visitor, read_visitor};
-use cookie_session::Session;
+use cookie_session::{Session, SessionError};
 use jiff::civil::DateTime;
+use rand_core::TryRng;
 use std::alloc::{AllocError, Global};
 
 /// What is shown, and what is saved.
@@ -50,21 +51,27 @@ impl Plan {
 }
 
 // What is shown and saved, if this session was found.
-pub(crate) fn make_plan(
+pub(crate) fn make_plan<G: TryRng>(
     alloc: Global,
     users: &[User],
     request: &Request<'_>,
     found: Option<Session>,
     now: DateTime,
-) -> Result<Plan, AllocError>
-    ensures { IfOk result (λ plan. Plans users.now
+    rng: &mut G,
+) -> Result<Plan, SessionError>
+    ensures plans { IfOk result (λ plan. Plans (λ id. G.may_fill rng.old id rng.new) users.now
         (route_of request.now.method.now request.now.path.now)
         (credentials_of request.now.form.now) now found plan.page plan.session) }
+    ensures fails { IfErr result (FailsToStart G.Error (is_start users.now
+        (route_of request.now.method.now request.now.path.now)
+        (credentials_of request.now.form.now))) }
+    ensures undrawn { is_start users.now (route_of request.now.method.now request.now.path.now)
+        (credentials_of request.now.form.now) ≡ false → rng.new ≡ rng.old }
 {
     match find_route(request.method, request.path) {
-        Ok(Route::Home) => home(alloc, found),
-        Ok(Route::LogIn) => log_in(alloc, users, request.form, now),
-        Ok(Route::LogOut) => log_out(alloc, now),
+        Ok(Route::Home) => Ok(home(alloc, found)?),
+        Ok(Route::LogIn) => log_in(alloc, users, request.form, now, rng),
+        Ok(Route::LogOut) => log_out(alloc, now, rng),
         Err(refusal) => Ok(Plan::refused(refusal)),
     }
 }
@@ -98,49 +105,72 @@ fn shown(alloc: Global, session: Session, visitor: &Visitor) -> Result<Session, 
 }
 
 // What follows the form to log in.
-fn log_in(alloc: Global, users: &[User], form: &[u8], now: DateTime) -> Result<Plan, AllocError>
-    ensures { IfOk result (λ plan.
-        LogsIn users.now (credentials_of form.now) now plan.page plan.session) }
+fn log_in<G: TryRng>(
+    alloc: Global,
+    users: &[User],
+    form: &[u8],
+    now: DateTime,
+    rng: &mut G,
+) -> Result<Plan, SessionError>
+    ensures plans { IfOk result (λ plan. LogsIn (λ id. G.may_fill rng.old id rng.new) users.now
+        (credentials_of form.now) now plan.page plan.session) }
+    ensures fails { IfErr result (FailsToStart G.Error
+        (is_let_in users.now (credentials_of form.now))) }
+    ensures undrawn { is_let_in users.now (credentials_of form.now) ≡ false
+        → rng.new ≡ rng.old }
 {
     match read_credentials(alloc, form)? {
-        Some(found) => admit(alloc, users, &found, now),
+        Some(found) => admit(alloc, users, &found, now, rng),
         None => Ok(Plan::refused(Refusal::BadRequest)),
     }
 }
 
 // Logs a user in whose password is right.
-fn admit(
+fn admit<G: TryRng>(
     alloc: Global,
     users: &[User],
     found: &Credentials,
     now: DateTime,
-) -> Result<Plan, AllocError>
-    ensures { IfOk result (λ plan.
-        LogsIn users.now (Some (credential_texts found.now)) now plan.page plan.session) }
+    rng: &mut G,
+) -> Result<Plan, SessionError>
+    ensures plans { IfOk result (λ plan. LogsIn (λ id. G.may_fill rng.old id rng.new) users.now
+        (Some (credential_texts found.now)) now plan.page plan.session) }
+    ensures fails { IfErr result (FailsToStart G.Error
+        (is_let_in users.now (Some (credential_texts found.now)))) }
+    ensures undrawn { is_let_in users.now (Some (credential_texts found.now)) ≡ false
+        → rng.new ≡ rng.old }
 {
     let user = found.user.as_str();
     if !is_known(users, user, found.password.as_str()) {
         return Ok(Plan::refused(Refusal::Forbidden));
     }
-    Ok(Plan::moved(logged_in(alloc, user, now)?))
+    Ok(Plan::moved(logged_in(alloc, user, now, rng)?))
 }
 
 // The session of a user who logs in. Nothing that was stored before is in it.
-fn logged_in(alloc: Global, user: &str, now: DateTime) -> Result<Session, AllocError>
-    ensures { IfOk result (λ session. session ≡ logged_in now user.now) }
+fn logged_in<G: TryRng>(
+    alloc: Global,
+    user: &str,
+    now: DateTime,
+    rng: &mut G,
+) -> Result<Session, SessionError>
+    ensures starts { IfOk result (λ session. (id : List ℕ) × G.may_fill rng.old id rng.new
+        × (session ≡ logged_in id now user.now)) }
+    ensures fails { IfErr result (FailsToStart G.Error true) }
 {
-    let mut session = Session::start(alloc, now);
+    let mut session = Session::start(alloc, now, rng)?;
     session.set("user", user)?;
     session.set("notice", "You are logged in.")?;
     Ok(session)
 }
 
 // Logs the user out, if there is one: nothing that was stored before is in the session.
-fn log_out(alloc: Global, now: DateTime) -> Result<Plan, AllocError>
-    ensures { IfOk result (λ plan. (plan.page ≡ shows.Moved)
-        × (plan.session ≡ Some (logged_out now))) }
+fn log_out<G: TryRng>(alloc: Global, now: DateTime, rng: &mut G) -> Result<Plan, SessionError>
+    ensures plans { IfOk result (λ plan. Moves (λ id. G.may_fill rng.old id rng.new)
+        (λ id. logged_out id now) plan.page plan.session) }
+    ensures fails { IfErr result (FailsToStart G.Error true) }
 {
-    let mut session = Session::start(alloc, now);
+    let mut session = Session::start(alloc, now, rng)?;
     session.set("notice", "You are logged out.")?;
     Ok(Plan::moved(session))
 }

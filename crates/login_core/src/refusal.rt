@@ -2,7 +2,7 @@
 ghost use Rattle.std.specs.Prelude.{◌≡◌};
 ghost use Rattle.login_core.specs.Pages.{refusal_status};
 
-/// Why a request is refused (RFC 9110 15.5).
+/// Why a request is refused (RFC 9110 15.5, 15.6.4).
 #[derive(Clone, Copy, Debug, PartialEq, Eq)]
 pub enum Refusal {
     /// The request can't be read, or the form has no user or no password.
@@ -15,6 +15,8 @@ pub enum Refusal {
     OnlyGet,
     /// The page answers only POST.
     OnlyPost,
+    /// What the site knows can't be read or kept now. `answer` doesn't return it: it is for a program that can't answer.
+    Unavailable,
 }
 
 impl Refusal {
@@ -27,6 +29,7 @@ impl Refusal {
             Refusal::Forbidden => 403,
             Refusal::NotFound => 404,
             Refusal::OnlyGet | Refusal::OnlyPost => 405,
+            Refusal::Unavailable => 503,
         }
     }
 }

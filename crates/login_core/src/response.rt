@@ -55,7 +55,7 @@ fn push_head(text: &mut Vec<u8>, base: &str, response: &Response) -> Result<(), 
     text.extend_from_slice(b"\r\n")
 }
 
-// The status in the form of RFC 3875 6.3.3.
+// The status in the form of RFC 3875 6.3.3, and what goes with it.
 fn status_line(page: &Page) -> &'static [u8]
     ensures { result.now ≡ status_line page.now }
 {
@@ -68,6 +68,8 @@ fn status_line(page: &Page) -> &'static [u8]
         Page::Refused(Refusal::OnlyGet) =>
             b"Status: 405 Method Not Allowed\r\nAllow: GET, HEAD\r\n",
         Page::Refused(Refusal::OnlyPost) => b"Status: 405 Method Not Allowed\r\nAllow: POST\r\n",
+        Page::Refused(Refusal::Unavailable) =>
+            b"Status: 503 Service Unavailable\r\nRetry-After: 2\r\n",
     }
 }
 

@@ -6,8 +6,8 @@ use Rattle.login_core.proofs.decision.save.Goals as goal
 pub returns-in-Some-clause-fails : goal.returns-in-Some-clause-fails
 returns-in-Some-clause-fails g c known =
     let sessions = c.args.sessions.now in
-    let IsDrawn = λ (nonce : List ℕ). g.R.TryRng.may_fill c.args.rng.now nonce c.save.new.rng in
-    let fails : FailsToSave IsDrawn g.row.R-Error.Denot sessions c.args.now c.in-Some.session.now c.save.result =
+    let IsDrawn = λ (nonce : List ℕ). g.G.TryRng.may_fill c.args.rng.now nonce c.save.new.rng in
+    let fails : FailsToSave IsDrawn g.row.G-Error.Denot sessions c.args.now c.in-Some.session.now c.save.result =
     record {
       prefix = c.save.ensures.prefix;
       over = c.save.ensures.over;
@@ -15,4 +15,4 @@ returns-in-Some-clause-fails g c known =
       generator = c.save.ensures.failed;
       too_large = c.save.ensures.too_large;
     } in
-    subst (λ o. FailsFor IsDrawn g.row.R-Error.Denot sessions c.args.now (option_copied o) c.save.result) (sym c.in-Some.is) fails
+    subst (λ o. FailsFor IsDrawn g.row.G-Error.Denot sessions c.args.now (option_copied o) c.save.result) (sym c.in-Some.is) fails

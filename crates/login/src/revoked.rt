@@ -1,0 +1,91 @@
+//! Which sessions are revoked: the database that LOGIN_REVOKED names.
+use crate::clock;
+use anyhow::Result;
+use cookie_session::Revocations;
+use jiff::civil::DateTime;
+use session_revocations::{RevocationError, SqliteRevocations};
+use sqlite::{Connection, File, FileStore};
+use std::env::VarError;
+use std::time::Duration;
+use std::{env, thread};
+
+// While another process has the database open, an open is tried so often, and so long after the last time: less than two
+// seconds in all.
+const TRIES: usize = 180;
+
+const MILLISECONDS: u64 = 10;
+
+/// The database of revoked sessions, and why its last call failed, if it failed.
+#[derive(Drop)]
+pub struct Revoked {
+    sessions: SqliteRevocations<FileStore<File>>,
+    pub failure: Option<RevocationError>,
+}
+
+/// The database's path, if LOGIN_REVOKED is set.
+pub fn path(rt: &HostRuntime) -> Result<Option<String>> {
+    match env::var(rt, "LOGIN_REVOKED") {
+        Ok(path) => Ok(Some(path)),
+        Err(VarError::NotPresent) => Ok(None),
+        Err(error) => Err(error.into()),
+    }
+}
+
+/// Opens the database, or makes it. If another process has it open, it tries again for less than two seconds.
+pub fn open(rt: &HostRuntime, path: &str) -> Result<Revoked, RevocationError> {
+    for _ in 0..TRIES {
+        match open_once(rt, path) {
+            Err(RevocationError::Busy) => {
+                thread::sleep(rt, Duration::from_millis(MILLISECONDS));
+            }
+            opened => return opened,
+        }
+    }
+    Err(RevocationError::Busy)
+}
+
+fn open_once(rt: &HostRuntime, path: &str) -> Result<Revoked, RevocationError> {
+    let sessions = SqliteRevocations::new(Connection::open(rt, path)?)?;
+    Ok(Revoked {
+        sessions,
+        failure: None,
+    })
+}
+
+impl Revoked {
+    /// Forgets the sessions that are over at that time. If that fails, they are kept, and the reason is on the standard
+    /// error.
+    pub fn forget_past(&mut self, rt: &HostRuntime, now: DateTime) {
+        if let Err(why) = self.forget(clock::second_of(now)) {
+            let _ = eprintln!(rt; "LOGIN_REVOKED: {why}");
+        }
+    }
+}
+
+impl Revocations for Revoked {
+    type Error = RevocationError;
+
+    ghost is_kept = { λ r. ⟦<SqliteRevocations<FileStore<File>> as Revocations>⟧.is_kept r.sessions };
+
+    ghost can_revoke = { λ r. ⟦<SqliteRevocations<FileStore<File>> as Revocations>⟧.can_revoke r.sessions };
+
+    ghost revoked_until = { λ r. ⟦<SqliteRevocations<FileStore<File>> as Revocations>⟧.revoked_until r.sessions };
+
+    fn is_revoked(&mut self, id: &[u8; 16]) -> Result<bool, RevocationError> {
+        let found = self.sessions.is_revoked(id);
+        self.failure = found.as_ref().err().copied();
+        found
+    }
+
+    fn revoke(&mut self, id: &[u8; 16], until: u64) -> Result<(), RevocationError> {
+        let done = self.sessions.revoke(id, until);
+        self.failure = done.as_ref().err().copied();
+        done
+    }
+
+    fn forget(&mut self, now: u64) -> Result<(), RevocationError> {
+        let done = self.sessions.forget(now);
+        self.failure = done.as_ref().err().copied();
+        done
+    }
+}

@@ -1,0 +1,124 @@
+//! The session that a request has, and its end at a logout.
+ghost use Rattle.std.specs.Prelude.{◌≡◌, ◌⊎◌, ℕ, IfErr, IfOk, None, Ok, OnErr, OnOk, Some, option_map};
+ghost use Rattle.cookie.specs.Originals.{field_cookies};
+ghost use Rattle.cookie_session.specs.Revocations.{AreSame, IsRevoked, IsRevokedToo, end_of};
+ghost use Rattle.cookie_session.specs.Session.{SessionState};
+ghost use Rattle.cookie_session.specs.Sessions.{OpensOne};
+ghost use Rattle.cookie_session.specs.declared.session_error.SessionError.TheVariants as refusal;
+ghost use Rattle.login_core.specs.Answers.{Ends, HasSession, LogsOut, cookies_of, route_for};
+ghost use Rattle.login_core.specs.declared.answer_error.AnswerError.TheVariants as failure;
+ghost use Rattle.login_core.specs.declared.routes.Route.TheVariants as routes;
+
+use crate::answer_error::AnswerError;
+use crate::login_site::LoginSite;
+use crate::request::Request;
+use crate::routes::{Route, find_route};
+use cookie_session::{OpenError, Revocations, Session, SessionError, Sessions};
+use jiff::civil::DateTime;
+use std::alloc::Global;
+
+// The session that the request has, if it has one. A logout revokes it.
+pub(crate) fn find_session<R: Revocations>(
+    alloc: Global,
+    site: &LoginSite<'_>,
+    request: &Request<'_>,
+    now: DateTime,
+    revocations: &mut R,
+) -> Result<Option<Session>, AnswerError>
+    ensures finds { R.is_kept revocations.new → IfOk result
+        (HasSession (IsRevoked (R.revoked_until revocations.old)) site.now.sessions
+        (cookies_of request.now) now) }
+    ensures sealed { IfOk result (λ found. (session : SessionState) → found ≡ Some session
+        → (place : ℕ) × OpensOne site.now.sessions (cookies_of request.now) now place session) }
+    ensures fails { IfErr result (λ why. (why ≡ failure.Session refusal.OutOfMemory)
+        ⊎ ((why ≡ failure.Revocations) × R.Error)) }
+    ensures revoked { R.is_kept revocations.new → ((set : R) → R.can_revoke set)
+        → OnOk result ((session : SessionState)
+        → LogsOut (IsRevoked (R.revoked_until revocations.old)) site.now request.now now session
+        → Ends site.now session (R.revoked_until revocations.old)
+        (R.revoked_until revocations.new)) }
+    ensures same { R.is_kept revocations.new → ((session : SessionState)
+        → ¬ (LogsOut (IsRevoked (R.revoked_until revocations.old)) site.now request.now now session))
+        → AreSame (R.revoked_until revocations.old) (R.revoked_until revocations.new) }
+    ensures err { R.is_kept revocations.new → OnErr result
+        (AreSame (R.revoked_until revocations.old) (R.revoked_until revocations.new)) }
+    ensures kept { R.is_kept revocations.new → R.is_kept revocations.old }
+{
+    let found = open_session(alloc, &site.sessions, request.cookies, now, revocations)?;
+    revoke_at_logout(&site.sessions, request, found.as_ref(), revocations)?;
+    Ok(found)
+}
+
+// The session that is open and not revoked in the first of the field's cookies in which one is, if there is one.
+fn open_session<R: Revocations>(
+    alloc: Global,
+    sessions: &Sessions<'_>,
+    field: &[u8],
+    now: DateTime,
+    revocations: &mut R,
+) -> Result<Option<Session>, AnswerError>
+    ensures finds { R.is_kept revocations.new → IfOk result
+        (HasSession (IsRevoked (R.revoked_until revocations.old)) sessions.now
+        (field_cookies field.now) now) }
+    ensures sealed { IfOk result (λ found. (session : SessionState) → found ≡ Some session
+        → (place : ℕ) × OpensOne sessions.now (field_cookies field.now) now place session) }
+    ensures fails { IfErr result (λ why. (why ≡ failure.Session refusal.OutOfMemory)
+        ⊎ ((why ≡ failure.Revocations) × R.Error)) }
+    ensures same { R.is_kept revocations.new
+        → AreSame (R.revoked_until revocations.old) (R.revoked_until revocations.new) }
+    ensures kept { R.is_kept revocations.new → R.is_kept revocations.old }
+{
+    match sessions.open_unrevoked(alloc, field, now, revocations) {
+        Ok(Some(opened)) => Ok(Some(opened.session)),
+        Ok(None) => Ok(None),
+        Err(OpenError::OutOfMemory) => Err(AnswerError::Session(SessionError::OutOfMemory)),
+        Err(OpenError::Revocations(_)) => Err(AnswerError::Revocations),
+    }
+}
+
+// If the request logs out, revokes the session that was found.
+fn revoke_at_logout<R: Revocations>(
+    sessions: &Sessions<'_>,
+    request: &Request<'_>,
+    found: Option<&Session>,
+    revocations: &mut R,
+) -> Result<(), AnswerError>
+    ensures revoked { R.is_kept revocations.new → R.can_revoke revocations.old
+        → OnOk result ((session : SessionState) → route_for request.now ≡ Ok routes.LogOut
+        → option_map (λ s. s.now) found.entry ≡ Some session
+        → IsRevokedToo session.id (end_of sessions.now.lifetime session)
+        (R.revoked_until revocations.old) (R.revoked_until revocations.new)) }
+    ensures same { R.is_kept revocations.new → ((session : SessionState)
+        → route_for request.now ≡ Ok routes.LogOut
+        → ¬ (option_map (λ s. s.now) found.entry ≡ Some session))
+        → AreSame (R.revoked_until revocations.old) (R.revoked_until revocations.new) }
+    ensures err { R.is_kept revocations.new → OnErr result
+        (AreSame (R.revoked_until revocations.old) (R.revoked_until revocations.new)) }
+    ensures fails { IfErr result (λ why. (why ≡ failure.Revocations) × R.Error) }
+    ensures kept { R.is_kept revocations.new → R.is_kept revocations.old }
+{
+    match (find_route(request.method, request.path), found) {
+        (Ok(Route::LogOut), Some(session)) => revoke(sessions, session, revocations),
+        _ => Ok(()),
+    }
+}
+
+// Revokes the session until its lifetime ends.
+fn revoke<R: Revocations>(
+    sessions: &Sessions<'_>,
+    session: &Session,
+    revocations: &mut R,
+) -> Result<(), AnswerError>
+    ensures revoked { R.is_kept revocations.new → R.can_revoke revocations.old → OnOk result
+        (IsRevokedToo session.now.id (end_of sessions.now.lifetime session.now)
+        (R.revoked_until revocations.old) (R.revoked_until revocations.new)) }
+    ensures err { R.is_kept revocations.new → OnErr result
+        (AreSame (R.revoked_until revocations.old) (R.revoked_until revocations.new)) }
+    ensures fails { IfErr result (λ why. (why ≡ failure.Revocations) × R.Error) }
+    ensures kept { R.is_kept revocations.new → R.is_kept revocations.old }
+{
+    match sessions.revoke(session, revocations) {
+        Ok(()) => Ok(()),
+        Err(_) => Err(AnswerError::Revocations),
+    }
+}
