@@ -13,6 +13,7 @@ ghost use Rattle.cookie_theorems.specs.Holding.{Holds, IsAnswered};
 
 use crate::timed_request::TimedRequest;
 use cookie_client::Client;
+use cookie_session::NeverRevoked;
 use jiff::civil::DateTime;
 use login_core::{AnswerError, LoginSite, Page, Request, answer};
 use rand_core::TryRng;
@@ -85,7 +86,15 @@ fn send<R: TryRng>(
         cookies: header.as_bytes(),
         form: request.form,
     };
-    let response = answer(alloc, state, site, &asked, request.time, rng)?;
+    let response = answer(
+        alloc,
+        state,
+        site,
+        &asked,
+        request.time,
+        rng,
+        &mut NeverRevoked,
+    )?;
     read_texts(client, &response.cookies, request.time)?;
     Ok(response.page)
 }
