@@ -1,6 +1,7 @@
 //! Uses of the cookie crates, as a caller writes them: each a short function with its contract. `main` runs them all.
 #![tactic(auto)]
 
+mod acting;
 mod agents;
 mod answer;
 mod carrying;
@@ -14,6 +15,7 @@ mod printing;
 mod reading;
 mod removal;
 mod requests;
+mod responding;
 mod runtime;
 mod sealing;
 mod session;

@@ -10,7 +10,6 @@ mod jars;
 mod orders;
 mod plain_agent;
 mod raw_forms;
-mod samples;
 mod slot;
 mod streams;
 mod values;

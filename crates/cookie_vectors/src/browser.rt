@@ -2,9 +2,8 @@
 use crate::browsing::{context_of, outcome, site_of};
 use crate::cookie_words::{push, push_flag};
 use crate::escapes::Escaped;
-use crate::player::Player;
 use crate::refusal::refusal_of;
-use crate::step::{Answer, Step};
+use crate::step::{Answer, Player, Step};
 use cookie_agent::Site;
 use cookie_browser::{Enforcement, KeptCookie, Received, Refusal, Suffixes};
 use std::alloc::Global;
@@ -34,12 +33,12 @@ impl Browser<'_> {
     // which no step looks at.
     fn refusal(&self, step: Step<'_>) -> Option<Option<Refusal>> {
         let (url, texts) = step.halves();
-        let (first, text) = texts.split_once(" | ").unwrap_or(("", texts));
-        let site = site_of(step.alloc, url)?.with_context(context_of(step.call)?);
+        let (first, text) = texts.words.split_once(" | ").unwrap_or(("", texts.words));
         let (first, text) = (
             step.with_words(first).bytes()?,
             step.with_words(text).bytes()?,
         );
+        let site = site_of(step.alloc, url.words)?.with_context(context_of(step.call)?);
         let Ok(received) = Received::of(&first) else {
             return None;
         };

@@ -1,8 +1,7 @@
 //! AES-256, HMAC-SHA256, its expansion, and AES-256-GCM. data/cipher.tsv has the calls.
 mod inputs;
 
-use crate::player::Player;
-use crate::step::{Answer, Step};
+use crate::step::{Answer, Player, Step};
 use cookie_crypt::{Aes256, Gcm, Mac, Steps, are_equal, expand64, hmac};
 use hex::encode;
 use inputs::Inputs;

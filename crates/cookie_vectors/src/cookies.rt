@@ -3,9 +3,8 @@ mod looking;
 mod way;
 
 use crate::cookie_words;
-use crate::player::Player;
 use crate::row::{Row, Wrong};
-use crate::step::{Answer, Step};
+use crate::step::{Answer, Player, Step};
 use cookie_core::{Cookie, ParseError, SplitCookies};
 use std::slice::Iter;
 use way::Way;

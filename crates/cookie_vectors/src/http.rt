@@ -2,8 +2,7 @@
 use crate::fixed_source::hash_keys;
 use crate::jar_calls::{calls_of, moment, test_key};
 use crate::jars::Jars;
-use crate::player::Player;
-use crate::step::{Answer, Step};
+use crate::step::{Answer, Player, Step};
 use cookie::CookieJar;
 use cookie_client::Client;
 use cookie_http::{append_delta, jar_from_headers, remove_as_set, with_headers};

@@ -8,8 +8,7 @@ mod team;
 
 use crate::fixed_source::hash_keys;
 use crate::jar_calls::{Sevens, make, test_key};
-use crate::player::Player;
-use crate::step::{Answer, Step};
+use crate::step::{Answer, Player, Step};
 use bare::Bare;
 use children::{prefixed, secret};
 use cookie::prefix::{Host, Secure};

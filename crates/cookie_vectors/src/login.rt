@@ -3,9 +3,8 @@ mod showing;
 
 use crate::fixed_source::hash_keys;
 use crate::jar_calls::{Sevens, moment};
-use crate::player::Player;
 use crate::sessions::Site;
-use crate::step::{Answer, Step};
+use crate::step::{Answer, Player, Step};
 use login_core::{
     AnswerError, IDLE, LIFETIME, LoginSite, Request, Response, User, answer, session_cookie,
 };
@@ -64,25 +63,37 @@ impl Logins {
         step.done()
     }
 
-    fn send(&self, alloc: Global, request: Request<'_>) -> Result<Response, AnswerError> {
+    fn send(
+        &self,
+        alloc: Global,
+        (method, path): (&str, &str),
+        cookies: &[u8],
+        form: &str,
+    ) -> Result<Response, AnswerError> {
         let (site, mut rng) = (self.login_site(), Sevens { left: self.left });
+        let request = Request {
+            method,
+            path,
+            cookies,
+            form: form.as_bytes(),
+        };
         answer(alloc, self.state, &site, &request, moment(), &mut rng)
     }
 
     // Sends a request, such as `POST /login | a=b | user=ann`, and keeps the response's text.
     fn request(&mut self, step: Step<'_>) -> Answer {
         let (head, content) = step.halves();
-        let (cookies, form) = step.with_words(content).halves();
-        let (method, path) = head.split_once(' ')?;
-        let cookies = if cookies == "-" { "" } else { cookies };
-        let cookies = step.with_words(cookies).bytes()?;
-        let request = Request {
-            method,
-            path,
-            cookies: &cookies,
-            form: form.as_bytes(),
+        let (cookies, form) = content.halves();
+        let cookies = match cookies.words {
+            "-" => Vec::new(step.alloc),
+            _ => cookies.bytes()?,
         };
-        match self.send(step.alloc, request) {
+        match self.send(
+            step.alloc,
+            head.words.split_once(' ')?,
+            &cookies,
+            form.words,
+        ) {
             Ok(response) => self.keep(step, &response),
             Err(refusal) => step.printed(refusal),
         }
@@ -102,13 +113,7 @@ impl Logins {
         let name = "x".repeat(step.alloc, step.words.parse().ok()?).ok()?;
         self.add_user(step.alloc, &name, "y")?;
         let form = format!(in step.alloc; "password=y&user={name}").ok()?;
-        let request = Request {
-            method: "POST",
-            path: "/login",
-            cookies: b"",
-            form: form.as_bytes(),
-        };
-        match self.send(step.alloc, request) {
+        match self.send(step.alloc, ("POST", "/login"), b"", &form) {
             Ok(response) => step.printed(response.page.status()),
             Err(refusal) => step.printed(refusal),
         }

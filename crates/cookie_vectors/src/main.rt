@@ -17,7 +17,6 @@ mod http;
 mod jar_calls;
 mod jars;
 mod login;
-mod player;
 mod printed;
 mod refusal;
 mod refusals;

@@ -6,8 +6,7 @@ mod site;
 use crate::browsing::{outcome, site_of};
 use crate::jar_calls::{Sevens, after, moment};
 use crate::jars::Jars;
-use crate::player::Player;
-use crate::step::{Answer, Step};
+use crate::step::{Answer, Player, Step};
 use cookie::{Cookie, CookieJar};
 use cookie_agent::Agent;
 use cookie_browser::Suffixes;
@@ -156,7 +155,7 @@ impl<'s> Visitors<'s> {
     // Has the user agent read a `Set-Cookie` text of a response, as `https://a.example/ | a=1; Path=/`.
     fn read(&mut self, step: Step<'_>) -> Answer {
         let (url, text) = step.halves();
-        let (site, text) = (site_of(step.alloc, url)?, step.with_words(text).bytes()?);
+        let (site, text) = (site_of(step.alloc, url.words)?, text.bytes()?);
         outcome(step, self.agent.read(&site, &text, self.now).ok()?)
     }
 }

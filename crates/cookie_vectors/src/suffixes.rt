@@ -1,6 +1,5 @@
 //! Which domains are public suffixes. data/suffixes.tsv says what its calls return.
-use crate::player::Player;
-use crate::step::{Answer, Step};
+use crate::step::{Answer, Player, Step};
 use cookie_browser::Suffixes;
 
 /// A list that the steps of a row read and ask.

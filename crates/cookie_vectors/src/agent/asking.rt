@@ -40,11 +40,8 @@ impl Agents<'_> {
 
 // `host www.example.com /a`, or `domain example.com /a`.
 fn place(step: Step<'_>, scope: &Scope) -> Answer {
-    let kind = if scope.is_host_only() {
-        "host"
-    } else {
-        "domain"
-    };
+    let is_host_only = scope.is_host_only();
+    let kind = if is_host_only { "host" } else { "domain" };
     let domain = str::from_utf8(scope.domain()).ok()?;
     let path = str::from_utf8(scope.path()).ok()?;
     format!(in step.alloc; "{kind} {domain} {path}").ok()
@@ -65,6 +62,7 @@ fn place_of(step: Step<'_>, verdict: Verdict) -> Answer {
 // Whether a cookie of a domain, and the hosts below it, or of a path is sent to a host or to a path.
 fn is_reached(step: Step<'_>) -> Answer {
     let (alloc, (asked, set)) = (step.alloc, step.halves());
+    let (asked, set) = (asked.words, set.words);
     let (site, domain, path) = match step.call {
         "domain" => (Site::new(alloc, asked, "/", false), set, "/"),
         "address" => (Site::of_address(alloc, asked, "/", false), set, "/"),

@@ -8,8 +8,8 @@ pub struct Inputs<'t>(pub Step<'t>);
 impl<'t> Inputs<'t> {
     fn word(&mut self) -> Option<&'t str> {
         let (word, rest) = self.0.halves();
-        self.0 = self.0.with_words(rest);
-        (!word.is_empty()).then_some(word)
+        self.0 = rest;
+        (!word.words.is_empty()).then_some(word.words)
     }
 
     /// The next input, which is bytes in hexadecimal, or `-` for none.

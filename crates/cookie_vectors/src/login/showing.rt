@@ -11,12 +11,7 @@ use std::hash::RandomState;
 // The user whom the page greets, or `-`, and its message.
 fn shown(page: &Page) -> (&str, Option<&str>) {
     match page {
-        Page::Home(visitor) => {
-            (
-                visitor.user.as_deref().unwrap_or("-"),
-                visitor.notice.as_deref(),
-            )
-        }
+        Page::Home(of) => (of.user.as_deref().unwrap_or("-"), of.notice.as_deref()),
         _ => ("-", None),
     }
 }
@@ -44,10 +39,7 @@ pub fn home(step: Step<'_>) -> Option<String> {
 /// A part of the text: what is between two texts, as `<h1> | </h1>`, or what the line of a field has.
 pub fn part(step: Step<'_>, whole: &str) -> Answer {
     let (front, back) = step.halves();
-    let (front, back) = (
-        step.with_words(front).text()?,
-        step.with_words(back).text()?,
-    );
+    let (front, back) = (front.text()?, back.text()?);
     let found = match step.call {
         "field" => {
             let mut lines = whole.split("\r\n");
@@ -66,8 +58,8 @@ pub fn part(step: Step<'_>, whole: &str) -> Answer {
 }
 
 // The request of words such as `1799 GET /` or `1800 POST /login user=ann`, at that number of seconds after the first.
-fn request(words: Option<&str>) -> TimedRequest<'_> {
-    let mut words = words.unwrap_or("").splitn(4, ' ');
+fn request(words: &str) -> TimedRequest<'_> {
+    let mut words = words.splitn(4, ' ');
     let seconds = words.next().unwrap_or("");
     TimedRequest {
         time: after(seconds).unwrap_or(DateTime::MIN),
@@ -79,17 +71,10 @@ fn request(words: Option<&str>) -> TimedRequest<'_> {
 
 /// What the pages of eight requests show. A list of requests can't be made one by one here.
 pub fn browsed(step: Step<'_>, state: RandomState, site: &LoginSite<'_>) -> Answer {
-    let mut words = step.words.split(" | ");
-    let requests = [
-        request(words.next()),
-        request(words.next()),
-        request(words.next()),
-        request(words.next()),
-        request(words.next()),
-        request(words.next()),
-        request(words.next()),
-        request(words.next()),
-    ];
+    let (mut words, mut requests) = (step.words.split(" | "), [request(""); 8]);
+    for place in requests.iter_mut() {
+        *place = request(words.next()?);
+    }
     let mut rng = Sevens { left: 96 };
     let mut texts = Vec::new(step.alloc);
     for page in &browse(step.alloc, state, site, &requests, &mut rng).ok()? {

@@ -25,62 +25,45 @@ impl Visitors<'_> {
         self.take(step, opened.ok()?)
     }
 
-    // Saves the session, and opens that of the client's next request, as `599 2 1 0 | add a=1 | remove b`.
+    // Saves the session, and opens that of the client's next request, as `599 2 1 0 | add a=1 | remove b`. The numbers
+    // after the seconds pick the order of the texts.
     pub(super) fn come_back(&mut self, step: Step<'_>) -> Answer {
         let (front, calls) = step.halves();
-        let (seconds, pick) = front.split_once(' ').unwrap_or((front, ""));
+        let (seconds, pick) = front.words.split_once(' ').unwrap_or((front.words, ""));
         let (key, later) = (test_key(), after(seconds)?);
-        let calls = calls_of(&key, step.with_words(calls))?;
-        let opened = match step.call {
-            "save_and_return" => self.return_texts(step.with_words(pick), &calls, later)?,
-            _ => self.return_headers(step, &calls, later)?,
-        };
+        let (calls, pick) = (calls_of(&key, calls)?, numbers(step.with_words(pick))?);
+        let opened = self.returned(step, &calls, &pick, later)?;
         self.take(step, opened)
     }
 
-    // The numbers are those that pick the order of the texts.
-    fn return_texts(
-        &mut self,
-        numbers: Step<'_>,
-        calls: &[JarCall<'_>],
-        later: DateTime,
-    ) -> Option<Option<Opened>> {
-        let mut pick: Vec<usize> = Vec::new(numbers.alloc);
-        for word in numbers.words.split(' ').filter(|word| !word.is_empty()) {
-            pick.push(word.parse().ok()?).ok()?;
-        }
-        let opened = save_and_return(
-            numbers.alloc,
-            &self.site.sessions(),
-            &mut self.jars.jar,
-            calls,
-            &self.session,
-            &mut self.client,
-            &pick,
-            self.now,
-            later,
-            &mut Sevens { left: self.left },
-        );
-        opened.ok()
-    }
-
-    fn return_headers(
+    // What is opened of the texts of the response, or of its header map.
+    fn returned(
         &mut self,
         step: Step<'_>,
         calls: &[JarCall<'_>],
+        pick: &[usize],
         later: DateTime,
     ) -> Option<Option<Opened>> {
+        let (alloc, now, sessions) = (step.alloc, self.now, self.site.sessions());
+        let (jar, client, session) = (&mut self.jars.jar, &mut self.client, &self.session);
+        let mut rng = Sevens { left: self.left };
+        if step.call == "save_and_return" {
+            return save_and_return(
+                alloc, &sessions, jar, calls, session, client, pick, now, later, &mut rng,
+            )
+            .ok();
+        }
         let returned = save_over_headers(
-            step.alloc,
-            &self.site.sessions(),
-            &mut self.jars.jar,
-            calls,
-            &self.session,
-            &mut self.client,
-            self.now,
-            later,
-            &mut Sevens { left: self.left },
+            alloc, &sessions, jar, calls, session, client, now, later, &mut rng,
         );
         Some(returned.ok()?.opened)
     }
+}
+
+fn numbers(step: Step<'_>) -> Option<Vec<usize>> {
+    let mut numbers = Vec::new(step.alloc);
+    for word in step.words.split(' ').filter(|word| !word.is_empty()) {
+        numbers.push(word.parse().ok()?).ok()?;
+    }
+    Some(numbers)
 }
