@@ -2,15 +2,12 @@
 mod agents;
 mod collisions;
 mod cookies;
-mod drawn_call;
 mod draws;
 mod failing_reader;
 mod failing_writer;
 mod jars;
 mod orders;
-mod plain_agent;
 mod raw_forms;
-mod slot;
 mod streams;
 mod values;
 
