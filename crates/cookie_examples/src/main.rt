@@ -13,6 +13,7 @@ mod handler;
 mod headers;
 mod printing;
 mod reading;
+mod refusal;
 mod removal;
 mod requests;
 mod responding;

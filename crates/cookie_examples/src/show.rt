@@ -2,12 +2,12 @@
 use crate::acting::{self, Action};
 use crate::{
     agents, answer, carrying, counting, dates, flash, following, handler, headers, printing,
-    reading, removal, requests, responding, runtime, sealing, session, team,
+    reading, refusal, removal, requests, responding, runtime, sealing, session, team,
 };
 use anyhow::Result;
 use cookie::{Cookie, CookieBuilder, CookieJar, DateText, JarError, Key, SameSite};
 use cookie_agent::Site;
-use cookie_browser::Suffixes;
+use cookie_browser::{KeptCookie, Received, Suffixes};
 use cookie_client::{ChildCall, Client, ClientError, JarCall, Played};
 use cookie_session::{KeyRing, Sessions};
 use http_header::{HeaderMap, HeaderValue};
@@ -266,6 +266,29 @@ pub fn browser(rt: &HostRuntime, now: DateTime) -> Result<()> {
     let suffixes = Suffixes::new(alloc, b"com\n")?;
     let header = agents::next_header(alloc, &suffixes, &site, text, now)?;
     println!(rt; "browser: {}", str::from_utf8(&header)?)?;
+    print_refusal(rt, &suffixes, &site, b"cart=3; Domain=com")
+}
+
+fn print_refusal(rt: &HostRuntime, suffixes: &Suffixes, site: &Site, text: &[u8]) -> Result<()> {
+    let Ok(received) = Received::of(text) else {
+        return Ok(());
+    };
+    let domain = received
+        .attributes
+        .bare_domain()
+        .to_ascii_lowercase(rt.alloc())?;
+    let request = site.request();
+    let new = KeptCookie::of(suffixes, &request, &received, domain.as_slice());
+    if let Some(refusal) = refusal::refusal_of(
+        rt.alloc(),
+        suffixes,
+        &request,
+        &[],
+        &received,
+        &new,
+    )? {
+        println!(rt; "refused: {refusal}")?;
+    }
     Ok(())
 }
 

@@ -1,7 +1,7 @@
 //! Cookies in header maps. data/http.tsv says what its calls return.
-use crate::fixed_source::hash_keys;
 use crate::jar_calls::{calls_of, moment, test_key};
 use crate::jars::Jars;
+use crate::sources::hash_keys;
 use crate::step::{Answer, Player, Step};
 use cookie::CookieJar;
 use cookie_client::Client;

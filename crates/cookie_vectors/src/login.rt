@@ -1,9 +1,9 @@
 //! The login: requests to a site, and its responses. data/login.tsv says what its calls return.
 mod showing;
 
-use crate::fixed_source::hash_keys;
-use crate::jar_calls::{Sevens, moment};
+use crate::jar_calls::moment;
 use crate::sessions::Site;
+use crate::sources::{Sevens, hash_keys};
 use crate::step::{Answer, Player, Step};
 use login_core::{
     AnswerError, IDLE, LIFETIME, LoginSite, Request, Response, User, answer, session_cookie,

@@ -1,13 +1,11 @@
 //! Sessions of the program: over bytes in memory, and with a hash that has keys over streams that take a little at a
 //! time.
-mod byte_reader;
-mod short_writer;
+mod streams;
 
-use crate::fixed_source::hash_keys;
+use crate::sources::hash_keys;
 use crate::step::{Answer, Player, Step};
-use byte_reader::ByteReader;
 use cookie_client::{RunError, moment_of, run, run_with_hasher};
-use short_writer::ShortWriter;
+use streams::{ByteReader, ShortWriter};
 
 /// What plays the rows on sessions of the program.
 #[derive(Clone, Copy)]

@@ -4,8 +4,9 @@ mod returning;
 mod site;
 
 use crate::browsing::{outcome, site_of};
-use crate::jar_calls::{Sevens, after, moment};
+use crate::jar_calls::{after, moment};
 use crate::jars::Jars;
+use crate::sources::Sevens;
 use crate::step::{Answer, Player, Step};
 use cookie::{Cookie, CookieJar};
 use cookie_agent::Agent;

@@ -1,6 +1,7 @@
 //! What pages and responses show, and what a client sees that goes back and forth between the pages.
 use crate::escapes::Escaped;
-use crate::jar_calls::{Sevens, after};
+use crate::jar_calls::after;
+use crate::sources::Sevens;
 use crate::step::{Answer, Step};
 use cookie_theorems::TimedRequest;
 use cookie_theorems::browse::browse;

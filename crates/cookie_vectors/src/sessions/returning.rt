@@ -1,7 +1,8 @@
 //! Sessions that a jar, a client or a user agent brings back.
 use super::Visitors;
 use crate::browsing::site_of;
-use crate::jar_calls::{Sevens, after, calls_of, test_key};
+use crate::jar_calls::{after, calls_of, test_key};
+use crate::sources::Sevens;
 use crate::step::{Answer, Step};
 use cookie_client::JarCall;
 use cookie_session::Opened;
