@@ -80,6 +80,6 @@ fn drawn_cookies_are_stored_and_sent(rt: HostRuntime) {
         for number in 0..100 {
             assert!(rt; push_list(&mut bytes, &mut draws).is_ok(), "list {number}");
         }
-        assert_eq!(rt; code(&bytes), wanted);
+        assert!(rt; code(&bytes) == wanted);
     }
 }
