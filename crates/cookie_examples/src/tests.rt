@@ -3,8 +3,6 @@ mod agents;
 mod collisions;
 mod cookies;
 mod draws;
-mod failing_reader;
-mod failing_writer;
 mod jars;
 mod orders;
 mod raw_forms;

@@ -6,18 +6,9 @@ use cookie_client::{ClientRequest, JarCall, replay, rounds};
 use std::alloc::{AllocError, Global};
 
 // What each hundred lists come to by a second body of both, in tools/drawn-codes.
-const CODES: [u64; 10] = [
-    0xb0c4_af0d_866e_fc83,
-    0x8bf7_cba2_20d5_26cf,
-    0x2bbe_23af_abb5_fd50,
-    0xf1dc_dc2f_35f8_da74,
-    0x2682_8e1c_bccd_a0f8,
-    0x596d_6d48_fe75_d4ae,
-    0x63ed_ef3a_e2b2_e517,
-    0x3302_53ba_e730_90e6,
-    0x2f4b_493b_1a71_0e14,
-    0x4c37_df84_3802_3928,
-];
+const CODES: &str = "\
+b0c4af0d866efc83 8bf7cba220d526cf 2bbe23afabb5fd50 f1dcdc2f35f8da74 26828e1cbccda0f8 \
+596d6d48fe75d4ae 63edef3ae2b2e517 330253bae73090e6 2f4b493b1a710e14 4c37df8438023928";
 
 const NAMES: &str = "a|b|c|id|A||\u{e9}|a b";
 
@@ -113,7 +104,7 @@ fn push_requests(text: &mut String, draws: &mut Draws) -> Option<()> {
 #[test]
 fn drawn_calls_are_followed(rt: HostRuntime) {
     let mut draws = Draws::new();
-    for wanted in CODES {
+    for wanted in CODES.split(' ') {
         let mut text = String::new(rt.alloc());
         for number in 0..100 {
             assert!(rt;
@@ -121,6 +112,6 @@ fn drawn_calls_are_followed(rt: HostRuntime) {
                 "list {number}"
             );
         }
-        assert!(rt; code(text.as_bytes()) == wanted);
+        assert!(rt; u64::from_str_radix(wanted, 16) == Ok(code(text.as_bytes())));
     }
 }
