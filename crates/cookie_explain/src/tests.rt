@@ -35,8 +35,9 @@ const ROWS: [(&str, &str); 4] = [
 ];
 
 // What it says of a control character.
-const CONTROL: &str =
-    "refused: the text holds a control character: leave it out or escape it (RFC 6265bis, The Set-Cookie Header Field)\n";
+const CONTROL: &str = "\
+refused: the text holds a control character: leave it out or escape it \
+(RFC 6265bis, The Set-Cookie Header Field)\n";
 
 // What the program says of the lines of a paste that comes from https://a.example/x/y.
 fn said(alloc: Global, paste: &[u8]) -> Result<Vec<u8>> {

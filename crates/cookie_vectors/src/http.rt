@@ -86,7 +86,7 @@ impl Headers {
         fields(step, &self.headers, "cookie")
     }
 
-    // Makes the calls on a new jar. The map is then the client's next request, and the jar that of this request.
+    // Makes the calls on a new jar. The map is then the client's next request, and the jar is the jar of this request.
     fn exchange(&mut self, step: Step<'_>) -> Answer {
         let key = test_key();
         let exchanged = exchange(step.alloc, &calls_of(&key, step)?, moment()).ok()?;

@@ -1,4 +1,4 @@
-//! The login: requests to a site, its responses, and a client that goes back and forth. data/login.tsv says what its calls return.
+//! The login: requests, responses, and a client that goes back and forth. data/login.tsv says what its calls return.
 use crate::escapes::Escaped;
 use crate::jar_calls::{after, moment};
 use crate::sessions::Site;

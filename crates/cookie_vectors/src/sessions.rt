@@ -176,7 +176,7 @@ impl<'s> Visitors<'s> {
         self.take(step, opened.ok()?)
     }
 
-    // Saves the session, and opens that of the client's next request, as `599 2 1 0 | add a=1 | remove b`. The numbers
+    // Saves the session, and opens the client's at its next request, as `599 2 1 0 | add a=1 | remove b`. The numbers
     // after the seconds pick the order of the texts.
     fn come_back(&mut self, step: Step<'_>) -> Answer {
         let (front, calls) = step.halves();

@@ -15,7 +15,8 @@ only none, ann 100, ann 100, ann 200, ann 50, only ann -> 2 200
 ann 9223372036854775807, late bob 9223372036854775808, only ann -> 1 9223372036854775807
 ann 100, ann 200, bob 150, forget 149, only ann bob, forget 150, only ann -> 1 200
 ann 100, ann 200, bob 150, forget 149, forget 150, forget 200, only none -> 0 0
-ann 100, ann 200, bob 150, forget 150, only ann, forget 120, only ann, bob 150, forget 149, only ann bob -> 2 200
+ann 100, ann 200, bob 150, forget 150, only ann, forget 120, only ann, \
+bob 150, forget 149, only ann bob -> 2 200
 ann 100, ann 200, bob 150, late forget 9223372036854775808, forget 0, only ann bob -> 3 200";
 
 fn change<S: Alter + Drop>(

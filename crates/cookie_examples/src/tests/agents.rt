@@ -38,7 +38,7 @@ fn drawn(alloc: Global, draws: &mut Draws) -> Result<String, AllocError> {
     format!(in alloc; "{name}={value}{path}{domain}{flag}{age}")
 }
 
-// Appends which of up to twenty drawn cookies are stored, at times that may go back, and what each site is sent then, at
+// Appends which of up to twenty drawn cookies are stored, at times that may go back, and then what each site is sent at
 // three times.
 fn push_list(bytes: &mut Vec<u8>, draws: &mut Draws) -> Result<(), AllocError> {
     let alloc = *bytes.allocator();

@@ -13,7 +13,8 @@ b0c4af0d866efc83 8bf7cba220d526cf 2bbe23afabb5fd50 f1dcdc2f35f8da74 26828e1cbccd
 const NAMES: &str = "a|b|c|id|A||\u{e9}|a b";
 
 const VERBS: &str = "\
-original|original|original|original|add|add|add|add|add|remove|remove|remove|remove|force|force|reset";
+original|original|original|original|add|add|add|add|add|\
+remove|remove|remove|remove|force|force|reset";
 
 fn drawn_call(alloc: Global, draws: &mut Draws) -> Result<JarCall<'static>, AllocError> {
     let (verb, name) = (draws.text(VERBS), draws.text(NAMES));
@@ -78,8 +79,8 @@ fn push_replayed(text: &mut String, calls: &[JarCall<'_>]) -> Option<()> {
     push_outcome(text, &jar, &outcomes)
 }
 
-// Appends what the requests of up to four drawn lists come to, and what their client holds, if it reads texts in a drawn
-// order.
+// Appends what the requests of up to four drawn lists come to, and what their client holds, if it reads the texts in a
+// drawn order.
 fn push_requests(text: &mut String, draws: &mut Draws) -> Option<()> {
     let alloc = *text.allocator();
     let pick = [draws.below(24), draws.below(24)];
