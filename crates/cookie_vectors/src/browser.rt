@@ -60,12 +60,9 @@ fn refusal_after(
     stored: KeptCookie<'_>,
     received: &Received<'_>,
 ) -> Option<Option<Refusal>> {
-    let domain = received
-        .attributes
-        .bare_domain()
-        .to_ascii_lowercase(alloc)
-        .ok()?;
-    let (domain, request) = (domain.as_slice(), site.request());
+    let domain = received.attributes.bare_domain().to_ascii_lowercase(alloc);
+    let (domain, request) = (domain.ok()?, site.request());
+    let domain = domain.as_slice();
     let new = KeptCookie::of(suffixes, &request, received, domain);
     Some(refused_by(suffixes, &request, &[stored], received, domain, &new))
 }

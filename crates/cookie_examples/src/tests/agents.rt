@@ -38,15 +38,15 @@ fn drawn(alloc: Global, draws: &mut Draws) -> Result<String, AllocError> {
     format!(in alloc; "{name}={value}{path}{domain}{flag}{age}")
 }
 
-// Appends which of up to twenty drawn cookies are stored, at times that may go back, and then what each site is sent at
-// three times.
+// Appends which of up to twenty drawn cookies are stored, at times that may go back, and then what each site is sent.
 fn push_list(bytes: &mut Vec<u8>, draws: &mut Draws) -> Result<(), AllocError> {
     let alloc = *bytes.allocator();
     let suffixes = Suffixes::new(alloc, b"com\n")?;
     let mut agent = Agent::new(alloc, &suffixes);
     for _ in 0..draws.below(21) {
         let (site, now) = (site(alloc, draws.below(4))?, after(draws.below(16)));
-        let refusal = agent.read(&site, drawn(alloc, draws)?.as_bytes(), now)?;
+        let text = drawn(alloc, draws)?;
+        let refusal = agent.read(&site, text.as_bytes(), now)?;
         let outcome = if refusal.is_none() {
             "stored\n"
         } else {
@@ -54,9 +54,16 @@ fn push_list(bytes: &mut Vec<u8>, draws: &mut Draws) -> Result<(), AllocError> {
         };
         bytes.extend_from_slice(outcome.as_bytes())?;
     }
+    push_sent(bytes, &agent)
+}
+
+// Appends what each site is sent, at three times.
+fn push_sent(bytes: &mut Vec<u8>, agent: &Agent<'_>) -> Result<(), AllocError> {
+    let alloc = *bytes.allocator();
     for second in [0, 8, 16] {
         for number in 0..4 {
-            bytes.extend_from_slice(&agent.header(&site(alloc, number)?, after(second))?)?;
+            let header = agent.header(&site(alloc, number)?, after(second))?;
+            bytes.extend_from_slice(&header)?;
             bytes.push(b'\n')?;
         }
     }

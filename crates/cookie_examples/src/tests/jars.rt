@@ -32,7 +32,8 @@ fn drawn_call(alloc: Global, draws: &mut Draws) -> Result<JarCall<'static>, Allo
 fn drawn_calls(alloc: Global, draws: &mut Draws) -> Result<Vec<JarCall<'static>>, AllocError> {
     let mut calls = Vec::new(alloc);
     for _ in 0..draws.below(24) {
-        calls.push(drawn_call(alloc, draws)?)?;
+        let call = drawn_call(alloc, draws)?;
+        calls.push(call)?;
     }
     Ok(calls)
 }
@@ -79,19 +80,13 @@ fn push_replayed(text: &mut String, calls: &[JarCall<'_>]) -> Option<()> {
     push_outcome(text, &jar, &outcomes)
 }
 
-// Appends what the requests of up to four drawn lists come to, and what their client holds, if it reads the texts in a
-// drawn order.
-fn push_requests(text: &mut String, draws: &mut Draws) -> Option<()> {
-    let alloc = *text.allocator();
-    let pick = [draws.below(24), draws.below(24)];
-    let (mut lists, mut requests) = (Vec::new(alloc), Vec::new(alloc));
-    for _ in 0..draws.below(5) {
-        lists.push(drawn_calls(alloc, draws).ok()?).ok()?;
-    }
-    for calls in &lists {
+// Appends what a request for each list comes to, and what the client holds then, if it reads texts in that order.
+fn push_requests(text: &mut String, lists: &[Vec<JarCall<'_>>], pick: &[usize]) -> Option<()> {
+    let mut requests = Vec::new(*text.allocator());
+    for calls in lists {
         requests.push(ClientRequest { calls }).ok()?;
     }
-    let played = rounds(alloc, &requests, &pick, moment()).ok()?;
+    let played = rounds(*text.allocator(), &requests, pick, moment()).ok()?;
     for (calls, one) in lists.iter().zip(&played) {
         push_outcome(text, &one.jar, &one.outcomes)?;
         push_replayed(text, calls)?;
@@ -102,6 +97,17 @@ fn push_requests(text: &mut String, draws: &mut Draws) -> Option<()> {
     Some(())
 }
 
+// Appends what up to four drawn lists come to, in a drawn order.
+fn push_lists(text: &mut String, draws: &mut Draws) -> Option<()> {
+    let pick = [draws.below(24), draws.below(24)];
+    let mut lists = Vec::new(*text.allocator());
+    for _ in 0..draws.below(5) {
+        let calls = drawn_calls(*text.allocator(), draws).ok()?;
+        lists.push(calls).ok()?;
+    }
+    push_requests(text, &lists, &pick)
+}
+
 #[test]
 fn drawn_calls_are_followed(rt: HostRuntime) {
     let mut draws = Draws::new();
@@ -109,7 +115,7 @@ fn drawn_calls_are_followed(rt: HostRuntime) {
         let mut text = String::new(rt.alloc());
         for number in 0..100 {
             assert!(rt;
-                push_requests(&mut text, &mut draws).is_some(),
+                push_lists(&mut text, &mut draws).is_some(),
                 "list {number}"
             );
         }
