@@ -41,13 +41,8 @@ fn keys_and_nonces_have_their_lengths(rt: HostRuntime) {
     assert!(rt; is(cookie_sign(alloc, short, b"\xff", b"\xff", &mut out), 4, 0));
     assert!(rt; is(cookie_verify(short, b"\xff", b"\xff", &mut out), 4, 0));
     assert!(rt; is(cookie_open(alloc, b"", b"\xff", b"\xff", &mut out), 4, 0));
-    assert!(rt;
-        is(
-            cookie_seal(alloc, short, &[0; 12], b"n", b"v", &mut out),
-            4,
-            0
-        )
-    );
+    let sealed = cookie_seal(alloc, short, &[0; 12], b"n", b"v", &mut out);
+    assert!(rt; is(sealed, 4, 0));
     for nonce in [&KEY[..0], &KEY[..11], &KEY[..13]] {
         assert!(rt; is(cookie_seal(alloc, &KEY, nonce, b"n", b"v", &mut out), 6, 0));
     }
@@ -68,10 +63,7 @@ fn numbers_out_of_range_are_no_date(rt: HostRuntime) {
         (-32_768, -128, -128, -128),
     ] {
         let answer = cookie_print_date(rt.alloc(), year, month, day, 0, 0, second, &mut out);
-        assert!(rt;
-            is(answer, 10, 0) && holds(&out, b""),
-            "{year} {month} {day} {second}"
-        );
+        assert!(rt; is(answer, 10, 0) && holds(&out, b""), "{year} {second}");
     }
     let read = cookie_read_date(b"caf\xe9");
     assert!(rt; (read.status, read.year, read.month) == (3, 0, 0));
@@ -102,17 +94,11 @@ fn print(alloc: Global, name: &[u8], path: &[u8], set: &Attributes, out: &mut [u
 #[test]
 fn attributes_have_their_numbers(rt: HostRuntime) {
     let mut out = [0xa5; 40];
-    for place in 0..8 {
+    for place in 0..9 {
         let answer = print(rt.alloc(), b"\xff", b"/\n", &undefined(place), &mut out);
-        assert!(rt; is(answer, 19, 0), "{place}");
+        let status = if place == 8 { 10 } else { 19 };
+        assert!(rt; is(answer, status, 0), "{place}");
     }
-    assert!(rt;
-        is(
-            print(rt.alloc(), b"\xff", b"/\n", &undefined(8), &mut out),
-            10,
-            0
-        )
-    );
     let mut set = Attributes::none();
     set.has_path = 1;
     assert!(rt; is(print(rt.alloc(), b"\xff", b"/\n", &set, &mut out), 3, 0));

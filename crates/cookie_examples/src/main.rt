@@ -1,6 +1,7 @@
 //! Uses of the cookie crates, as a caller writes them: each a short function with its contract. `main` runs them all.
 #![tactic(auto)]
 
+mod acting;
 mod agents;
 mod answer;
 mod carrying;
@@ -12,8 +13,10 @@ mod handler;
 mod headers;
 mod printing;
 mod reading;
+mod refusal;
 mod removal;
 mod requests;
+mod responding;
 mod runtime;
 mod sealing;
 mod session;

@@ -1,12 +1,13 @@
 //! What `main` prints of each use.
+use crate::acting::{self, Action};
 use crate::{
     agents, answer, carrying, counting, dates, flash, following, handler, headers, printing,
-    reading, removal, requests, runtime, sealing, session, team,
+    reading, refusal, removal, requests, responding, runtime, sealing, session, team,
 };
 use anyhow::Result;
 use cookie::{Cookie, CookieBuilder, CookieJar, DateText, JarError, Key, SameSite};
 use cookie_agent::Site;
-use cookie_browser::Suffixes;
+use cookie_browser::{KeptCookie, Received, Suffixes};
 use cookie_client::{ChildCall, Client, ClientError, JarCall, Played};
 use cookie_session::{KeyRing, Sessions};
 use http_header::{HeaderMap, HeaderValue};
@@ -77,7 +78,8 @@ pub fn handler(rt: &HostRuntime, now: DateTime) -> Result<()> {
         lifetime: 12 * 3600,
         idle: 1800,
     };
-    print_login(rt, &sessions, now, &mut rng)
+    print_login(rt, &sessions, now, &mut rng)?;
+    print_actions(rt, &sessions, now, &mut rng)
 }
 
 fn print_login(
@@ -105,6 +107,29 @@ fn print_visitor(
         None => println!(rt; "logged in: nobody")?,
     }
     Ok(())
+}
+
+fn print_actions(
+    rt: &HostRuntime,
+    sessions: &Sessions<'_>,
+    now: DateTime,
+    rng: &mut StdRng,
+) -> Result<()> {
+    print_action(rt, sessions, Action::None, now, rng)?;
+    print_action(rt, sessions, Action::LogIn("ann"), now, rng)?;
+    print_action(rt, sessions, Action::LogOut, now, rng)
+}
+
+fn print_action(
+    rt: &HostRuntime,
+    sessions: &Sessions<'_>,
+    action: Action<'_>,
+    now: DateTime,
+    rng: &mut StdRng,
+) -> Result<()> {
+    let mut jar = CookieJar::new(rt.alloc());
+    acting::act(rt.alloc(), sessions, &mut jar, action, now, rng)?;
+    print_counts(rt, &jar)
 }
 
 pub fn flash(rt: &HostRuntime, now: DateTime) -> Result<()> {
@@ -241,19 +266,52 @@ pub fn browser(rt: &HostRuntime, now: DateTime) -> Result<()> {
     let suffixes = Suffixes::new(alloc, b"com\n")?;
     let header = agents::next_header(alloc, &suffixes, &site, text, now)?;
     println!(rt; "browser: {}", str::from_utf8(&header)?)?;
+    print_refusal(rt, &suffixes, &site, b"cart=3; Domain=com")
+}
+
+fn print_refusal(rt: &HostRuntime, suffixes: &Suffixes, site: &Site, text: &[u8]) -> Result<()> {
+    let Ok(received) = Received::of(text) else {
+        return Ok(());
+    };
+    let domain = received
+        .attributes
+        .bare_domain()
+        .to_ascii_lowercase(rt.alloc())?;
+    let request = site.request();
+    let new = KeptCookie::of(suffixes, &request, &received, domain.as_slice());
+    if let Some(refusal) = refusal::refusal_of(
+        rt.alloc(),
+        suffixes,
+        &request,
+        &[],
+        &received,
+        &new,
+    )? {
+        println!(rt; "refused: {refusal}")?;
+    }
     Ok(())
 }
 
 pub fn headers(rt: &HostRuntime) -> Result<()> {
     let mut request = HeaderMap::new(rt.alloc());
-    request.append("cookie", HeaderValue::from_static("lang=en"))?;
-    print_lang(rt, &request)
+    request.append("cookie", HeaderValue::from_static("lang=en; theme=light"))?;
+    print_lang(rt, &request)?;
+    print_response(rt, &request)
 }
 
 fn print_lang(rt: &HostRuntime, request: &HeaderMap) -> Result<()> {
     let jar = headers::jar_of(rt.alloc(), RandomState::new(rt)?, request)?;
     let has_lang = jar.get("lang").is_some();
     println!(rt; "a header map with lang: {has_lang}")?;
+    Ok(())
+}
+
+fn print_response(rt: &HostRuntime, request: &HeaderMap) -> Result<()> {
+    let response = responding::respond(rt.alloc(), RandomState::new(rt)?, request)?;
+    println!(rt; "fields of the response: {}", response.len())?;
+    for value in response.get_all("set-cookie") {
+        println!(rt; "Set-Cookie: {}", str::from_utf8(value.as_bytes())?)?;
+    }
     Ok(())
 }
 

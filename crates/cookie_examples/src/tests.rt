@@ -2,16 +2,10 @@
 mod agents;
 mod collisions;
 mod cookies;
-mod drawn_call;
 mod draws;
-mod failing_reader;
-mod failing_writer;
 mod jars;
 mod orders;
-mod plain_agent;
 mod raw_forms;
-mod samples;
-mod slot;
 mod streams;
 mod values;
 

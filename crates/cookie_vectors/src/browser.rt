@@ -1,12 +1,11 @@
-//! What a browser reads of a `Set-Cookie` text, and which step refuses it. data/browser.tsv says what its calls return.
+//! What a browser reads of a `Set-Cookie` text, which step refuses it (data/browser.tsv), and which domains are public
+//! suffixes (data/suffixes.tsv).
 use crate::browsing::{context_of, outcome, site_of};
 use crate::cookie_words::{push, push_flag};
 use crate::escapes::Escaped;
-use crate::player::Player;
-use crate::refusal::refusal_of;
-use crate::step::{Answer, Step};
+use crate::step::{Answer, Player, Step};
 use cookie_agent::Site;
-use cookie_browser::{Enforcement, KeptCookie, Received, Refusal, Suffixes};
+use cookie_browser::{Enforcement, KeptCookie, Received, Refusal, Suffixes, refused_by};
 use std::alloc::Global;
 
 /// A browser with these public suffixes.
@@ -34,12 +33,12 @@ impl Browser<'_> {
     // which no step looks at.
     fn refusal(&self, step: Step<'_>) -> Option<Option<Refusal>> {
         let (url, texts) = step.halves();
-        let (first, text) = texts.split_once(" | ").unwrap_or(("", texts));
-        let site = site_of(step.alloc, url)?.with_context(context_of(step.call)?);
+        let (first, text) = texts.words.split_once(" | ").unwrap_or(("", texts.words));
         let (first, text) = (
             step.with_words(first).bytes()?,
             step.with_words(text).bytes()?,
         );
+        let site = site_of(step.alloc, url.words)?.with_context(context_of(step.call)?);
         let Ok(received) = Received::of(&first) else {
             return None;
         };
@@ -63,8 +62,9 @@ fn refusal_after(
 ) -> Option<Option<Refusal>> {
     let domain = received.attributes.bare_domain().to_ascii_lowercase(alloc);
     let (domain, request) = (domain.ok()?, site.request());
-    let new = KeptCookie::of(suffixes, &request, received, domain.as_slice());
-    refusal_of(alloc, suffixes, &request, &[stored], received, &new).ok()
+    let domain = domain.as_slice();
+    let new = KeptCookie::of(suffixes, &request, received, domain);
+    Some(refused_by(suffixes, &request, &[stored], received, domain, &new))
 }
 
 // The name and the value as `a=1`, and then each attribute that counts, after `; `.
@@ -86,4 +86,20 @@ fn words(step: Step<'_>, received: &Received<'_>) -> Answer {
     };
     push(&mut words, "SameSite", same_site)?;
     Some(words)
+}
+
+/// A list that the steps of a row read and ask.
+#[derive(Drop)]
+pub struct SuffixList(pub Suffixes);
+
+impl Player for SuffixList {
+    fn answer(&mut self, step: Step<'_>) -> Answer {
+        let text = step.bytes()?;
+        match step.call {
+            "list" => self.0 = Suffixes::new(step.alloc, &text).ok()?,
+            "public" => return step.yes(self.0.is_public(&text)),
+            _ => return None,
+        }
+        step.done()
+    }
 }

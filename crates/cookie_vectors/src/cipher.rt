@@ -1,11 +1,7 @@
 //! AES-256, HMAC-SHA256, its expansion, and AES-256-GCM. data/cipher.tsv has the calls.
-mod inputs;
-
-use crate::player::Player;
-use crate::step::{Answer, Step};
+use crate::step::{Answer, Player, Step};
 use cookie_crypt::{Aes256, Gcm, Mac, Steps, are_equal, expand64, hmac};
-use hex::encode;
-use inputs::Inputs;
+use hex::{FromHex, decode, encode};
 use std::alloc::Global;
 
 /// What plays the rows on the cipher.
@@ -30,6 +26,33 @@ impl Player for Cipher {
             "texts" => texts(inputs),
             _ => None,
         }
+    }
+}
+
+// The inputs of a call that aren't read yet, with ` | ` between them.
+#[derive(Clone, Copy)]
+struct Inputs<'t>(Step<'t>);
+
+impl<'t> Inputs<'t> {
+    fn word(&mut self) -> Option<&'t str> {
+        let (word, rest) = self.0.halves();
+        self.0 = rest;
+        (!word.words.is_empty()).then_some(word.words)
+    }
+
+    // The next input, which is bytes in hexadecimal, or `-` for none.
+    fn bytes(&mut self) -> Option<Vec<u8>> {
+        decode(self.0.alloc, self.word()?.trim_matches('-')).ok()
+    }
+
+    // The next input, which is this many bytes in hexadecimal.
+    fn array<const N: usize>(&mut self) -> Option<[u8; N]> {
+        <[u8; N] as FromHex>::from_hex(self.word()?).ok()
+    }
+
+    // The next input, which is a number.
+    fn number(&mut self) -> Option<usize> {
+        self.word()?.parse().ok()
     }
 }
 

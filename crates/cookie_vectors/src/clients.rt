@@ -1,8 +1,7 @@
 //! Clients that follow jars, and calls as values. data/clients.tsv says what its calls return.
 use crate::jar_calls::{call_of, calls_of, moment, test_key};
 use crate::jars::Jars;
-use crate::player::Player;
-use crate::step::{Answer, Step};
+use crate::step::{Answer, Player, Step};
 use cookie::{CookieJar, Key};
 use cookie_client::{Client, ClientRequest, JarCall, Played, mirror, replay, rounds};
 use jiff::civil::DateTime;

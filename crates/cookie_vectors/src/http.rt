@@ -1,9 +1,8 @@
 //! Cookies in header maps. data/http.tsv says what its calls return.
-use crate::fixed_source::hash_keys;
 use crate::jar_calls::{calls_of, moment, test_key};
 use crate::jars::Jars;
-use crate::player::Player;
-use crate::step::{Answer, Step};
+use crate::sources::hash_keys;
+use crate::step::{Answer, Player, Step};
 use cookie::CookieJar;
 use cookie_client::Client;
 use cookie_http::{append_delta, jar_from_headers, remove_as_set, with_headers};
@@ -87,7 +86,7 @@ impl Headers {
         fields(step, &self.headers, "cookie")
     }
 
-    // Makes the calls on a new jar. The map is then the client's next request, and the jar that of this request.
+    // Makes the calls on a new jar. The map is then the client's next request, and the jar is the jar of this request.
     fn exchange(&mut self, step: Step<'_>) -> Answer {
         let key = test_key();
         let exchanged = exchange(step.alloc, &calls_of(&key, step)?, moment()).ok()?;

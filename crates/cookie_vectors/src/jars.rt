@@ -1,24 +1,21 @@
 //! Jars, their child jars, their keys, and the headers that they read and print.
-mod bare;
 mod children;
 mod counting;
 mod keys;
 pub mod looks;
-mod team;
+mod prefixes;
 
-use crate::fixed_source::hash_keys;
-use crate::jar_calls::{Sevens, make, test_key};
-use crate::player::Player;
-use crate::step::{Answer, Step};
-use bare::Bare;
+use crate::jar_calls::{make, test_key};
+use crate::sources::{Sevens, hash_keys};
+use crate::step::{Answer, Player, Step};
 use children::{prefixed, secret};
 use cookie::prefix::{Host, Secure};
 use cookie::{CookieJar, JarError, Key};
 use counting::Counting;
+use prefixes::{Bare, Team};
 use rand_core::TryRng;
 use std::alloc::Global;
 use std::mem::{replace, swap};
-use team::Team;
 
 /// A jar and a copy of it, the key of its child jars, and a generator of random bytes.
 #[derive(Drop)]

@@ -1,15 +1,16 @@
-//! The login: requests to a site, and its responses. data/login.tsv says what its calls return.
-mod showing;
-
-use crate::fixed_source::hash_keys;
-use crate::jar_calls::{Sevens, moment};
-use crate::player::Player;
+//! The login: requests, responses, and a client that goes back and forth. data/login.tsv says what its calls return.
+use crate::escapes::Escaped;
+use crate::jar_calls::{after, moment};
 use crate::sessions::Site;
-use crate::step::{Answer, Step};
+use crate::sources::{Sevens, hash_keys};
+use crate::step::{Answer, Player, Step};
+use cookie_theorems::TimedRequest;
+use cookie_theorems::browse::browse;
+use jiff::civil::DateTime;
 use login_core::{
-    AnswerError, IDLE, LIFETIME, LoginSite, Request, Response, User, answer, session_cookie,
+    AnswerError, IDLE, LIFETIME, LoginSite, Page, Request, Response, User, Visitor, answer, html,
+    session_cookie,
 };
-use showing::{browsed, home, part, summary};
 use std::alloc::Global;
 use std::hash::RandomState;
 
@@ -64,25 +65,37 @@ impl Logins {
         step.done()
     }
 
-    fn send(&self, alloc: Global, request: Request<'_>) -> Result<Response, AnswerError> {
+    fn send(
+        &self,
+        alloc: Global,
+        (method, path): (&str, &str),
+        cookies: &[u8],
+        form: &str,
+    ) -> Result<Response, AnswerError> {
         let (site, mut rng) = (self.login_site(), Sevens { left: self.left });
+        let request = Request {
+            method,
+            path,
+            cookies,
+            form: form.as_bytes(),
+        };
         answer(alloc, self.state, &site, &request, moment(), &mut rng)
     }
 
     // Sends a request, such as `POST /login | a=b | user=ann`, and keeps the response's text.
     fn request(&mut self, step: Step<'_>) -> Answer {
         let (head, content) = step.halves();
-        let (cookies, form) = step.with_words(content).halves();
-        let (method, path) = head.split_once(' ')?;
-        let cookies = if cookies == "-" { "" } else { cookies };
-        let cookies = step.with_words(cookies).bytes()?;
-        let request = Request {
-            method,
-            path,
-            cookies: &cookies,
-            form: form.as_bytes(),
+        let (cookies, form) = content.halves();
+        let cookies = match cookies.words {
+            "-" => Vec::new(step.alloc),
+            _ => cookies.bytes()?,
         };
-        match self.send(step.alloc, request) {
+        match self.send(
+            step.alloc,
+            head.words.split_once(' ')?,
+            &cookies,
+            form.words,
+        ) {
             Ok(response) => self.keep(step, &response),
             Err(refusal) => step.printed(refusal),
         }
@@ -102,13 +115,7 @@ impl Logins {
         let name = "x".repeat(step.alloc, step.words.parse().ok()?).ok()?;
         self.add_user(step.alloc, &name, "y")?;
         let form = format!(in step.alloc; "password=y&user={name}").ok()?;
-        let request = Request {
-            method: "POST",
-            path: "/login",
-            cookies: b"",
-            form: form.as_bytes(),
-        };
-        match self.send(step.alloc, request) {
+        match self.send(step.alloc, ("POST", "/login"), b"", &form) {
             Ok(response) => step.printed(response.page.status()),
             Err(refusal) => step.printed(refusal),
         }
@@ -126,4 +133,83 @@ impl Player for Logins {
             _ => self.site.answer(step),
         }
     }
+}
+
+// The user whom the page greets, or `-`, and its message.
+fn shown(page: &Page) -> (&str, Option<&str>) {
+    match page {
+        Page::Home(of) => (of.user.as_deref().unwrap_or("-"), of.notice.as_deref()),
+        _ => ("-", None),
+    }
+}
+
+// The status, the user who is greeted, and the texts of the `Set-Cookie` fields.
+fn summary(step: Step<'_>, response: &Response) -> Answer {
+    let (user, _) = shown(&response.page);
+    let mut answer = format!(in step.alloc; "{} | {user}", response.page.status()).ok()?;
+    for cookie in &response.cookies {
+        write!(answer, " | {}", Escaped(cookie.as_bytes())).ok()?;
+    }
+    Some(answer)
+}
+
+// The home page of a user of that name.
+fn home(step: Step<'_>) -> Option<String> {
+    let visitor = Visitor {
+        user: Some(step.text()?),
+        visits: 1,
+        notice: None,
+    };
+    String::from_utf8(html(step.alloc, "", &Page::Home(visitor)).ok()?).ok()
+}
+
+// A part of the text: what is between two texts, as `<h1> | </h1>`, or what the line of a field has.
+fn part(step: Step<'_>, whole: &str) -> Answer {
+    let (front, back) = step.halves();
+    let (front, back) = (front.text()?, back.text()?);
+    let found = match step.call {
+        "field" => {
+            let mut lines = whole.split("\r\n");
+            lines.find_map(|line| line.strip_prefix(step.words)?.strip_prefix(": "))
+        }
+        _ => {
+            let rest = whole.split_once(front.as_str()).map(|parts| parts.1);
+            let parts = rest.and_then(|rest| rest.split_once(back.as_str()));
+            parts.map(|parts| parts.0)
+        }
+    };
+    match found {
+        Some(found) => step.escaped(found.as_bytes()),
+        None => step.said("-"),
+    }
+}
+
+// The request of words such as `1799 GET /` or `1800 POST /login user=ann`, at that number of seconds after the first.
+fn request(words: &str) -> TimedRequest<'_> {
+    let mut words = words.splitn(4, ' ');
+    let seconds = words.next().unwrap_or("");
+    TimedRequest {
+        time: after(seconds).unwrap_or(DateTime::MIN),
+        method: words.next().unwrap_or(""),
+        path: words.next().unwrap_or(""),
+        form: words.next().unwrap_or("").as_bytes(),
+    }
+}
+
+// What the pages of eight requests show. A list of requests can't be made one by one here.
+fn browsed(step: Step<'_>, state: RandomState, site: &LoginSite<'_>) -> Answer {
+    let (mut words, mut requests) = (step.words.split(" | "), [request(""); 8]);
+    for place in requests.iter_mut() {
+        *place = request(words.next()?);
+    }
+    let mut rng = Sevens { left: 96 };
+    let mut texts = Vec::new(step.alloc);
+    for page in &browse(step.alloc, state, site, &requests, &mut rng).ok()? {
+        let text = match shown(page) {
+            (user, Some(notice)) => format!(in step.alloc; "{user}: {notice}"),
+            (user, None) => String::from_str(step.alloc, user),
+        };
+        texts.push(text.ok()?).ok()?;
+    }
+    step.list(&texts)
 }

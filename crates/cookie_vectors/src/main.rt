@@ -12,20 +12,17 @@ mod cookie_words;
 mod cookies;
 mod dates;
 mod escapes;
-mod fixed_source;
 mod http;
 mod jar_calls;
 mod jars;
 mod login;
-mod player;
 mod printed;
-mod refusal;
 mod refusals;
 mod row;
 mod runs;
 mod sessions;
+mod sources;
 mod step;
-mod suffixes;
 
 use anyhow::Result;
 use cookie_browser::Suffixes;
@@ -53,7 +50,7 @@ fn wrong<'t>(alloc: Global, suffixes: &Suffixes, file: &str, row: &Row<'t>) -> O
         "sessions" => row.wrong(sessions::Visitors::new(alloc, suffixes)),
         "http" => row.wrong(http::Headers::new(alloc)),
         "browser" => row.wrong(Some(browser::Browser(suffixes))),
-        "suffixes" => row.wrong(Some(suffixes::SuffixList(Suffixes::empty(alloc)))),
+        "suffixes" => row.wrong(Some(browser::SuffixList(Suffixes::empty(alloc)))),
         "agent" => row.wrong(agent::Agents::new(alloc, suffixes)),
         "clients" => row.wrong(Some(clients::Clients::new(alloc))),
         "runs" => row.wrong(Some(runs::Runs)),

@@ -1,8 +1,7 @@
 //! Refusals, and other values without a look of their own, as texts under each flag of a formatter.
 use crate::jar_calls::test_key;
-use crate::player::Player;
 use crate::printed::{debugged, printed};
-use crate::step::{Answer, Step};
+use crate::step::{Answer, Player, Step};
 use cookie::prefix::{Host, Prefix, Secure};
 use cookie::{Error, Expiration, JarError, KeyError, ParseError, SameSite, TextsError};
 use cookie_client::{ClientError, PrefixKind, RunError};

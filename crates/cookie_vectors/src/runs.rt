@@ -1,14 +1,11 @@
 //! Sessions of the program: over bytes in memory, and with a hash that has keys over streams that take a little at a
 //! time.
-mod byte_reader;
-mod short_writer;
+mod streams;
 
-use crate::fixed_source::hash_keys;
-use crate::player::Player;
-use crate::step::{Answer, Step};
-use byte_reader::ByteReader;
+use crate::sources::hash_keys;
+use crate::step::{Answer, Player, Step};
 use cookie_client::{RunError, moment_of, run, run_with_hasher};
-use short_writer::ShortWriter;
+use streams::{ByteReader, ShortWriter};
 
 /// What plays the rows on sessions of the program.
 #[derive(Clone, Copy)]
@@ -19,11 +16,8 @@ impl Player for Runs {
         let (moment, input) = step.halves();
         match step.call {
             "run" => outcome(step, "Wed, 21 Oct 2015 07:28:00 GMT", &step.bytes()?),
-            "run-at" => outcome(step, moment, &step.with_words(input).bytes()?),
-            "moment" => match moment_of(moment) {
-                Some(moment) => step.printed(moment),
-                None => step.said("-"),
-            },
+            "run-at" => outcome(step, moment.words, &input.bytes()?),
+            "moment" => step.optional(moment_of(step.words)),
             _ => None,
         }
     }

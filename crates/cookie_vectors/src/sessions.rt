@@ -1,18 +1,20 @@
 //! Sessions: rings of keys, sites that open and save sessions, and what clients and user agents bring back.
 //! data/sessions.tsv says what its calls return.
-mod returning;
 mod site;
 
 use crate::browsing::{outcome, site_of};
-use crate::jar_calls::{Sevens, after, moment};
+use crate::jar_calls::{after, calls_of, moment, test_key};
 use crate::jars::Jars;
-use crate::player::Player;
-use crate::step::{Answer, Step};
+use crate::sources::Sevens;
+use crate::step::{Answer, Player, Step};
 use cookie::{Cookie, CookieJar};
 use cookie_agent::Agent;
 use cookie_browser::Suffixes;
-use cookie_client::Client;
+use cookie_client::{Client, JarCall};
 use cookie_session::{Opened, Session};
+use cookie_theorems::open_for_agent::open_for_agent;
+use cookie_theorems::save_and_return::save_and_return;
+use cookie_theorems::save_over_headers::save_over_headers;
 use jiff::civil::DateTime;
 use login_core::session_cookie;
 pub use site::Site;
@@ -156,8 +158,56 @@ impl<'s> Visitors<'s> {
     // Has the user agent read a `Set-Cookie` text of a response, as `https://a.example/ | a=1; Path=/`.
     fn read(&mut self, step: Step<'_>) -> Answer {
         let (url, text) = step.halves();
-        let (site, text) = (site_of(step.alloc, url)?, step.with_words(text).bytes()?);
+        let (site, text) = (site_of(step.alloc, url.words)?, text.bytes()?);
         outcome(step, self.agent.read(&site, &text, self.now).ok()?)
+    }
+
+    // Opens the session of the jar, of a `Cookie` field, or of the user agent's request.
+    fn open(&mut self, step: Step<'_>) -> Answer {
+        let (alloc, now, sessions) = (step.alloc, self.now, self.site.sessions());
+        let opened = match step.call {
+            "open" => sessions.open(alloc, &self.jars.jar, now),
+            "open_field" => sessions.open_field(alloc, &step.bytes()?, now),
+            _ => {
+                let site = site_of(alloc, step.words)?;
+                open_for_agent(alloc, &sessions, &self.agent, &site, now)
+            }
+        };
+        self.take(step, opened.ok()?)
+    }
+
+    // Saves the session, and opens the client's at its next request, as `599 2 1 0 | add a=1 | remove b`. The numbers
+    // after the seconds pick the order of the texts.
+    fn come_back(&mut self, step: Step<'_>) -> Answer {
+        let (front, calls) = step.halves();
+        let (seconds, pick) = front.words.split_once(' ').unwrap_or((front.words, ""));
+        let (key, later) = (test_key(), after(seconds)?);
+        let (calls, pick) = (calls_of(&key, calls)?, numbers(step.with_words(pick))?);
+        let opened = self.returned(step, &calls, &pick, later)?;
+        self.take(step, opened)
+    }
+
+    // What is opened of the texts of the response, or of its header map.
+    fn returned(
+        &mut self,
+        step: Step<'_>,
+        calls: &[JarCall<'_>],
+        pick: &[usize],
+        later: DateTime,
+    ) -> Option<Option<Opened>> {
+        let (alloc, now, sessions) = (step.alloc, self.now, self.site.sessions());
+        let (jar, client, session) = (&mut self.jars.jar, &mut self.client, &self.session);
+        let mut rng = Sevens { left: self.left };
+        if step.call == "save_and_return" {
+            return save_and_return(
+                alloc, &sessions, jar, calls, session, client, pick, now, later, &mut rng,
+            )
+            .ok();
+        }
+        let returned = save_over_headers(
+            alloc, &sessions, jar, calls, session, client, now, later, &mut rng,
+        );
+        Some(returned.ok()?.opened)
     }
 }
 
@@ -177,4 +227,12 @@ impl Player for Visitors<'_> {
             _ => self.jars.answer(step),
         }
     }
+}
+
+fn numbers(step: Step<'_>) -> Option<Vec<usize>> {
+    let mut numbers = Vec::new(step.alloc);
+    for word in step.words.split(' ').filter(|word| !word.is_empty()) {
+        numbers.push(word.parse().ok()?).ok()?;
+    }
+    Some(numbers)
 }

@@ -28,9 +28,7 @@ fn are_refused(alloc: Global, site: &SessionSettings<'_>, now: u64, status: u32)
     let saved = cookie_session_save(alloc, site, b"", b"", true, now, &NONCE, &mut out);
     let kept = cookie_session_save(alloc, site, b"", b"", false, now, &NONCE, &mut out);
     let ended = cookie_session_end(alloc, site, now, &mut out);
-    let told = [saved, kept, ended]
-        .into_iter()
-        .all(|answer| is(answer, status, 0));
+    let told = is(saved, status, 0) && is(kept, status, 0) && is(ended, status, 0);
     told && opened.status == status && holds(&out, b"")
 }
 

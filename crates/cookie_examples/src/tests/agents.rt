@@ -1,74 +1,83 @@
-//! The user agent against a second body of it, over cookies that are drawn.
-use super::draws::Draws;
-use super::plain_agent::{Held, PlainAgent, Spot};
-use cookie_agent::Agent;
+//! The user agent over cookies that are drawn.
+use super::draws::{Draws, code};
+use super::moment;
+use cookie_agent::{Agent, Site};
 use cookie_browser::Suffixes;
+use jiff::SignedDuration;
+use jiff::civil::DateTime;
 use std::alloc::{AllocError, Global};
 
-// The text of a cookie, and the cookie.
-fn drawn(alloc: Global, draws: &mut Draws) -> Result<(String, Held), AllocError> {
+// What each hundred lists come to by a second body of the agent, in tools/drawn-codes.
+const CODES: &str = "\
+586fa6254fbb3578 16ea0675e2457035 8392447acfdf9d3d b917cf426a7331d7 0f84d149aecc7215 \
+7c4bd11957378a42 5dc006e6ba093385 01469b2cb4d8f28e c8ba3ac93d48ae43 3eb0fa6a672d2c32";
+
+// The host is in upper case, or an address.
+fn site(alloc: Global, number: usize) -> Result<Site, AllocError> {
+    match number {
+        0 => Site::new(alloc, "EXAMPLE.COM", "/", false),
+        1 => Site::new(alloc, "WWW.EXAMPLE.COM", "/a/b", true),
+        2 => Site::new(alloc, "WWW.EXAMPLE.COM", "/ab", true),
+        _ => Site::of_address(alloc, "10.0.0.1", "/a/", false),
+    }
+}
+
+fn after(seconds: usize) -> DateTime {
+    let seconds = SignedDuration::from_secs(i64::try_from(seconds).unwrap_or(0));
+    moment().checked_add(seconds).unwrap_or(DateTime::MIN)
+}
+
+fn drawn(alloc: Global, draws: &mut Draws) -> Result<String, AllocError> {
     let (name, value) = (draws.text("a|b|a b|"), draws.text("|1|2 x|\u{e9}"));
     let path = draws.text("|; Path=/|; Path=/a|; Path=x");
     let domain = draws.text(
         "|||; Domain=|; Domain=example.com|; Domain=www.example.com|; Domain=other.com|; Domain=0.0.1",
     );
-    let (flag, age) = (
-        draws.text("; Secure|||||||"),
-        draws.text("||; Max-Age=9|; Max-Age=0"),
-    );
-    let text = format!(in alloc; "{name}={value}{path}{domain}{flag}{age}")?;
-    let domain = domain.strip_prefix("; Domain=").unwrap_or("");
-    let cookie = Held {
-        name,
-        value,
-        domain,
-        is_host_only: domain.is_empty(),
-        path: path.strip_prefix("; Path=").unwrap_or(""),
-        is_secure: !flag.is_empty(),
-        expiry: match age {
-            "; Max-Age=9" => 9,
-            "; Max-Age=0" => 0,
-            _ => i64::MAX,
-        },
-    };
-    Ok((text, cookie))
+    let flag = draws.text("; Secure|||||||");
+    let age = draws.text("||; Max-Age=9|; Max-Age=0");
+    format!(in alloc; "{name}={value}{path}{domain}{flag}{age}")
 }
 
-// Whether the two agents send the same to each site, at three times.
-fn are_sent_alike(agent: &Agent<'_>, plain: &PlainAgent) -> Result<bool, AllocError> {
+// Appends which of up to twenty drawn cookies are stored, at times that may go back, and then what each site is sent.
+fn push_list(bytes: &mut Vec<u8>, draws: &mut Draws) -> Result<(), AllocError> {
+    let alloc = *bytes.allocator();
+    let suffixes = Suffixes::new(alloc, b"com\n")?;
+    let mut agent = Agent::new(alloc, &suffixes);
+    for _ in 0..draws.below(21) {
+        let (site, now) = (site(alloc, draws.below(4))?, after(draws.below(16)));
+        let text = drawn(alloc, draws)?;
+        let refusal = agent.read(&site, text.as_bytes(), now)?;
+        let outcome = if refusal.is_none() {
+            "stored\n"
+        } else {
+            "refused\n"
+        };
+        bytes.extend_from_slice(outcome.as_bytes())?;
+    }
+    push_sent(bytes, &agent)
+}
+
+// Appends what each site is sent, at three times.
+fn push_sent(bytes: &mut Vec<u8>, agent: &Agent<'_>) -> Result<(), AllocError> {
+    let alloc = *bytes.allocator();
     for second in [0, 8, 16] {
         for number in 0..4 {
-            let spot = Spot::of(number, second);
-            let header = agent.header(&spot.site(plain.alloc)?, spot.moment())?;
-            if header.as_slice() != plain.header(spot)?.as_bytes() {
-                return Ok(false);
-            }
+            let header = agent.header(&site(alloc, number)?, after(second))?;
+            bytes.extend_from_slice(&header)?;
+            bytes.push(b'\n')?;
         }
     }
-    Ok(true)
-}
-
-// Whether the same comes of up to twenty drawn cookies with both bodies, at times that may go back.
-fn is_list_alike(alloc: Global, draws: &mut Draws) -> Result<bool, AllocError> {
-    let suffixes = Suffixes::new(alloc, b"com\n")?;
-    let (mut agent, mut plain) = (Agent::new(alloc, &suffixes), PlainAgent::new(alloc));
-    for _ in 0..draws.below(21) {
-        let (number, second) = (draws.below(4), i64::try_from(draws.below(16)));
-        let spot = Spot::of(number, second.unwrap_or(0));
-        let (text, cookie) = drawn(alloc, draws)?;
-        let refusal = agent.read(&spot.site(alloc)?, text.as_bytes(), spot.moment())?;
-        if refusal.is_none() != plain.read(spot, cookie)? {
-            return Ok(false);
-        }
-    }
-    are_sent_alike(&agent, &plain)
+    Ok(())
 }
 
 #[test]
-fn two_bodies_of_the_agent_are_alike(rt: HostRuntime) {
-    let mut draws = Draws(0x9E37_79B9_7F4A_7C15);
-    for number in 0..1000 {
-        let is_alike = is_list_alike(rt.alloc(), &mut draws);
-        assert!(rt; is_alike == Ok(true), "list {number}");
+fn drawn_cookies_are_stored_and_sent(rt: HostRuntime) {
+    let mut draws = Draws::new();
+    for wanted in CODES.split(' ') {
+        let mut bytes = Vec::new(rt.alloc());
+        for number in 0..100 {
+            assert!(rt; push_list(&mut bytes, &mut draws).is_ok(), "list {number}");
+        }
+        assert!(rt; u64::from_str_radix(wanted, 16) == Ok(code(&bytes)));
     }
 }

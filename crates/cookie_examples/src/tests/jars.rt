@@ -1,105 +1,124 @@
-//! The jar and its client against a second body of them, which has each name by itself, over calls that are drawn.
-use super::drawn_call::{DrawnCall, NAMES};
-use super::draws::Draws;
+//! The jar and its client over calls that are drawn.
+use super::draws::{Draws, code};
 use super::moment;
-use super::slot::Slot;
-use cookie::CookieJar;
-use cookie_client::{ClientRequest, JarCall, Played, replay, rounds};
+use cookie::{Cookie, CookieJar};
+use cookie_client::{ClientRequest, JarCall, replay, rounds};
 use std::alloc::{AllocError, Global};
 
-fn slots(alloc: Global) -> Option<Vec<Slot>> {
-    let mut slots = Vec::new(alloc);
-    for name in NAMES.split('|') {
-        slots.push(Slot::new(name)).ok()?;
-    }
-    Some(slots)
+// What each hundred lists come to by a second body of both, in tools/drawn-codes.
+const CODES: &str = "\
+b0c4af0d866efc83 8bf7cba220d526cf 2bbe23afabb5fd50 f1dcdc2f35f8da74 26828e1cbccda0f8 \
+596d6d48fe75d4ae 63edef3ae2b2e517 330253bae73090e6 2f4b493b1a710e14 4c37df8438023928";
+
+const NAMES: &str = "a|b|c|id|A||\u{e9}|a b";
+
+const VERBS: &str = "\
+original|original|original|original|add|add|add|add|add|\
+remove|remove|remove|remove|force|force|reset";
+
+fn drawn_call(alloc: Global, draws: &mut Draws) -> Result<JarCall<'static>, AllocError> {
+    let (verb, name) = (draws.text(VERBS), draws.text(NAMES));
+    let cookie = Cookie::new(name, draws.text("|1|2; x|\u{e9}"));
+    Ok(match verb {
+        "original" => JarCall::AddOriginal(cookie),
+        "add" => JarCall::Add(cookie),
+        "remove" => JarCall::Remove(cookie, moment()),
+        "force" => JarCall::ForceRemove(String::from_str(alloc, name)?),
+        _ => JarCall::ResetDelta,
+    })
 }
 
-fn calls_of(alloc: Global, list: &[DrawnCall]) -> Option<Vec<JarCall<'static>>> {
+// Up to 23 calls.
+fn drawn_calls(alloc: Global, draws: &mut Draws) -> Result<Vec<JarCall<'static>>, AllocError> {
     let mut calls = Vec::new(alloc);
-    for drawn in list {
-        let call = drawn.call(alloc).ok()?;
-        calls.push(call).ok()?;
+    for _ in 0..draws.below(24) {
+        let call = drawn_call(alloc, draws)?;
+        calls.push(call)?;
     }
-    Some(calls)
+    Ok(calls)
 }
 
-// What comes of a request for each list of calls, if texts are read in that order.
-fn played(alloc: Global, lists: &[Vec<DrawnCall>], pick: &[usize]) -> Option<Vec<Played>> {
-    let (mut calls, mut requests) = (Vec::new(alloc), Vec::new(alloc));
-    for list in lists {
-        let list = calls_of(alloc, list)?;
-        calls.push(list).ok()?;
-    }
-    for calls in &calls {
-        requests.push(ClientRequest { calls }).ok()?;
-    }
-    rounds(alloc, &requests, pick, moment()).ok()
-}
-
-// Whether the jar has the same changes and shows the same.
-fn is_like(slots: &[Slot], jar: &CookieJar) -> bool {
-    let changes = slots.iter().filter(|slot| slot.change.is_some());
-    let shown = slots.iter().filter(|slot| slot.shown().is_some());
-    (jar.delta().count(), jar.iter().count()) == (changes.count(), shown.count())
-        && slots.iter().all(|slot| slot.is_like(jar))
-}
-
-// Whether all calls were accepted, and came to that jar, of which a clone is the same.
-fn is_alike(
-    slots: &mut [Slot],
-    list: &[DrawnCall],
-    jar: &CookieJar,
-    outcomes: &[bool],
-) -> Option<bool> {
-    for slot in slots.iter_mut() {
-        slot.play(list);
-    }
-    let copy = jar.clone().ok()?;
-    let are_accepted = outcomes.len() == list.len() && !outcomes.contains(&false);
-    Some(are_accepted && is_like(slots, jar) && is_like(slots, &copy))
-}
-
-// Whether the same comes of the calls on a new jar.
-fn is_replayed_alike(alloc: Global, list: &[DrawnCall]) -> Option<bool> {
-    let (calls, mut jar) = (calls_of(alloc, list)?, CookieJar::new(alloc));
-    let outcomes = replay(alloc, &mut jar, &calls).ok()?;
-    let mut slots = slots(alloc)?;
-    is_alike(&mut slots, list, &jar, &outcomes)
-}
-
-// Whether the same comes of each request, for its jar and for the client.
-fn are_alike(alloc: Global, lists: &[Vec<DrawnCall>], pick: &[usize]) -> Option<bool> {
-    let (played, mut slots) = (played(alloc, lists, pick)?, slots(alloc)?);
-    for (list, one) in lists.iter().zip(&played) {
-        let is_alike = is_alike(&mut slots, list, &one.jar, &one.outcomes)?;
-        let client = &one.client;
-        let is_held = slots
-            .iter()
-            .all(|slot| client.get(slot.name) == slot.client);
-        if !is_alike || !is_held || !is_replayed_alike(alloc, list)? {
-            return Some(false);
+// The values that walks over the jar's changes, and over what it shows, meet under the name.
+fn walked<'j>(jar: &'j CookieJar, name: &str) -> (Option<&'j str>, Option<&'j str>) {
+    let (mut change, mut shown) = (None, None);
+    for cookie in jar.delta() {
+        if cookie.name() == name {
+            change = Some(cookie.value());
         }
     }
-    Some(lists.len() == played.len())
+    for cookie in jar.iter() {
+        if cookie.name() == name {
+            shown = Some(cookie.value());
+        }
+    }
+    (change, shown)
 }
 
-// Whether the same comes of up to four lists that are drawn.
-fn is_next_alike(alloc: Global, draws: &mut Draws) -> Option<bool> {
-    let pick = [draws.below(24), draws.below(24)];
-    let mut lists = Vec::new(alloc);
-    for _ in 0..draws.below(5) {
-        let list = DrawnCall::list(alloc, draws).ok()?;
-        lists.push(list).ok()?;
+// Appends what the jar has under each name, by a look-up and by walks, and its numbers of changes and of cookies.
+fn push_jar(text: &mut String, jar: &CookieJar) -> Option<()> {
+    for name in NAMES.split('|') {
+        let found = jar.get(name).map(|cookie| cookie.value()).unwrap_or("-");
+        let (change, shown) = walked(jar, name);
+        let (change, shown) = (change.unwrap_or("-"), shown.unwrap_or("-"));
+        write!(text, "{found}|{change}|{shown}\n").ok()?;
     }
-    are_alike(alloc, &lists, &pick)
+    write!(text, "{} {}\n", jar.delta().count(), jar.iter().count()).ok()
+}
+
+// Appends what the jar and a copy of it have, and how many calls were accepted.
+fn push_outcome(text: &mut String, jar: &CookieJar, outcomes: &[bool]) -> Option<()> {
+    push_jar(text, jar)?;
+    push_jar(text, &jar.clone().ok()?)?;
+    let accepted = outcomes.iter().filter(|is_accepted| **is_accepted).count();
+    write!(text, "{accepted} of {} accepted\n", outcomes.len()).ok()
+}
+
+// Appends what the calls come to on a new jar.
+fn push_replayed(text: &mut String, calls: &[JarCall<'_>]) -> Option<()> {
+    let mut jar = CookieJar::new(*text.allocator());
+    let outcomes = replay(*text.allocator(), &mut jar, calls).ok()?;
+    push_outcome(text, &jar, &outcomes)
+}
+
+// Appends what a request for each list comes to, and what the client holds then, if it reads texts in that order.
+fn push_requests(text: &mut String, lists: &[Vec<JarCall<'_>>], pick: &[usize]) -> Option<()> {
+    let mut requests = Vec::new(*text.allocator());
+    for calls in lists {
+        requests.push(ClientRequest { calls }).ok()?;
+    }
+    let played = rounds(*text.allocator(), &requests, pick, moment()).ok()?;
+    for (calls, one) in lists.iter().zip(&played) {
+        push_outcome(text, &one.jar, &one.outcomes)?;
+        push_replayed(text, calls)?;
+        for name in NAMES.split('|') {
+            write!(text, "{}\n", one.client.get(name).unwrap_or("-")).ok()?;
+        }
+    }
+    Some(())
+}
+
+// Appends what up to four drawn lists come to, in a drawn order.
+fn push_lists(text: &mut String, draws: &mut Draws) -> Option<()> {
+    let pick = [draws.below(24), draws.below(24)];
+    let mut lists = Vec::new(*text.allocator());
+    for _ in 0..draws.below(5) {
+        let calls = drawn_calls(*text.allocator(), draws).ok()?;
+        lists.push(calls).ok()?;
+    }
+    push_requests(text, &lists, &pick)
 }
 
 #[test]
-fn two_bodies_of_the_jar_are_alike(rt: HostRuntime) {
-    let mut draws = Draws(0x9E37_79B9_7F4A_7C15);
-    for number in 0..1000 {
-        let is_alike = is_next_alike(rt.alloc(), &mut draws);
-        assert!(rt; is_alike == Some(true), "list {number}");
+fn drawn_calls_are_followed(rt: HostRuntime) {
+    let mut draws = Draws::new();
+    for wanted in CODES.split(' ') {
+        let mut text = String::new(rt.alloc());
+        for number in 0..100 {
+            assert!(rt;
+                push_lists(&mut text, &mut draws).is_some(),
+                "list {number}"
+            );
+        }
+        assert!(rt; u64::from_str_radix(wanted, 16) == Ok(code(text.as_bytes())));
     }
 }

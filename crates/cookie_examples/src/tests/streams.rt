@@ -1,9 +1,7 @@
 //! Sessions of the program over readers and writers that fail, and a long one.
-use super::failing_reader::FailingReader;
-use super::failing_writer::FailingWriter;
 use cookie_client::{RunError, run};
 use std::alloc::{AllocError, Global};
-use std::io::Read;
+use std::io::{self, Read, Write};
 use std::test::Fail;
 
 const MOMENT: &str = "Wed, 21 Oct 2015 07:28:00 GMT";
@@ -14,6 +12,45 @@ name=val; x=%C3%A9\nadd a=1; Path=/; Secure\nadd b=2%3B; HttpOnly\nremove name\n
 
 const TEXT: &[u8] = b"\
 Set-Cookie: c=3\nSet-Cookie: x=; Max-Age=0; Expires=Tue, 21 Oct 2014 07:28:00 GMT\nCookie: c=3; name=val\n";
+
+// A reader that returns its text by one byte a call, and then fails.
+#[derive(Drop)]
+struct FailingReader<'t>(&'t [u8]);
+
+impl<'t> Read for FailingReader<'t> {
+    fn read(&mut self, buf: &mut [u8]) -> io::Result<usize> {
+        let (Some((byte, rest)), Some(place)) = (self.0.split_first(), buf.first_mut()) else {
+            return Err(io::Error::from(io::ErrorKind::BrokenPipe));
+        };
+        *place = *byte;
+        self.0 = rest;
+        Ok(1)
+    }
+}
+
+// A writer that takes this many bytes a call at most, and fails after this many calls.
+#[derive(Drop)]
+struct FailingWriter {
+    taken: Vec<u8>,
+    most: usize,
+    left: usize,
+}
+
+impl Write for FailingWriter {
+    fn write(&mut self, buf: &[u8]) -> io::Result<usize> {
+        if self.left == 0 {
+            return Err(io::Error::from(io::ErrorKind::BrokenPipe));
+        }
+        let part = buf.get(..self.most).unwrap_or(buf);
+        self.taken.extend_from_slice(part)?;
+        self.left -= 1;
+        Ok(part.len())
+    }
+
+    fn flush(&mut self) -> io::Result<()> {
+        Ok(())
+    }
+}
 
 // What comes of the session over a writer that takes at most `most` bytes a call and fails after `left` calls, and what
 // it took.

@@ -1,5 +1,24 @@
+//! Random bytes for rows.
 use rand_core::TryRng;
-use std::fmt;
+use std::hash::RandomState;
+use std::random::RandomSource;
+use std::{fmt, io};
+
+/// A source of random bytes that are all 5.
+#[derive(Clone, Copy, Debug)]
+pub struct FixedSource;
+
+impl RandomSource for FixedSource {
+    fn fill_bytes(&self, buf: &mut [u8]) -> io::Result<()> {
+        buf.fill(5);
+        Ok(())
+    }
+}
+
+/// Keys of a hash, of that source.
+pub fn hash_keys() -> Option<RandomState> {
+    RandomState::new(&FixedSource).ok()
+}
 
 /// A generator that returns this many bytes, each 7, and then fails. Its draws have no contract.
 #[derive(Drop)]
