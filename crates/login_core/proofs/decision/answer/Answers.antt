@@ -1,8 +1,7 @@
-use Rattle.std.proofs.Common.{◌≡◌, ◌⊎◌, inr, ℕ, List, ap, subst, sym, ◌∙◌}
+use Rattle.std.proofs.Common.{◌≡◌, inr, ℕ, List, ap, subst, sym, ◌∙◌}
 use Rattle.std.proofs.lemmas.Result.{IfOk-weaker}
-use Rattle.cookie_session.specs.Revocations.{AreSame, IsRevoked}
-use Rattle.cookie_session.specs.Session.{SessionState}
-use Rattle.login_core.specs.Answers.{Ends, IsPlan, LogsOut, Saves, cookies_of, route_for}
+use Rattle.cookie_session.specs.Revocations.{IsRevoked}
+use Rattle.login_core.specs.Answers.{IsPlan, Saves, route_for}
 use Rattle.login_core.specs.Forms.{credentials_of}
 use Rattle.login_core.specs.Pages.{greeted}
 use Rattle.login_core.proofs.AnswerLemmas.{ends_or_same, greeted_exactly, greets_found, no_start, of_both, on_err, plan_is}
