@@ -1,4 +1,5 @@
 pub mod Form
+pub mod Generation
 pub mod Id
 pub mod KeyRing
 pub mod Reading

@@ -1,6 +1,7 @@
 //! Sessions in one encrypted cookie: keys that rotate, limits that the server checks, and a size that browsers take.
 #![tactic(auto)]
 
+mod generation;
 mod id;
 mod key_ring;
 mod never_revoked;
@@ -24,6 +25,7 @@ pub use open_error::OpenError;
 pub use opened::Opened;
 pub use opening::Opening;
 pub use revocations::Revocations;
+pub use seconds::second_of;
 pub use session::Session;
 pub use session_error::SessionError;
 pub use sessions::Sessions;

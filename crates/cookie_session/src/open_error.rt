@@ -2,7 +2,7 @@
 ghost use Rattle.std.specs.Prelude.{◌≡◌};
 ghost use Rattle.cookie_session.specs.declared.open_error.OpenError.TheVariants as refusal;
 
-use std::alloc::AllocError;
+use std::alloc::{AllocError, AllocFailed};
 
 /// Why it isn't known whether a request has an open session. Answer the request with an error, as 503 (RFC 9110
 /// 15.6.4), and never as that of a visitor without a session.
@@ -18,6 +18,14 @@ impl<E> From<AllocError> for OpenError<E> {
     ghost from_gives = { λ _ e. e ≡ refusal.OutOfMemory };
 
     fn from(_error: AllocError) -> OpenError<E> {
+        OpenError::OutOfMemory
+    }
+}
+
+impl<T: Drop, E> From<AllocFailed<T>> for OpenError<E> {
+    ghost from_gives = { λ _ e. e ≡ refusal.OutOfMemory };
+
+    fn from(_error: AllocFailed<T>) -> OpenError<E> {
         OpenError::OutOfMemory
     }
 }

@@ -4,8 +4,12 @@ ghost use Rattle.cookie_session.specs.Seconds.{second_of};
 
 use jiff::civil::DateTime;
 
-// The whole seconds since 1970 of a time in UTC, and 0 before that year.
-pub(crate) fn second_of(now: DateTime) -> u64
+/// The whole seconds since 1970 of a time in UTC, and 0 before that year. Sessions count in these.
+///
+/// ```
+/// revocations.forget(second_of(now))?;
+/// ```
+pub fn second_of(now: DateTime) -> u64
     ensures value { result ≡ second_of now }
     ensures fits { result < 2 ^ 64 }
 {

@@ -11,6 +11,7 @@ use crate::id::id_of;
 use crate::session::Session;
 use cookie::TextMap;
 use form_urlencoded::{RawPairs, decode, raw_pairs};
+use itoa::Buffer;
 use std::alloc::{AllocError, Global};
 
 // The session that has this text, if there is one.
@@ -67,6 +68,19 @@ fn number_of(text: &str) -> u64
     ensures { (number : ℕ) → number < 2 ^ 64 → text.now ≡ decimal number → result ≡ number }
 {
     text.parse().unwrap_or(0)
+}
+
+// The number whose text this is, if there is one.
+pub(crate) fn exact_number(text: &str) -> Option<u64>
+    ensures { (number : ℕ) → (result ≡ Some number)
+        ↔ ((number < 2 ^ 64) × (text.now ≡ decimal number)) }
+{
+    let number = number_of(text);
+    if Buffer::new().format(number) == text {
+        Some(number)
+    } else {
+        None
+    }
 }
 
 // The texts of the pairs. The last one of a name counts.

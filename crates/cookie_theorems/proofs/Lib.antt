@@ -12,6 +12,7 @@ pub mod PlannedCallLemmas
 pub mod ReadLemmas
 pub mod RequestLemmas
 pub mod ReturnLemmas
+pub mod RevokingLemmas
 pub mod SeenLemmas
 pub mod SentLemmas
 pub mod StandingLemmas

@@ -9,5 +9,6 @@ pub mod PlannedCalls
 pub mod Reading
 pub mod ReturnError
 pub mod Returning
+pub mod Revoking
 pub mod Standing
 pub mod Visits
