@@ -37,20 +37,28 @@ class Site:
         self.program.parent.mkdir()
         self.program.write_text(f'#!/bin/sh\n. {self.folder}/settings\nexec {self.folder}/login\n')
         self.program.chmod(0o755)
+        self.store = self.folder / "store"
+        self.store.mkdir()
+        self.store.chmod(0o777)
         self.heard = {}
+        # What the program wrote to its standard error, by `Passing`.
+        self.said = []
         self.set("first")
 
-    def set(self, *keys, now=None):
-        """From the next request on, these are the keys, the newest first, and that is the time, if one is given."""
+    def set(self, *keys, now=None, revoked=None):
+        """From the next request on, these are the keys, the newest first, that is the time, if one is given, and that is the
+        file of revoked sessions, if one is given."""
         paths = ":".join(f"{self.folder}/{key}.key" for key in keys)
         settings = f"export LOGIN_KEY={paths} LOGIN_USERS={self.folder}/users\n"
         if now is not None:
             settings += f"export LOGIN_NOW={now}\n"
+        if revoked is not None:
+            settings += f"export LOGIN_REVOKED={revoked}\n"
         (self.folder / "settings").write_text(settings)
 
 
 class Passing(http.server.BaseHTTPRequestHandler):
-    """A CGI server that passes the program's status and fields on (RFC 3875). It keeps the cookies of the last request for each path."""
+    """A CGI server that passes the program's status and fields on (RFC 3875). It keeps the cookies of the last request for each path, and what the program wrote to its standard error."""
 
     site = None
 
@@ -70,6 +78,7 @@ class Passing(http.server.BaseHTTPRequestHandler):
             HTTP_COOKIE=cookies,
         )
         done = subprocess.run([self.site.program], input=content, env=environment, capture_output=True)
+        self.site.said.append(done.stderr.decode())
         head, _, page = done.stdout.partition(b"\r\n\r\n")
         fields = [line.split(": ", 1) for line in head.decode().split("\r\n")]
         self.send_response(*next((int(value[:3]), value[4:]) for name, value in fields if name == "Status"))
@@ -114,14 +123,15 @@ def serve(name, site):
     """Starts the server of that name over the folder; what ends it again."""
     port = PORTS[name]
     if name == "status":
-        return start(passing(site), port).shutdown
+        server = start(passing(site), port)
+        return lambda: (server.shutdown(), server.server_close())
     with open(site.folder / "log", "w") as log:
         command = [sys.executable, "-m", "http.server", "--cgi", "--bind", "127.0.0.1", str(port)]
         server = subprocess.Popen(command, cwd=site.folder, stdout=log, stderr=log)
     for _ in range(100):
         try:
             urllib.request.urlopen(f"http://127.0.0.1:{port}/users", timeout=1).close()
-            return server.terminate
+            return lambda: (server.terminate(), server.wait())
         except OSError:
             time.sleep(0.1)
     server.terminate()

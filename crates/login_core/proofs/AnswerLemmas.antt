@@ -1,5 +1,5 @@
 -- Whom an answer greets, and how a call fails that saves a session.
-use Rattle.std.proofs.Common.{◌≡◌, ◌↔◌, ℕ, List, Bool, true, false, Option, Some, None, Result, Ok, Err, IfOk, codes, refl, sym, ap, subst, ◌∙◌}
+use Rattle.std.proofs.Common.{◌≡◌, ◌↔◌, ◌⊎◌, inl, inr, OnErr, ℕ, List, Bool, true, false, Option, Some, None, Result, Ok, Err, IfOk, codes, refl, sym, ap, subst, ◌∙◌}
 use Rattle.std.proofs.lemmas.Option.{none-some, same_Some}
 use Rattle.std.specs.Bool.{MatchBool}
 use Rattle.std.specs.FinMap.{get}
@@ -20,7 +20,7 @@ use Rattle.login_core.specs.AnswerError.{texts_failure}
 use Rattle.login_core.specs.Answers.{FailsFor, HasSession, IsGreeted, IsPlan, cookies_of, route_for}
 use Rattle.login_core.specs.Forms.{credentials_of}
 use Rattle.login_core.specs.Pages.{greeted}
-use Rattle.login_core.specs.Plans.{LogsIn, Moves, Plans, Refuses, logged_in}
+use Rattle.login_core.specs.Plans.{LogsIn, Moves, Plans, Refuses, is_start, logged_in}
 use Rattle.login_core.specs.Users.{is_known}
 use Rattle.login_core.specs.Visitors.{text_of}
 use Rattle.login_core.specs.declared.answer_error.AnswerError.{AnswerError}
@@ -164,6 +164,49 @@ module _ (IsRevoked IsDrawn : List ℕ → Type 0) (site : LoginSite) (request :
       → Plans IsDrawn site.users.now (route_for request) (credentials_of request.form.now) now found page saved
       → IsPlan IsRevoked IsDrawn site request now page saved
   plan_is found finds plans = record { found = found; finds = finds; plans = plans }
+
+-- ---- what a request without a start draws
+
+-- without a start no id is drawn
+pub no_start : (IsDrawn : List ℕ → Type 0) (users : List User) (route : Result Route Refusal) (credentials : Option (List ℕ × List ℕ)) (now : DateTime)
+    (found : Option SessionState) (page : Page) (saved : Option SessionState) → is_start users route credentials ≡ false
+    → Plans IsDrawn users route credentials now found page saved → Plans (λ _. ⊥) users route credentials now found page saved
+no_start IsDrawn users (Ok Home) credentials now found page saved none plans = plans
+no_start IsDrawn users (Ok LogIn) None now found page saved none plans = plans
+no_start IsDrawn users (Ok LogIn) (Some (user, password)) now found page saved none plans = by (is_known user password users) none plans
+  where
+    by : (known : Bool) → known ≡ false → MatchBool known (Moves IsDrawn (λ id. logged_in id now user) page saved) (Refuses Forbidden page saved)
+        → MatchBool known (Moves (λ _. ⊥) (λ id. logged_in id now user) page saved) (Refuses Forbidden page saved)
+    by true is plans = absurd (cc)
+    by false is plans = plans
+no_start IsDrawn users (Ok LogOut) credentials now found page saved none plans = absurd (cc)
+no_start IsDrawn users (Err refusal) credentials now found page saved none plans = plans
+
+-- ---- what a request revokes
+
+abbrev is_logout : Result Route Refusal → Bool
+is_logout (Ok Home) = false
+is_logout (Ok LogIn) = false
+is_logout (Ok LogOut) = true
+is_logout (Err refusal) = false
+
+-- a logout with a session ends it, and else nothing changes
+pub ends_or_same : (route : Result Route Refusal) (found : Option SessionState) (Has Ends : SessionState → Type 0) (Same : Type 0)
+    → ((session : SessionState) → (found ≡ Some session) ↔ Has session)
+    → ((session : SessionState) → (route ≡ Ok LogOut) × Has session → Ends session)
+    → (((session : SessionState) → ¬ ((route ≡ Ok LogOut) × Has session)) → Same)
+    → Same ⊎ ((session : SessionState) × ((route ≡ Ok LogOut) × Has session) × Ends session)
+ends_or_same (Ok LogOut) (Some session) Has Ends Same exact ends same =
+    let has : Has session = (exact session).0 refl in inr (session, (refl, has), ends session (refl, has))
+ends_or_same (Ok LogOut) None Has Ends Same exact ends same = inl (same (λ session both. none-some session ((exact session).1 both.1)))
+ends_or_same (Ok Home) found Has Ends Same exact ends same = inl (same (λ session both. let never : false ≡ true = ap is_logout both.0 in cc))
+ends_or_same (Ok LogIn) found Has Ends Same exact ends same = inl (same (λ session both. let never : false ≡ true = ap is_logout both.0 in cc))
+ends_or_same (Err refusal) found Has Ends Same exact ends same = inl (same (λ session both. let never : false ≡ true = ap is_logout both.0 in cc))
+
+-- what holds anyway holds after an error
+pub on_err : {T E P : Type 0} (r : Result T E) → P → OnErr r P
+on_err (Ok t) p = tt
+on_err (Err e) p = p
 
 -- ---- how a call fails
 

@@ -149,6 +149,7 @@ fn respond<G: TryRng>(
         → Saves (λ nonce. G.may_fill rng.old nonce rng.new) sessions.now now plan.session
         jar.old jar.new
         × ¬ (AllFitFields jar.new.delta) }
+    ensures sure { ¬ (result ≡ Err failure.Revocations) }
     ensures undrawn { ¬ (Draws sessions.now now plan.session) → rng.new ≡ rng.old }
 {
     save(alloc, sessions, jar, plan.session.as_ref(), now, rng)?;

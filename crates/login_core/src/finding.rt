@@ -97,8 +97,11 @@ fn revoke_at_logout<R: Revocations>(
     ensures fails { IfErr result (λ why. (why ≡ failure.Revocations) × R.Error) }
     ensures kept { R.is_kept revocations.new → R.is_kept revocations.old }
 {
-    match (find_route(request.method, request.path), found) {
-        (Ok(Route::LogOut), Some(session)) => revoke(sessions, session, revocations),
+    let Some(session) = found else {
+        return Ok(());
+    };
+    match find_route(request.method, request.path) {
+        Ok(Route::LogOut) => revoke(sessions, session, revocations),
         _ => Ok(()),
     }
 }

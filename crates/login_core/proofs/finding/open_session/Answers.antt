@@ -17,8 +17,10 @@ returns-in-Ok-Some-clause-finds g c kept =
 pub returns-in-Ok-Some-clause-sealed : goal.returns-in-Ok-Some-clause-sealed
 returns-in-Ok-Some-clause-sealed g c session is =
     let found = c.in-Ok-Some.opened in
-    let same = same_Some found.session session is in
-    (found.place, c.in-Ok-Some.ensures.sealed found.place session (ap (λ (s : SessionState). Some (opened found.place s)) same))
+    let same = same_Some found.session session is in (
+      found.place,
+      c.in-Ok-Some.ensures.sealed found.place session (c.in-Ok-Some.field-0-is ∙ ap (λ (s : SessionState). Some (opened found.place s)) same),
+    )
 
 pub returns-in-Ok-None-clause-finds : goal.returns-in-Ok-None-clause-finds
 returns-in-Ok-None-clause-finds g c kept =
