@@ -1,5 +1,5 @@
 -- The first cookie of the site's name in which a session is open that isn't revoked.
-use Rattle.std.proofs.Common.{◌≡◌, ◌↔◌, ℕ, ◌+◌, ◌<◌, Bool, true, false, cond, List, [], ◌∷◌, ◌++◌, All, length, take, drop, get_or, Option, None, Some, Result, Ok, Err, refl, sym, ap, subst, ◌∙◌}
+use Rattle.std.proofs.Common.{◌≡◌, ◌↔◌, ℕ, ◌+◌, ◌<◌, Bool, true, false, cond, List, [], ◌∷◌, ◌++◌, All, length, take, drop, get_or, map, Option, None, Some, Result, Ok, Err, refl, sym, ap, subst, ◌∙◌}
 use Rattle.std.proofs.lemmas.List.{drop_more, take-append-drop, take_more}
 use Rattle.std.proofs.lemmas.List.Elements.{All-append, All-cons, All-head, All-nil, All-tail, filter-append, filter_more}
 use Rattle.std.proofs.lemmas.Option.{none-some}
@@ -10,7 +10,7 @@ use Rattle.jiff.specs.Types.{DateTime}
 use Rattle.cookie.specs.Jar.{Name, empty_jar, name_cmp, overlay, view}
 use Rattle.cookie.specs.Memory.{Gives}
 use Rattle.cookie.specs.Originals.{field_cookies, first_of_name, jar_for}
-use Rattle.cookie.specs.Record.{Record}
+use Rattle.cookie.specs.Record.{CookieView, Record}
 use Rattle.cookie.proofs.OriginalLemmas.{has_first, same_delta}
 use Rattle.cookie_session.specs.Revocations.{none_revoked}
 use Rattle.cookie_session.specs.Session.{SessionState}
@@ -21,6 +21,21 @@ use Rattle.cookie_session.proofs.SessionLemmas.{opened}
 
 same_heads : (a b : Record) (xs ys : List Record) → a ∷ xs ≡ b ∷ ys → (a ≡ b) × (xs ≡ ys)
 same_heads a b xs ys e = (cc, cc)
+
+-- the cookies that are tried are the field's
+pub cookies_are : (tried read : List CookieView) (cookies : List Record) → tried ≡ read → map (λ c. c.fields) read ≡ cookies → map (λ c. c.fields) tried ≡ cookies
+cookies_are tried read cookies same are = ap (map (λ (c : CookieView). c.fields)) same ∙ are
+
+module _ (site : Sessions) (cookies : List Record) (i : ℕ) (cookie : Record) (below : i < length cookies) (is : cookie ≡ get_or cookies i cookie)
+    (same : bytes_eq site.cookie.now.fields.name cookie.name ≡ true) where
+  -- those before this one, this one, and those after it
+  pub split_here : site_cookies site cookies ≡ site_cookies site (take i cookies) ++ cookie ∷ site_cookies site (drop (i + 1) cookies)
+  split_here =
+      ap (site_cookies site) (sym (take-append-drop i cookies))
+      ∙ filter-append (λ c. bytes_eq site.cookie.now.fields.name c.name) (take i cookies) (drop i cookies)
+      ∙ ap (λ rest. site_cookies site (take i cookies) ++ site_cookies site rest)
+      (drop_more cookies i cookie below ∙ ap (λ c. c ∷ drop (i + 1) cookies) (sym is))
+      ∙ ap (λ b. site_cookies site (take i cookies) ++ cond b (cookie ∷ site_cookies site (drop (i + 1) cookies)) (site_cookies site (drop (i + 1) cookies))) same
 
 module _ (IsRevoked : List ℕ → Type 0) (site : Sessions) (now : DateTime) where
   abbrev pub Closed : List Record → Type 0
@@ -80,21 +95,12 @@ module _ (IsRevoked : List ℕ → Type 0) (site : Sessions) (now : DateTime) wh
 
     module _ (i : ℕ) (cookie : Record) (below : i < length cookies) (is : cookie ≡ get_or cookies i cookie)
         (same : bytes_eq site.cookie.now.fields.name cookie.name ≡ true) (closed : Closed (site_cookies site (take i cookies))) where
-      -- those before this one, this one, and those after it
-      split_here : site_cookies site cookies ≡ site_cookies site (take i cookies) ++ cookie ∷ site_cookies site (drop (i + 1) cookies)
-      split_here =
-          ap (site_cookies site) (sym (take-append-drop i cookies))
-          ∙ filter-append (λ c. bytes_eq site.cookie.now.fields.name c.name) (take i cookies) (drop i cookies)
-          ∙ ap (λ rest. site_cookies site (take i cookies) ++ site_cookies site rest)
-          (drop_more cookies i cookie below ∙ ap (λ c. c ∷ drop (i + 1) cookies) (sym is))
-          ∙ ap (λ b. site_cookies site (take i cookies) ++ cond b (cookie ∷ site_cookies site (drop (i + 1) cookies)) (site_cookies site (drop (i + 1) cookies))) same
-
       module _ (found : Opened) (answers : (place : ℕ) (s : SessionState) → (Some found ≡ Some (opened s place)) ↔ IsOpenUnrevoked IsRevoked site (Some cookie) now place s) where
         -- the cookie that opens is this one
         first_is : (place : ℕ) (s : SessionState) (first : OpensUnrevoked IsRevoked site cookies now place s) → first.cookie ≡ cookie
         first_is place s first =
             same_first first.earlier (site_cookies site (take i cookies)) first.cookie cookie first.later (site_cookies site (drop (i + 1) cookies))
-            (sym first.split ∙ split_here) first.closed closed (is_not_closed first.cookie place s (first.opens, first.unrevoked))
+            (sym first.split ∙ split_here site cookies i cookie below is same) first.closed closed (is_not_closed first.cookie place s (first.opens, first.unrevoked))
             (is_not_closed cookie found.place found.session ((answers found.place found.session).0 refl))
 
         -- so its session is the one that is found
@@ -104,7 +110,7 @@ module _ (IsRevoked : List ℕ → Type 0) (site : Sessions) (now : DateTime) wh
             earlier = site_cookies site (take i cookies);
             cookie = cookie;
             later = site_cookies site (drop (i + 1) cookies);
-            split = split_here;
+            split = split_here site cookies i cookie below is same;
             closed = closed;
             opens = ((answers place s).0 e).0;
             unrevoked = ((answers place s).0 e).1;

@@ -1,5 +1,5 @@
 -- What a jar shows once a cookie was added under the newest key.
-use Rattle.std.proofs.Common.{◌≡◌, ℕ, ◌<◌, List, length, Some, IfSome, sym, ap, subst, ◌∙◌}
+use Rattle.std.proofs.Common.{◌≡◌, ◌↔◌, ℕ, ◌<◌, Bool, true, false, List, length, Some, IfSome, Result, Err, refl, sym, ap, subst, ◌∙◌}
 use Rattle.cookie.specs.Jar.{Add, JarState, after, view}
 use Rattle.cookie.specs.Keys.{encryption_half}
 use Rattle.cookie.specs.Record.{Record}
@@ -7,7 +7,10 @@ use Rattle.cookie.specs.Sealing.{IsSealingOf}
 use Rattle.cookie.proofs.AnswerLemmas.{view-stored}
 use Rattle.cookie_session.specs.KeyRing.{OpensNewest, newest}
 use Rattle.cookie_session.specs.Session.{IsSession, SessionState, session_text}
+use Rattle.cookie_session.specs.SessionError.{IsBareRefusal}
 use Rattle.cookie_session.specs.Sessions.{IsStored}
+use Rattle.cookie_session.specs.declared.session_error.SessionError.{SessionError}
+use Rattle.cookie_session.specs.declared.session_error.SessionError.TheVariants as refusal
 use Rattle.cookie_session.specs.declared.sessions.Sessions.{Sessions}
 use Rattle.cookie_session.proofs.KeyRingLemmas.{opened_newest}
 
@@ -31,3 +34,21 @@ module _ (sealed : Record) (name : List ℕ) (named : sealed.name ≡ name) (old
       → OpensNewest ring (view new name) value
   shown_opens ring value some stands =
       subst (λ o. OpensNewest ring o value) (sym shown) (λ cookie same. opened_newest ring some sealed cookie value same stands)
+
+-- Where the cookie is refused before it is sealed, though its session lives and memory and prefix are right, nothing else is told.
+pub refused_bare : {T U : Type 0} (meets : Bool) (Lives Seals : Type 0) (why : SessionError) (result : Result U SessionError) → result ≡ Err why → IsBareRefusal why
+    → ((¬ (meets ≡ true)) ↔ (◌≡◌ {A = Result T SessionError} (Err why) (Err refusal.Prefix)))
+    → (meets ≡ true → (¬ Lives) ↔ (◌≡◌ {A = Result T SessionError} (Err why) (Err refusal.Over)))
+    → Lives → ¬ (result ≡ Err refusal.Prefix) → ¬ (result ≡ Err refusal.OutOfMemory) → (¬ Seals) ↔ (result ≡ Err refusal.TooLong)
+refused_bare meets Lives Seals refusal.OutOfMemory result is bare prefix over lives other memory = absurd (memory is)
+refused_bare meets Lives Seals refusal.Prefix result is bare prefix over lives other memory = absurd (other is)
+refused_bare meets Lives Seals refusal.Over result is bare prefix over lives other memory = by meets refl
+  where
+    by : (b : Bool) → meets ≡ b → (¬ Seals) ↔ (result ≡ Err refusal.TooLong)
+    by true met = absurd ((over met).1 refl lives)
+    by false unmet =
+        let clash = prefix.0 (λ met. let both : true ≡ false = sym met ∙ unmet in cc) in
+        absurd (cc)
+refused_bare meets Lives Seals (refusal.TooLarge size) result is bare prefix over lives other memory = absurd bare
+refused_bare meets Lives Seals refusal.TooLong result is bare prefix over lives other memory = absurd bare
+refused_bare meets Lives Seals refusal.Generator result is bare prefix over lives other memory = absurd bare

@@ -152,7 +152,11 @@ impl<'a> Sessions<'a> {
     /// sessions.revoke(&opened.session, &mut revocations)?;
     /// sessions.end(alloc, &mut jar, now)?;
     /// ```
-    pub fn revoke<R: Revocations>(&self, session: &Session, revocations: &mut R) -> Result<(), R::Error>
+    pub fn revoke<R: Revocations>(
+        &self,
+        session: &Session,
+        revocations: &mut R,
+    ) -> Result<(), R::Error>
         ensures revoked { R.is_kept revocations.new → R.can_revoke revocations.old → OnOk result
             (IsRevokedToo session.now.id (end_of self.now.lifetime session.now)
             (R.revoked_until revocations.old) (R.revoked_until revocations.new)) }

@@ -1,6 +1,7 @@
 pub mod AnswerLemmas
 pub mod TextLemmas
 pub mod RowidLemmas
+pub mod SetLemmas
 pub mod StateLemmas
 pub mod RowLemmas
 pub mod FindLemmas

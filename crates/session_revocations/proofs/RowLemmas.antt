@@ -125,15 +125,15 @@ since_earlier early late (Real x) le h = since_by early late (Real x) refl le h
 since_earlier early late (Text t) le h = since_by early late (Text t) refl le h
 since_earlier early late (Blob b) le h = since_by early late (Blob b) refl le h
 
-both_first : (a b : Bool) → (a && b) ≡ true → a ≡ true
+pub both_first : (a b : Bool) → (a && b) ≡ true → a ≡ true
 both_first true b h = refl
 both_first false b h = h
 
-both_second : (a b : Bool) → (a && b) ≡ true → b ≡ true
+pub both_second : (a b : Bool) → (a && b) ≡ true → b ≡ true
 both_second true b h = h
 both_second false b h = absurd cc
 
-both : (a b : Bool) → a ≡ true → b ≡ true → (a && b) ≡ true
+pub both : (a b : Bool) → a ≡ true → b ≡ true → (a && b) ≡ true
 both a b p q = rw (p, q) refl
 
 or_second : (a b : Bool) → b ≡ true → (a || b) ≡ true
@@ -170,3 +170,7 @@ stays_extends rows id until h = record {
   where
     same : (x : List ℕ) → bytes_eq id x ≡ true → id ≡ x
     same x e = (bytes_eq-Decides id x).0 e
+
+-- what is revoked until a second is revoked
+pub until_is_revoked : (rows : List Row) (id : List ℕ) (until : ℤ) → is_among_until rows id until ≡ true → is_among rows id ≡ true
+until_is_revoked rows id until = any_weaker (lasts id until) (has_id id) (lasts_id id until) rows

@@ -94,6 +94,15 @@ executed_open sql params old new n h live = elim (cases_Bool (shows_rows false h
   | inr runs ↦ let it = rw runs at h.2 in ran_open old new _ _ _ _ n it live
 ]
 
+-- so it was before one that failed, and before any
+pub undone_open : (old new : State) → IsUndone old new → IsTrue new.is_open → IsTrue old.is_open
+undone_open old new (inl same) live = same.0.was_open
+undone_open old new (inr back) live = back.was_open live
+
+pub executes_open : (sql : List ℕ) (params : Row) (old new : State) (r : Result ℕ Error) → Executes sql params old new r → IsTrue new.is_open → IsTrue old.is_open
+executes_open sql params old new (Ok n) h live = executed_open sql params old new n h live
+executes_open sql params old new (Err e) h live = undone_open old new (undone sql params old new e h) live
+
 -- a part of a statement went on
 pub went : {B E R : Type 0} {b : B} {Stops : E → Type 0} → ((stop : E) × Stops stop × (Ok b ≡ Err stop)) ⊎ R → R
 went (inl stopped) = absurd (let e = stopped.2 in cc)

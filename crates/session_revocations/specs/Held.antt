@@ -1,8 +1,8 @@
 -- What a connection to the table shows between two calls.
-use Rattle.std.specs.Prelude.{◌≡◌, ℕ, ◌+◌, pos, Bool, false, List, IsTrue}
+use Rattle.std.specs.Prelude.{◌≡◌, ℕ, zero, suc, ◌+◌, pos, Bool, false, List, IsTrue}
 use Rattle.sqlite.specs.Order.{Row}
 use Rattle.sqlite.specs.State.{State, HasCleanDisk}
-use Rattle.session_revocations.specs.Revoked.{IsExtended, IsPruned, is_among}
+use Rattle.session_revocations.specs.Revoked.{IsExtended, IsPruned, is_among, is_among_until}
 use Rattle.session_revocations.specs.Table.{no_schema, revoked_schema}
 
 -- the rows of the table
@@ -43,3 +43,12 @@ Revokes id until old new = IsExtended old id (pos until) new
 -- Exactly the ids stay whose second comes after now, each until the same second.
 abbrev pub Forgets : ℕ → List Row → List Row → Type 0
 Forgets now old new = IsPruned old (pos (now + 1)) new
+
+-- The connection was open, if it is open and the disk has returned what was written.
+abbrev pub WasOpen : State → State → Type 0
+WasOpen old new = HasCleanDisk new → IsTrue new.is_open → IsTrue old.is_open
+
+-- the id is revoked until this second or a later one; until 0 or a later one, if it is revoked at all
+abbrev pub lasts_until : List Row → List ℕ → ℕ → Type 0
+lasts_until rows id zero = IsTrue (is_among rows id)
+lasts_until rows id (suc second) = IsTrue (is_among_until rows id (pos (suc second)))

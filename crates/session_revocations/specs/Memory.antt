@@ -1,5 +1,5 @@
 -- The ids that are revoked in memory, as a finite map from each to the second until which it is.
-use Rattle.std.specs.Prelude.{ℕ, max, nat_lt, List, Option, None, Some, if◌then◌else◌}
+use Rattle.std.specs.Prelude.{ℕ, ◌≤◌, max, nat_lt, List, Option, None, Some, if◌then◌else◌}
 use Rattle.std.specs.Cmp.Lexicographic.{slice_cmp}
 use Rattle.std.specs.Coded.{Coded, coded_list, coded_ℕ}
 use Rattle.std.specs.FinMap.{FinMap, code, from_entries}
@@ -30,3 +30,8 @@ later (Some old) until = max old until
 abbrev pub if_after : ℕ → Option ℕ → Option ℕ
 if_after now None = None
 if_after now (Some until) = if nat_lt now until then Some until else None
+
+-- the second until which an id is revoked, if it is, is this one or a later one
+abbrev pub lasts_until : ℕ → Option ℕ → Type 0
+lasts_until second None = ⊥
+lasts_until second (Some until) = second ≤ until

@@ -3,6 +3,7 @@ ghost use Rattle.std.specs.Prelude.{◌≡◌, ℕ, List, Ok, OnErr, OnOk, is_so
 ghost use Rattle.std.specs.FinMap.{empty, get, insert};
 ghost use Rattle.session_revocations.specs.Memory.{if_after, later};
 
+use cookie_session::Revocations;
 use std::alloc::{AllocError, Global};
 use std::collections::BTreeMap;
 use std::marker::Model;
@@ -78,5 +79,28 @@ impl MemoryRevocations {
         ensures { (id : List ℕ) → get self.new id ≡ if_after now (get self.old id) }
     {
         self.untils.retain(|_id, until| now < *until);
+    }
+}
+
+/// By the calls of the same names.
+impl Revocations for MemoryRevocations {
+    ghost use Rattle.std.specs.FinMap.{get};
+    ghost use Rattle.session_revocations.specs.Memory.{lasts_until};
+
+    type Error = AllocError;
+
+    ghost revoked_until = { λ r id second. lasts_until second (get r id) };
+
+    fn is_revoked(&mut self, id: &[u8; 16]) -> Result<bool, AllocError> {
+        MemoryRevocations::is_revoked(self, id)
+    }
+
+    fn revoke(&mut self, id: &[u8; 16], until: u64) -> Result<(), AllocError> {
+        MemoryRevocations::revoke(self, id, until)
+    }
+
+    fn forget(&mut self, now: u64) -> Result<(), AllocError> {
+        MemoryRevocations::forget(self, now);
+        Ok(())
     }
 }

@@ -1,7 +1,7 @@
 //! Whether each rowid names one row. SQLite has it so, but the contracts of `sqlite` don't say it, and a deletion goes by
 //! rowids.
 ghost use Rattle.std.specs.Prelude.{IfOk, IsTrue, None, OnOk};
-ghost use Rattle.session_revocations.specs.Held.{IsKept, IsStill, rows_of};
+ghost use Rattle.session_revocations.specs.Held.{IsKept, IsStill, WasOpen, rows_of};
 ghost use Rattle.session_revocations.specs.Rowids.{AreRising, HasRowids, IsAfter};
 ghost use Rattle.sqlite.specs.Held.{state};
 ghost use Rattle.sqlite.specs.State.{HasCleanDisk, IsUnchanged, Survives};
@@ -47,6 +47,7 @@ pub fn has_rowids<S: Alter>(conn: &mut Connection<S>) -> Result<bool, Error>
         → OnOk result (IsUnchanged (state S.Store conn.old) (state S.Store conn.new)) }
     ensures still { IsStill (state S.Store conn.old) (state S.Store conn.new) }
     ensures kept { IsKept (state S.Store conn.new) }
+    ensures opened { WasOpen (state S.Store conn.old) (state S.Store conn.new) }
     ensures crash { Survives (state S.Store conn.old) (state S.Store conn.new)
         (λ _. IsTrue (state S.Store conn.old).is_open → ⊥) }
 {

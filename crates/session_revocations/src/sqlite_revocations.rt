@@ -1,6 +1,6 @@
 //! The set of revoked sessions in an SQLite database.
 ghost use Rattle.std.specs.Prelude.{◌≡◌, ◌≢◌, ◌⊎◌, ◌↔◌, ◌≤◌, ◌^◌, [], Err, false, IfOk, IsTrue, MatchOption, Ok, OnErr, OnOk, pos};
-ghost use Rattle.session_revocations.specs.Held.{Forgets, IsKept, IsStill, Keeps, Revokes, is_revoked_in, rows_of};
+ghost use Rattle.session_revocations.specs.Held.{Forgets, IsKept, IsStill, Keeps, Revokes, WasOpen, is_revoked_in, rows_of};
 ghost use Rattle.session_revocations.specs.Table.{no_schema, revoked_schema};
 ghost use Rattle.session_revocations.specs.declared.revocation_error.RevocationError.TheVariants as refusal;
 ghost use Rattle.sqlite.specs.Files.{file_state};
@@ -10,6 +10,7 @@ ghost use Rattle.sqlite.specs.Tree.{Trees};
 
 use crate::revocation_error::RevocationError;
 use crate::{schema, statements};
+use cookie_session::Revocations;
 use sqlite::{Alter, Connection, FileStore, Options};
 use sqlite_disk::Disk;
 use std::alloc::Global;
@@ -135,6 +136,7 @@ impl<S: Alter + Drop> SqliteRevocations<S> {
         ensures same { HasCleanDisk (state S.Store self.new)
             → OnOk result (IsUnchanged (state S.Store self.old) (state S.Store self.new)) }
         ensures still { IsStill (state S.Store self.old) (state S.Store self.new) }
+        ensures opened { WasOpen (state S.Store self.old) (state S.Store self.new) }
 
         // A crash leaves what it could leave before.
         ensures crash { Survives (state S.Store self.old) (state S.Store self.new)
@@ -154,6 +156,7 @@ impl<S: Alter + Drop> SqliteRevocations<S> {
             (IsTrue (state S.Store self.new).is_open → Revokes id.now until
             (rows_of (state S.Store self.old)) (rows_of (state S.Store self.new))) }
         ensures still { OnErr result (IsStill (state S.Store self.old) (state S.Store self.new)) }
+        ensures opened { WasOpen (state S.Store self.old) (state S.Store self.new) }
 
         // What is past SQLite's last second is refused, and then nothing is done.
         ensures too_late { 2 ^ 63 ≤ until → (result ≡ Err refusal.TooLate) × (self.new ≡ self.old) }
@@ -196,6 +199,7 @@ impl<S: Alter + Drop> SqliteRevocations<S> {
             (IsTrue (state S.Store self.new).is_open → Forgets now
             (rows_of (state S.Store self.old)) (rows_of (state S.Store self.new))) }
         ensures still { OnErr result (IsStill (state S.Store self.old) (state S.Store self.new)) }
+        ensures opened { WasOpen (state S.Store self.old) (state S.Store self.new) }
 
         // What is past SQLite's last second is refused, and then nothing is done.
         ensures too_late { 2 ^ 63 ≤ now → (result ≡ Err refusal.TooLate) × (self.new ≡ self.old) }
@@ -226,6 +230,32 @@ impl<S: Alter + Drop> SqliteRevocations<S> {
     {
         let SqliteRevocations { conn } = self;
         conn
+    }
+}
+
+/// By the calls of the same names. The session with an id is revoked as the rows say, while the connection is open and
+/// the disk has returned what was written.
+impl<S: Alter + Drop> Revocations for SqliteRevocations<S> {
+    ghost use Rattle.session_revocations.specs.Held.{lasts_until, rows_of};
+    ghost use Rattle.sqlite.specs.Held.{state};
+    ghost use Rattle.sqlite.specs.State.{HasCleanDisk};
+
+    type Error = RevocationError;
+
+    ghost is_kept = { λ r. HasCleanDisk (state S.Store r) × IsTrue (state S.Store r).is_open };
+
+    ghost revoked_until = { λ r id second. lasts_until (rows_of (state S.Store r)) id second };
+
+    fn is_revoked(&mut self, id: &[u8; 16]) -> Result<bool, RevocationError> {
+        SqliteRevocations::is_revoked(self, id)
+    }
+
+    fn revoke(&mut self, id: &[u8; 16], until: u64) -> Result<(), RevocationError> {
+        SqliteRevocations::revoke(self, id, until)
+    }
+
+    fn forget(&mut self, now: u64) -> Result<(), RevocationError> {
+        SqliteRevocations::forget(self, now)
     }
 }
 

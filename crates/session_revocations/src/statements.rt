@@ -1,6 +1,6 @@
 //! The statements on the table.
 ghost use Rattle.std.specs.Prelude.{◌≡◌, ◌+ℤ◌, [], IfOk, IsTrue, OnErr, OnOk, pos};
-ghost use Rattle.session_revocations.specs.Held.{IsBlank, IsKept, IsStill, Keeps, is_revoked_in, rows_of};
+ghost use Rattle.session_revocations.specs.Held.{IsBlank, IsKept, IsStill, Keeps, WasOpen, is_revoked_in, rows_of};
 ghost use Rattle.session_revocations.specs.Revoked.{IsAdded, IsExtended, IsPruned, is_among_until};
 ghost use Rattle.session_revocations.specs.Rowids.{HasRowids};
 ghost use Rattle.sqlite.specs.Held.{state};
@@ -18,6 +18,7 @@ pub fn find<S: Alter>(conn: &mut Connection<S>, id: &[u8]) -> Result<bool, Error
         → OnOk result (IsUnchanged (state S.Store conn.old) (state S.Store conn.new)) }
     ensures still { IsStill (state S.Store conn.old) (state S.Store conn.new) }
     ensures kept { IsKept (state S.Store conn.new) }
+    ensures opened { WasOpen (state S.Store conn.old) (state S.Store conn.new) }
     ensures crash { Survives (state S.Store conn.old) (state S.Store conn.new)
         (λ _. IsTrue (state S.Store conn.old).is_open → ⊥) }
 {
@@ -35,6 +36,7 @@ pub fn find_until<S: Alter>(conn: &mut Connection<S>, id: &[u8], until: i64) -> 
         → OnOk result (IsUnchanged (state S.Store conn.old) (state S.Store conn.new)) }
     ensures still { IsStill (state S.Store conn.old) (state S.Store conn.new) }
     ensures kept { IsKept (state S.Store conn.new) }
+    ensures opened { WasOpen (state S.Store conn.old) (state S.Store conn.new) }
     ensures crash { Survives (state S.Store conn.old) (state S.Store conn.new)
         (λ _. IsTrue (state S.Store conn.old).is_open → ⊥) }
 {
@@ -54,6 +56,7 @@ pub fn add<S: Alter>(conn: &mut Connection<S>, id: &[u8], until: i64) -> Result<
         (rows_of (state S.Store conn.new))) }
     ensures still { OnErr result (IsStill (state S.Store conn.old) (state S.Store conn.new)) }
     ensures kept { IsKept (state S.Store conn.new) }
+    ensures opened { WasOpen (state S.Store conn.old) (state S.Store conn.new) }
     ensures crash { Survives (state S.Store conn.old) (state S.Store conn.new)
         (λ db. IsTrue (state S.Store conn.old).is_open
         → IsAdded (rows_of (state S.Store conn.old)) id.now until (db 0)) }
@@ -86,6 +89,7 @@ pub fn extend<S: Alter>(conn: &mut Connection<S>, id: &[u8], until: i64) -> Resu
         (rows_of (state S.Store conn.new))) }
     ensures still { OnErr result (IsStill (state S.Store conn.old) (state S.Store conn.new)) }
     ensures kept { IsKept (state S.Store conn.new) }
+    ensures opened { WasOpen (state S.Store conn.old) (state S.Store conn.new) }
     ensures crash { Survives (state S.Store conn.old) (state S.Store conn.new)
         (λ db. IsTrue (state S.Store conn.old).is_open
         → IsExtended (rows_of (state S.Store conn.old)) id.now until (db 0)) }
@@ -107,6 +111,7 @@ pub fn delete<S: Alter>(conn: &mut Connection<S>, now: i64) -> Result<usize, Err
         (rows_of (state S.Store conn.new))) }
     ensures still { OnErr result (IsStill (state S.Store conn.old) (state S.Store conn.new)) }
     ensures kept { IsKept (state S.Store conn.new) }
+    ensures opened { WasOpen (state S.Store conn.old) (state S.Store conn.new) }
     ensures crash { Survives (state S.Store conn.old) (state S.Store conn.new)
         (λ db. IsTrue (state S.Store conn.old).is_open
         → HasRowids (rows_of (state S.Store conn.old))
@@ -124,6 +129,7 @@ pub fn forget<S: Alter>(conn: &mut Connection<S>, now: i64) -> Result<(), Error>
         (rows_of (state S.Store conn.new))) }
     ensures still { OnErr result (IsStill (state S.Store conn.old) (state S.Store conn.new)) }
     ensures kept { IsKept (state S.Store conn.new) }
+    ensures opened { WasOpen (state S.Store conn.old) (state S.Store conn.new) }
     ensures crash { Survives (state S.Store conn.old) (state S.Store conn.new)
         (λ db. IsTrue (state S.Store conn.old).is_open
         → IsPruned (rows_of (state S.Store conn.old)) (now +ℤ pos 1) (db 0)) }

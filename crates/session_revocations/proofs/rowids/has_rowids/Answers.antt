@@ -8,7 +8,7 @@ use Rattle.session_revocations.specs.Rowids.{AreRising}
 use Rattle.session_revocations.specs.Table.{revoked_schema}
 use Rattle.session_revocations.proofs.AnswerLemmas.{shows}
 use Rattle.session_revocations.proofs.FindLemmas.{query_commits, query_same, was_open}
-use Rattle.session_revocations.proofs.StateLemmas.{keeps_undone, keeps_unchanged, query_undone, rows_unchanged, rows_undone}
+use Rattle.session_revocations.proofs.StateLemmas.{keeps_undone, keeps_unchanged, query_undone, rows_unchanged, rows_undone, undone_open}
 use Rattle.session_revocations.proofs.TextLemmas.{keyed, keyed_is, keyed_plain, keyed_text}
 use Rattle.session_revocations.proofs.RowidLemmas.{rowids_from}
 use Rattle.session_revocations.proofs.rowids.has_rowids.Goals as goal
@@ -78,3 +78,13 @@ returns-in_err-rows-clause-crash g c =
     let old = state g.S.Store c.args.conn.now in
     let new = state g.S.Store c.query_all.new.self in
     survives_weaker old new _ _ (λ clean db commits live. query_commits keyed_text _ old keyed_plain (c.requires (omega (arith, c.query_all.ensures.survives.clean, clean)) live).schema db commits) c.query_all.ensures.survives
+
+pub returns-clause-opened : goal.returns-clause-opened
+returns-clause-opened g c clean live =
+    was_open keyed_text _ (state g.S.Store c.args.conn.now) (state g.S.Store c.query_all.new.self) _ (c.in_ok-rows.ensures.ok clean)
+
+pub returns-in_err-rows-clause-opened : goal.returns-in_err-rows-clause-opened
+returns-in_err-rows-clause-opened g c clean live =
+    let old = state g.S.Store c.args.conn.now in
+    let new = state g.S.Store c.query_all.new.self in
+    undone_open old new (query_undone keyed_text _ old new _ (c.in_err-rows.ensures.err clean)) live

@@ -3,6 +3,7 @@ use Rattle.sqlite.proofs.StateLemmas.{survives_weaker}
 use Rattle.sqlite.specs.Held.{state}
 use Rattle.sqlite.specs.State.{HasCleanDisk}
 use Rattle.session_revocations.proofs.AddLemmas.{added, crash_adds, kept, still}
+use Rattle.session_revocations.proofs.StateLemmas.{executes_open}
 use Rattle.session_revocations.proofs.statements.add.Goals as goal
 
 pub returns-clause-added : goal.returns-clause-added
@@ -33,3 +34,7 @@ returns-clause-crash g c =
     let new = state g.S.Store c.execute.new.self in
     let survives = rw (c.params-to_sql.ensures, c.params-to_sql-2.ensures, to_z-of_z c.ranges.until) at c.execute.ensures.survives in
     survives_weaker old new _ _ (λ clean db commits live. crash_adds old c.args.id.now c.args.until db (c.requires (omega (arith, c.execute.ensures.survives.clean, clean)) live) commits) survives
+
+pub returns-clause-opened : goal.returns-clause-opened
+returns-clause-opened g c clean =
+    executes_open _ _ (state g.S.Store c.args.conn.now) (state g.S.Store c.execute.new.self) c.execute.result (c.execute.ensures.runs clean)

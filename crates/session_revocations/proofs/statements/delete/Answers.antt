@@ -3,6 +3,7 @@ use Rattle.sqlite.proofs.StateLemmas.{survives_weaker}
 use Rattle.sqlite.specs.Held.{state}
 use Rattle.sqlite.specs.State.{HasCleanDisk}
 use Rattle.session_revocations.proofs.ForgetLemmas.{crash_deletes, delete_kept, delete_still, deleted}
+use Rattle.session_revocations.proofs.StateLemmas.{executes_open}
 use Rattle.session_revocations.proofs.statements.delete.Goals as goal
 
 pub returns-clause-deleted : goal.returns-clause-deleted
@@ -33,3 +34,7 @@ returns-clause-crash g c =
     let new = state g.S.Store c.execute.new.self in
     let survives = rw (c.params-to_sql.ensures, to_z-of_z c.ranges.now) at c.execute.ensures.survives in
     survives_weaker old new _ _ (λ clean db commits live. crash_deletes old c.args.now db (c.requires (omega (arith, c.execute.ensures.survives.clean, clean)) live) commits) survives
+
+pub returns-clause-opened : goal.returns-clause-opened
+returns-clause-opened g c clean =
+    executes_open _ _ (state g.S.Store c.args.conn.now) (state g.S.Store c.execute.new.self) c.execute.result (c.execute.ensures.runs clean)

@@ -54,3 +54,11 @@ returns-in_err-add-clause-crash g c =
 pub returns-then-branch-clause-crash : goal.returns-then-branch-clause-crash
 returns-then-branch-clause-crash g c =
     survives_weaker (state g.S.Store c.args.conn.now) (state g.S.Store c.find_until.new.conn) _ _ (λ clean db none live. absurd (none live)) c.find_until.ensures.crash
+
+pub returns-clause-opened : goal.returns-clause-opened
+returns-clause-opened g c clean live =
+    c.find_until.ensures.opened (omega (arith, c.add.ensures.crash.clean, clean)) (c.add.ensures.opened clean live)
+
+pub returns-in_err-add-clause-opened : goal.returns-in_err-add-clause-opened
+returns-in_err-add-clause-opened g c clean live =
+    c.find_until.ensures.opened (omega (arith, c.add.ensures.crash.clean, clean)) (c.add.ensures.opened clean live)

@@ -4,7 +4,7 @@ use Rattle.sqlite.specs.Held.{state}
 use Rattle.sqlite.specs.State.{HasCleanDisk}
 use Rattle.session_revocations.proofs.FindLemmas.{find_commits, find_same, finds, was_open}
 use Rattle.session_revocations.proofs.RowLemmas.{passes_until}
-use Rattle.session_revocations.proofs.StateLemmas.{keeps_undone, keeps_unchanged, query_undone, rows_unchanged, rows_undone}
+use Rattle.session_revocations.proofs.StateLemmas.{keeps_undone, keeps_unchanged, query_undone, rows_unchanged, rows_undone, undone_open}
 use Rattle.session_revocations.proofs.TextLemmas.{until_is, until_plain, until_text}
 use Rattle.session_revocations.proofs.statements.find_until.Goals as goal
 
@@ -74,3 +74,15 @@ returns-in_err-rows-clause-crash g c =
     let new = state g.S.Store c.query_all.new.self in
     let survives = rw (c.params-to_sql.ensures, c.params-to_sql-2.ensures, to_z-of_z c.ranges.until) at c.query_all.ensures.survives in
     survives_weaker old new _ _ (λ clean db commits live. find_commits until_text _ _ old new until_is until_plain (c.requires (omega (arith, c.query_all.ensures.survives.clean, clean)) live).schema db commits) survives
+
+pub returns-clause-opened : goal.returns-clause-opened
+returns-clause-opened g c clean live =
+    let old = state g.S.Store c.args.conn.now in
+    let new = state g.S.Store c.query_all.new.self in
+    was_open until_text _ old new _ (rw (c.params-to_sql.ensures, c.params-to_sql-2.ensures, to_z-of_z c.ranges.until) at (c.in_ok-rows.ensures.ok clean))
+
+pub returns-in_err-rows-clause-opened : goal.returns-in_err-rows-clause-opened
+returns-in_err-rows-clause-opened g c clean live =
+    let old = state g.S.Store c.args.conn.now in
+    let new = state g.S.Store c.query_all.new.self in
+    undone_open old new (query_undone until_text _ old new _ (rw (c.params-to_sql.ensures, c.params-to_sql-2.ensures, to_z-of_z c.ranges.until) at (c.in_err-rows.ensures.err clean))) live

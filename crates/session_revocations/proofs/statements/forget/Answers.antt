@@ -31,3 +31,11 @@ returns-clause-crash g c =
     let own : HasRowids (rows_of old) = c.in_ok-has_rowids.ensures.exact then c.if-not-branch.false in
     subst (λ rows. HasRowids rows → IsPruned rows (c.args.now +ℤ pos 1) (db 0)) (rows_unchanged old mid unchanged) (one unchanged.0.is_open) own)
     c.has_rowids.ensures.crash deletes
+
+pub returns-clause-opened : goal.returns-clause-opened
+returns-clause-opened g c clean live =
+    c.has_rowids.ensures.opened (omega (arith, c.delete.ensures.crash.clean, clean)) (c.delete.ensures.opened clean live)
+
+pub returns-in_err-delete-clause-opened : goal.returns-in_err-delete-clause-opened
+returns-in_err-delete-clause-opened g c clean live =
+    c.has_rowids.ensures.opened (omega (arith, c.delete.ensures.crash.clean, clean)) (c.delete.ensures.opened clean live)

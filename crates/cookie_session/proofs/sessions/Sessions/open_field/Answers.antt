@@ -1,16 +1,12 @@
-use Rattle.std.proofs.Common.{◌≡◌, ◌↔◌, ℕ, List, Some, IfOk, alloc_error, ap, map, subst, ◌∙◌}
+use Rattle.std.proofs.Common.{◌≡◌, ◌↔◌, ℕ, List, Some, IfOk, alloc_error, subst}
 use Rattle.cookie.specs.Memory.{Gives}
 use Rattle.cookie.specs.Originals.{field_cookies, first_of_name}
-use Rattle.cookie.specs.Record.{CookieView, Record}
+use Rattle.cookie.specs.Record.{Record}
 use Rattle.cookie_session.specs.Session.{SessionState}
 use Rattle.cookie_session.specs.Sessions.{HoldsOne, OpensFirst}
-use Rattle.cookie_session.proofs.FirstLemmas.{jar_found}
+use Rattle.cookie_session.proofs.FirstLemmas.{cookies_are, jar_found}
 use Rattle.cookie_session.proofs.SessionLemmas.{opened}
 use Rattle.cookie_session.proofs.sessions.Sessions.open_field.Goals as goal
-
--- the cookies that are tried are the field's
-cookies_are : (tried read : List CookieView) (cookies : List Record) → tried ≡ read → map (λ c. c.fields) read ≡ cookies → map (λ c. c.fields) tried ≡ cookies
-cookies_are tried read cookies same are = ap (map (λ (c : CookieView). c.fields)) same ∙ are
 
 pub returns-clause-answers : goal.returns-clause-answers
 returns-clause-answers c =

@@ -1,12 +1,14 @@
-use Rattle.std.proofs.Common.{◌≡◌, ◌≤◌, ap, subst, ◌∙◌}
+use Rattle.std.proofs.Common.{◌≡◌, ◌≤◌, Err, ap, subst, ◌∙◌}
+use Rattle.std.proofs.lemmas.Result.{err_from_is_err_and}
 use Rattle.cookie.specs.Keys.{encryption_half}
 use Rattle.cookie.specs.Record.{IsCookie, Record}
-use Rattle.cookie.specs.Sealing.{IsSealingOf}
+use Rattle.cookie.specs.Sealing.{CanSeal, IsSealingOf}
 use Rattle.cookie_session.specs.KeyRing.{newest}
 use Rattle.cookie_session.specs.Seconds.{second_of}
 use Rattle.cookie_session.specs.Session.{SessionState, seen_at, session_text}
+use Rattle.cookie_session.specs.Sessions.{CanSave, bare_cookie, meets_prefix}
 use Rattle.cookie_session.specs.Size.{browser_length, most_bytes}
-use Rattle.cookie_session.proofs.SaveLemmas.{shown_is, shown_stored}
+use Rattle.cookie_session.proofs.SaveLemmas.{refused_bare, shown_is, shown_stored}
 use Rattle.cookie_session.proofs.sessions.Sessions.save.Goals as goal
 
 pub returns-clause-fits : goal.returns-clause-fits
@@ -39,3 +41,10 @@ returns-clause-opens g c =
     let key : c.sealer.result.now ≡ encryption_half (newest site.keys.now) = c.sealer.ensures ∙ ap encryption_half c.newest.ensures.value in
     shown_stored sealed name named c.args.jar.now c.add.new.self c.in_ok-add.ensures.gives site saved c.in_ok-cookie.ensures.session c.newest.ensures.some
     (subst (IsSealingOf (encryption_half (newest site.keys.now)) sealed) value (subst (λ k. IsSealingOf k sealed cookie.value) key is.stands))
+
+pub returns-in_err-cookie-clause-too_long : goal.returns-in_err-cookie-clause-too_long
+returns-in_err-cookie-clause-too_long g c =
+    let site = c.args.self.now in
+    let (why, is, same) = err_from_is_err_and c.from_residual.result c.from_residual.ensures.1 in
+    refused_bare (meets_prefix site.cookie.now.fields) (CanSave site c.args.now c.args.session.now) (CanSeal (bare_cookie site c.args.now c.args.session.now))
+    c.in_err-cookie.field-0.0 c.from_residual.result (is ∙ ap Err same) c.in_err-cookie.ensures.others c.in_err-cookie.ensures.prefix c.in_err-cookie.ensures.over
