@@ -1,6 +1,6 @@
 -- The ids of the sessions that C found revoked: sixteen bytes each, one after the other.
 use Rattle.std.specs.Prelude.{◌≡◌, ℕ, ◌/◌, ◌%◌, List, Contains, length}
-use Rattle.core.specs.Simd.{first_chunks}
+use Rattle.std.specs.Simd.{first_chunks}
 use Rattle.cookie_session.specs.Id.{id_length}
 
 -- the bytes are whole ids

@@ -58,7 +58,7 @@ fn give_session(
     time: DateTime,
     out: &mut [u8],
 ) -> OpenedSession
-    ensures { IsOpening (Contains revoked.ids.now) sessions.now (field_cookies header.now) time
+    ensures { IsOpening (Contains revoked.entry.ids.now) sessions.now (field_cookies header.now) time
         result out.old out.new }
 {
     match find(alloc, sessions, header, revoked, time) {
@@ -77,7 +77,7 @@ pub(super) fn find(
     time: DateTime,
 ) -> Result<Option<Opened>, AllocError>
     ensures { Gives alloc_error result
-        (Finds (Contains revoked.ids.now) sessions.now (field_cookies header.now) time) }
+        (Finds (Contains revoked.entry.ids.now) sessions.now (field_cookies header.now) time) }
 {
     let mut revoked = revoked;
     match sessions.open_unrevoked(alloc, header, time, &mut revoked) {

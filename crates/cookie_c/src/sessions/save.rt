@@ -116,7 +116,7 @@ fn give_saved(
     random: Random,
     out: &mut [u8],
 ) -> Answer
-    ensures { SavesTexts (Contains revoked.ids.now) sessions.now (field_cookies header.now)
+    ensures { SavesTexts (Contains revoked.entry.ids.now) sessions.now (field_cookies header.now)
         texts.now renew time random.nonce random.id result out.old out.new }
 {
     let mut random = random;

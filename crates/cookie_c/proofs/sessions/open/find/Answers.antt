@@ -1,4 +1,3 @@
-use Rattle.std.proofs.Common.{tt}
 use Rattle.cookie_c.proofs.sessions.open.find.Goals as goal
 
 pub returns-in-Ok : goal.returns-in-Ok

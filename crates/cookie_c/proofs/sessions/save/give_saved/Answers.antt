@@ -4,6 +4,7 @@ use Rattle.cookie_session.specs.Session.{SessionState}
 use Rattle.cookie_c.specs.Answers.{IsGiven}
 use Rattle.cookie_c.specs.SavedSessions.{IsUnsaved, Saves, with_form}
 use Rattle.cookie_c.proofs.SaveLemmas.{texts_continued, texts_none, texts_renewed}
+use Rattle.cookie_c.specs.declared.sessions.random.Random.{Random}
 use Rattle.cookie_c.proofs.sessions.save.give_saved.Goals as goal
 
 pub returns-then-renew : goal.returns-then-renew
@@ -14,7 +15,9 @@ returns-then-renew c =
     let new = c.give_session.new.out in
     texts_renewed (Contains c.args.revoked.ids.now) site (field_cookies c.args.header.now) c.args.texts.now c.args.time c.args.random.nonce c.args.random.id answer old new c.args.renew c.if-renew.true
     (subst (λ (s : SessionState). Saves site c.args.random.nonce c.args.time (with_form c.args.texts.now s) (IsUnsaved answer old new)
-    (λ text. IsGiven text answer old new)) c.start.ensures c.give_session.ensures)
+    (λ text. IsGiven text answer old new)) c.start-session.ensures.started
+    (subst (λ (r : Random). Saves site r.nonce c.args.time (with_form c.args.texts.now c.start-session.result) (IsUnsaved answer old new)
+    (λ text. IsGiven text answer old new)) c.start-session.ensures.same c.give_session.ensures))
 
 pub returns-in-Ok-Some : goal.returns-in-Ok-Some
 returns-in-Ok-Some c =
