@@ -65,7 +65,7 @@ class OpenedSession(ctypes.Structure):
     _fields_ = [("status", ctypes.c_uint32)] + [
         (name, size) for size, names in ((ctypes.c_size_t, ("length", "place")), (ctypes.c_uint64, ("started", "seen")))
         for name in names
-    ]
+    ] + [("id", ctypes.c_uint8 * 16)]
 
 
 def library_at(path: str) -> ctypes.CDLL:
@@ -114,9 +114,9 @@ JAR_REMOVE_SCOPED = declare("jar_remove_scoped", HANDLE + TEXT * 4, ctypes.c_uin
 JAR_GET = declare("jar_get", HANDLE + TEXT * 2, Answer)
 JAR_DELTA = declare("jar_delta", HANDLE + TEXT, Answer)
 JAR_FREE = declare("jar_free", HANDLE, None)
-SESSION_OPEN = declare("session_open", SETTINGS + TEXT + [ctypes.c_uint64] + TEXT, OpenedSession)
+SESSION_OPEN = declare("session_open", SETTINGS + TEXT * 2 + [ctypes.c_uint64] + TEXT, OpenedSession)
 SESSION_SAVE = declare(
-    "session_save", SETTINGS + TEXT * 2 + [ctypes.c_bool, ctypes.c_uint64] + TEXT * 2, Answer
+    "session_save", SETTINGS + TEXT * 3 + [ctypes.c_bool, ctypes.c_uint64] + TEXT * 2, Answer
 )
 SESSION_END = declare("session_end", SETTINGS + [ctypes.c_uint64] + TEXT, Answer)
 

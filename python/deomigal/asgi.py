@@ -10,7 +10,8 @@ from __future__ import annotations
 
 from typing import Any, Awaitable, Callable, MutableMapping
 
-from .values import Middleware
+from .errors import RevocationsError
+from .values import UNAVAILABLE, UNAVAILABLE_FIELDS, Middleware, Values
 
 Message = MutableMapping[str, Any]
 Receive = Callable[[], Awaitable[Message]]
@@ -25,13 +26,35 @@ class SessionMiddleware(Middleware):
             await self.app(scope, receive, send)
             return
         header = b"; ".join(value for name, value in scope["headers"] if name.lower() == b"cookie")
-        values = scope["session"] = self.opened(header)
+        is_begun = False
 
         async def send_with_cookie(message: Message) -> None:
+            nonlocal is_begun
+            is_begun = True
             if message["type"] == "http.response.start":
-                fields = self.fields(values)
-                headers = [(name.lower().encode(), value.encode()) for name, value in fields]
-                message = {**message, "headers": [*message.get("headers", ()), *headers]}
+                message = {**message, "headers": [*message.get("headers", ()), *lines(self.fields(values))]}
             await send(message)
 
-        await self.app(scope, receive, send_with_cookie)
+        try:
+            values: Values = self.opened(header)
+            scope["session"] = values
+            await self.app(scope, receive, send_with_cookie)
+        except RevocationsError:
+            if is_begun:
+                raise
+            await refuse(scope["type"], send)
+
+
+def lines(fields: list[tuple[str, str]]) -> list[tuple[bytes, bytes]]:
+    """The fields as ASGI has them."""
+    return [(name.lower().encode(), value.encode()) for name, value in fields]
+
+
+async def refuse(kind: str, send: Send) -> None:
+    """Answers a request whose session can't be looked up."""
+    if kind == "websocket":
+        # Try again later (RFC 6455 7.4, and IANA's registry of close codes).
+        await send({"type": "websocket.close", "code": 1013})
+        return
+    await send({"type": "http.response.start", "status": 503, "headers": lines(UNAVAILABLE_FIELDS)})
+    await send({"type": "http.response.body", "body": UNAVAILABLE})

@@ -16,11 +16,13 @@ from typing import Any
 from django.conf import settings
 from django.contrib.sessions.backends.base import SessionBase
 from django.contrib.sessions.middleware import SessionMiddleware as DjangoMiddleware
+from django.http import HttpResponse
 
 from .cookies import pairs, print_cookie
+from .errors import RevocationsError
 from .secrets import keys_of
 from .sessions import Session, Sessions
-from .values import packed, unpacked
+from .values import UNAVAILABLE, UNAVAILABLE_FIELDS, packed, unpacked
 from .wsgi import header_in
 
 SALT = "deomigal.django"
@@ -39,14 +41,16 @@ def attributes() -> dict[str, Any]:
 
 def site() -> Sessions:
     """The sessions of the site, by its settings as they are now. The keys are derived from SECRET_KEY and
-    SECRET_KEY_FALLBACKS. A session is over DEOMIGAL_LIFETIME seconds after its start, by default SESSION_COOKIE_AGE."""
+    SECRET_KEY_FALLBACKS. A session is over DEOMIGAL_LIFETIME seconds after its start, by default SESSION_COOKIE_AGE.
+    DEOMIGAL_REVOCATIONS keeps which sessions are revoked."""
     global made
     secrets = (settings.SECRET_KEY, *(getattr(settings, "SECRET_KEY_FALLBACKS", None) or ()))
     lifetime = getattr(settings, "DEOMIGAL_LIFETIME", None) or settings.SESSION_COOKIE_AGE
-    choice = (secrets, settings.SESSION_COOKIE_NAME, lifetime, attributes())
+    name, revocations = settings.SESSION_COOKIE_NAME, getattr(settings, "DEOMIGAL_REVOCATIONS", None)
+    choice = (secrets, name, lifetime, attributes(), revocations)
     found = made
     if found is None or found[0] != choice:
-        sessions = Sessions(keys_of(secrets, SALT), settings.SESSION_COOKIE_NAME, lifetime, lifetime, **attributes())
+        sessions = Sessions(keys_of(secrets, SALT), name, lifetime, lifetime, **attributes(), revocations=revocations)
         made = found = (choice, sessions)
     return found[1]
 
@@ -99,14 +103,25 @@ class SessionStore(SessionBase):
         self.kept, self.modified = None, True
 
     def delete(self, session_key: str | None = None) -> None:
-        """Drops the values and the key. A copy of the cookie stays open until its limits."""
+        """Drops the values and the key. `flush` calls it, as at a logout. With DEOMIGAL_REVOCATIONS the session is
+        revoked. Without it a copy of the cookie stays open until its limits."""
+        self.revoke(session_key)
         self.kept, self._session_key, self._session_cache = None, "", {}
         self.modified = True
 
+    def revoke(self, session_key: str | None = None) -> None:
+        """Revokes the session, if the site keeps which sessions are revoked."""
+        if site().revocations is not None:
+            is_other = session_key is not None and session_key != self.session_key
+            kept = opened(session_key or "") if is_other else self.kept or opened(self.session_key or "")
+            site().revoke(kept)
+
     def cycle_key(self) -> None:
-        """Starts it anew with the same values, so that the lifetime counts from this request. A login calls it."""
+        """Starts it anew with the same values, so that the lifetime counts from this request. A login calls it. With
+        DEOMIGAL_REVOCATIONS the session of before is revoked."""
         self._get_session()
         if self.kept:
+            self.revoke()
             self.kept.renew()
         self.save()
 
@@ -122,6 +137,7 @@ class SessionStore(SessionBase):
 class SessionMiddleware(DjangoMiddleware):
     """Django's middleware, but it reads the request's header as `deomigal.Sessions` does. So a name that another host
     of the domain disguised doesn't count, and of several cookies of the name the first that holds an open session does.
+    If it can't be looked up whether a session is revoked, the request is answered with status 503.
     """
 
     def __init__(self, *words: Any, **named: Any) -> None:
@@ -129,11 +145,31 @@ class SessionMiddleware(DjangoMiddleware):
         # Settings that no session could be saved with are refused now.
         site()
 
-    def process_request(self, request: Any) -> None:
+    def process_request(self, request: Any) -> Any:
         name = settings.SESSION_COOKIE_NAME
         keys = [value for found, value in pairs(header_in(request.META)) if found == name] or [""]
         # Of several the last counts if none is open, so that Django drops it.
-        request.session = self.SessionStore(next((key for key in keys[:-1] if not opened(key).is_new), keys[-1]))
+        try:
+            request.session = self.SessionStore(next((key for key in keys[:-1] if not opened(key).is_new), keys[-1]))
+        except RevocationsError:
+            return Unavailable()
+        return None
+
+    def process_exception(self, request: Any, exception: Exception) -> Any:
+        """Answers a view whose session couldn't be looked up, or not be revoked."""
+        return Unavailable() if isinstance(exception, RevocationsError) else None
+
+    def process_response(self, request: Any, response: Any) -> Any:
+        return response if isinstance(response, Unavailable) else super().process_response(request, response)
+
+
+class Unavailable(HttpResponse):
+    """The answer if it isn't known whether a session is revoked. No session is saved in it."""
+
+    def __init__(self) -> None:
+        super().__init__(UNAVAILABLE, status=503)
+        for name, value in UNAVAILABLE_FIELDS:
+            self[name] = value
 
 
 if settings.configured:

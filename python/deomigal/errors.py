@@ -39,7 +39,7 @@ class MasterTooShort(CookieError):
 
 
 class BadNonce(CookieError):
-    """The nonce doesn't have twelve bytes."""
+    """The nonce doesn't have twelve bytes, or the random bytes of a session aren't 28."""
 
     status = 6
 
@@ -158,6 +158,17 @@ class InvalidValue(CookieError):
     """A path or a domain holds a control character, such as a line break, or a `;` (RFC 6265 4.1.1)."""
 
     status = 24
+
+
+class BadIds(CookieError):
+    """The ids of the revoked sessions don't have sixteen bytes each. No call of this package raises it."""
+
+    status = 25
+
+
+class RevocationsError(RuntimeError):
+    """Whether a session is revoked can't be looked up, or that it is can't be kept. Answer the request with an error,
+    such as status 503 (RFC 9110 15.6.4), and never as that of a visitor without a session."""
 
 
 ERRORS = {error.status: error for error in CookieError.__subclasses__()}

@@ -17,12 +17,23 @@ from flask.sessions import SecureCookieSession, SecureCookieSessionInterface, Se
 from flask.sessions import SessionInterface as FlaskSessionInterface
 from flask.sessions import session_json_serializer as tagged
 from itsdangerous import BadData
+from werkzeug.exceptions import ServiceUnavailable
 
 from ._library import header_of
 from .cookies import pairs
+from .errors import RevocationsError
+from .revocations import Revocations
 from .secrets import keys_of
 from .sessions import Session, Sessions
 from .values import with_expiry
+
+
+class Unavailable(RevocationsError, ServiceUnavailable):
+    """A `RevocationsError` that Flask answers with status 503, unless the application has an `errorhandler` for it."""
+
+    def __init__(self, error: RevocationsError) -> None:
+        ServiceUnavailable.__init__(self, retry_after=1)
+        self.args = error.args
 
 
 class FlaskSession(SecureCookieSession):
@@ -43,16 +54,32 @@ class FlaskSession(SecureCookieSession):
         """When it started, in seconds since 1970."""
         return self.kept.started
 
+    @property
+    def id(self) -> bytes:
+        """Its id, of sixteen bytes: each copy of its cookie has it, whenever it was saved, until it is renewed."""
+        return self.kept.id
+
     def renew(self) -> None:
-        """Starts it anew with the same values, so that the lifetime counts from this request. Call it at a login."""
+        """Starts it anew with the same values and another id, so that the lifetime counts from this request. Call it at
+        a login."""
         self.kept.renew()
         self.modified = self.accessed = True
         self.made = None
 
     def clear(self) -> None:
-        """Drops the values, and starts it anew."""
+        """Drops the values, and starts it anew. The browser drops its cookie, but a copy of the cookie stays open until
+        its limits: at a logout call `revoke`."""
         super().clear()
         self.renew()
+
+    def revoke(self) -> None:
+        """Revokes it, and then clears it. Call it at a logout: no copy of its cookie opens any more, whenever it was
+        saved. Raises `RevocationsError` if that can't be kept, or if the interface has no `revocations`."""
+        try:
+            self.sessions.revoke(self.kept)
+        except RevocationsError as error:
+            raise Unavailable(error) from error
+        self.clear()
 
     def check(self) -> None:
         """Raises `TooLarge` if no browser would store the session as it is now. It is checked so after each view, if
@@ -94,7 +121,9 @@ class SessionInterface(FlaskSessionInterface):
     A session is over PERMANENT_SESSION_LIFETIME after its start, and `idle` seconds after it was last saved, if `idle`
     is given. `refresh` is how many seconds after it was saved an unchanged session is saved again, by default a tenth
     of `idle`. With `migrate` the sessions of Flask's own class are read too, and saved as these. `clock` returns the
-    time, in seconds since 1970. `serializer` prints and reads each value.
+    time, in seconds since 1970. `serializer` prints and reads each value. `revocations`, such as `SqliteRevocations`,
+    keeps which sessions are revoked, by `session.revoke()`. If it fails, the request is answered with status 503, or by
+    `errorhandler(RevocationsError)`.
 
     With Flask-Login each login starts the session anew.
     """
@@ -106,12 +135,14 @@ class SessionInterface(FlaskSessionInterface):
     def __init__(
         self, keys: Sequence[bytes] | None = None, idle: int | None = None, clock: Callable[[], float] = time.time, *,
         refresh: float | None = None, migrate: bool = False, serializer: Any = None, salt: str | bytes | None = None,
+        revocations: Revocations | None = None,
     ) -> None:
         if keys is not None and salt is not None:
             raise ValueError("a salt is for keys that are derived from secrets")
         self.keys, self.idle, self.clock, self.refresh, self.migrate = keys, idle, clock, refresh, migrate
         self.serializer = self.serializer if serializer is None else serializer
         self.salt = self.salt if salt is None else salt
+        self.revocations = revocations
         self.made: tuple[Any, Sessions] | None = None
         connect_to_logins(self.renew_at_login)
 
@@ -122,6 +153,7 @@ class SessionInterface(FlaskSessionInterface):
         self.sessions(app)
         app.session_interface = self
         setattr(app, "dispatch_request", self.checked(app, app.dispatch_request))
+        setattr(app, "handle_exception", self.answered(app, app.handle_exception))
 
     def checked(self, app: Flask, dispatch: Callable[..., Any]) -> Callable[..., Any]:
         """Calls the view, and then checks the session. So `errorhandler(TooLarge)` answers what is raised."""
@@ -132,6 +164,15 @@ class SessionInterface(FlaskSessionInterface):
             return answer
 
         return dispatch_request
+
+    def answered(self, app: Flask, handle: Callable[..., Any]) -> Callable[..., Any]:
+        """Answers a session that can't be looked up as an error of the view, since it is opened before the view."""
+        def handle_exception(error: Exception) -> Any:
+            if isinstance(error, Unavailable):
+                return app.finalize_request(app.handle_user_exception(error), from_error_handler=True)
+            return handle(error)
+
+        return handle_exception
 
     def sessions(self, app: Flask) -> Sessions:
         """The sessions of the application, by its keys and its settings as they are now."""
@@ -149,7 +190,7 @@ class SessionInterface(FlaskSessionInterface):
         made = self.made
         if made is None or made[0] != settings:
             keys = self.keys or keys_of(secrets, self.salt)
-            self.made = made = (settings, Sessions(keys, *settings[1:4], **attributes))
+            self.made = made = (settings, Sessions(keys, *settings[1:4], **attributes, revocations=self.revocations))
         return made[1]
 
     def open_session(self, app: Flask, request: Request) -> FlaskSession | None:
@@ -157,7 +198,10 @@ class SessionInterface(FlaskSessionInterface):
         if not self.keys and not app.secret_key:
             return None
         sessions, header = self.sessions(app), request.environ.get("HTTP_COOKIE", "")
-        kept = sessions.open(header, self.clock())
+        try:
+            kept = sessions.open(header, self.clock())
+        except RevocationsError as error:
+            raise Unavailable(error) from error
         try:
             values = {name: self.serializer.loads(text) for name, text in kept.items()}
         except Exception:

@@ -2,6 +2,7 @@
 store the cookie."""
 from __future__ import annotations
 
+import contextlib
 import os
 import time
 from typing import Iterator, MutableMapping, Sequence
@@ -11,7 +12,8 @@ from ._library import (
     DONE, SESSION_END, SESSION_OPEN, SESSION_SAVE, Settings, Uncopied, given, header_of, key_of, seeds, told,
 )
 from .cookies import print_cookie
-from .errors import KeyTooShort, NoDate, NoSession, error_of
+from .errors import KeyTooShort, NoDate, NoSession, RevocationsError, error_of
+from .revocations import ID_LENGTH, Revocations
 
 # Room for a cookie that a browser stores, and for the texts in it.
 ROOM = 5000
@@ -21,7 +23,8 @@ class Session(MutableMapping[str, str]):
     """A session: a dict of texts. `Sessions.open` makes it.
 
     `started` is when it started, and `seen` when it was last saved, in seconds since 1970. `place` is the place of the
-    key that opened it: 0 is the newest, and a new session has None.
+    key that opened it: 0 is the newest, and a new session has None. `id` has sixteen random bytes: each copy of its
+    cookie has them, whenever it was saved, until it is renewed.
 
     >>> session = Session(1445412480)
     >>> session["user"] = "ann"
@@ -34,7 +37,11 @@ class Session(MutableMapping[str, str]):
             raise TypeError("a second is an int")
         self.now = self.started = self.seen = now
         self.place: int | None = None
-        self.header = b""
+        self.id = os.urandom(ID_LENGTH)
+        # The ids that cookies of it may have, each with its start.
+        self.starts: dict[bytes, int] = {}
+        # The header that it was opened from, and the ids that were found revoked.
+        self.header = self.revoked = b""
         self.texts: dict[str, str] = {}
         self.is_renewed = True
 
@@ -44,7 +51,8 @@ class Session(MutableMapping[str, str]):
         return self.place is None
 
     def renew(self) -> None:
-        """Starts it anew with the same texts, so that the lifetime counts from this request. Call it at a login.
+        """Starts it anew with the same texts and another id, so that the lifetime counts from this request. Call it at
+        a login.
 
         >>> session = Session(1445412480)
         >>> session.started = 1445400000
@@ -53,6 +61,7 @@ class Session(MutableMapping[str, str]):
         1445412480
         """
         self.started = self.seen = self.now
+        self.id = os.urandom(ID_LENGTH)
         self.is_renewed = True
 
     def __getitem__(self, name: str) -> str:
@@ -74,7 +83,7 @@ class Session(MutableMapping[str, str]):
 
     def __copy__(self) -> Session:
         copied = Session(self.now)
-        copied.__dict__.update(self.__dict__, texts=dict(self.texts))
+        copied.__dict__.update(self.__dict__, texts=dict(self.texts), starts=dict(self.starts))
         return copied
 
     def __repr__(self) -> str:
@@ -89,6 +98,8 @@ class Sessions(Uncopied):
     the arguments after the limits are the cookie's. Settings that no session could be saved with are refused at once:
     a path or a domain with a control character or a `;` with `InvalidValue`, and a limit past 32 bits with
     `OverflowError`.
+
+    With `revocations`, such as `SqliteRevocations`, `revoke` ends a session in each copy of its cookie.
 
     >>> from deomigal import derive_key
     >>> keys = [derive_key(b"a master key of at least 32 bytes")]
@@ -115,6 +126,7 @@ class Sessions(Uncopied):
         http_only: bool = True,
         same_site: str | None = "Lax",
         partitioned: bool = False,
+        revocations: Revocations | None = None,
     ) -> None:
         if isinstance(keys, (str, bytes)):
             raise TypeError("the keys are a list")
@@ -122,6 +134,9 @@ class Sessions(Uncopied):
             raise error_of(KeyTooShort.status)
         if not all(0 <= limit < 2**32 for limit in (lifetime, idle)):
             raise OverflowError("a limit has at most 32 bits")
+        if revocations is not None and not (hasattr(revocations, "is_revoked") and hasattr(revocations, "revoke")):
+            raise TypeError("revocations have calls is_revoked and revoke")
+        self.revocations, self.lifetime = revocations, lifetime
         # The first 64 bytes of a key count.
         ring = b"".join(key[:64] for key in keys)
         cookie = print_cookie(
@@ -143,9 +158,10 @@ class Sessions(Uncopied):
     def open(self, header: str | bytes | None, now: float | None = None) -> Session:
         """The session in a request's `Cookie` header, or a new one if the header has no open session, or is None.
 
-        A session isn't open if the site's cookie is missing, isn't encrypted under one of the keys, or is over. Of
-        several cookies of its name the first in which a session is open counts. `now` is in seconds since 1970; without
-        it the clock's time counts.
+        A session isn't open if the site's cookie is missing, isn't encrypted under one of the keys, is over, or is
+        revoked. Of several cookies of its name the first in which a session is open counts. `now` is in seconds since
+        1970; without it the clock's time counts. Raises `RevocationsError` if it can't be looked up whether a session
+        is revoked.
 
         >>> from deomigal import derive_key
         >>> sessions = Sessions([derive_key(b"a master key of at least 32 bytes")], "session", 12 * 3600, 1800)
@@ -155,14 +171,52 @@ class Sessions(Uncopied):
         """
         session = self.start(now)
         header = header_of(header)
-        answer, form = told(SESSION_OPEN, self.settings, header, seconds(session), room=ROOM)
+        while True:
+            answer, form = told(SESSION_OPEN, self.settings, header, session.revoked, seconds(session), room=ROOM)
+            found = bytes(answer.id)
+            if answer.status != DONE or not self.is_revoked(found):
+                break
+            # The next cookie of the name counts.
+            session.revoked += found
         if answer.status == DONE:
             session.started, session.seen, session.place = answer.started, answer.seen, answer.place
+            session.id, session.starts = found, {found: answer.started}
             session.header, session.is_renewed = header, False
             session.texts = dict(parse_qsl(form.decode(), keep_blank_values=True))
         elif answer.status != NoSession.status:
             raise error_of(answer.status)
         return session
+
+    def is_revoked(self, id: bytes) -> bool:
+        """Whether the session with this id is revoked. Raises `RevocationsError` for whatever the look-up raises."""
+        if self.revocations is None:
+            return False
+        with named("it can't be looked up whether a session is revoked"):
+            found = self.revocations.is_revoked(id)
+        if not isinstance(found, bool):
+            raise RevocationsError(f"is_revoked returns a bool, and not a value of the type {type(found).__name__}")
+        return found
+
+    def revoke(self, session: Session) -> None:
+        """Revokes the session: no copy of its cookie opens any more, whenever it was saved. Call it at a logout, and
+        send what `end` returns. Without `revocations` it raises `RevocationsError`, and so it does if that can't be
+        kept: tell the user then that the logout failed.
+
+        >>> from deomigal import derive_key
+        >>> from deomigal.revocations import MemoryRevocations
+        >>> keys = [derive_key(b"a master key of at least 32 bytes")]
+        >>> sessions = Sessions(keys, "session", 12 * 3600, 1800, revocations=MemoryRevocations())
+        >>> cookie = sessions.save(sessions.start())
+        >>> session = sessions.open(cookie)
+        >>> sessions.revoke(session)
+        >>> session.is_new, sessions.open(cookie).is_new
+        (False, True)
+        """
+        if self.revocations is None:
+            raise RevocationsError("these sessions can't be revoked: they have no revocations")
+        with named("a session can't be revoked"):
+            for id, started in list(session.starts.items()):
+                self.revocations.revoke(id, started + self.lifetime)
 
     def save(self, session: Session) -> str:
         """The value of the `Set-Cookie` header that saves the session, encrypted under the newest key.
@@ -183,11 +237,15 @@ class Sessions(Uncopied):
         """
         if not isinstance(session, Session):
             raise TypeError("what is saved is a Session")
-        inputs = (session.header, urlencode(session.texts), session.is_renewed, seconds(session), os.urandom(12))
-        return given(SESSION_SAVE, self.settings, *inputs, room=ROOM).decode()
+        form, random = urlencode(session.texts), os.urandom(12) + session.id
+        inputs = (session.header, session.revoked, form, session.is_renewed, seconds(session), random)
+        text = given(SESSION_SAVE, self.settings, *inputs, room=ROOM).decode()
+        session.starts[session.id] = session.started
+        return text
 
     def end(self, now: float | None = None) -> str:
-        """The value of the `Set-Cookie` header that has the browser drop the cookie. A copy stays open until its limits.
+        """The value of the `Set-Cookie` header that has the browser drop the cookie. A copy stays open until its
+        limits, unless `revoke` is called.
 
         >>> from deomigal import derive_key
         >>> sessions = Sessions([derive_key(b"a master key of at least 32 bytes")], "session", 12 * 3600, 1800)
@@ -202,3 +260,14 @@ def seconds(session: Session) -> int:
     if not 0 <= session.now < 2**64:
         raise error_of(NoDate.status)
     return session.now
+
+
+@contextlib.contextmanager
+def named(what: str) -> Iterator[None]:
+    """Raises what is raised within as `RevocationsError`."""
+    try:
+        yield
+    except RevocationsError:
+        raise
+    except Exception as error:
+        raise RevocationsError(f"{what}: {error!r}") from error

@@ -9,6 +9,7 @@ from urllib.parse import quote_plus
 
 from .dates import print_date
 from .explain import date_after
+from .revocations import Revocations
 from .secrets import keys_of
 from .sessions import Session, Sessions
 
@@ -16,6 +17,9 @@ from .sessions import Session, Sessions
 PLAIN, ENCODED = "j", "b"
 # The JSON of no values.
 EMPTY = b"{}"
+# What is answered if it can't be looked up whether a session is revoked (RFC 9110 15.6.4).
+UNAVAILABLE = b"Try again in a moment.\n"
+UNAVAILABLE_FIELDS = [("Content-Type", "text/plain"), ("Retry-After", "1")]
 FORTNIGHT = 14 * 24 * 3600
 
 
@@ -76,9 +80,9 @@ class Values(Mapped):
     `opened` is their JSON as it was opened: a change within a value shows when they are printed again.
     """
 
-    def __init__(self, kept: Session, values: Mapping[str, Any], opened: bytes) -> None:
+    def __init__(self, sessions: Sessions, kept: Session, values: Mapping[str, Any], opened: bytes) -> None:
         dict.__init__(self, values)
-        self.kept, self.opened, self.accessed = kept, opened, False
+        self.sessions, self.kept, self.opened, self.accessed = sessions, kept, opened, False
 
     def __getitem__(self, name: str) -> Any:
         self.accessed = True
@@ -113,15 +117,28 @@ class Values(Mapped):
         """Whether the request has no open session."""
         return self.kept.is_new
 
+    @property
+    def id(self) -> bytes:
+        """Its id, of sixteen bytes: each copy of its cookie has it, whenever it was saved, until it is renewed."""
+        return self.kept.id
+
     def renew(self) -> None:
-        """Starts it anew with the same values, so that the lifetime counts from this request. Call it at a login."""
+        """Starts it anew with the same values and another id, so that the lifetime counts from this request. Call it at
+        a login."""
         self.accessed = True
         self.kept.renew()
 
     def clear(self) -> None:
-        """Drops the values, and starts it anew."""
+        """Drops the values, and starts it anew. A copy of its cookie stays open until its limits: at a logout call
+        `revoke`."""
         super().clear()
         self.renew()
+
+    def revoke(self) -> None:
+        """Revokes it, and then clears it. Call it at a logout: no copy of its cookie opens any more, whenever it was
+        saved. Raises `RevocationsError` if that can't be kept, or if the middleware has no `revocations`."""
+        self.sessions.revoke(self.kept)
+        self.clear()
 
 
 class Middleware:
@@ -131,7 +148,8 @@ class Middleware:
     seconds after its start, and `idle` seconds after it was last saved, if `idle` is given. If `max_age` is None, the
     browser drops the cookie when it closes, and the session is over after 14 days. `refresh` is how many seconds after
     it was saved a session that was only read is saved again, by default a tenth of `idle`. Settings that no session
-    could be saved with are refused at once.
+    could be saved with are refused at once. `revocations` keeps which sessions are revoked, by their `revoke`. If it
+    fails, the request is answered with status 503.
     """
 
     def __init__(
@@ -152,6 +170,7 @@ class Middleware:
         idle: int | None = None,
         refresh: float | None = None,
         clock: Callable[[], float] = time.time,
+        revocations: Revocations | None = None,
     ) -> None:
         # Starlette's `Secret` shows its text only by `str`.
         newest: str | bytes = secret_key if isinstance(secret_key, bytes) else str(secret_key)
@@ -162,7 +181,7 @@ class Middleware:
         self.sessions = Sessions(
             keys_of([newest, *fallbacks], salt), session_cookie, lifetime, lifetime if idle is None else idle,
             path=path, domain=domain, secure=https_only, http_only=http_only, same_site=same_site.title(),
-            partitioned=partitioned,
+            partitioned=partitioned, revocations=revocations,
         )
 
     def opened(self, header: bytes) -> Values:
@@ -173,12 +192,12 @@ class Middleware:
                 data = unpacked(kept)
                 values = json.loads(data)
                 if isinstance(values, dict):
-                    return Values(kept, values, data)
+                    return Values(self.sessions, kept, values, data)
             except ValueError:
                 # Another program saved it, under the same key.
                 pass
             kept = self.sessions.start(kept.now)
-        return Values(kept, {}, EMPTY)
+        return Values(self.sessions, kept, {}, EMPTY)
 
     def fields(self, values: Values) -> list[tuple[str, str]]:
         """The fields that the response needs: the cookie of a session that is to be saved or dropped, and that the page

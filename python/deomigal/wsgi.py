@@ -8,9 +8,11 @@
 """
 from __future__ import annotations
 
+import sys
 from typing import Any, Callable, Iterable, Mapping
 
-from .values import Middleware
+from .errors import RevocationsError
+from .values import UNAVAILABLE, UNAVAILABLE_FIELDS, Middleware, Values
 
 # The session's name in the environment.
 KEY = "deomigal.session"
@@ -20,12 +22,17 @@ class SessionMiddleware(Middleware):
     """Keeps the session of a request in `environ["deomigal.session"]`, and saves it when the response starts."""
 
     def __call__(self, environ: dict[str, Any], start_response: Callable[..., Any]) -> Iterable[bytes]:
-        values = environ[KEY] = self.opened(header_in(environ))
-
         def start_with_cookie(status: str, headers: list[tuple[str, str]], *error: Any) -> Any:
             return start_response(status, [*headers, *self.fields(values)], *error)
 
-        pages: Iterable[bytes] = self.app(environ, start_with_cookie)
+        try:
+            values: Values = self.opened(header_in(environ))
+            environ[KEY] = values
+            pages: Iterable[bytes] = self.app(environ, start_with_cookie)
+        except RevocationsError:
+            # In the place of a response that has begun, this raises the error again.
+            start_response("503 Service Unavailable", [*UNAVAILABLE_FIELDS], sys.exc_info())
+            return [UNAVAILABLE]
         return pages
 
 

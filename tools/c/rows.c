@@ -76,7 +76,7 @@ static const char *const NAMES[] = {
     "DONE",      "BUFFER_TOO_SHORT", "OUT_OF_MEMORY", "NOT_UTF8", "KEY_TOO_SHORT", "MASTER_TOO_SHORT", "BAD_NONCE",
     "NOT_SIGNED", "NOT_SEALED", "TOO_LONG", "NO_DATE", "BAD_MOMENT", "BAD_LINE", "MISSING_PAIR", "EMPTY_NAME", "BAD_ESCAPE",
     "NO_PAIR", "NO_JAR", "NOT_FOUND", "BAD_ATTRIBUTE", "NO_SESSION", "BAD_PREFIX", "OVER", "TOO_LARGE",
-    "INVALID_VALUE",
+    "INVALID_VALUE", "BAD_IDS",
 };
 
 static uint32_t status_named(const char *name) {
@@ -238,21 +238,23 @@ static cookie_session_settings settings_in(const text *in, long long numbers[4])
     };
 }
 
-/* A session that is opened: the place of its key and its times are the row's last numbers. */
+/* A session that is opened: the place of its key and its times are the row's last numbers, and its id is the last text. */
 static cookie_answer open_session(const text *in, uint8_t *out, size_t length) {
     long long n[4], told[3];
     cookie_session_settings settings = settings_in(in, n);
-    cookie_opened_session opened = cookie_session_open(&settings, IN(3), (uint64_t)n[2], out, length);
-    numbers_in(in[4], 3, told);
+    cookie_opened_session opened = cookie_session_open(&settings, IN(3), IN(4), (uint64_t)n[2], out, length);
+    numbers_in(in[5], 3, told);
     if (opened.place != (size_t)told[0] || opened.started != (uint64_t)told[1] || opened.seen != (uint64_t)told[2])
         fault("another key or another time");
+    if (in[6].length != sizeof opened.id || memcmp(opened.id, in[6].bytes, sizeof opened.id) != 0)
+        fault("another id");
     return (cookie_answer){opened.status, opened.length};
 }
 
 static cookie_answer save_session(const text *in, uint8_t *out, size_t length) {
     long long n[4];
     cookie_session_settings settings = settings_in(in, n);
-    return cookie_session_save(&settings, IN(3), IN(4), n[3] == 1, (uint64_t)n[2], IN(5), out, length);
+    return cookie_session_save(&settings, IN(3), IN(4), IN(5), n[3] == 1, (uint64_t)n[2], IN(6), out, length);
 }
 
 static cookie_answer end_session(const text *in, uint8_t *out, size_t length) {

@@ -137,12 +137,14 @@ def play_session(call, inputs, out, length):
     settings = library.Settings(keys, len(keys), cookie, len(cookie), lifetime, idle, 1, 2)
     texts = [part for value in rest for part in (value or None, len(value))]
     if call == "session_open":
-        opened = library.SESSION_OPEN(settings, *texts[:2], now, out, length)
-        if [opened.place, opened.started, opened.seen] != numbers_in(rest[-1], 3):
+        opened = library.SESSION_OPEN(settings, *texts[:4], now, out, length)
+        if [opened.place, opened.started, opened.seen] != numbers_in(rest[-2], 3):
             fault("another key or another time")
+        if bytes(opened.id) != rest[-1]:
+            fault("another id")
         return opened
     if call == "session_save":
-        return library.SESSION_SAVE(settings, *texts[:4], renew == [1], now, *texts[4:], out, length)
+        return library.SESSION_SAVE(settings, *texts[:6], renew == [1], now, *texts[6:], out, length)
     return library.SESSION_END(settings, now, out, length)
 
 

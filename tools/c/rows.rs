@@ -93,6 +93,7 @@ struct OpenedSession {
     place: usize,
     started: u64,
     seen: u64,
+    id: [u8; 16],
 }
 
 #[repr(C)]
@@ -156,16 +157,16 @@ unsafe extern "C" {
     fn cookie_jar_delta(jar: &mut Jar, out: *mut u8, out_length: usize) -> Answer;
     fn cookie_jar_free(jar: &mut Jar);
     fn cookie_explain(request: &Request, list: Text, list_length: usize, text: Text, text_length: usize, now: u64, out: *mut u8, out_length: usize) -> Explanation;
-    fn cookie_session_open(settings: &SessionSettings, header: Text, header_length: usize, now: u64, out: *mut u8, out_length: usize) -> OpenedSession;
-    fn cookie_session_save(settings: &SessionSettings, header: Text, header_length: usize, texts: Text, texts_length: usize, renew: bool, now: u64, nonce: Text, nonce_length: usize, out: *mut u8, out_length: usize) -> Answer;
+    fn cookie_session_open(settings: &SessionSettings, header: Text, header_length: usize, revoked: Text, revoked_length: usize, now: u64, out: *mut u8, out_length: usize) -> OpenedSession;
+    fn cookie_session_save(settings: &SessionSettings, header: Text, header_length: usize, revoked: Text, revoked_length: usize, texts: Text, texts_length: usize, renew: bool, now: u64, random: Text, random_length: usize, out: *mut u8, out_length: usize) -> Answer;
     fn cookie_session_end(settings: &SessionSettings, now: u64, out: *mut u8, out_length: usize) -> Answer;
 }
 
-const STATUSES: [&str; 25] = [
+const STATUSES: [&str; 26] = [
     "DONE", "BUFFER_TOO_SHORT", "OUT_OF_MEMORY", "NOT_UTF8", "KEY_TOO_SHORT", "MASTER_TOO_SHORT", "BAD_NONCE",
     "NOT_SIGNED", "NOT_SEALED", "TOO_LONG", "NO_DATE", "BAD_MOMENT", "BAD_LINE", "MISSING_PAIR", "EMPTY_NAME", "BAD_ESCAPE",
     "NO_PAIR", "NO_JAR", "NOT_FOUND", "BAD_ATTRIBUTE", "NO_SESSION", "BAD_PREFIX", "OVER", "TOO_LARGE",
-    "INVALID_VALUE",
+    "INVALID_VALUE", "BAD_IDS",
 ];
 
 fn number_of(status: &str) -> u32 {
@@ -276,13 +277,16 @@ fn play_session(name: &str, inputs: &[Vec<u8>], out: *mut u8, length: usize) -> 
     unsafe {
         match name {
             "session_open" => {
-                let opened = cookie_session_open(&settings, at(3), size(3), now, out, length);
+                let opened = cookie_session_open(&settings, at(3), size(3), at(4), size(4), now, out, length);
                 let told = [opened.place as i64, opened.started as i64, opened.seen as i64];
-                assert_eq!(told[..], numbers_in(&inputs[4], 3)[..], "another key or another time");
+                assert_eq!(told[..], numbers_in(&inputs[5], 3)[..], "another key or another time");
+                assert_eq!(opened.id[..], inputs[6][..], "another id");
                 Answer { status: opened.status, length: opened.length }
             }
             "session_save" => {
-                cookie_session_save(&settings, at(3), size(3), at(4), size(4), n.get(3) == Some(&1), now, at(5), size(5), out, length)
+                cookie_session_save(
+                    &settings, at(3), size(3), at(4), size(4), at(5), size(5), n.get(3) == Some(&1), now, at(6), size(6), out, length,
+                )
             }
             "session_end" => cookie_session_end(&settings, now, out, length),
             _ => panic!("no call {name}"),

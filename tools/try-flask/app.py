@@ -2,6 +2,7 @@
 
 Its environment says which: TRY_SESSIONS is `deomigal` or `flask`. TRY_KEYS is a file with a key in hexadecimal a line,
 the newest first. TRY_IDLE and TRY_LIFETIME are limits in seconds. TRY_CLOCK, if it is set, is a file with the time.
+TRY_REVOCATIONS, if it is set, says where it is kept which sessions are revoked: `sqlite FILE` or `redis SOCKET`.
 """
 import datetime
 import os
@@ -24,6 +25,20 @@ def clock():
     return float(pathlib.Path(path).read_text()) if path else time.time()
 
 
+def revocations_of(words):
+    """Where it is kept which sessions are revoked, or None."""
+    if not words:
+        return None
+    from deomigal.revocations import RedisRevocations, SqliteRevocations
+
+    kind, place = words.split(" ")
+    if kind == "sqlite":
+        return SqliteRevocations(place)
+    import redis
+
+    return RedisRevocations(redis.Redis(unix_socket_path=place, socket_timeout=1))
+
+
 keys = [bytes.fromhex(line) for line in pathlib.Path(os.environ["TRY_KEYS"]).read_text().split()]
 app = Flask(__name__)
 app.config.update(
@@ -36,7 +51,12 @@ app.config.update(
 if os.environ["TRY_SESSIONS"] == "deomigal":
     from deomigal.flask import SessionInterface
 
-    app.session_interface = SessionInterface(keys, idle=int(os.environ.get("TRY_IDLE", 0)) or None, clock=clock)
+    idle, revocations = int(os.environ.get("TRY_IDLE", 0)) or None, revocations_of(os.environ.get("TRY_REVOCATIONS"))
+    interface = SessionInterface(keys, idle=idle, clock=clock, revocations=revocations)
+    if revocations is None:
+        app.session_interface = interface
+    else:
+        interface.init_app(app)
 
 
 page = app.jinja_env.from_string(PAGE)
@@ -57,6 +77,15 @@ def read():
     return {"user": session.get("user"), "worker": os.getpid()}
 
 
+@app.get("/slow")
+def slow():
+    """Changes the session a while after it was opened."""
+    user = session.get("user")
+    time.sleep(0.05)
+    session["slow"] = True
+    return page.render(user=user, visits=0, worker=os.getpid())
+
+
 @app.post("/login")
 def log_in():
     session.clear()
@@ -73,5 +102,8 @@ def fill():
 
 @app.post("/logout")
 def log_out():
-    session.clear()
+    if os.environ.get("TRY_REVOCATIONS"):
+        session.revoke()
+    else:
+        session.clear()
     return redirect("/", 303)

@@ -1,5 +1,5 @@
 -- How a session is saved for C, by what the library's call does.
-use Rattle.std.proofs.Common.{◌≡◌, ◌↔◌, ℕ, ◌<◌, ◌≤◌, ◌⊎◌, inl, inr, Bool, true, false, List, Option, None, Some, option_map, Result, Ok, Err, IfSome, MatchResult, IsOkAnd, OnOk, arith, refl, sym, ap, subst, ◌∙◌}
+use Rattle.std.proofs.Common.{◌≡◌, ◌↔◌, ℕ, ◌<◌, ◌≤◌, ◌⊎◌, inl, inr, Bool, true, false, List, Contains, Option, None, Some, option_map, Result, Ok, Err, IfSome, MatchResult, IsOkAnd, OnOk, arith, refl, sym, ap, subst, ◌∙◌}
 use Rattle.std.proofs.lemmas.Option.{same_Some}
 use Rattle.jiff.specs.Types.{DateTime}
 use Rattle.cookie.proofs.AnswerLemmas.{view-stored}
@@ -189,12 +189,13 @@ text_refused site nonce time session other bytes why shown result same fails is 
     subst (λ s. Saves site nonce time s (λ w. result ≡ Err w) (λ wanted. IsOkAnd result (λ m. bytes m ≡ wanted))) same
     (saves_passed site nonce time session bytes why shown result fails is)
 
-module _ (site : Sessions) (cookies : List Record) (form : List ℕ) (time : DateTime) (nonce : List ℕ) (answer : Answer) (old new : List ℕ) where
+module _ (IsRevoked : List ℕ → Type 0) (site : Sessions) (cookies : List Record) (form : List ℕ) (time : DateTime) (nonce id : List ℕ) (answer : Answer)
+    (old new : List ℕ) where
   abbrev SavesAs : SessionState → Type 0
   SavesAs session = Saves site nonce time session (IsUnsaved answer old new) (λ text. IsGiven text answer old new)
 
   -- a new session is saved
-  pub texts_renewed : (renew : Bool) → renew ≡ true → SavesAs (new_session time form) → SavesTexts site cookies form renew time nonce answer old new
+  pub texts_renewed : (renew : Bool) → renew ≡ true → SavesAs (new_session id time form) → SavesTexts IsRevoked site cookies form renew time nonce id answer old new
   texts_renewed renew is saves = record {
     renewed = λ _. saves;
     continued = λ no place session open'. absurd (let clash : true ≡ false = sym is ∙ no in cc);
@@ -202,26 +203,29 @@ module _ (site : Sessions) (cookies : List Record) (form : List ℕ) (time : Dat
   }
 
   -- the session that is open is saved
-  pub texts_continued : (renew : Bool) (opened : Opened) → renew ≡ false → Finds site cookies time (Some opened)
-      → SavesAs (with_form form opened.session) → SavesTexts site cookies form renew time nonce answer old new
+  pub texts_continued : (renew : Bool) (opened : Opened) → renew ≡ false → Finds IsRevoked site cookies time (Some opened)
+      → SavesAs (with_form form opened.session) → SavesTexts IsRevoked site cookies form renew time nonce id answer old new
   texts_continued renew opened is finds saves = record {
     renewed = λ yes. absurd (let clash : true ≡ false = sym yes ∙ is in cc);
-    continued = λ _ place session there. subst (λ s. SavesAs (with_form form s)) (found_is_it site cookies time opened place session finds there) saves;
-    none = λ _ has. absurd (has opened.place opened.session (found_is_open site cookies time opened finds));
+    continued = λ _ place session there. subst (λ s. SavesAs (with_form form s)) (found_is_it IsRevoked site cookies time opened place session finds there) saves;
+    none = λ _ has. absurd (has opened.place opened.session (found_is_open IsRevoked site cookies time opened finds));
   }
 
   -- there is no session to save
-  pub texts_none : (renew : Bool) → renew ≡ false → Finds site cookies time None → IsRefused status.NoSession answer old new
-      → SavesTexts site cookies form renew time nonce answer old new
+  pub texts_none : (renew : Bool) → renew ≡ false → Finds IsRevoked site cookies time None → IsRefused status.NoSession answer old new
+      → SavesTexts IsRevoked site cookies form renew time nonce id answer old new
   texts_none renew is finds refused = record {
     renewed = λ yes. absurd (let clash : true ≡ false = sym yes ∙ is in cc);
-    continued = λ _ place session there. absurd (found_none site cookies time finds place session there);
+    continued = λ _ place session there. absurd (found_none IsRevoked site cookies time finds place session there);
     none = λ _ _. inl refused;
   }
 
--- the same under a nonce that is equal
-pub saves_same : (site : Sessions) (cookies : List Record) (form : List ℕ) (renew : Bool) (time : DateTime) (nonce other : List ℕ)
-    (answer : Answer) (old new : List ℕ) → nonce ≡ other → SavesTexts site cookies form renew time nonce answer old new
-    → SavesTexts site cookies form renew time other answer old new
-saves_same site cookies form renew time nonce other answer old new same saves =
-    subst (λ n. SavesTexts site cookies form renew time n answer old new) same saves
+-- the same under bytes that are equal
+pub saves_same : (ids listed : List (List ℕ)) (site : Sessions) (cookies : List Record) (form : List ℕ) (renew : Bool) (time : DateTime)
+    (nonce other id drawn : List ℕ) (answer : Answer) (old new : List ℕ) → ids ≡ listed → nonce ≡ other → id ≡ drawn
+    → SavesTexts (Contains ids) site cookies form renew time nonce id answer old new
+    → SavesTexts (Contains listed) site cookies form renew time other drawn answer old new
+saves_same ids listed site cookies form renew time nonce other id drawn answer old new lists same draws saves =
+    subst (λ l. SavesTexts (Contains l) site cookies form renew time other drawn answer old new) lists
+    (subst (λ n. SavesTexts (Contains ids) site cookies form renew time n drawn answer old new) same
+    (subst (λ d. SavesTexts (Contains ids) site cookies form renew time nonce d answer old new) draws saves))

@@ -32,6 +32,7 @@ code_of status.BadPrefix = 21
 code_of status.Over = 22
 code_of status.TooLarge = 23
 code_of status.InvalidValue = 24
+code_of status.BadIds = 25
 
 -- the status of a text that is refused as no cookie
 abbrev pub refusal_status : ParseError → Status

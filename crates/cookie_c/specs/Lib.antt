@@ -15,6 +15,7 @@ pub mod Places
 pub mod Played
 pub mod Prints
 pub mod Readings
+pub mod Revoked
 pub mod SaveParts
 pub mod SavedSessions
 pub mod SiteParts

@@ -22,6 +22,8 @@ pub struct OpenedSession {
     pub started: u64,
     /// When it was last saved, in seconds since 1970 in UTC.
     pub seen: u64,
+    /// Its id.
+    pub id: [u8; 16],
 }
 
 impl OpenedSession {
@@ -34,6 +36,7 @@ impl OpenedSession {
             place: 0,
             started: 0,
             seen: 0,
+            id: [0; 16],
         }
     }
 
@@ -52,6 +55,7 @@ impl OpenedSession {
             place: opened.place,
             started: opened.session.started(),
             seen: opened.session.seen(),
+            id: *opened.session.id(),
         }
     }
 }

@@ -1,8 +1,9 @@
 //! The sessions of a site for C, without a handle: each call has the settings of the site.
 
 mod keys;
-mod nonce;
+mod listed;
 pub(crate) mod open;
+mod random;
 pub(crate) mod save;
 mod site;
 pub(crate) mod time;

@@ -17,7 +17,7 @@ pub enum Status {
     KeyTooShort = 4,
     /// The master key has fewer than 32 bytes.
     MasterTooShort = 5,
-    /// The nonce doesn't have twelve bytes.
+    /// The nonce doesn't have twelve bytes, or the random bytes of a session aren't 28.
     BadNonce = 6,
     /// The value isn't signed under the key and the name.
     NotSigned = 7,
@@ -55,6 +55,8 @@ pub enum Status {
     TooLarge = 23,
     /// A path or a domain holds a control character, such as a line break, or a `;`.
     InvalidValue = 24,
+    /// The ids of the revoked sessions don't have sixteen bytes each.
+    BadIds = 25,
 }
 
 impl Status {

@@ -5,7 +5,8 @@ from typing import NamedTuple
 WHITE = "\t\n\x0b\x0c\r \x85\xa0\u1680\u2000\u2001\u2002\u2003\u2004\u2005\u2006\u2007\u2008\u2009\u200a"
 WHITE += "\u2028\u2029\u202f\u205f\u3000"
 STATUSES = {"MissingPair": "MISSING_PAIR", "EmptyName": "EMPTY_NAME", "Utf8Error": "BAD_ESCAPE", "NotUtf8": "NOT_UTF8",
-            "InvalidValue": "INVALID_VALUE", "NoDate": "NO_DATE", "NoSession": "NO_SESSION"}
+            "InvalidValue": "INVALID_VALUE", "NoDate": "NO_DATE", "NoSession": "NO_SESSION",
+            "BadIds": "BAD_IDS"}
 # Calls that only look. A player that lacks one passes over it.
 LOOKS = set("""raw split_raw split_raw_encoded trimmed fields equals equals_parsed refusal counts get-original all debug
 flags fit fits is-value master signing encryption drawn""".split())

@@ -1,6 +1,7 @@
 """Sessions. The inputs are the keys, the site's cookie, and numbers: lifetime, idle time, and now in seconds.
-`session_open` has the header then, and the place of the key with both times last. `session_save` has one number more, 1
-if the session is renewed, and then the header, the form of the texts, and the nonce."""
+`session_open` has the header and the revoked ids then, and last the place of the key with both times, and the session's
+id. `session_save` has one number more, 1 if the session is renewed, and then the header, the revoked ids, the form of the
+texts, and the random bytes: the nonce and the id of a session that starts."""
 from urllib.parse import urlencode
 
 import rowfile
@@ -10,6 +11,7 @@ from rowfile import unescaped
 from signing import test_key
 
 FIRST = 1_445_412_480
+SEVENS = bytes([7] * 16)
 TOO_LARGE = "the cookie is too large: expected <= 4096 bytes, got "
 REFUSED_SAVES = {
     "the cookie lacks what a browser asks of the prefix of its name": "BAD_PREFIX",
@@ -35,6 +37,7 @@ class Sessions:
         self.keys = [test_key()]
         self.site = rowfile.cookie("__Host-session=; Path=/; Secure; HttpOnly; SameSite=Lax")
         self.limits, self.now, self.nonce = [1200, 600], FIRST, bytes([7] * 12)
+        self.revoked, self.new_id = b"", SEVENS
         self.originals, self.header = {}, None
         self.texts, self.form, self.started = {}, None, FIRST
         # The call that isn't known whole yet: its place and its inputs, or its name and its inputs.
@@ -45,7 +48,7 @@ class Sessions:
         return [b"".join(self.keys), readable(self.site), lists([*self.limits, self.now, *numbers])]
 
     def change_site(self, step):
-        """Whether the step changes the site, the time or the nonce."""
+        """Whether the step changes the site, the time, or what is revoked or drawn."""
         if step.call == "site":
             self.site = rowfile.cookie(step.words)
         elif step.call == "limits":
@@ -60,6 +63,10 @@ class Sessions:
             self.keys = self.keys[: max(1, len(self.keys) - 1)]
         elif step.call == "at":
             self.now = FIRST + int(step.words)
+        elif step.call == "revoked":
+            self.revoked = bytes.fromhex(step.words)
+        elif step.call == "new_id":
+            self.new_id = bytes.fromhex(step.words)
         else:
             return False
         return True
@@ -87,9 +94,10 @@ class Sessions:
         header = unescaped(step.words)
         if step.call == "open":
             header = b"; ".join(escaped(name) + b"=" + escaped(value) for name, value in self.originals.items())
-        inputs = [*self.settings(), header]
+        inputs = [*self.settings(), header, self.revoked]
         if step.wanted == "-" or status_of(step.wanted):
-            return [refused("session_open", status_of(step.wanted) or "NO_SESSION", *inputs, lists([0, 0, 0]))]
+            told = lists([0, 0, 0]), bytes(16)
+            return [refused("session_open", status_of(step.wanted) or "NO_SESSION", *inputs, *told)]
         self.opened, self.told, self.header = (int(step.wanted), inputs), {}, header
         return []
 
@@ -98,20 +106,22 @@ class Sessions:
         if self.opened is None:
             return []
         self.told[step.call] = step.wanted
-        if len(self.told) < 2:
+        if not {"session", "times"} <= set(self.told):
             return []
+        told = bytes.fromhex(self.told["id"]) if "id" in self.told else SEVENS
         items = self.told["session"].split(" | ") if self.told["session"] != "-" else []
         self.texts = dict(map(unescaped, item.split("=", 1)) for item in items)
         times = [FIRST + int(number) for number in self.told["times"].split()]
         (place, inputs), self.opened, self.started = self.opened, None, times[0]
-        return [done("session_open", form_of(self.texts), *inputs, lists([place, *times]))]
+        return [done("session_open", form_of(self.texts), *inputs, lists([place, *times]), told)]
 
     def save(self, step):
         is_new = self.header is None and step.wanted != "refused NoSession"
         if self.opened or is_new and self.started != self.now:
             raise Lacks(step)
         form = form_of(self.texts) if self.form is None else self.form
-        inputs = [*self.settings(int(is_new)), self.header or b"", form, self.nonce]
+        drawn = self.nonce + self.new_id
+        inputs = [*self.settings(int(is_new)), self.header or b"", self.revoked, form, drawn]
         self.form = None
         if step.wanted in REFUSED_SAVES or status_of(step.wanted):
             return [refused("session_save", REFUSED_SAVES.get(step.wanted) or status_of(step.wanted), *inputs)]
@@ -122,7 +132,7 @@ class Sessions:
         return []
 
     def plays(self, step):
-        if step.call in ("session", "times"):
+        if step.call in ("id", "session", "times"):
             return self.look(step)
         if step.call == "texts" and self.saved:
             (call, inputs), self.saved = self.saved, None

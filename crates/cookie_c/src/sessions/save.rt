@@ -1,19 +1,23 @@
 //! Saving and ending a session for C.
-ghost use Rattle.std.specs.Prelude.{◌≡◌, ◌≢◌, true, false, Some, Err, IfOk, IsOkAnd, MatchResult, length, option_map, string_bytes};
+ghost use Rattle.std.specs.FinMap.{empty};
+ghost use Rattle.std.specs.Prelude.{◌≡◌, ◌≢◌, true, false, Contains, Some, Err, IfOk, IsOkAnd, MatchResult, drop, length, option_map, string_bytes, take};
 ghost use Rattle.cookie.specs.Jar.{view};
 ghost use Rattle.cookie.specs.Originals.{field_cookies};
 ghost use Rattle.cookie.specs.Removal.{removal};
 ghost use Rattle.cookie.specs.Text.{cookie_text};
+ghost use Rattle.cookie_session.specs.Seconds.{second_of};
 ghost use Rattle.cookie_session.specs.declared.session_error.SessionError.TheVariants as failure;
 ghost use Rattle.cookie_c.specs.Answers.{IsGiven, IsGivenInMemory, IsRefused};
+ghost use Rattle.cookie_c.specs.Revoked.{HasIds, IsListed};
 ghost use Rattle.cookie_c.specs.SavedSessions.{IsUnsaved, Saves, SavesTexts, unsaved_number, unsaved_status, with_form};
 ghost use Rattle.cookie_c.specs.SaveParts.{IsSaved};
 ghost use Rattle.cookie_c.specs.Sites.{AtSite};
 ghost use Rattle.cookie_c.specs.declared.status.Status.TheVariants as status;
 
 use super::SessionSettings;
-use super::nonce::Nonce;
+use super::listed::Listed;
 use super::open::find;
+use super::random::Random;
 use super::site::Site;
 use crate::answer::Answer;
 use crate::print::give_text;
@@ -25,43 +29,51 @@ use std::alloc::{AllocError, Global};
 
 /// Saves a session with the texts of a form (URL Standard 5.1). The value of the `Set-Cookie` header that sets its
 /// cookie, encrypted under the newest key, is for the buffer. If `renew` is true, the session starts now. If it is
-/// false, the session is the request's, as `cookie_session_open` finds it, and its lifetime goes on. The nonce has
-/// twelve random bytes: under one key no nonce may be used twice, and at most 2^32 may be drawn (SP 800-38D 8.3). `now`
-/// is the time in seconds since 1970 in UTC.
+/// false, the session is the request's, as `cookie_session_open` finds it with the same `revoked`, and its lifetime goes
+/// on. `random` has 28 random bytes. The first twelve are the nonce: under one key no nonce may be used twice, and at
+/// most 2^32 may be drawn (SP 800-38D 8.3). The other sixteen are the id of a session that starts now. `now` is the time
+/// in seconds since 1970 in UTC.
 ///
-/// Refuses a nonce of another length, then unusable settings or an unusable time (`IsUnusable`), and then a request
-/// without an open session, unless `renew` is true. It then fails as `Sessions::save` does, with the size in bytes of a
-/// cookie that is too large. It may also run out of memory.
+/// Refuses random bytes of another length, then ids that don't have sixteen bytes each, then unusable settings or an
+/// unusable time (`IsUnusable`), and then a request without an open session, unless `renew` is true. It then fails as
+/// `Sessions::save` does, with the size in bytes of a cookie that is too large. It may also run out of memory.
 #[unsafe(no_mangle)]
 pub extern "C" fn cookie_session_save(
     alloc: Global,
     settings: &SessionSettings<'_>,
     header: &[u8],
+    revoked: &[u8],
     texts: &[u8],
     renew: bool,
     now: u64,
-    nonce: &[u8],
+    random: &[u8],
     out: &mut [u8],
 ) -> Answer
-    ensures bad_nonce { length nonce.now ≢ 12
+    ensures bad_nonce { length random.now ≢ 28
         → IsRefused status.BadNonce result out.old out.new }
-    ensures saves { length nonce.now ≡ 12 → AtSite settings.now now
-        (λ site time. SavesTexts site (field_cookies header.now) texts.now renew time nonce.now
-        result out.old out.new)
+    ensures bad_ids { length random.now ≡ 28 → ¬ HasIds revoked.now
+        → IsRefused status.BadIds result out.old out.new }
+    ensures saves { length random.now ≡ 28 → HasIds revoked.now → AtSite settings.now now
+        (λ site time. SavesTexts (IsListed revoked.now) site (field_cookies header.now) texts.now
+        renew time (take 12 random.now) (drop 12 random.now) result out.old out.new)
         (λ why. IsRefused why result out.old out.new) }
 {
-    let Some(nonce) = Nonce::of(nonce) else {
+    let Some(random) = Random::of(random) else {
         return Answer::refusal(Status::BadNonce);
+    };
+    let Some(revoked) = Listed::of(revoked) else {
+        return Answer::refusal(Status::BadIds);
     };
     match Site::of(alloc, settings, now) {
         Ok(site) => give_saved(
             alloc,
             &site.sessions(),
             header,
+            revoked,
             texts,
             renew,
             site.time,
-            nonce,
+            random,
             out,
         ),
         Err(why) => Answer::refusal(why),
@@ -69,8 +81,9 @@ pub extern "C" fn cookie_session_save(
 }
 
 /// Ends a session. The value of the `Set-Cookie` header that has the client drop the site's cookie, with the path and
-/// the domain that the site sets, is for the buffer. A copy of the cookie stays open until the session's limits. `now`
-/// is the time in seconds since 1970 in UTC.
+/// the domain that the site sets, is for the buffer. A copy of the cookie stays open until the session's limits, unless
+/// the caller revokes the session: keeps its id, and passes it in as revoked. `now` is the time in seconds since 1970 in
+/// UTC.
 ///
 /// Refuses unusable settings or an unusable time (`IsUnusable`). It may also run out of memory.
 #[unsafe(no_mangle)]
@@ -96,30 +109,45 @@ fn give_saved(
     alloc: Global,
     sessions: &Sessions<'_>,
     header: &[u8],
+    revoked: Listed<'_>,
     texts: &[u8],
     renew: bool,
     time: DateTime,
-    nonce: Nonce,
+    random: Random,
     out: &mut [u8],
 ) -> Answer
-    ensures { SavesTexts sessions.now (field_cookies header.now) texts.now renew time
-        nonce.bytes result out.old out.new }
+    ensures { SavesTexts (Contains revoked.entry.ids.now) sessions.now (field_cookies header.now)
+        texts.now renew time random.nonce random.id result out.old out.new }
 {
+    let mut random = random;
     if renew {
-        return give_session(
-            alloc,
-            sessions,
-            Session::start(alloc, time),
-            texts,
-            time,
-            nonce,
-            out,
-        );
+        let session = start(alloc, time, &mut random);
+        return give_session(alloc, sessions, session, texts, time, random, out);
     }
-    match find(alloc, sessions, header, time) {
-        Ok(Some(opened)) => give_session(alloc, sessions, opened.session, texts, time, nonce, out),
+    match find(alloc, sessions, header, revoked, time) {
+        Ok(Some(opened)) => give_session(alloc, sessions, opened.session, texts, time, random, out),
         Ok(None) => Answer::refusal(Status::NoSession),
         Err(_) => Answer::refusal(Status::OutOfMemory),
+    }
+}
+
+// A session that starts at this time, with the id of the random bytes.
+fn start(alloc: Global, time: DateTime, random: &mut Random) -> Session
+    ensures started { result ≡ record {
+      id = random.old.id;
+      started = second_of time;
+      seen = second_of time;
+      texts = empty;
+    } }
+    ensures same { random.new ≡ random.old }
+{
+    match Session::start(alloc, time, random) {
+        Ok(session) => {
+            // By this call the proof knows that the id has sixteen bytes.
+            let _ = session.id();
+            session
+        }
+        Err(_) => unreachable!(),
     }
 }
 
@@ -130,13 +158,13 @@ fn give_session(
     session: Session,
     texts: &[u8],
     time: DateTime,
-    nonce: Nonce,
+    random: Random,
     out: &mut [u8],
 ) -> Answer
-    ensures { Saves sessions.now nonce.bytes time (with_form texts.now session)
+    ensures { Saves sessions.now random.nonce time (with_form texts.now session)
         (IsUnsaved result out.old out.new) (λ text. IsGiven text result out.old out.new) }
 {
-    match saved_text(alloc, sessions, session, texts, time, nonce) {
+    match saved_text(alloc, sessions, session, texts, time, random) {
         Ok(text) => Answer::give(text.as_bytes(), out),
         Err(error) => Answer::of(unsaved_status(error), unsaved_number(error)),
     }
@@ -149,16 +177,16 @@ fn saved_text(
     session: Session,
     texts: &[u8],
     time: DateTime,
-    nonce: Nonce,
+    random: Random,
 ) -> Result<String, SessionError>
-    ensures { Saves sessions.now nonce.bytes time (with_form texts.now session)
+    ensures { Saves sessions.now random.nonce time (with_form texts.now session)
         (λ why. result ≡ Err why) (λ text. IsOkAnd result (λ made. string_bytes made ≡ text)) }
 {
     let Ok(session) = session.with_form(alloc, texts) else {
         return Err(SessionError::OutOfMemory);
     };
     let mut jar = CookieJar::new(alloc);
-    match save_in(alloc, sessions, &mut jar, &session, time, nonce) {
+    match save_in(alloc, sessions, &mut jar, &session, time, random) {
         Ok(()) => shown_text(alloc, &jar, sessions.cookie.name()),
         Err(error) => Err(error),
     }
@@ -171,13 +199,13 @@ fn save_in(
     jar: &mut CookieJar,
     session: &Session,
     time: DateTime,
-    nonce: Nonce,
+    random: Random,
 ) -> Result<(), SessionError>
-    ensures { IsSaved sessions.now nonce.bytes time session.now result
+    ensures { IsSaved sessions.now random.nonce time session.now result
         (view jar.new sessions.now.cookie.now.fields.name) }
 {
-    let mut nonce = nonce;
-    sessions.save(alloc, jar, session, time, &mut nonce)
+    let mut random = random;
+    sessions.save(alloc, jar, session, time, &mut random)
 }
 
 // The text of the jar's cookie of that name.

@@ -1,5 +1,5 @@
-//! Settings that are no site's, times out of range, and a buffer that is too short. What is encrypted is by Python's
-//! `cryptography` and `urllib.parse` (tools/session-rows).
+//! Settings that are no site's, times out of range, bytes of other lengths, and a buffer that is too short. What is
+//! encrypted is by Python's `cryptography` and `urllib.parse` (tools/session-rows).
 use super::{KEY, holds, is};
 use crate::sessions::SessionSettings;
 use crate::sessions::open::cookie_session_open;
@@ -8,7 +8,11 @@ use std::alloc::Global;
 
 const NOW: u64 = 1_445_412_480;
 
-const NONCE: [u8; 12] = [7; 12];
+const RANDOM: [u8; 28] = [7; 28];
+
+// The session of ann, with the id of bytes 7, under the key of bytes 1.
+const HEADER: &[u8] =
+    b"__Host-session=BwcHBwcHBwcHBwcH+87YgmbKjONu+Uxy0aMviNDKyZsTCEcbfEF7/5EyIdktW7bnpeCI2ZBoCu2FBUCJvjj9Q/BEVKhC6CoMc+9Tkpk72dHUtmPrWFnf0MKSibGNPW3806VVFeE=";
 
 fn settings<'a>(keys: &'a [u8], cookie: &'a [u8]) -> SessionSettings<'a> {
     SessionSettings {
@@ -24,9 +28,9 @@ fn settings<'a>(keys: &'a [u8], cookie: &'a [u8]) -> SessionSettings<'a> {
 // Whether each call refuses the settings at that time.
 fn are_refused(alloc: Global, site: &SessionSettings<'_>, now: u64, status: u32) -> bool {
     let mut out = [0xa5; 8];
-    let opened = cookie_session_open(alloc, site, b"", now, &mut out);
-    let saved = cookie_session_save(alloc, site, b"", b"", true, now, &NONCE, &mut out);
-    let kept = cookie_session_save(alloc, site, b"", b"", false, now, &NONCE, &mut out);
+    let opened = cookie_session_open(alloc, site, b"", b"", now, &mut out);
+    let saved = cookie_session_save(alloc, site, b"", b"", b"", true, now, &RANDOM, &mut out);
+    let kept = cookie_session_save(alloc, site, b"", b"", b"", false, now, &RANDOM, &mut out);
     let ended = cookie_session_end(alloc, site, now, &mut out);
     let told = is(saved, status, 0) && is(kept, status, 0) && is(ended, status, 0);
     told && opened.status == status && holds(&out, b"")
@@ -47,29 +51,75 @@ fn settings_that_are_no_sites_are_refused(rt: HostRuntime) {
     }
 }
 
+// The random bytes are looked at first, and then the ids.
 #[test]
-fn a_nonce_is_looked_at_first(rt: HostRuntime) {
-    let (site, mut out) = (settings(b"", b""), [0xa5; 8]);
-    for nonce in [&KEY[..0], &KEY[..11], &KEY[..13]] {
-        let now = u64::MAX;
-        let answer = cookie_session_save(rt.alloc(), &site, b"", b"", true, now, nonce, &mut out);
+fn random_bytes_and_ids_have_their_lengths(rt: HostRuntime) {
+    let (site, now, mut out) = (settings(b"", b""), u64::MAX, [0xa5; 8]);
+    for random in [&KEY[..0], &KEY[..12], &KEY[..27], &KEY[..29]] {
+        let answer = cookie_session_save(
+            rt.alloc(),
+            &site,
+            b"",
+            b"i",
+            b"",
+            true,
+            now,
+            random,
+            &mut out,
+        );
         assert!(rt; is(answer, 6, 0) && holds(&out, b""));
+    }
+    for ids in [&KEY[..1], &KEY[..15], &KEY[..17]] {
+        let answer = cookie_session_save(
+            rt.alloc(),
+            &site,
+            b"",
+            ids,
+            b"",
+            true,
+            now,
+            &RANDOM,
+            &mut out,
+        );
+        let opened = cookie_session_open(rt.alloc(), &site, b"", ids, now, &mut out);
+        assert!(rt; is(answer, 25, 0) && opened.status == 25 && holds(&out, b""));
     }
 }
 
-// The session of ann, under the key of bytes 1.
 #[test]
 fn a_short_buffer_is_left_as_it_is(rt: HostRuntime) {
     let keys = [1; 64];
     let site = settings(&keys, b"__Host-session=; Path=/; Secure");
-    let header =
-        b"__Host-session=BwcHBwcHBwcHBwcH+87bgnza0NNt/2ANl/RT/5OYs+1cWykqbkddgNcgZph4GPC2+e2fmNc4TOHWXxYPrjkfa+QaBvmpqJ4rPxGC";
     let mut out = [0xa5; 8];
-    let opened = cookie_session_open(rt.alloc(), &site, header, NOW, &mut out[..7]);
+    let opened = cookie_session_open(rt.alloc(), &site, HEADER, b"", NOW, &mut out[..7]);
     assert!(rt; (opened.status, opened.length, opened.place) == (1, 8, 0) && holds(&out, b""));
-    assert!(rt; (opened.started, opened.seen) == (NOW, NOW));
+    assert!(rt; (opened.started, opened.seen, opened.id) == (NOW, NOW, [7; 16]));
     let answer = cookie_session_end(rt.alloc(), &site, NOW, &mut out);
     assert!(rt; (answer.status, answer.length > 8) == (1, true) && holds(&out, b""));
-    let opened = cookie_session_open(rt.alloc(), &site, header, NOW, &mut out);
+    let opened = cookie_session_open(rt.alloc(), &site, HEADER, b"", NOW, &mut out);
     assert!(rt; opened.status == 0 && holds(&out, b"user=ann"));
+}
+
+// The last id that is listed counts too.
+#[test]
+fn a_revoked_session_is_not_opened(rt: HostRuntime) {
+    let (keys, ids) = ([1; 64], [[8; 16], [7; 16]]);
+    let (revoked, mut out) = (ids.as_flattened(), [0xa5; 8]);
+    let site = settings(&keys, b"__Host-session=; Path=/; Secure");
+    let opened = cookie_session_open(rt.alloc(), &site, HEADER, revoked, NOW, &mut out);
+    assert!(rt; (opened.status, opened.started, opened.id) == (20, 0, [0; 16]) && holds(&out, b""));
+    let answer = cookie_session_save(
+        rt.alloc(),
+        &site,
+        HEADER,
+        revoked,
+        b"",
+        false,
+        NOW,
+        &RANDOM,
+        &mut out,
+    );
+    assert!(rt; is(answer, 20, 0) && holds(&out, b""));
+    let opened = cookie_session_open(rt.alloc(), &site, HEADER, &revoked[..16], NOW, &mut out);
+    assert!(rt; opened.status == 0 && opened.id == [7; 16] && holds(&out, b"user=ann"));
 }

@@ -1,4 +1,4 @@
-use Rattle.std.proofs.Common.{refl}
+use Rattle.std.proofs.Common.{Contains, refl}
 use Rattle.cookie.specs.Originals.{field_cookies}
 use Rattle.cookie_c.proofs.OpenLemmas.{opening_given, opening_none}
 use Rattle.cookie_c.proofs.sessions.open.give_session.Goals as goal
@@ -7,9 +7,9 @@ pub returns-in-Ok-Some : goal.returns-in-Ok-Some
 returns-in-Ok-Some c =
     let site = c.args.sessions.now in
     let finds = rw c.in-Ok-Some.field-0-is at c.in-Ok-Some.ensures in
-    opening_given site (field_cookies c.args.header.now) c.args.time c.in-Ok-Some.opened _ _ _ finds c.give.ensures
+    opening_given (Contains c.args.revoked.ids.now) site (field_cookies c.args.header.now) c.args.time c.in-Ok-Some.opened _ _ _ finds c.give.ensures
 
 pub returns-in-Ok-None : goal.returns-in-Ok-None
 returns-in-Ok-None c =
     let finds = rw c.in-Ok-None.field-0-is at c.in-Ok-None.ensures in
-    opening_none c.args.sessions.now (field_cookies c.args.header.now) c.args.time c.refusal.result _ _ finds (c.refusal.ensures, refl)
+    opening_none (Contains c.args.revoked.ids.now) c.args.sessions.now (field_cookies c.args.header.now) c.args.time c.refusal.result _ _ finds (c.refusal.ensures, refl)

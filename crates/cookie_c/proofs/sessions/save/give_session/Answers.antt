@@ -5,6 +5,6 @@ use Rattle.cookie_c.proofs.sessions.save.give_session.Goals as goal
 
 pub returns-in-Err : goal.returns-in-Err
 returns-in-Err c =
-    saves_told c.args.sessions.now c.args.nonce.bytes c.args.time (with_form c.args.texts.now c.args.session) string_bytes c.in-Err.error
+    saves_told c.args.sessions.now c.args.random.nonce c.args.time (with_form c.args.texts.now c.args.session) string_bytes c.in-Err.error
     c.saved_text.result c.unsaved_status.result c.unsaved_number.result c.of.result c.args.out.now c.args.out.now c.in-Err.is
     c.unsaved_status.ensures c.unsaved_number.ensures c.of.ensures refl c.saved_text.ensures

@@ -12,14 +12,14 @@ returns-in-Ok-save_in c =
     let site = c.args.sessions.now in
     let shown = view c.save_in.new.jar site.cookie.now.fields.name in
     let text = c.shown_text.result in
-    subst (λ (s : SessionState). Saves site c.args.nonce.bytes c.args.time s (λ why. text ≡ Err why)
+    subst (λ (s : SessionState). Saves site c.args.random.nonce c.args.time s (λ why. text ≡ Err why)
     (λ wanted. IsOkAnd text (λ made. string_bytes made ≡ wanted))) c.in-Ok.ensures
-    (saves_shown site c.args.nonce.bytes c.args.time c.in-Ok.session string_bytes _ shown text c.in-Ok-save_in.ensures
+    (saves_shown site c.args.random.nonce c.args.time c.in-Ok.session string_bytes _ shown text c.in-Ok-save_in.ensures
     (subst (λ n. MatchResult text (λ made. option_map (cookie_text true false) (view c.save_in.new.jar n) ≡ Some (string_bytes made))
     (λ why. why ≡ failure.OutOfMemory)) c.name.ensures c.shown_text.ensures))
 
 pub returns : goal.returns
 returns c =
     let site = c.args.sessions.now in
-    text_refused site c.args.nonce.bytes c.args.time c.in-Ok.session (with_form c.args.texts.now c.args.session) (λ _. []) c.in-Err.error
+    text_refused site c.args.random.nonce c.args.time c.in-Ok.session (with_form c.args.texts.now c.args.session) (λ _. []) c.in-Err.error
     (view c.save_in.new.jar site.cookie.now.fields.name) _ c.in-Ok.ensures refl c.in-Err.ensures

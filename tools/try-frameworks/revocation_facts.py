@@ -1,0 +1,676 @@
+"""Facts about revoked sessions: where they are kept, what is refused if that fails, and how the frameworks answer."""
+import asyncio
+import contextlib
+import multiprocessing
+import os
+import resource
+import shutil
+import signal
+import sqlite3
+import subprocess
+import sys
+import tempfile
+import threading
+import time
+import unittest
+from pathlib import Path
+from wsgiref.util import setup_testing_defaults
+
+import flask
+import redis
+from deomigal import Sessions
+from deomigal.asgi import SessionMiddleware
+from deomigal.errors import CookieError, RevocationsError
+from deomigal.flask import SessionInterface, session
+from deomigal.revocations import TABLE, MemoryRevocations, RedisRevocations, SqliteRevocations
+from deomigal.wsgi import SessionMiddleware as WsgiMiddleware
+from facts import NOON, SECRET, pair_of
+
+KEY = bytes(range(64))
+ANN, BO, EVE = (bytes([number]) * 16 for number in (1, 2, 3))
+HOUR = 3600
+
+
+class Failing:
+    """Revocations that can't be kept or looked up, for this reason."""
+
+    def __init__(self, error):
+        self.error = error
+
+    def is_revoked(self, id):
+        raise self.error
+
+    def revoke(self, id, until):
+        raise self.error
+
+
+class Breaking(MemoryRevocations):
+    """Revocations that fail as long as they are broken."""
+
+    is_broken = False
+
+    def is_revoked(self, id):
+        if self.is_broken:
+            raise OSError("the store is gone")
+        return super().is_revoked(id)
+
+    def revoke(self, id, until):
+        if self.is_broken:
+            raise OSError("the store is gone")
+        super().revoke(id, until)
+
+
+def in_process(call, *words):
+    """Calls it in a process of its own. Returns the name of the error that it raised, or None."""
+    with multiprocessing.get_context("fork").Pool(1) as pool:
+        return pool.apply(error_of, (call, *words))
+
+
+def error_of(call, *words):
+    try:
+        call(*words)
+    except Exception as error:
+        return type(error).__name__
+    return None
+
+
+def as_nobody(call, *words):
+    os.setgid(65534)
+    os.setuid(65534)
+    call(*words)
+
+
+def with_full_disk(path):
+    """Revokes many until the file can't grow, as on a full disk."""
+    signal.signal(signal.SIGXFSZ, signal.SIG_IGN)
+    revocations = SqliteRevocations(path)
+    size = os.path.getsize(path) + os.path.getsize(f"{path}-wal")
+    resource.setrlimit(resource.RLIMIT_FSIZE, (size, size))
+    for number in range(10_000):
+        revocations.revoke(number.to_bytes(16, "big"), NOON)
+
+
+def revoke_all(path, ids):
+    revocations = SqliteRevocations(path)
+    for id in ids:
+        revocations.revoke(id, NOON)
+
+
+class Stores:
+    """What each kind of revocations does."""
+
+    def test_revoked(self):
+        """What is revoked is, and nothing else."""
+        revocations = self.made()
+        self.assertIs(revocations.is_revoked(ANN), False)
+        revocations.revoke(ANN, self.now + HOUR)
+        self.assertEqual([revocations.is_revoked(id) for id in (ANN, BO)], [True, False])
+
+    def test_twice(self):
+        """Of two seconds the later one counts, whichever comes first."""
+        for order in ((1, 2), (2, 1), (2, 2)):
+            revocations, id = self.made(), os.urandom(16)
+            for hours in order:
+                revocations.revoke(id, self.now + hours * HOUR)
+            self.assertEqual(self.until(revocations, id), self.now + 2 * HOUR)
+
+    def test_no_ids(self):
+        """What has no sixteen bytes is no id."""
+        revocations = self.made()
+        for id, error in ((b"", ValueError), (bytes(15), ValueError), (bytes(17), ValueError), ("x" * 16, TypeError)):
+            with self.assertRaises(error):
+                revocations.is_revoked(id)
+            with self.assertRaises(error):
+                revocations.revoke(id, self.now + HOUR)
+
+    def test_threads(self):
+        """Threads share it."""
+        revocations, ids, found = self.made(), [os.urandom(16) for _ in range(80)], []
+
+        def revoke(first):
+            for id in ids[first::8]:
+                revocations.revoke(id, self.now + HOUR)
+                found.append(revocations.is_revoked(id))
+
+        threads = [threading.Thread(target=revoke, args=[first]) for first in range(8)]
+        for thread in threads:
+            thread.start()
+        for thread in threads:
+            thread.join()
+        self.assertEqual(found, [True] * 80)
+        self.assertTrue(all(map(revocations.is_revoked, ids)))
+
+    def test_sessions(self):
+        """A session that was revoked opens in no copy of its cookie, and another one does."""
+        sessions = Sessions([KEY], "s", HOUR, HOUR, revocations=self.made())
+        first = sessions.start(self.now)
+        copies, other = [sessions.save(first)], sessions.save(sessions.start(self.now))
+        for later in (1, 2):
+            again = sessions.open(pair_of(copies[-1]), self.now + later)
+            self.assertEqual(again.id, first.id)
+            copies.append(sessions.save(again))
+        sessions.revoke(again)
+        for text in copies:
+            self.assertTrue(sessions.open(pair_of(text), self.now + 2).is_new)
+        self.assertFalse(sessions.open(pair_of(other), self.now + 2).is_new)
+
+
+class MemoryFacts(Stores, unittest.TestCase):
+    """Facts about revocations in memory."""
+
+    now = NOON
+
+    def made(self):
+        return MemoryRevocations()
+
+    def until(self, revocations, id):
+        return revocations.until[id]
+
+    def test_forgotten(self):
+        """Those are forgotten whose second isn't after that time."""
+        revocations = self.made()
+        for id, until in ((ANN, NOON), (BO, NOON + 1)):
+            revocations.revoke(id, until)
+        revocations.forget(NOON)
+        self.assertEqual([revocations.is_revoked(id) for id in (ANN, BO)], [False, True])
+
+
+class SqliteFacts(Stores, unittest.TestCase):
+    """Facts about revocations in an SQLite file."""
+
+    now = NOON
+
+    def setUp(self):
+        self.folder = Path(tempfile.mkdtemp())
+        self.addCleanup(shutil.rmtree, self.folder)
+        self.path = self.folder / "revoked"
+
+    def made(self, **words):
+        return SqliteRevocations(self.path, **words)
+
+    def rows(self):
+        with contextlib.closing(sqlite3.connect(self.path)) as connection:
+            return sorted(connection.execute("SELECT id, until FROM revoked"))
+
+    def until(self, revocations, id):
+        return max(until for found, until in self.rows() if found == id)
+
+    def sessions(self):
+        return Sessions([KEY], "s", HOUR, HOUR, revocations=self.made(timeout=0.2))
+
+    def refused(self):
+        """Whether a session is refused by name, and not taken for none."""
+        sessions = self.sessions()
+        text = sessions.save(sessions.start(NOON))
+        with self.assertRaises(RevocationsError):
+            sessions.open(pair_of(text), NOON)
+
+    def test_table(self):
+        """The table is the one that the Rattle crate session_revocations reads."""
+        self.made().revoke(ANN, NOON)
+        with contextlib.closing(sqlite3.connect(self.path)) as connection:
+            made = connection.execute("SELECT sql FROM sqlite_master WHERE type = 'table'").fetchall()
+            modes = [connection.execute(f"PRAGMA {name}").fetchone() for name in ("journal_mode", "integrity_check")]
+        self.assertEqual((made, modes), ([(TABLE,)], [("wal",), ("ok",)]))
+
+    def test_again(self):
+        """Another opening of the file has what was revoked, and a second revocation adds no row."""
+        for _ in range(2):
+            self.made().revoke(ANN, NOON)
+        self.assertEqual((self.made().is_revoked(ANN), self.rows()), (True, [(ANN, NOON)]))
+
+    def test_forgotten(self):
+        """Those are forgotten whose second isn't after that time."""
+        revocations = self.made()
+        for id, until in ((ANN, NOON), (BO, NOON + 1), (ANN, NOON - 5)):
+            revocations.revoke(id, until)
+        revocations.forget(NOON + 0.9)
+        self.assertEqual(self.rows(), [(BO, NOON + 1)])
+
+    def test_processes(self):
+        """Processes that revoke the same sessions at once each find them revoked, once each."""
+        ids = [os.urandom(16) for _ in range(100)]
+        orders = (ids, ids[::-1], ids[50:] + ids[:50], ids[::2] + ids[1::2])
+        with multiprocessing.get_context("spawn").Pool(4) as pool:
+            pool.starmap(revoke_all, [(self.path, order) for order in orders])
+        self.assertEqual(self.rows(), sorted((id, NOON) for id in ids))
+
+    def test_fork(self):
+        """A process that was forked has a connection of its own."""
+        revocations = self.made()
+        revocations.revoke(ANN, NOON)
+        self.assertIsNone(in_process(revocations.revoke, BO, NOON))
+        self.assertTrue(revocations.is_revoked(BO))
+
+    def test_kill(self):
+        """What was revoked stays so if the process is killed at once."""
+        words = f"import os, sys; from deomigal.revocations import SqliteRevocations; r = SqliteRevocations({str(self.path)!r})"
+        words += f"; r.revoke({ANN!r}, {NOON}); os.kill(os.getpid(), 9)"
+        done = subprocess.run([sys.executable, "-c", words])
+        self.assertEqual(done.returncode, -9)
+        self.assertTrue(self.made().is_revoked(ANN))
+
+    def test_other_tables(self):
+        """A database with other tables, or with another form of this one, is refused."""
+        for words in (
+            "CREATE TABLE users (name TEXT)",
+            "CREATE TABLE revoked (id BLOB, until INTEGER)",
+            "CREATE TABLE revoked (id BLOB NOT NULL PRIMARY KEY, until INTEGER NOT NULL) STRICT",
+            TABLE + "; CREATE TABLE users (name TEXT)",
+            TABLE + "; CREATE TRIGGER never AFTER INSERT ON revoked BEGIN DELETE FROM revoked; END",
+        ):
+            self.path.unlink(missing_ok=True)
+            with contextlib.closing(sqlite3.connect(self.path)) as connection:
+                connection.executescript(words)
+            with self.assertRaises(RevocationsError, msg=words):
+                self.made()
+
+    def test_no_database(self):
+        """A file that is no database is refused, and so is a folder, or a file in a folder that isn't there."""
+        self.path.write_bytes(b"no database" * 1000)
+        for path in (self.path, self.folder, self.folder / "none/revoked"):
+            with self.assertRaises(RevocationsError):
+                SqliteRevocations(path)
+
+    def test_damaged(self):
+        """In a file that was damaged while it is used a session isn't taken for one that isn't revoked."""
+        sessions = self.sessions()
+        text = sessions.save(sessions.start(NOON))
+        for number in range(500):
+            sessions.revocations.revoke(number.to_bytes(16, "big"), NOON)
+        sessions.revocations.close()
+        data = self.path.read_bytes()
+        self.path.write_bytes(data[:4096] + os.urandom(len(data) - 4096))
+        with self.assertRaises(RevocationsError):
+            sessions.open(pair_of(text), NOON)
+
+    def test_read_only(self):
+        """A file that can't be written is refused when it is opened."""
+        self.made().close()
+        for path in self.folder.iterdir():
+            path.chmod(0o444)
+        self.folder.chmod(0o555)
+        if os.geteuid() == 0:
+            self.assertEqual(in_process(as_nobody, SqliteRevocations, self.path), "RevocationsError")
+        else:
+            self.assertEqual(in_process(SqliteRevocations, self.path), "RevocationsError")
+        self.folder.chmod(0o755)
+
+    def test_full_disk(self):
+        """On a disk that is full a revocation fails by name, and what was revoked before stays so."""
+        self.made().revoke(ANN, NOON)
+        self.assertEqual(in_process(with_full_disk, self.path), "RevocationsError")
+        self.assertTrue(self.made().is_revoked(ANN))
+
+    def test_locked(self):
+        """A file that another process holds is waited for up to the limit, and then the call fails by name."""
+        sessions = self.sessions()
+        opened = sessions.open(pair_of(sessions.save(sessions.start(NOON))), NOON)
+        with contextlib.closing(sqlite3.connect(self.path, isolation_level=None)) as other:
+            other.execute("BEGIN EXCLUSIVE")
+            begun = time.monotonic()
+            with self.assertRaises(RevocationsError):
+                sessions.revoke(opened)
+            self.assertLess(time.monotonic() - begun, 2)
+        sessions.revoke(opened)
+
+
+class RedisFacts(Stores, unittest.TestCase):
+    """Facts about revocations in Redis, over a server that keeps each write."""
+
+    @classmethod
+    def setUpClass(cls):
+        cls.now = int(time.time())
+        cls.folder = tempfile.mkdtemp()
+        cls.addClassCleanup(shutil.rmtree, cls.folder, ignore_errors=True)
+
+    def setUp(self):
+        self.begin()
+        self.addCleanup(self.end)
+
+    def begin(self):
+        words = {"port": 0, "unixsocket": "socket", "dir": self.folder, "appendonly": "yes", "appendfsync": "always"}
+        options = [word for name, value in words.items() for word in (f"--{name}", str(value))]
+        self.server = subprocess.Popen(["redis-server", *options], stdout=subprocess.DEVNULL, cwd=self.folder)
+        self.client = redis.Redis(unix_socket_path=f"{self.folder}/socket", socket_timeout=0.3)
+        for _ in range(100):
+            with contextlib.suppress(redis.exceptions.RedisError):
+                if self.client.ping():
+                    return
+            time.sleep(0.05)
+        raise OSError("redis-server doesn't answer")
+
+    def end(self):
+        self.server.kill()
+        self.server.wait()
+        self.client.close()
+
+    def made(self):
+        return RedisRevocations(self.client)
+
+    def until(self, revocations, id):
+        return round(self.client.pttl(revocations.key(id)) / 1000 + time.time())
+
+    def test_kill(self):
+        """What was revoked stays so if the server is killed. While it is away no session is opened."""
+        sessions = Sessions([KEY], "s", HOUR, HOUR, revocations=self.made())
+        revoked, other = (sessions.open(pair_of(sessions.save(sessions.start()))) for _ in range(2))
+        sessions.revoke(revoked)
+        self.end()
+        for opened in (revoked, other):
+            with self.assertRaises(RevocationsError):
+                sessions.open(opened.header)
+            with self.assertRaises(RevocationsError):
+                sessions.revoke(opened)
+        self.begin()
+        sessions.revocations.client = self.client
+        self.assertTrue(sessions.open(revoked.header).is_new)
+        self.assertFalse(sessions.open(other.header).is_new)
+
+    def test_hangs(self):
+        """A server that hangs is waited for up to the client's limit."""
+        sessions = Sessions([KEY], "s", HOUR, HOUR, revocations=self.made())
+        text = sessions.save(sessions.start())
+        self.server.send_signal(signal.SIGSTOP)
+        begun = time.monotonic()
+        try:
+            with self.assertRaises(RevocationsError):
+                sessions.open(pair_of(text))
+        finally:
+            self.server.send_signal(signal.SIGCONT)
+        self.assertLess(time.monotonic() - begun, 5)
+
+
+class RevocationFacts(unittest.TestCase):
+    """Facts about how sessions are revoked."""
+
+    def setUp(self):
+        self.store = MemoryRevocations()
+        self.sessions = Sessions([KEY], "s", HOUR, 60, revocations=self.store)
+
+    def kept(self, now=NOON, **texts):
+        """A session that was saved and is opened again."""
+        made = self.sessions.start(now)
+        made.update(texts)
+        return self.sessions.open(pair_of(self.sessions.save(made)), now)
+
+    def test_id(self):
+        """An id has sixteen bytes, stays when the session is saved, and is another one once it is renewed."""
+        opened = self.kept()
+        self.assertEqual((type(opened.id), len(opened.id)), (bytes, 16))
+        again = self.sessions.open(pair_of(self.sessions.save(opened)), NOON)
+        self.assertEqual(again.id, opened.id)
+        again.renew()
+        self.assertNotEqual(again.id, opened.id)
+        self.assertEqual(self.sessions.open(pair_of(self.sessions.save(again)), NOON).id, again.id)
+        self.assertEqual(len({self.kept().id for _ in range(100)}), 100)
+
+    def test_until(self):
+        """A session is revoked until its lifetime ends."""
+        opened = self.sessions.open(self.kept(NOON).header, NOON + 5)
+        self.sessions.revoke(opened)
+        self.assertEqual(self.store.until, {opened.id: NOON + HOUR})
+
+    def test_renewed(self):
+        """What was renewed is revoked with the copies of before."""
+        opened = self.kept()
+        before, first = opened.header, opened.id
+        opened.renew()
+        after = pair_of(self.sessions.save(opened))
+        self.sessions.revoke(opened)
+        self.assertEqual(set(self.store.until), {first, opened.id})
+        for header in (before, after):
+            self.assertTrue(self.sessions.open(header, NOON).is_new)
+
+    def test_unsaved(self):
+        """A session that was never saved has no cookie, and isn't kept as revoked."""
+        self.sessions.revoke(self.sessions.start(NOON))
+        self.assertEqual(self.store.until, {})
+
+    def test_planted(self):
+        """A revoked cookie that another host planted doesn't hide a good one, before it or after it."""
+        planted, good = [self.kept(user="mallory") for _ in range(3)], self.kept(user="ann")
+        for opened in planted:
+            self.sessions.revoke(opened)
+        texts = [opened.header for opened in planted]
+        for place in range(4):
+            header = b"; ".join([*texts[:place], good.header, *texts[place:]])
+            found = self.sessions.open(header, NOON)
+            self.assertEqual((found["user"], found.id), ("ann", good.id))
+            saved = self.sessions.open(pair_of(self.sessions.save(found)), NOON)
+            self.assertEqual((saved["user"], saved.id), ("ann", good.id))
+        self.assertTrue(self.sessions.open(b"; ".join(texts), NOON).is_new)
+
+    def test_in_flight(self):
+        """What a request saves that was under way at the logout doesn't open."""
+        opened = self.kept(user="ann")
+        under_way = self.sessions.open(opened.header, NOON)
+        self.sessions.revoke(opened)
+        self.assertTrue(self.sessions.open(pair_of(self.sessions.save(under_way)), NOON).is_new)
+
+    def test_errors(self):
+        """Whatever a look-up raises refuses the session by name, and so does what isn't True or False."""
+        text = pair_of(self.sessions.save(self.sessions.start(NOON)))
+        errors = (OSError(), TimeoutError(), ValueError(), KeyError(), MemoryError(), RevocationsError(), CookieError())
+        for error in errors:
+            sessions = Sessions([KEY], "s", HOUR, 60, revocations=Failing(error))
+            with self.assertRaises(RevocationsError):
+                sessions.open(text, NOON)
+            with self.assertRaises(RevocationsError):
+                sessions.revoke(self.kept())
+            self.assertTrue(sessions.open("s=junk", NOON).is_new)
+        for wrong in (None, 0, 1, "", [], asyncio.Future):
+            self.store.is_revoked = lambda id: wrong
+            with self.assertRaises(RevocationsError):
+                self.sessions.open(text, NOON)
+
+    def test_none(self):
+        """Without revocations a session can't be revoked, which is an error."""
+        sessions = Sessions([KEY], "s", HOUR, 60)
+        with self.assertRaises(RevocationsError):
+            sessions.revoke(sessions.start(NOON))
+        for wrong in (1, "revoked", object()):
+            with self.assertRaises(TypeError):
+                Sessions([KEY], "s", HOUR, 60, revocations=wrong)
+
+
+def flask_app(is_installed=True, **words):
+    """An application with pages that log in, greet, log out, and renew."""
+    app = flask.Flask(__name__)
+    app.config.update(SECRET_KEY=SECRET)
+    interface = SessionInterface(clock=lambda: NOON, **words)
+    if is_installed:
+        interface.init_app(app)
+    else:
+        app.session_interface = interface
+    changes = {
+        "/login": lambda: (session.clear(), session.update(user="ann")),
+        "/touch": lambda: session.update(touched=True),
+        "/logout": lambda: session.revoke(),
+        "/again": lambda: (session.revoke(), session.update(user="bo")),
+        "/plain": lambda: None,
+    }
+    for path, change in changes.items():
+        app.add_url_rule(path, path, lambda change=change: (change(), "")[1])
+    app.add_url_rule("/", "show", lambda: {"user": session.get("user")})
+    return app
+
+
+class FlaskFacts(unittest.TestCase):
+    """Facts about Flask's sessions that can be revoked."""
+
+    def setUp(self):
+        self.store = Breaking()
+        self.app = flask_app(revocations=self.store)
+
+    def ask(self, path, cookie=None, app=None):
+        client = (app or self.app).test_client(use_cookies=False)
+        response = client.get(path, headers={"Cookie": cookie} if cookie else {})
+        return response, response.headers.get("Set-Cookie")
+
+    def user(self, cookie):
+        return self.ask("/", cookie)[0].get_json()["user"]
+
+    def test_logout(self):
+        """After a logout no copy of the cookie opens, and the cookie is dropped."""
+        cookie, other = (pair_of(self.ask("/login")[1]) for _ in range(2))
+        self.assertEqual(self.user(cookie), "ann")
+        response, text = self.ask("/logout", cookie)
+        self.assertEqual((response.status_code, "Max-Age=0" in text), (200, True))
+        self.assertEqual((self.user(cookie), self.user(other)), (None, "ann"))
+
+    def test_in_flight(self):
+        """A request that is under way at the logout doesn't log the user in again."""
+        cookie = pair_of(self.ask("/login")[1])
+
+        def slow():
+            self.assertEqual(session["user"], "ann")
+            self.ask("/logout", cookie)
+            session["touched"] = True
+            return ""
+
+        self.app.add_url_rule("/slow", "slow", slow)
+        late = pair_of(self.ask("/slow", cookie)[1])
+        self.assertNotEqual(late, "session=")
+        self.assertEqual((self.user(late), self.user(cookie)), (None, None))
+
+    def test_again(self):
+        """What is put in after the logout is a session of its own."""
+        cookie = pair_of(self.ask("/login")[1])
+        self.assertEqual((self.user(pair_of(self.ask("/again", cookie)[1])), self.user(cookie)), ("bo", None))
+
+    def test_broken(self):
+        """If the store fails, the answer is 503, no cookie is set, and no view is called. A request without a session
+        is answered."""
+        cookie = pair_of(self.ask("/login")[1])
+        self.store.is_broken = True
+        for path in ("/", "/touch", "/logout", "/plain"):
+            response, text = self.ask(path, cookie)
+            self.assertEqual((response.status_code, response.headers["Retry-After"], text), (503, "1", None))
+        self.assertEqual(self.ask("/")[0].status_code, 200)
+        self.store.is_broken = False
+        self.assertEqual(self.user(cookie), "ann")
+
+    def test_broken_at_the_logout(self):
+        """If it fails at the logout, the user is told so, and the cookie stays."""
+        cookie = pair_of(self.ask("/login")[1])
+        self.store.revoke = Failing(OSError()).revoke
+        response, text = self.ask("/logout", cookie)
+        self.assertEqual((response.status_code, text, self.user(cookie)), (503, None, "ann"))
+
+    def test_handler(self):
+        """The application can answer it."""
+        self.app.register_error_handler(RevocationsError, lambda error: ("Come back", 529))
+        cookie = pair_of(self.ask("/login")[1])
+        self.store.is_broken = True
+        self.assertEqual((self.ask("/", cookie)[0].status_code, self.ask("/", cookie)[0].text), (529, "Come back"))
+
+    def test_without_init_app(self):
+        """Without `init_app` too no view is called."""
+        app, seen = flask_app(False, revocations=self.store), []
+        app.add_url_rule("/seen", "seen", lambda: seen.append(1) or "")
+        cookie = pair_of(self.ask("/login", app=app)[1])
+        self.store.is_broken = True
+        self.assertIn(self.ask("/seen", cookie, app)[0].status_code, (500, 503))
+        self.assertEqual(seen, [])
+
+    def test_none(self):
+        """Without revocations `revoke` is an error, and not a logout."""
+        app = flask_app()
+        cookie = pair_of(self.ask("/login", app=app)[1])
+        response, text = self.ask("/logout", cookie, app)
+        self.assertEqual((response.status_code, text), (503, None))
+
+
+class WsgiFacts(unittest.TestCase):
+    """Facts about WSGI's sessions that can be revoked."""
+
+    def setUp(self):
+        self.store = Breaking()
+        self.seen = []
+
+        def application(environ, start_response):
+            values = environ["deomigal.session"]
+            {"/login": lambda: values.update(user="ann"), "/logout": values.revoke}.get(environ["PATH_INFO"], bool)()
+            self.seen.append(values.get("user"))
+            start_response("200 OK", [])
+            return [b""]
+
+        self.site = WsgiMiddleware(application, SECRET, clock=lambda: NOON, revocations=self.store)
+
+    def ask(self, path, cookie=None):
+        environ, answers = {"PATH_INFO": path, **({"HTTP_COOKIE": cookie} if cookie else {})}, []
+        setup_testing_defaults(environ)
+        list(self.site(environ, lambda status, headers, *error: answers.append((status[:3], dict(headers)))))
+        return answers[-1][0], answers[-1][1].get("Set-Cookie")
+
+    def test_logout(self):
+        """After a logout no copy of the cookie opens."""
+        cookie = pair_of(self.ask("/login")[1])
+        self.ask("/", cookie)
+        self.assertIn("Max-Age=0", self.ask("/logout", cookie)[1])
+        self.ask("/", cookie)
+        self.assertEqual(self.seen, ["ann", "ann", None, None])
+
+    def test_broken(self):
+        """If the store fails, the answer is 503, and the application isn't called."""
+        cookie = pair_of(self.ask("/login")[1])
+        self.store.is_broken = True
+        self.assertEqual([self.ask(path, cookie) for path in ("/", "/logout")], [("503", None)] * 2)
+        self.assertEqual(self.ask("/"), ("200", None))
+        self.store.is_broken = False
+        self.store.revoke = Failing(OSError()).revoke
+        self.assertEqual(self.ask("/logout", cookie), ("503", None))
+        self.assertEqual(self.seen, ["ann", None])
+
+
+class AsgiFacts(unittest.TestCase):
+    """Facts about ASGI's sessions that can be revoked."""
+
+    def setUp(self):
+        self.store = Breaking()
+        self.seen = []
+
+        async def application(scope, receive, send):
+            values = scope["session"]
+            {"/login": lambda: values.update(user="ann"), "/logout": values.revoke}.get(scope["path"], bool)()
+            self.seen.append(values.get("user"))
+            if scope["type"] == "http":
+                await send({"type": "http.response.start", "status": 200, "headers": []})
+                await send({"type": "http.response.body", "body": b""})
+
+        self.site = SessionMiddleware(application, SECRET, clock=lambda: NOON, revocations=self.store)
+
+    def ask(self, path, cookie=None, kind="http"):
+        sent = []
+
+        async def send(message):
+            sent.append(message)
+
+        scope = {"type": kind, "path": path, "headers": [(b"cookie", cookie.encode())] if cookie else []}
+        asyncio.run(self.site(scope, None, send))
+        return sent
+
+    def answer(self, *words):
+        sent = self.ask(*words)
+        return sent[0]["status"], dict(sent[0]["headers"]).get(b"set-cookie", b"").decode()
+
+    def test_logout(self):
+        """After a logout no copy of the cookie opens."""
+        cookie = pair_of(self.answer("/login")[1])
+        self.answer("/", cookie)
+        self.assertIn("Max-Age=0", self.answer("/logout", cookie)[1])
+        self.answer("/", cookie)
+        self.assertEqual(self.seen, ["ann", "ann", None, None])
+
+    def test_broken(self):
+        """If the store fails, the answer is 503, and the application isn't called. A websocket is closed."""
+        cookie = pair_of(self.answer("/login")[1])
+        self.store.is_broken = True
+        self.assertEqual([self.answer(path, cookie) for path in ("/", "/logout")], [(503, "")] * 2)
+        self.assertEqual(self.ask("/", cookie, "websocket"), [{"type": "websocket.close", "code": 1013}])
+        self.assertEqual(self.answer("/"), (200, ""))
+        self.store.is_broken = False
+        self.store.revoke = Failing(OSError()).revoke
+        self.assertEqual(self.answer("/logout", cookie), (503, ""))
+        self.assertEqual(self.seen, ["ann", None])
