@@ -15,7 +15,6 @@ use Rattle.login_core.specs.Answers.{FailsFor}
 use Rattle.login_core.specs.Plans.{LogsIn, Moves, Plans, Refuses, logged_in, logged_out, shown}
 use Rattle.login_core.specs.Users.{is_known}
 use Rattle.login_core.specs.declared.page.Page.{Page}
-use Rattle.login_core.specs.declared.page.Page.TheVariants.{Moved, Refused}
 use Rattle.login_core.specs.declared.refusal.Refusal.{Refusal}
 use Rattle.login_core.specs.declared.refusal.Refusal.TheVariants.{Forbidden}
 use Rattle.login_core.specs.declared.routes.Route.{Route}
