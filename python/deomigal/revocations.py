@@ -147,7 +147,7 @@ class SqliteRevocations:
 
     def is_revoked(self, id: bytes) -> bool:
         words, id = "SELECT 1 FROM revoked WHERE id = ? LIMIT 1", id_of(id)
-        return self.called(lambda connection: connection.execute(words, [id]).fetchone()) is not None
+        return self.called(lambda connection: connection.execute(words, [id]).fetchone() is not None)
 
     def revoke(self, id: bytes, until: int) -> None:
         words = "INSERT INTO revoked SELECT ?1, ?2"
