@@ -93,7 +93,8 @@ def with_full_disk(path):
         revocations.revoke(number.to_bytes(16, "big"), NOON)
 
 
-def revoke_all(path, ids):
+def revoke_all(barrier, path, ids):
+    barrier.wait()
     revocations = SqliteRevocations(path)
     for id in ids:
         revocations.revoke(id, NOON)
@@ -231,17 +232,20 @@ class SqliteFacts(Stores, unittest.TestCase):
         self.assertEqual(self.rows(), [(BO, NOON + 1)])
 
     def test_processes(self):
-        """Processes that revoke the same sessions at once each find them revoked, once each."""
-        ids = [os.urandom(16) for _ in range(100)]
-        orders = (ids, ids[::-1], ids[50:] + ids[:50], ids[::2] + ids[1::2])
-        fork = multiprocessing.get_context("fork")
-        processes = [fork.Process(target=revoke_all, args=(self.path, order)) for order in orders]
-        for process in processes:
-            process.start()
-        for process in processes:
-            process.join()
-        self.assertEqual([process.exitcode for process in processes], [0] * 4)
-        self.assertEqual(self.rows(), sorted((id, NOON) for id in ids))
+        """Processes that make the file and revoke the same sessions at once, 20 times, each find them revoked, once
+        each."""
+        ids, fork = [os.urandom(16) for _ in range(20)], multiprocessing.get_context("fork")
+        orders = (ids, ids[::-1], ids[10:] + ids[:10], ids[::2] + ids[1::2])
+        for number in range(20):
+            self.path = self.folder / f"revoked{number}"
+            barrier = fork.Barrier(len(orders))
+            processes = [fork.Process(target=revoke_all, args=(barrier, self.path, order)) for order in orders]
+            for process in processes:
+                process.start()
+            for process in processes:
+                process.join()
+            self.assertEqual([process.exitcode for process in processes], [0] * 4)
+            self.assertEqual(self.rows(), sorted((id, NOON) for id in ids))
 
     def test_fork(self):
         """A process that was forked has a connection of its own."""
