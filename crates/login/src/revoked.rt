@@ -9,8 +9,8 @@ use std::env::VarError;
 use std::time::Duration;
 use std::{env, thread};
 
-// While another process has the database open, an open is tried so often, and so long after the last time: less than two
-// seconds in all.
+// While another process has the database open, an open is tried so many times, with a pause after each. The pauses take
+// 1.8 seconds in all.
 const TRIES: usize = 180;
 
 const MILLISECONDS: u64 = 10;
@@ -31,7 +31,7 @@ pub fn path(rt: &HostRuntime) -> Result<Option<String>> {
     }
 }
 
-/// Opens the database, or makes it. If another process has it open, it tries again for less than two seconds.
+/// Opens the database, or makes it. If another process has it open, it tries again for about two seconds.
 pub fn open(rt: &HostRuntime, path: &str) -> Result<Revoked, RevocationError> {
     for _ in 0..TRIES {
         match open_once(rt, path) {
