@@ -10,6 +10,7 @@ from __future__ import annotations
 import os
 import sqlite3
 import threading
+import time
 from typing import Any, Callable, Protocol, TypeVar
 
 from .errors import RevocationsError
@@ -113,6 +114,18 @@ class SqliteRevocations:
         return made[1]
 
     def connected(self) -> sqlite3.Connection:
+        """A new connection, over a file that has the table. SQLite doesn't wait for another process that switches a new
+        file to WAL at the same time, so this does."""
+        end = time.monotonic() + self.timeout
+        while True:
+            try:
+                return self.prepared()
+            except sqlite3.OperationalError as error:
+                if "locked" not in str(error) or time.monotonic() > end:
+                    raise
+            time.sleep(0.01)
+
+    def prepared(self) -> sqlite3.Connection:
         """A new connection, over a file that has the table."""
         connection = sqlite3.connect(self.path, timeout=self.timeout, isolation_level=None)
         try:
@@ -147,7 +160,7 @@ class SqliteRevocations:
 
     def is_revoked(self, id: bytes) -> bool:
         words, id = "SELECT 1 FROM revoked WHERE id = ? LIMIT 1", id_of(id)
-        return self.called(lambda connection: connection.execute(words, [id]).fetchone()) is not None
+        return self.called(lambda connection: connection.execute(words, [id]).fetchone() is not None)
 
     def revoke(self, id: bytes, until: int) -> None:
         words = "INSERT INTO revoked SELECT ?1, ?2"

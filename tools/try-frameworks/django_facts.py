@@ -27,14 +27,16 @@ django.setup()
 from deomigal import Sessions
 from deomigal import django as engine
 from deomigal.errors import BadPrefix, InvalidValue, MasterTooShort, TooLarge
+from deomigal.revocations import MemoryRevocations
 from deomigal.secrets import derive_key
 from django.contrib.auth import login
 from django.contrib.auth.models import User
 from django.contrib.sessions.middleware import SessionMiddleware as DjangoMiddleware
 from django.db import connection
 from django.http import JsonResponse
-from django.test import RequestFactory, SimpleTestCase, override_settings
+from django.test import Client, RequestFactory, SimpleTestCase, override_settings
 from django.test.utils import setup_test_environment
+from django.urls import re_path
 from sessions_tests import tests
 
 setup_test_environment()
@@ -80,16 +82,29 @@ def change(session, path):
     changes.get(path, lambda: None)()
 
 
+def page(request):
+    """Changes the session, and shows it."""
+    change(request.session, request.path)
+    return JsonResponse(dict(request.session.items()), json_dumps_params={"default": str})
+
+
+class Broken(MemoryRevocations):
+    """Revocations that can't be looked up, or not be kept."""
+
+    def is_revoked(self, id):
+        raise OSError("the store is gone")
+
+
+class Full(MemoryRevocations):
+    def revoke(self, id, until):
+        raise OSError("the store is full")
+
+
 class EngineFacts(SimpleTestCase):
     """Facts about `deomigal.django`."""
 
     def ask(self, path, cookie=None, now=NOON):
         """The values of the session, and the text of the cookie that is set, if any."""
-
-        def page(request):
-            change(request.session, request.path)
-            return JsonResponse(dict(request.session.items()), json_dumps_params={"default": str})
-
         fields = {} if cookie is None else {"HTTP_COOKIE": cookie.encode().decode("latin-1")}
         with mock.patch("time.time", lambda: now):
             response = engine.SessionMiddleware(page)(RequestFactory().get(path, **fields))
@@ -233,3 +248,49 @@ class EngineFacts(SimpleTestCase):
         ann, bo = self.kept(), self.kept("/bo")
         self.reads(f"sessionid=junk; {ann}; {bo}", {"user": "ann"})
         self.reads("sessionid=junk; sessionid=junk", {})
+
+    def test_revoked(self):
+        """With DEOMIGAL_REVOCATIONS a session that was flushed opens in no copy of its cookie. `cycle_key` revokes the one
+        of before. A revoked cookie that another host planted hides no good one."""
+        with override_settings(DEOMIGAL_REVOCATIONS=MemoryRevocations()):
+            first, other = self.kept(), self.kept("/bo")
+            later = self.kept(cookie=first)
+            self.assertEqual(age_of(self.ask("/flush", first)[1]), 0)
+            for cookie in (first, later):
+                self.reads(cookie, {})
+                self.reads(f"{cookie}; {other}", {"user": "bo"})
+                self.reads(f"{other}; {cookie}", {"user": "bo"})
+            cycled = self.kept("/cycle", cookie=other)
+            self.reads(cycled, {"user": "bo"})
+            self.reads(other, {})
+
+    def test_in_flight(self):
+        """A request that is under way at the logout doesn't log the user in again."""
+        with override_settings(DEOMIGAL_REVOCATIONS=MemoryRevocations()):
+            cookie = self.kept()
+
+            def slow(request):
+                request.session["late"] = len(request.session["user"])
+                self.ask("/flush", cookie)
+                return JsonResponse({})
+
+            with mock.patch("time.time", lambda: NOON):
+                response = engine.SessionMiddleware(slow)(RequestFactory().get("/", HTTP_COOKIE=cookie))
+            late = response.cookies["sessionid"]
+            self.assertGreater(len(late.value), 100)
+            self.reads(f"sessionid={late.value}", {})
+
+    def test_store_that_fails(self):
+        """If the revocations fail, the status is 503, and no session is saved. A request without a session is answered."""
+        cookie = self.kept()
+        for kind, found in ((Broken, [503, 503, 503, 200]), (Full, [200, 503, 503, 200])):
+            asked = [("/", cookie), ("/flush", cookie), ("/cycle", f"{cookie}; sessionid=junk"), ("/", None)]
+            for save in (False, True):
+                settings_of = {"DEOMIGAL_REVOCATIONS": kind(), "SESSION_SAVE_EVERY_REQUEST": save}
+                with override_settings(ROOT_URLCONF=(re_path("", page),), **settings_of):
+                    for (path, text), status in zip(asked, found):
+                        with mock.patch("time.time", lambda: NOON):
+                            client = Client(raise_request_exception=False)
+                            response = client.get(path, **({"HTTP_COOKIE": text} if text else {}))
+                        self.assertEqual(response.status_code, status, (kind, path, save))
+                        self.assertFalse(status == 503 and response.cookies, (kind, path))

@@ -62,16 +62,19 @@ class Breaking(MemoryRevocations):
 
 def in_process(call, *words):
     """Calls it in a process of its own. Returns the name of the error that it raised, or None."""
-    with multiprocessing.get_context("fork").Pool(1) as pool:
-        return pool.apply(error_of, (call, *words))
+    here, there = multiprocessing.Pipe()
 
+    def run():
+        try:
+            call(*words)
+            there.send(None)
+        except Exception as error:
+            there.send(type(error).__name__)
 
-def error_of(call, *words):
-    try:
-        call(*words)
-    except Exception as error:
-        return type(error).__name__
-    return None
+    process = multiprocessing.get_context("fork").Process(target=run)
+    process.start()
+    process.join()
+    return here.recv() if here.poll() else f"no answer, status {process.exitcode}"
 
 
 def as_nobody(call, *words):
@@ -90,7 +93,8 @@ def with_full_disk(path):
         revocations.revoke(number.to_bytes(16, "big"), NOON)
 
 
-def revoke_all(path, ids):
+def revoke_all(barrier, path, ids):
+    barrier.wait()
     revocations = SqliteRevocations(path)
     for id in ids:
         revocations.revoke(id, NOON)
@@ -228,12 +232,20 @@ class SqliteFacts(Stores, unittest.TestCase):
         self.assertEqual(self.rows(), [(BO, NOON + 1)])
 
     def test_processes(self):
-        """Processes that revoke the same sessions at once each find them revoked, once each."""
-        ids = [os.urandom(16) for _ in range(100)]
-        orders = (ids, ids[::-1], ids[50:] + ids[:50], ids[::2] + ids[1::2])
-        with multiprocessing.get_context("spawn").Pool(4) as pool:
-            pool.starmap(revoke_all, [(self.path, order) for order in orders])
-        self.assertEqual(self.rows(), sorted((id, NOON) for id in ids))
+        """Processes that make the file and revoke the same sessions at once, 20 times, each find them revoked, once
+        each."""
+        ids, fork = [os.urandom(16) for _ in range(20)], multiprocessing.get_context("fork")
+        orders = (ids, ids[::-1], ids[10:] + ids[:10], ids[::2] + ids[1::2])
+        for number in range(20):
+            self.path = self.folder / f"revoked{number}"
+            barrier = fork.Barrier(len(orders))
+            processes = [fork.Process(target=revoke_all, args=(barrier, self.path, order)) for order in orders]
+            for process in processes:
+                process.start()
+            for process in processes:
+                process.join()
+            self.assertEqual([process.exitcode for process in processes], [0] * 4)
+            self.assertEqual(self.rows(), sorted((id, NOON) for id in ids))
 
     def test_fork(self):
         """A process that was forked has a connection of its own."""
@@ -331,14 +343,15 @@ class RedisFacts(Stores, unittest.TestCase):
     def begin(self):
         words = {"port": 0, "unixsocket": "socket", "dir": self.folder, "appendonly": "yes", "appendfsync": "always"}
         options = [word for name, value in words.items() for word in (f"--{name}", str(value))]
+        socket = Path(self.folder, "socket")
+        socket.unlink(missing_ok=True)
         self.server = subprocess.Popen(["redis-server", *options], stdout=subprocess.DEVNULL, cwd=self.folder)
-        self.client = redis.Redis(unix_socket_path=f"{self.folder}/socket", socket_timeout=0.3)
+        self.client = redis.Redis(unix_socket_path=str(socket), socket_timeout=0.3)
         for _ in range(100):
-            with contextlib.suppress(redis.exceptions.RedisError):
-                if self.client.ping():
-                    return
             time.sleep(0.05)
-        raise OSError("redis-server doesn't answer")
+            if socket.exists():
+                break
+        self.client.ping()
 
     def end(self):
         self.server.kill()
@@ -489,6 +502,7 @@ def flask_app(is_installed=True, **words):
         "/logout": lambda: session.revoke(),
         "/again": lambda: (session.revoke(), session.update(user="bo")),
         "/plain": lambda: None,
+        "/slow": lambda: None,
     }
     for path, change in changes.items():
         app.add_url_rule(path, path, lambda change=change: (change(), "")[1])
@@ -529,7 +543,7 @@ class FlaskFacts(unittest.TestCase):
             session["touched"] = True
             return ""
 
-        self.app.add_url_rule("/slow", "slow", slow)
+        self.app.view_functions["/slow"] = slow
         late = pair_of(self.ask("/slow", cookie)[1])
         self.assertNotEqual(late, "session=")
         self.assertEqual((self.user(late), self.user(cookie)), (None, None))

@@ -4,8 +4,8 @@ ghost use Rattle.cookie_session.specs.declared.open_error.OpenError.TheVariants 
 
 use std::alloc::{AllocError, AllocFailed};
 
-/// Why it isn't known whether a request has an open session. Answer the request with an error, as 503 (RFC 9110
-/// 15.6.4), and never as that of a visitor without a session.
+/// Why it isn't known whether a request has an open session. Answer with an error, as 503 (RFC 9110 15.6.4), and never as
+/// if the visitor had no session.
 #[derive(Clone, Debug, Drop, PartialEq, Eq)]
 pub enum OpenError<E> {
     /// Memory ran out.

@@ -12,10 +12,9 @@ use Rattle.cookie_session.specs.declared.session_error.SessionError.{SessionErro
 use Rattle.cookie_session.specs.declared.session_error.SessionError.TheVariants as failure
 use Rattle.cookie_session.specs.declared.sessions.Sessions.{Sessions}
 use Rattle.login_core.specs.Answers.{FailsFor}
-use Rattle.login_core.specs.Plans.{LogsIn, Plans, logged_in, logged_out, shown}
+use Rattle.login_core.specs.Plans.{LogsIn, Moves, Plans, Refuses, logged_in, logged_out, shown}
 use Rattle.login_core.specs.Users.{is_known}
 use Rattle.login_core.specs.declared.page.Page.{Page}
-use Rattle.login_core.specs.declared.page.Page.TheVariants.{Moved, Refused}
 use Rattle.login_core.specs.declared.refusal.Refusal.{Refusal}
 use Rattle.login_core.specs.declared.refusal.Refusal.TheVariants.{Forbidden}
 use Rattle.login_core.specs.declared.routes.Route.{Route}
@@ -39,13 +38,13 @@ module _ (sessions : Sessions) (now : DateTime) (long : 0 < sessions.lifetime) (
   goes_on : (visitor : Visitor) (session : SessionState) → LivesAt sessions now session → CanSave sessions now (shown visitor session)
   goes_on visitor session lives = record { begun = lives.begun; young = lives.young; used = omega arith }
 
-  from_form : (users : List User) (credentials : Option (List ℕ × List ℕ)) (page : Page) (session : SessionState) → LogsIn users credentials now page (Some session)
+  from_form : (IsDrawn : List ℕ → Type 0) (users : List User) (credentials : Option (List ℕ × List ℕ)) (page : Page) (session : SessionState) → LogsIn IsDrawn users credentials now page (Some session)
       → CanSave sessions now session
-  from_form users None page session plans = absurd (none-some session (sym plans.1))
-  from_form users (Some (user, password)) page session plans = by (is_known user password users) plans
+  from_form IsDrawn users None page session plans = absurd (none-some session (sym plans.1))
+  from_form IsDrawn users (Some (user, password)) page session plans = by (is_known user password users) plans
     where
-      by : (b : Bool) → MatchBool b ((page ≡ Moved) × (Some session ≡ Some (logged_in now user))) ((page ≡ Refused Forbidden) × (Some session ≡ None)) → CanSave sessions now session
-      by true moves = subst (CanSave sessions now) (sym (same_Some session (logged_in now user) moves.1)) (starts (logged_in now user) refl)
+      by : (b : Bool) → MatchBool b (Moves IsDrawn (λ id. logged_in id now user) page (Some session)) (Refuses Forbidden page (Some session)) → CanSave sessions now session
+      by true moves = subst (CanSave sessions now) (sym (same_Some session (logged_in moves.1 now user) moves.3)) (starts (logged_in moves.1 now user) refl)
       by false refuses = absurd (none-some session (sym refuses.1))
 
   from_home : (found : Option SessionState) (visitor : Visitor) (session : SessionState) → ((state : SessionState) → found ≡ Some state → LivesAt sessions now state)
@@ -54,15 +53,21 @@ module _ (sessions : Sessions) (now : DateTime) (long : 0 < sessions.lifetime) (
   from_home (Some state) visitor session lives is =
       subst (CanSave sessions now) (sym (same_Some session (shown visitor state) is)) (goes_on visitor state (lives state refl))
 
-  pub can_save : (users : List User) (route : Result Route Refusal) (credentials : Option (List ℕ × List ℕ)) (found : Option SessionState) (page : Page) (session : SessionState)
-      → ((state : SessionState) → found ≡ Some state → LivesAt sessions now state) → Plans users route credentials now found page (Some session) → CanSave sessions now session
-  can_save users (Ok Home) credentials found page session lives plans =
+  can_save : (IsDrawn : List ℕ → Type 0) (users : List User) (route : Result Route Refusal) (credentials : Option (List ℕ × List ℕ)) (found : Option SessionState) (page : Page) (session : SessionState)
+      → ((state : SessionState) → found ≡ Some state → LivesAt sessions now state) → Plans IsDrawn users route credentials now found page (Some session) → CanSave sessions now session
+  can_save IsDrawn users (Ok Home) credentials found page session lives plans =
       let (visitor, is, page_is, saved_is) = plans in
       from_home found visitor session lives saved_is
-  can_save users (Ok LogIn) credentials found page session lives plans = from_form users credentials page session plans
-  can_save users (Ok LogOut) credentials found page session lives plans =
-      subst (CanSave sessions now) (sym (same_Some session (logged_out now) plans.1)) (starts (logged_out now) refl)
-  can_save users (Err refusal) credentials found page session lives plans = absurd (none-some session (sym plans.1))
+  can_save IsDrawn users (Ok LogIn) credentials found page session lives plans = from_form IsDrawn users credentials page session plans
+  can_save IsDrawn users (Ok LogOut) credentials found page session lives plans =
+      subst (CanSave sessions now) (sym (same_Some session (logged_out plans.1 now) plans.3)) (starts (logged_out plans.1 now) refl)
+  can_save IsDrawn users (Err refusal) credentials found page session lives plans = absurd (none-some session (sym plans.1))
+
+  pub can_save_it : (IsDrawn : List ℕ → Type 0) (users : List User) (route : Result Route Refusal) (credentials : Option (List ℕ × List ℕ)) (found saved : Option SessionState)
+      (page : Page) → ((state : SessionState) → found ≡ Some state → LivesAt sessions now state) → Plans IsDrawn users route credentials now found page saved
+      → (session : SessionState) → saved ≡ Some session → CanSave sessions now session
+  can_save_it IsDrawn users route credentials found saved page lives plans session is =
+      can_save IsDrawn users route credentials found page session lives (subst (Plans IsDrawn users route credentials now found page) is plans)
 
 -- ---- why a request fails
 

@@ -13,6 +13,7 @@ use Rattle.cookie_client.specs.Calls.{IsFitCall, IsKnownChange}
 use Rattle.cookie_client.specs.Client.{Values, after_texts}
 use Rattle.cookie_client.proofs.AgreementLemmas.{agreement}
 use Rattle.cookie_session.specs.Seconds.{second_of}
+use Rattle.cookie_session.specs.Revocations.{none_revoked}
 use Rattle.cookie_session.specs.Session.{SessionState, seen_at}
 use Rattle.cookie_session.specs.Sessions.{HoldsOne, IsClosed, IsOpen, IsStored, LivesAt, saved_cookie, site_cookies}
 use Rattle.cookie_session.specs.declared.sessions.Sessions.{Sessions}
@@ -39,7 +40,7 @@ one_first only cookie (c ∷ earlier) later e = absurd (no_first cookie earlier 
 -- the session that is found in the cookies that the client sends is the one that it holds, if that lives
 pub finds : (sessions : Sessions) (value : Option (List ℕ)) (holds : Option SessionState) → AreHeld sessions value holds → (cookies : List Record)
     → site_cookies sessions cookies ≡ option_to_list (option_map (plain sessions.cookie.now.fields.name) value) → (now : DateTime) (found : Option SessionState)
-    → HasSession sessions cookies now found → IsFound sessions now holds found
+    → HasSession none_revoked sessions cookies now found → IsFound sessions now holds found
 finds sessions None None are cookies is now found has session = (
   λ e.
       let first = ((has.exact session).0 e).1 in
@@ -67,8 +68,9 @@ finds sessions (Some value) (Some other) are cookies is now found has session =
               cookie = cookie;
               later = [];
               split = is;
-              closed = All-nil (IsClosed sessions now);
+              closed = All-nil (IsClosed none_revoked sessions now);
               opens = subst (λ s. IsOpen sessions (Some cookie) now 0 s) same (opens now (subst (LivesAt sessions now) (sym same) h.1));
+              unrevoked = λ never. never;
             },
           ),
     )

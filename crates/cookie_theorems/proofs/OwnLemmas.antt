@@ -26,6 +26,7 @@ use Rattle.cookie_browser.specs.Request.{RequestView}
 use Rattle.cookie_browser.specs.Storage.{KeptView, has_host_prefix, is_sent, verdict}
 use Rattle.cookie_browser.specs.Suffixes.{Rule}
 use Rattle.cookie_session.specs.Seconds.{second_of}
+use Rattle.cookie_session.specs.Revocations.{none_revoked}
 use Rattle.cookie_session.specs.Session.{SessionState, seen_at, session_text}
 use Rattle.cookie_session.specs.Sessions.{HoldsOne, IsClosed, IsOpen, LivesAt, OpensFirst, saved_cookie, site_cookies}
 use Rattle.cookie_session.specs.declared.opened.Opened.{Opened}
@@ -58,7 +59,7 @@ module _ (sessions : Sessions) (now : DateTime) (cookies : List Record) where
   )
   only_first (Some c) e place s = (
     λ first. subst (λ d. IsOpen sessions (Some d) now place s) (sym (first_cookie c e place s first)) first.opens,
-    λ is. record { earlier = []; cookie = c; later = []; split = e; closed = All-nil (IsClosed sessions now); opens = is },
+    λ is. record { earlier = []; cookie = c; later = []; split = e; closed = All-nil (IsClosed none_revoked sessions now); opens = is; unrevoked = λ never. never },
   )
 
 -- ---- what the agent stored of a saved session

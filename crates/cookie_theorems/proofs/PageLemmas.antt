@@ -13,7 +13,7 @@ use Rattle.cookie_session.specs.Seconds.{second_of}
 use Rattle.cookie_session.specs.Session.{SessionState, seen_at}
 use Rattle.login_core.specs.Forms.{credentials_of}
 use Rattle.login_core.specs.Pages.{greeted}
-use Rattle.login_core.specs.Plans.{LogsIn, Plans, counted, logged_in, logged_out, shown as shown_session}
+use Rattle.login_core.specs.Plans.{LogsIn, Moves, Plans, Refuses, counted, logged_in, logged_out, shown as shown_session}
 use Rattle.login_core.specs.Users.{is_known}
 use Rattle.login_core.specs.Visitors.{text_of}
 use Rattle.login_core.specs.declared.login_site.LoginSite.{LoginSite}
@@ -52,51 +52,51 @@ silent route other standing page no_user no_notice =
       tells = λ notice. (λ e. absurd (none-some notice (sym no_notice ∙ e)), λ h. absurd (other h.0));
     }
 
-silent_form : (users : List User) (credentials : Option (List ℕ × List ℕ)) (now : DateTime) (page : Page) (saved : Option SessionState) → LogsIn users credentials now page saved
+silent_form : (IsDrawn : List ℕ → Type 0) (users : List User) (credentials : Option (List ℕ × List ℕ)) (now : DateTime) (page : Page) (saved : Option SessionState) → LogsIn IsDrawn users credentials now page saved
     → (greeted page ≡ None) × (told page ≡ None)
-silent_form users None now page saved plans = (ap greeted plans.0, ap told plans.0)
-silent_form users (Some (user, password)) now page saved plans = by (is_known user password users) plans
+silent_form IsDrawn users None now page saved plans = (ap greeted plans.0, ap told plans.0)
+silent_form IsDrawn users (Some (user, password)) now page saved plans = by (is_known user password users) plans
   where
-    by : (b : Bool) → MatchBool b ((page ≡ Moved) × (saved ≡ Some (logged_in now user))) ((page ≡ Refused Forbidden) × (saved ≡ None)) → (greeted page ≡ None) × (told page ≡ None)
+    by : (b : Bool) → MatchBool b (Moves IsDrawn (λ id. logged_in id now user) page saved) (Refuses Forbidden page saved) → (greeted page ≡ None) × (told page ≡ None)
     by true moves = (ap greeted moves.0, ap told moves.0)
     by false refuses = (ap greeted refuses.0, ap told refuses.0)
 
 -- the page shows what the standing of the session that was found tells
-pub page_shows : (users : List User) (route : Result Route Refusal) (credentials : Option (List ℕ × List ℕ)) (now : DateTime) (found : Option SessionState) (page : Page)
-    (saved : Option SessionState) → Plans users route credentials now found page saved → Shows route (option_map standing_of found) page
-page_shows users (Ok Home) credentials now found page saved plans =
+pub page_shows : (IsDrawn : List ℕ → Type 0) (users : List User) (route : Result Route Refusal) (credentials : Option (List ℕ × List ℕ)) (now : DateTime) (found : Option SessionState) (page : Page)
+    (saved : Option SessionState) → Plans IsDrawn users route credentials now found page saved → Shows route (option_map standing_of found) page
+page_shows IsDrawn users (Ok Home) credentials now found page saved plans =
     let (visitor, is, page_is, saved_is) = plans in
     record {
       greets = text_shown found (codes "user") (λ standing. standing.user) (λ _. refl) (greeted page) (ap greeted page_is ∙ is.user);
       tells = text_shown found (codes "notice") (λ standing. standing.notice) (λ _. refl) (told page) (ap told page_is ∙ is.notice);
     }
-page_shows users (Ok LogIn) credentials now found page saved plans =
-    let none = silent_form users credentials now page saved plans in
+page_shows IsDrawn users (Ok LogIn) credentials now found page saved plans =
+    let none = silent_form IsDrawn users credentials now page saved plans in
     silent (Ok LogIn) (λ e. cc) (option_map standing_of found) page none.0 none.1
-page_shows users (Ok LogOut) credentials now found page saved plans =
+page_shows IsDrawn users (Ok LogOut) credentials now found page saved plans =
     silent (Ok LogOut) (λ e. cc) (option_map standing_of found) page (ap greeted plans.0) (ap told plans.0)
-page_shows users (Err refusal) credentials now found page saved plans =
+page_shows IsDrawn users (Err refusal) credentials now found page saved plans =
     silent (Err refusal) (λ e. cc) (option_map standing_of found) page (ap greeted plans.0) (ap told plans.0)
 
 -- ---- which page it is
 
-login_is : (users : List User) (credentials : Option (List ℕ × List ℕ)) (now : DateTime) (page : Page) (saved : Option SessionState) → LogsIn users credentials now page saved
+login_is : (IsDrawn : List ℕ → Type 0) (users : List User) (credentials : Option (List ℕ × List ℕ)) (now : DateTime) (page : Page) (saved : Option SessionState) → LogsIn IsDrawn users credentials now page saved
     → page ≡ login_page users credentials
-login_is users None now page saved plans = plans.0
-login_is users (Some (user, password)) now page saved plans = by (is_known user password users) plans
+login_is IsDrawn users None now page saved plans = plans.0
+login_is IsDrawn users (Some (user, password)) now page saved plans = by (is_known user password users) plans
   where
-    by : (b : Bool) → MatchBool b ((page ≡ Moved) × (saved ≡ Some (logged_in now user))) ((page ≡ Refused Forbidden) × (saved ≡ None)) → page ≡ cond b Moved (Refused Forbidden)
+    by : (b : Bool) → MatchBool b (Moves IsDrawn (λ id. logged_in id now user) page saved) (Refuses Forbidden page saved) → page ≡ cond b Moved (Refused Forbidden)
     by true moves = moves.0
     by false refuses = refuses.0
 
-pub page_is : (users : List User) (form : List ℕ) (route : Result Route Refusal) (now : DateTime) (found : Option SessionState) (page : Page) (saved : Option SessionState)
-    → Plans users route (credentials_of form) now found page saved → IsPageOf users form route page
-page_is users form (Ok Home) now found page saved plans =
+pub page_is : (IsDrawn : List ℕ → Type 0) (users : List User) (form : List ℕ) (route : Result Route Refusal) (now : DateTime) (found : Option SessionState) (page : Page) (saved : Option SessionState)
+    → Plans IsDrawn users route (credentials_of form) now found page saved → IsPageOf users form route page
+page_is IsDrawn users form (Ok Home) now found page saved plans =
     let (visitor, is, shown_is, saved_is) = plans in
     subst IsHomePage (sym shown_is) tt
-page_is users form (Ok LogIn) now found page saved plans = login_is users (credentials_of form) now page saved plans
-page_is users form (Ok LogOut) now found page saved plans = plans.0
-page_is users form (Err refusal) now found page saved plans = plans.0
+page_is IsDrawn users form (Ok LogIn) now found page saved plans = login_is IsDrawn users (credentials_of form) now page saved plans
+page_is IsDrawn users form (Ok LogOut) now found page saved plans = plans.0
+page_is IsDrawn users form (Err refusal) now found page saved plans = plans.0
 
 -- ---- the session after it
 
@@ -125,8 +125,8 @@ shown_stands visitor second session =
     λ i. record { user = user i; notice = notice i; started = session.started; seen = second }
 
 -- the session of a login tells that it began
-logged_in_stands : (now : DateTime) (user : List ℕ) → standing_of (seen_at (second_of now) (logged_in now user)) ≡ begun (second_of now) (Some user) (codes "You are logged in.")
-logged_in_stands now user =
+logged_in_stands : (id : List ℕ) (now : DateTime) (user : List ℕ) → standing_of (seen_at (second_of now) (logged_in id now user)) ≡ begun (second_of now) (Some user) (codes "You are logged in.")
+logged_in_stands id now user =
     let message : List ℕ = codes "You are logged in." in
     let first : Texts = insert empty (codes "user") user in
     let named : get (insert first (codes "notice") message) (codes "user") ≡ Some user =
@@ -135,8 +135,8 @@ logged_in_stands now user =
     λ i. record { user = named i; notice = notice i; started = second_of now; seen = second_of now }
 
 -- and so does that of a logout
-logged_out_stands : (now : DateTime) → standing_of (seen_at (second_of now) (logged_out now)) ≡ begun (second_of now) None (codes "You are logged out.")
-logged_out_stands now =
+logged_out_stands : (id : List ℕ) (now : DateTime) → standing_of (seen_at (second_of now) (logged_out id now)) ≡ begun (second_of now) None (codes "You are logged out.")
+logged_out_stands id now =
     let message : List ℕ = codes "You are logged out." in
     let named : get (insert {K = List ℕ} empty (codes "notice") message) (codes "user") ≡ None =
     get_inserted empty (codes "notice") message (codes "user") ∙ get-empty name_cmp (codes "user") in
@@ -160,25 +160,25 @@ home_stands now visitor held None saved none = unsaved now held saved none
 home_stands now visitor held (Some session) saved some =
     was_saved now held saved (shown_session visitor session) (shown (second_of now) (standing_of session)) some (shown_stands visitor (second_of now) session)
 
-form_stands : (users : List User) (credentials : Option (List ℕ × List ℕ)) (now : DateTime) (held : Option SessionState) (page : Page) (saved : Option SessionState)
-    → LogsIn users credentials now page saved → Stands now held saved (after_form users (second_of now) credentials (option_map standing_of held))
-form_stands users None now held page saved plans = unsaved now held saved plans.1
-form_stands users (Some (user, password)) now held page saved plans = by (is_known user password users) plans
+form_stands : (IsDrawn : List ℕ → Type 0) (users : List User) (credentials : Option (List ℕ × List ℕ)) (now : DateTime) (held : Option SessionState) (page : Page) (saved : Option SessionState)
+    → LogsIn IsDrawn users credentials now page saved → Stands now held saved (after_form users (second_of now) credentials (option_map standing_of held))
+form_stands IsDrawn users None now held page saved plans = unsaved now held saved plans.1
+form_stands IsDrawn users (Some (user, password)) now held page saved plans = by (is_known user password users) plans
   where
-    by : (b : Bool) → MatchBool b ((page ≡ Moved) × (saved ≡ Some (logged_in now user))) ((page ≡ Refused Forbidden) × (saved ≡ None))
+    by : (b : Bool) → MatchBool b (Moves IsDrawn (λ id. logged_in id now user) page saved) (Refuses Forbidden page saved)
         → Stands now held saved (cond b (Some (begun (second_of now) (Some user) (codes "You are logged in."))) (option_map standing_of held))
-    by true moves = was_saved now held saved (logged_in now user) _ moves.1 (logged_in_stands now user)
+    by true moves = was_saved now held saved (logged_in moves.1 now user) _ moves.3 (logged_in_stands moves.1 now user)
     by false refuses = unsaved now held saved refuses.1
 
-pub saved_stands : (site : LoginSite) (route : Result Route Refusal) (form : List ℕ) (now : DateTime) (held found : Option SessionState) (page : Page) (saved : Option SessionState)
+pub saved_stands : (IsDrawn : List ℕ → Type 0) (site : LoginSite) (route : Result Route Refusal) (form : List ℕ) (now : DateTime) (held found : Option SessionState) (page : Page) (saved : Option SessionState)
     → standing_at site.sessions (second_of now) (option_map standing_of held) ≡ option_map standing_of found
-    → Plans site.users.now route (credentials_of form) now found page saved
+    → Plans IsDrawn site.users.now route (credentials_of form) now found page saved
     → Stands now held saved (after_route site (second_of now) form route (option_map standing_of held))
-saved_stands site (Ok Home) form now held found page saved counts plans =
+saved_stands IsDrawn site (Ok Home) form now held found page saved counts plans =
     let (visitor, is, page_is, saved_is) = plans in
     home_stands now visitor held found saved saved_is
     ∙ ap (λ o. option_or (option_map (shown (second_of now)) o) (option_map standing_of held)) (sym counts)
-saved_stands site (Ok LogIn) form now held found page saved counts plans = form_stands site.users.now (credentials_of form) now held page saved plans
-saved_stands site (Ok LogOut) form now held found page saved counts plans =
-    was_saved now held saved (logged_out now) _ plans.1 (logged_out_stands now)
-saved_stands site (Err refusal) form now held found page saved counts plans = unsaved now held saved plans.1
+saved_stands IsDrawn site (Ok LogIn) form now held found page saved counts plans = form_stands IsDrawn site.users.now (credentials_of form) now held page saved plans
+saved_stands IsDrawn site (Ok LogOut) form now held found page saved counts plans =
+    was_saved now held saved (logged_out plans.1 now) _ plans.3 (logged_out_stands plans.1 now)
+saved_stands IsDrawn site (Err refusal) form now held found page saved counts plans = unsaved now held saved plans.1

@@ -1,5 +1,5 @@
 -- Requests to a site after a session was revoked.
-use Rattle.std.specs.Prelude.{◌≡◌, ◌≤◌, ◌<◌, ◌⊎◌, ℕ, All, List, [], ◌∷◌, Option, Some, IfSome, ⊤}
+use Rattle.std.specs.Prelude.{◌≡◌, ◌≤◌, ◌<◌, ℕ, All, List, [], ◌∷◌, Option, Some, IfSome, ⊤}
 use Rattle.cookie.specs.Originals.{field_cookies}
 use Rattle.cookie_session.specs.Revocations.{end_of}
 use Rattle.cookie_session.specs.Seconds.{second_of}

@@ -72,19 +72,19 @@ impl Revocations for Revoked {
     ghost revoked_until = { λ r. ⟦<SqliteRevocations<FileStore<File>> as Revocations>⟧.revoked_until r.sessions };
 
     fn is_revoked(&mut self, id: &[u8; 16]) -> Result<bool, RevocationError> {
-        let found = self.sessions.is_revoked(id);
+        let found = Revocations::is_revoked(&mut self.sessions, id);
         self.failure = found.as_ref().err().copied();
         found
     }
 
     fn revoke(&mut self, id: &[u8; 16], until: u64) -> Result<(), RevocationError> {
-        let done = self.sessions.revoke(id, until);
+        let done = Revocations::revoke(&mut self.sessions, id, until);
         self.failure = done.as_ref().err().copied();
         done
     }
 
     fn forget(&mut self, now: u64) -> Result<(), RevocationError> {
-        let done = self.sessions.forget(now);
+        let done = Revocations::forget(&mut self.sessions, now);
         self.failure = done.as_ref().err().copied();
         done
     }

@@ -1,4 +1,4 @@
-use Rattle.std.proofs.Common.{◌≡◌, List, ℕ, Err, option_map, refl, map, sym, ap, subst, ◌∙◌, string_bytes}
+use Rattle.std.proofs.Common.{◌≡◌, inl, inr, List, ℕ, Err, option_map, refl, map, sym, ap, subst, ◌∙◌, string_bytes}
 use Rattle.std.specs.FinMap.{get}
 use Rattle.std.specs.Option.{option_to_list}
 use Rattle.cookie.specs.Jar.{JarState}
@@ -10,13 +10,12 @@ use Rattle.cookie_client.proofs.RoundLemmas.{fresh}
 use Rattle.cookie_session.specs.Sessions.{site_cookies}
 use Rattle.login_core.specs.Answers.{cookies_of}
 use Rattle.login_core.specs.Forms.{credentials_of}
-use Rattle.login_core.specs.Plans.{Plans}
 use Rattle.cookie_session.specs.declared.session_error.SessionError.TheVariants as failure
 use Rattle.login_core.specs.declared.answer_error.AnswerError.TheVariants as answers
 use Rattle.login_core.specs.declared.request.Request.{Request}
 use Rattle.cookie_theorems.specs.Browsing.{Shows}
 use Rattle.cookie_theorems.specs.Standing.{route_asked}
-use Rattle.cookie_theorems.proofs.FailLemmas.{can_save, not_memory, refused_over, told_same}
+use Rattle.cookie_theorems.proofs.FailLemmas.{can_save_it, not_memory, refused_over, told_same}
 use Rattle.cookie_theorems.proofs.HeldLemmas.{finds, holds_after}
 use Rattle.cookie_theorems.proofs.PageLemmas.{held_after, page_is, page_shows, saved_stands}
 use Rattle.cookie_theorems.proofs.SentLemmas.{sends_held}
@@ -34,7 +33,7 @@ returns-clause-answered g c can held holds =
     let page = c.in_ok-response.response.page in
     let header : List ℕ = string_bytes c.in_ok-header.header in
     let is = c.in_ok-header.ensures holds.unnamed in
-    let (saved, jar, plan, saves, once) = c.in_ok-response.ensures.answers in
+    let (middle, saved, jar, idle, plan, saves, once) = c.in_ok-response.ensures.answers tt in
     let asked : Request = record { method = request.method; path = request.path; cookies = c.as_bytes.result; form = request.form } in
     let field : List ℕ = asked.cookies.now in
     let field_is : field ≡ header = c.as_bytes.ensures.value in
@@ -50,11 +49,11 @@ returns-clause-answered g c can held holds =
       holds = holds_after sessions can now client c.read_texts.new.client start jar (fresh field) texts (AreDeltaTexts-once jar.delta texts once)
           (c.in_ok-read_texts.ensures ∙ ap (λ ts. after_texts now (map string_bytes ts) client) c.deref.ensures.value) _ saved held saves holds;
       shows = record {
-        is = page_is site.users.now request.form.now (route_asked request) now found page saved plan.plans;
+        is = page_is _ site.users.now request.form.now (route_asked request) now found page saved plan.plans;
         shows = subst (λ standing. Shows (route_asked request) standing page) (sym counts)
-            (page_shows site.users.now (route_asked request) (credentials_of request.form.now) now found page saved plan.plans);
+            (page_shows _ site.users.now (route_asked request) (credentials_of request.form.now) now found page saved plan.plans);
       };
-      stands = saved_stands site (route_asked request) request.form.now now held found page saved counts plan.plans;
+      stands = saved_stands _ site (route_asked request) request.form.now now held found page saved counts plan.plans;
     }
 
 pub returns-in_err-response-clause-over : goal.returns-in_err-response-clause-over
@@ -64,8 +63,12 @@ returns-in_err-response-clause-over g c long used over =
     let now = c.args.request.now.time in
     let told = told_same c.answer.result c.from_residual-in_err-response.result c.in_err-response.field-0.0 (answers.Session failure.Over)
     c.in_err-response.was c.from_residual-in_err-response.ensures.1 over in
-    let (page, saved, plan, fails) = c.answer.ensures.fails failure.Over told not_memory in
-    refused_over {T = Unit {0}} _ _ sessions now (Err failure.Over) saved fails
-    (λ session is. can_save sessions now long used site.users.now (route_asked c.args.request.now) (credentials_of c.args.request.now.form.now) plan.found page session
-    (λ state found. ((plan.finds.exact state).0 found).1.opens.lives) (subst (λ s. Plans site.users.now (route_asked c.args.request.now) (credentials_of c.args.request.now.form.now) now plan.found page s) is plan.plans))
-    refl
+    elim (c.answer.ensures.fails tt failure.Over told not_memory) [
+      | inl drew ↦ let clash = drew.0 in cc
+      | inr refused ↦
+          let (middle, page, saved, idle, plan, fails) = refused in
+          refused_over {T = Unit {0}} _ _ sessions now (Err failure.Over) saved fails
+          (can_save_it sessions now long used _ site.users.now (route_asked c.args.request.now) (credentials_of c.args.request.now.form.now) plan.found saved page
+          (λ state found. ((plan.finds.exact state).0 found).1.opens.lives) plan.plans)
+          refl
+    ]

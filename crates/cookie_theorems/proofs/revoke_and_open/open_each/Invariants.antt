@@ -1,4 +1,3 @@
-use Rattle.std.proofs.Common.{length}
 use Rattle.cookie_theorems.proofs.RevokingLemmas.{Stands}
 use Rattle.cookie_theorems.proofs.revoke_and_open.open_each.Given as goal
 
