@@ -80,7 +80,15 @@ impl Logins {
         };
         match &mut self.revoked {
             Some(revoked) => answer(alloc, state, &site, &request, now, &mut rng, revoked),
-            None => answer(alloc, state, &site, &request, now, &mut rng, &mut NeverRevoked),
+            None => answer(
+                alloc,
+                state,
+                &site,
+                &request,
+                now,
+                &mut rng,
+                &mut NeverRevoked,
+            ),
         }
     }
 
@@ -130,9 +138,7 @@ impl Player for Logins {
             "request" => self.request(step),
             "log_in_long" => self.log_in_long(step),
             "between" | "field" => part(step, &self.text),
-            "browse" => {
-                browsed(step, self.state, &login_site(&self.site, &self.users))
-            }
+            "browse" => { browsed(step, self.state, &login_site(&self.site, &self.users)) }
             "generator" | "revoked" | "plain" | "home" => self.change(step),
             _ => self.site.answer(step),
         }

@@ -16,8 +16,8 @@ use cookie_session::{Opened, Session};
 use cookie_theorems::open_for_agent::open_for_agent;
 use cookie_theorems::save_and_return::save_and_return;
 use cookie_theorems::save_over_headers::save_over_headers;
-use jiff::civil::DateTime;
 use hex::encode;
+use jiff::civil::DateTime;
 use login_core::session_cookie;
 pub use revoked::Revoked;
 pub use site::Site;
@@ -252,7 +252,14 @@ impl<'s> Visitors<'s> {
 impl Player for Visitors<'_> {
     fn answer(&mut self, step: Step<'_>) -> Answer {
         match step.call {
-            "at" | "generator" | "start" | "renew" | "set" | "unset" | "generation" | "revoked"
+            "at"
+            | "generator"
+            | "start"
+            | "renew"
+            | "set"
+            | "unset"
+            | "generation"
+            | "revoked"
             | "back" => self.change(step),
             "text" | "session" | "times" | "id" | "since" | "kept" | "held" => self.looked(step),
             "revoke" | "forget" => {

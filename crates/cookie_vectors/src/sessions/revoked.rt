@@ -23,12 +23,7 @@ impl Revoked {
     }
 
     /// Revokes the session, or forgets which ones are over.
-    pub fn answer(
-        &mut self,
-        step: Step<'_>,
-        sessions: &Sessions<'_>,
-        session: &Session,
-    ) -> Answer {
+    pub fn answer(&mut self, step: Step<'_>, sessions: &Sessions<'_>, session: &Session) -> Answer {
         match step.call {
             "revoke" => step.outcome(sessions.revoke(session, self)),
             _ => step.outcome(self.forget(second_of(after(step.words)?))),
