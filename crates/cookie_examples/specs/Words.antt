@@ -42,12 +42,13 @@ IsLoggedIn site jar now user =
     × (get session.texts (codes "user") ≡ Some user)
     × IsStored site (view jar site.cookie.now.fields.name) session
 
--- a session that was open is stored with the user, its other texts, and its start now
+-- a session that was open is stored with the user, its other texts, another id, and its start now
 abbrev pub KeepsTexts : Sessions → JarState → JarState → DateTime → List ℕ → Type 0
 KeepsTexts site before after now user =
     (place : ℕ) (session : SessionState)
     → IsOpen site (view before site.cookie.now.fields.name) now place session
-    → IsStored site (view after site.cookie.now.fields.name) (record {
+    → (id : List ℕ) × IsStored site (view after site.cookie.now.fields.name) (record {
+      id = id;
       started = second_of now;
       seen = second_of now;
       texts = insert session.texts (codes "user") user;

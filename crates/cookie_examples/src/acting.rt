@@ -24,12 +24,12 @@ pub fn act<R: TryRng>(
 ) -> Result<(), SessionError> {
     let mut session = match sessions.open(alloc, jar, now)? {
         Some(opened) => opened.session,
-        None => Session::start(alloc, now),
+        None => Session::start(alloc, now, rng)?,
     };
     match action {
         Action::None => {}
         Action::LogIn(user) => {
-            session.renew(now);
+            session.renew(now, rng)?;
             session.set("user", user)?;
         }
         Action::LogOut => return Ok(sessions.end(alloc, jar, now)?),

@@ -33,9 +33,9 @@ pub fn handle<R: TryRng>(
     };
     let mut session = match sessions.open(alloc, jar, now)? {
         Some(opened) => opened.session,
-        None => Session::start(alloc, now),
+        None => Session::start(alloc, now, rng)?,
     };
-    session.renew(now);
+    session.renew(now, rng)?;
     session.set("user", user)?;
     sessions.save(alloc, jar, &session, now, rng)?;
     Ok(())

@@ -11,6 +11,7 @@ mod flash;
 mod following;
 mod handler;
 mod headers;
+mod logout;
 mod printing;
 mod reading;
 mod refusal;

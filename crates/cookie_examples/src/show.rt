@@ -1,15 +1,15 @@
 //! What `main` prints of each use.
 use crate::acting::{self, Action};
 use crate::{
-    agents, answer, carrying, counting, dates, flash, following, handler, headers, printing,
-    reading, refusal, removal, requests, responding, runtime, sealing, session, team,
+    agents, answer, carrying, counting, dates, flash, following, handler, headers, logout,
+    printing, reading, refusal, removal, requests, responding, runtime, sealing, session, team,
 };
 use anyhow::Result;
 use cookie::{Cookie, CookieBuilder, CookieJar, DateText, JarError, Key, SameSite};
 use cookie_agent::Site;
 use cookie_browser::{KeptCookie, Received, Suffixes};
 use cookie_client::{ChildCall, Client, ClientError, JarCall, Played};
-use cookie_session::{KeyRing, Sessions};
+use cookie_session::{KeyRing, NeverRevoked, Sessions};
 use http_header::{HeaderMap, HeaderValue};
 use jiff::civil::DateTime;
 use rand::SeedableRng;
@@ -93,7 +93,16 @@ fn print_login(
     print_delta(rt, &jar)?;
     print_visitor(rt, sessions, &jar, now)?;
     handler::handle(rt.alloc(), sessions, &mut jar, None, now, rng)?;
-    print_visitor(rt, sessions, &jar, now)
+    print_visitor(rt, sessions, &jar, now)?;
+    print_logout(rt, sessions, now)
+}
+
+// A server takes `SqliteRevocations` of the crate `session_revocations`.
+fn print_logout(rt: &HostRuntime, sessions: &Sessions<'_>, now: DateTime) -> Result<()> {
+    let mut jar = CookieJar::new(rt.alloc());
+    let is_out = logout::log_out(rt.alloc(), sessions, &mut jar, b"", now, &mut NeverRevoked);
+    println!(rt; "logged out: {}", is_out.is_ok())?;
+    Ok(())
 }
 
 fn print_visitor(

@@ -1,9 +1,10 @@
 //! The login: requests, responses, and a client that goes back and forth. data/login.tsv says what its calls return.
 use crate::escapes::Escaped;
 use crate::jar_calls::{after, moment};
-use crate::sessions::Site;
+use crate::sessions::{Revoked, Site};
 use crate::sources::{Sevens, hash_keys};
 use crate::step::{Answer, Player, Step};
+use cookie_session::NeverRevoked;
 use cookie_theorems::TimedRequest;
 use cookie_theorems::browse::browse;
 use jiff::civil::DateTime;
@@ -17,13 +18,15 @@ use std::hash::RandomState;
 // The path of the program in the responses.
 const BASE: &str = "/cgi-bin/login.cgi";
 
-/// A site and its users, how many bytes its generator returns, the keys of its hash, and the text of the last response.
+/// A site and its users, how many bytes its generator returns, the keys of its hash, what it keeps as revoked, and the
+/// text of the last response.
 #[derive(Drop)]
 pub struct Logins {
     site: Site,
     users: Vec<User>,
     left: usize,
     state: RandomState,
+    revoked: Option<Revoked>,
     text: String,
 }
 
@@ -32,8 +35,9 @@ impl Logins {
         let mut logins = Logins {
             site: Site::new(alloc, session_cookie(true), LIFETIME, IDLE)?,
             users: Vec::new(alloc),
-            left: 12,
+            left: 28,
             state: hash_keys()?,
+            revoked: None,
             text: String::new(alloc),
         };
         logins.add_user(alloc, "ann", "open sesame")?;
@@ -49,16 +53,10 @@ impl Logins {
         self.users.push(user).ok()
     }
 
-    fn login_site(&self) -> LoginSite<'_> {
-        LoginSite {
-            sessions: self.site.sessions(),
-            users: &self.users,
-        }
-    }
-
     fn change(&mut self, step: Step<'_>) -> Answer {
         match step.call {
             "generator" => self.left = step.words.parse().ok()?,
+            "revoked" => self.revoked = Some(Revoked::of(step)?),
             "plain" => self.site.cookie = session_cookie(false),
             _ => self.text = home(step)?,
         }
@@ -66,20 +64,32 @@ impl Logins {
     }
 
     fn send(
-        &self,
+        &mut self,
         alloc: Global,
         (method, path): (&str, &str),
         cookies: &[u8],
         form: &str,
     ) -> Result<Response, AnswerError> {
-        let (site, mut rng) = (self.login_site(), Sevens { left: self.left });
+        let (state, now, mut rng) = (self.state, moment(), Sevens { left: self.left });
+        let site = login_site(&self.site, &self.users);
         let request = Request {
             method,
             path,
             cookies,
             form: form.as_bytes(),
         };
-        answer(alloc, self.state, &site, &request, moment(), &mut rng)
+        match &mut self.revoked {
+            Some(revoked) => answer(alloc, state, &site, &request, now, &mut rng, revoked),
+            None => answer(
+                alloc,
+                state,
+                &site,
+                &request,
+                now,
+                &mut rng,
+                &mut NeverRevoked,
+            ),
+        }
     }
 
     // Sends a request, such as `POST /login | a=b | user=ann`, and keeps the response's text.
@@ -128,10 +138,17 @@ impl Player for Logins {
             "request" => self.request(step),
             "log_in_long" => self.log_in_long(step),
             "between" | "field" => part(step, &self.text),
-            "browse" => browsed(step, self.state, &self.login_site()),
-            "generator" | "plain" | "home" => self.change(step),
+            "browse" => { browsed(step, self.state, &login_site(&self.site, &self.users)) }
+            "generator" | "revoked" | "plain" | "home" => self.change(step),
             _ => self.site.answer(step),
         }
+    }
+}
+
+fn login_site<'s>(site: &'s Site, users: &'s [User]) -> LoginSite<'s> {
+    LoginSite {
+        sessions: site.sessions(),
+        users,
     }
 }
 
@@ -202,7 +219,7 @@ fn browsed(step: Step<'_>, state: RandomState, site: &LoginSite<'_>) -> Answer {
     for place in requests.iter_mut() {
         *place = request(words.next()?);
     }
-    let mut rng = Sevens { left: 96 };
+    let mut rng = Sevens { left: 224 };
     let mut texts = Vec::new(step.alloc);
     for page in &browse(step.alloc, state, site, &requests, &mut rng).ok()? {
         let text = match shown(page) {

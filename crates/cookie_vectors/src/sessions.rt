@@ -1,5 +1,6 @@
 //! Sessions: rings of keys, sites that open and save sessions, and what clients and user agents bring back.
 //! data/sessions.tsv says what its calls return.
+mod revoked;
 mod site;
 
 use crate::browsing::{outcome, site_of};
@@ -15,15 +16,18 @@ use cookie_session::{Opened, Session};
 use cookie_theorems::open_for_agent::open_for_agent;
 use cookie_theorems::save_and_return::save_and_return;
 use cookie_theorems::save_over_headers::save_over_headers;
+use hex::encode;
 use jiff::civil::DateTime;
 use login_core::session_cookie;
+pub use revoked::Revoked;
 pub use site::Site;
 use std::alloc::Global;
 
 // The second of the rows' time, counted from 1970 on.
 const FIRST: u64 = 1_445_412_480;
 
-/// A site, the jar of a request, a client, a user agent, the time, how many bytes a generator returns, and a session.
+/// A site, the jar of a request, a client, a user agent, the time, how many bytes a generator returns, a session, and
+/// what the site keeps as revoked.
 #[derive(Drop)]
 pub struct Visitors<'s> {
     site: Site,
@@ -33,6 +37,7 @@ pub struct Visitors<'s> {
     now: DateTime,
     left: usize,
     session: Session,
+    revoked: Option<Revoked>,
 }
 
 impl<'s> Visitors<'s> {
@@ -43,9 +48,14 @@ impl<'s> Visitors<'s> {
             client: Client::new(alloc),
             agent: Agent::new(alloc, suffixes),
             now: moment(),
-            left: 12,
-            session: Session::start(alloc, moment()),
+            left: 28,
+            session: Session::start(alloc, moment(), &mut Sevens { left: 16 }).ok()?,
+            revoked: None,
         })
+    }
+
+    fn rng(&self) -> Sevens {
+        Sevens { left: self.left }
     }
 
     // Changes the time, the generator, the session or the request.
@@ -53,10 +63,21 @@ impl<'s> Visitors<'s> {
         match step.call {
             "at" => self.now = after(step.words)?,
             "generator" => self.left = step.words.parse().ok()?,
-            "start" => self.session = Session::start(step.alloc, self.now),
-            "renew" => self.session.renew(self.now),
+            "start" => match Session::start(step.alloc, self.now, &mut self.rng()) {
+                Ok(session) => self.session = session,
+                Err(refusal) => return step.printed(refusal),
+            },
+            "renew" => {
+                let mut rng = self.rng();
+                return step.done_or_why(self.session.renew(self.now, &mut rng));
+            }
             "set" => self.set(step)?,
+            "generation" => {
+                let number = step.words.parse().ok()?;
+                self.session.set_generation(step.alloc, number).ok()?;
+            }
             "unset" => self.session.remove(&step.text()?),
+            "revoked" => self.revoked = Some(Revoked::of(step)?),
             _ => self.jars.jar = self.next_jar(step.alloc)?,
         }
         step.done()
@@ -91,6 +112,9 @@ impl<'s> Visitors<'s> {
         let found = match step.call {
             "session" => return self.texts(step),
             "times" => return self.times(step),
+            "id" => return encode(step.alloc, self.session.id()).ok(),
+            "since" => return step.yes(self.session.is_since(step.words.parse().ok()?)),
+            "kept" => return step.optional(self.session.generation()),
             "text" => self.session.get(&name),
             _ => self.client.get(&name),
         };
@@ -137,7 +161,8 @@ impl<'s> Visitors<'s> {
     // Saves the session, adds a cookie under the newest key, or ends the session.
     fn change_jar(&mut self, step: Step<'_>) -> Answer {
         let (alloc, now, sessions) = (step.alloc, self.now, self.site.sessions());
-        let (jar, mut rng) = (&mut self.jars.jar, Sevens { left: self.left });
+        let mut rng = self.rng();
+        let jar = &mut self.jars.jar;
         match step.call {
             "save" => step.done_or_why(sessions.save(alloc, jar, &self.session, now, &mut rng)),
             "keep" => step.done_or_why(sessions.keys.add(jar, step.cookie()?, &mut rng)),
@@ -162,12 +187,25 @@ impl<'s> Visitors<'s> {
         outcome(step, self.agent.read(&site, &text, self.now).ok()?)
     }
 
-    // Opens the session of the jar, of a `Cookie` field, or of the user agent's request.
+    // Opens the session of a `Cookie` field, unless it is revoked.
+    fn open_field(&mut self, step: Step<'_>) -> Answer {
+        let (alloc, now, sessions) = (step.alloc, self.now, self.site.sessions());
+        let field = step.bytes()?;
+        let opened = match &mut self.revoked {
+            Some(revoked) => sessions.open_unrevoked(alloc, &field, now, revoked),
+            None => Ok(sessions.open_field(alloc, &field, now).ok()?),
+        };
+        match opened {
+            Ok(opened) => self.take(step, opened),
+            Err(refusal) => step.refused(&refusal),
+        }
+    }
+
+    // Opens the session of the jar, or of the user agent's request.
     fn open(&mut self, step: Step<'_>) -> Answer {
         let (alloc, now, sessions) = (step.alloc, self.now, self.site.sessions());
         let opened = match step.call {
             "open" => sessions.open(alloc, &self.jars.jar, now),
-            "open_field" => sessions.open_field(alloc, &step.bytes()?, now),
             _ => {
                 let site = site_of(alloc, step.words)?;
                 open_for_agent(alloc, &sessions, &self.agent, &site, now)
@@ -196,8 +234,8 @@ impl<'s> Visitors<'s> {
         later: DateTime,
     ) -> Option<Option<Opened>> {
         let (alloc, now, sessions) = (step.alloc, self.now, self.site.sessions());
+        let mut rng = self.rng();
         let (jar, client, session) = (&mut self.jars.jar, &mut self.client, &self.session);
-        let mut rng = Sevens { left: self.left };
         if step.call == "save_and_return" {
             return save_and_return(
                 alloc, &sessions, jar, calls, session, client, pick, now, later, &mut rng,
@@ -214,9 +252,22 @@ impl<'s> Visitors<'s> {
 impl Player for Visitors<'_> {
     fn answer(&mut self, step: Step<'_>) -> Answer {
         match step.call {
-            "at" | "generator" | "start" | "renew" | "set" | "unset" | "back" => self.change(step),
-            "text" | "session" | "times" | "held" => self.looked(step),
-            "open" | "open_field" | "open_for_agent" => self.open(step),
+            "at"
+            | "generator"
+            | "start"
+            | "renew"
+            | "set"
+            | "unset"
+            | "generation"
+            | "revoked"
+            | "back" => self.change(step),
+            "text" | "session" | "times" | "id" | "since" | "kept" | "held" => self.looked(step),
+            "revoke" | "forget" => {
+                let (sessions, revoked) = (self.site.sessions(), self.revoked.as_mut()?);
+                revoked.answer(step, &sessions, &self.session)
+            }
+            "open_field" => self.open_field(step),
+            "open" | "open_for_agent" => self.open(step),
             "save_and_return" | "save_over_headers" => self.come_back(step),
             "save" | "end" | "keep" => self.settle(step),
             "find" => self.find(step),

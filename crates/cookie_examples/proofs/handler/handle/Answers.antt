@@ -13,7 +13,7 @@ returns-clause-logs_in g c =
     let set : SessionState = c.set.new.self in
     subst (λ o. IfSome (option_copied o) (λ name. IsLoggedIn c.args.sessions.now c.save.new.jar c.args.now name)) (sym c.in-Some.is) (
       seen_at (second_of c.args.now) set,
-      ap (λ (s : SessionState). s.started) c.in_ok-set.ensures.ok ∙ ap (λ (s : SessionState). s.started) c.renew.ensures,
+      ap (λ (s : SessionState). s.started) c.in_ok-set.ensures.ok ∙ ap (λ (s : SessionState). s.started) c.in_ok-renew.ensures.renewed,
       ap (λ (s : SessionState). get s.texts (codes "user")) c.in_ok-set.ensures.ok ∙ get_inserted renewed.texts (codes "user") c.in-Some.user.now (codes "user"),
       c.in_ok-save.ensures.opens,
     )

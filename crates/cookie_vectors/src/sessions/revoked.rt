@@ -1,0 +1,60 @@
+use crate::jar_calls::after;
+use crate::step::{Answer, Step};
+use cookie_session::{Revocations, Session, Sessions, second_of};
+use hex::decode;
+use std::fmt::Error;
+
+/// The ids of revoked sessions, each until a second, in a list. Its calls have no contract.
+#[derive(Drop)]
+pub struct Revoked {
+    untils: Vec<([u8; 16], u64)>,
+    is_broken: bool,
+}
+
+impl Revoked {
+    /// The ids that the step's words list, which are never forgotten. With the word `broken` each call fails.
+    pub fn of(step: Step<'_>) -> Option<Revoked> {
+        let (mut untils, is_broken) = (Vec::new(step.alloc), step.words == "broken");
+        let ids = if is_broken { "" } else { step.words };
+        for id in decode(step.alloc, ids).ok()?.chunks(16) {
+            untils.push((id.try_into().ok()?, u64::MAX)).ok()?;
+        }
+        Some(Revoked { untils, is_broken })
+    }
+
+    /// Revokes the session, or forgets which ones are over.
+    pub fn answer(&mut self, step: Step<'_>, sessions: &Sessions<'_>, session: &Session) -> Answer {
+        match step.call {
+            "revoke" => step.outcome(sessions.revoke(session, self)),
+            _ => step.outcome(self.forget(second_of(after(step.words)?))),
+        }
+    }
+
+    fn check(&self) -> Result<(), Error> {
+        if self.is_broken { Err(Error) } else { Ok(()) }
+    }
+}
+
+impl Revocations for Revoked {
+    type Error = Error;
+
+    ghost is_kept = { λ _. ⊥ };
+
+    ghost revoked_until = { λ _ _ _. ⊥ };
+
+    fn is_revoked(&mut self, id: &[u8; 16]) -> Result<bool, Error> {
+        self.check()?;
+        Ok(self.untils.iter().any(|revoked| revoked.0 == *id))
+    }
+
+    fn revoke(&mut self, id: &[u8; 16], until: u64) -> Result<(), Error> {
+        self.check()?;
+        self.untils.push((*id, until)).map_err(|_| Error)
+    }
+
+    fn forget(&mut self, now: u64) -> Result<(), Error> {
+        self.check()?;
+        self.untils.retain(|revoked| now < revoked.1);
+        Ok(())
+    }
+}
