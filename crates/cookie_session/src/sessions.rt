@@ -247,7 +247,7 @@ impl<'a> Sessions<'a> {
 
     /// Ends the session, at the time `now` in UTC: removes the site's cookie from the jar, with the path and the domain
     /// that the site sets. If the request had the cookie, the response tells the client to drop it. A copy of the
-    /// cookie still opens until the session's limits.
+    /// cookie still opens until the session's limits, unless `revoke` is called too.
     ///
     /// Fails only if out of memory, and then leaves the jar as it was.
     /// Example: `handle` in crates/cookie_examples/src/handler.rt.
