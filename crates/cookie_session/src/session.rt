@@ -63,6 +63,7 @@ impl Session {
         rng: &mut R,
     ) -> Result<Session, SessionError>
         ensures drawn { IfOk result (λ session. R.may_fill rng.old session.id rng.new) }
+        ensures is_id { IfOk result (λ session. IsId session.id) }
         ensures started { IfOk result (λ session. session ≡ record {
           id = session.id;
           started = second_of now;
@@ -153,6 +154,7 @@ impl Session {
     /// Example: `handle` in crates/cookie_examples/src/handler.rt.
     pub fn renew<R: TryRng>(&mut self, now: DateTime, rng: &mut R) -> Result<(), SessionError>
         ensures drawn { OnOk result (R.may_fill rng.old self.new.id rng.new) }
+        ensures is_id { OnOk result (IsId self.new.id) }
         ensures renewed { OnOk result (self.new ≡ record self.old {
           id = self.new.id;
           started = second_of now;

@@ -142,11 +142,7 @@ fn start(alloc: Global, time: DateTime, random: &mut Random) -> Session
     ensures same { random.new ≡ random.old }
 {
     match Session::start(alloc, time, random) {
-        Ok(session) => {
-            // By this call the proof knows that the id has sixteen bytes.
-            let _ = session.id();
-            session
-        }
+        Ok(session) => session,
         Err(_) => unreachable!(),
     }
 }
