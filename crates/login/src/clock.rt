@@ -18,11 +18,3 @@ pub fn now(rt: &HostRuntime) -> Result<DateTime> {
     };
     Ok(Offset::UTC.to_datetime(timestamp))
 }
-
-/// The second of a time in UTC since 1970, and 0 before.
-pub fn second_of(now: DateTime) -> u64 {
-    match Offset::UTC.to_timestamp(now) {
-        Ok(timestamp) => u64::try_from(timestamp.as_second()).unwrap_or(0),
-        Err(_) => 0,
-    }
-}

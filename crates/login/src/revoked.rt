@@ -1,7 +1,6 @@
 //! Which sessions are revoked: the database that LOGIN_REVOKED names.
-use crate::clock;
 use anyhow::Result;
-use cookie_session::Revocations;
+use cookie_session::{Revocations, second_of};
 use jiff::civil::DateTime;
 use session_revocations::{RevocationError, SqliteRevocations};
 use sqlite::{Connection, File, FileStore};
@@ -9,8 +8,8 @@ use std::env::VarError;
 use std::time::Duration;
 use std::{env, thread};
 
-// While another process has the database open, an open is tried so many times, with a pause after each. The pauses take
-// 1.8 seconds in all.
+// How often an open is tried while another process has the database open. The pause after each takes ten milliseconds, so
+// all of them 1.8 seconds.
 const TRIES: usize = 180;
 
 const MILLISECONDS: u64 = 10;
@@ -56,7 +55,7 @@ impl Revoked {
     /// Forgets the sessions that are over at that time. If that fails, they are kept, and the reason is on the standard
     /// error.
     pub fn forget_past(&mut self, rt: &HostRuntime, now: DateTime) {
-        if let Err(why) = self.forget(clock::second_of(now)) {
+        if let Err(why) = self.forget(second_of(now)) {
             let _ = eprintln!(rt; "LOGIN_REVOKED: {why}");
         }
     }
