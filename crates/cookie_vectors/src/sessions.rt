@@ -161,7 +161,7 @@ impl<'s> Visitors<'s> {
     // Saves the session, adds a cookie under the newest key, or ends the session.
     fn change_jar(&mut self, step: Step<'_>) -> Answer {
         let (alloc, now, sessions) = (step.alloc, self.now, self.site.sessions());
-        let (mut rng, jar) = (self.rng(), &mut self.jars.jar);
+        let (jar, mut rng) = (&mut self.jars.jar, Sevens { left: self.left });
         match step.call {
             "save" => step.done_or_why(sessions.save(alloc, jar, &self.session, now, &mut rng)),
             "keep" => step.done_or_why(sessions.keys.add(jar, step.cookie()?, &mut rng)),
@@ -242,7 +242,7 @@ impl<'s> Visitors<'s> {
         later: DateTime,
     ) -> Option<Option<Opened>> {
         let (alloc, now, sessions) = (step.alloc, self.now, self.site.sessions());
-        let (mut rng, session) = (self.rng(), &self.session);
+        let (mut rng, session) = (Sevens { left: self.left }, &self.session);
         let (jar, client) = (&mut self.jars.jar, &mut self.client);
         if step.call == "save_and_return" {
             return save_and_return(
