@@ -27,8 +27,9 @@ pub fn log_out<R: Revocations>(
         → IsRevoked (R.revoked_until revocations.new) session.id) }
 {
     if let Some(opened) = sessions.open_unrevoked(alloc, field, now, revocations)? {
-        let revoked = sessions.revoke(&opened.session, revocations);
-        revoked.map_err(OpenError::Revocations)?;
+        if let Err(error) = sessions.revoke(&opened.session, revocations) {
+            return Err(OpenError::Revocations(error));
+        }
     }
     Ok(sessions.end(alloc, jar, now)?)
 }

@@ -34,14 +34,10 @@ impl Browser<'_> {
     fn refusal(&self, step: Step<'_>) -> Option<Option<Refusal>> {
         let (url, texts) = step.halves();
         let (first, text) = texts.words.split_once(" | ").unwrap_or(("", texts.words));
-        let (first, text) = (
-            step.with_words(first).bytes()?,
-            step.with_words(text).bytes()?,
-        );
+        let first = step.with_words(first).bytes()?;
+        let text = step.with_words(text).bytes()?;
         let site = site_of(step.alloc, url.words)?.with_context(context_of(step.call)?);
-        let Ok(received) = Received::of(&first) else {
-            return None;
-        };
+        let received = Received::of(&first).ok()?;
         let domain = received.attributes.bare_domain();
         let domain = domain.to_ascii_lowercase(step.alloc).ok()?;
         let stored = KeptCookie::of(self.0, &site.request(), &received, domain.as_slice());

@@ -10,6 +10,8 @@ use std::fmt::Display;
 use std::slice::Iter;
 use way::Way;
 
+const CHANGES: &str = "new set unset set_name set_value make_permanent make_removal";
+
 // A way to play the row, the texts of the steps that follow, and the cookie.
 #[derive(Drop)]
 struct Cookies<'a> {
@@ -55,13 +57,7 @@ impl Player for Cookies<'_> {
             "split_parse_encoded" | "split_raw_encoded" => {
                 split(way, step, way.split_parse_encoded(alloc, text)?)
             }
-            "new"
-            | "set"
-            | "unset"
-            | "set_name"
-            | "set_value"
-            | "make_permanent"
-            | "make_removal" => {
+            call if CHANGES.split(' ').any(|change| change == call) => {
                 self.change(step, text)?;
                 step.done()
             }

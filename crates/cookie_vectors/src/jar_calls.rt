@@ -92,9 +92,8 @@ pub fn calls_of<'k>(key: &'k Key, step: Step<'_>) -> Option<Vec<JarCall<'k>>> {
     let mut calls = Vec::new(step.alloc);
     for words in step.words.split(" | ") {
         if !words.is_empty() && words != "-" {
-            calls
-                .push(call_of(key, step.with_words(words).inner())?)
-                .ok()?;
+            let call = call_of(key, step.with_words(words).inner())?;
+            calls.push(call).ok()?;
         }
     }
     Some(calls)

@@ -41,10 +41,8 @@ impl Jars {
     // The first answer that isn't wanted of the call with generators that have the numbers of bytes of a range such as
     // `0-11`, and then fail.
     fn failing(&mut self, range: Step<'_>) -> Answer {
-        let (first, last) = range
-            .call
-            .split_once('-')
-            .unwrap_or((range.call, range.call));
+        let call = range.call;
+        let (first, last) = call.split_once('-').unwrap_or((call, call));
         for left in first.parse().ok()?..=last.parse::<usize>().ok()? {
             let answer = self.answer_with(range.inner(), &mut Sevens { left })?;
             if answer.as_str() != range.wanted {

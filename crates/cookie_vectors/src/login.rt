@@ -100,12 +100,8 @@ impl Logins {
             "-" => Vec::new(step.alloc),
             _ => cookies.bytes()?,
         };
-        match self.send(
-            step.alloc,
-            head.words.split_once(' ')?,
-            &cookies,
-            form.words,
-        ) {
+        let line = head.words.split_once(' ')?;
+        match self.send(step.alloc, line, &cookies, form.words) {
             Ok(response) => self.keep(step, &response),
             Err(refusal) => step.printed(refusal),
         }
@@ -215,12 +211,11 @@ fn request(words: &str) -> TimedRequest<'_> {
 
 // What the pages of eight requests show. A list of requests can't be made one by one here.
 fn browsed(step: Step<'_>, state: RandomState, site: &LoginSite<'_>) -> Answer {
-    let (mut words, mut requests) = (step.words.split(" | "), [request(""); 8]);
+    let (mut words, mut requests) = (step.words.split(" | "), [request(step.words); 8]);
     for place in requests.iter_mut() {
         *place = request(words.next()?);
     }
-    let mut rng = Sevens { left: 224 };
-    let mut texts = Vec::new(step.alloc);
+    let (mut rng, mut texts) = (Sevens { left: 224 }, Vec::new(step.alloc));
     for page in &browse(step.alloc, state, site, &requests, &mut rng).ok()? {
         let text = match shown(page) {
             (user, Some(notice)) => format!(in step.alloc; "{user}: {notice}"),

@@ -90,10 +90,9 @@ fn name_answer(step: Step<'_>) -> Answer {
         "Route::LogOut" => named(step, Route::LogOut),
         "Expiration::Session" => named(step, Expiration::Session),
         words => {
-            let date = words
-                .strip_prefix("Expiration::DateTime(")?
-                .strip_suffix(')')?;
-            named(step, Expiration::DateTime(date.parse().ok()?))
+            let date = words.strip_prefix("Expiration::DateTime(")?;
+            let date = date.strip_suffix(')')?.parse().ok()?;
+            named(step, Expiration::DateTime(date))
         }
     }
 }

@@ -12,7 +12,7 @@ use cookie::{Cookie, CookieJar};
 use cookie_agent::Agent;
 use cookie_browser::Suffixes;
 use cookie_client::{Client, JarCall};
-use cookie_session::{Opened, Session};
+use cookie_session::{Opened, Revocations, Session, second_of};
 use cookie_theorems::open_for_agent::open_for_agent;
 use cookie_theorems::save_and_return::save_and_return;
 use cookie_theorems::save_over_headers::save_over_headers;
@@ -161,8 +161,7 @@ impl<'s> Visitors<'s> {
     // Saves the session, adds a cookie under the newest key, or ends the session.
     fn change_jar(&mut self, step: Step<'_>) -> Answer {
         let (alloc, now, sessions) = (step.alloc, self.now, self.site.sessions());
-        let mut rng = self.rng();
-        let jar = &mut self.jars.jar;
+        let (jar, mut rng) = (&mut self.jars.jar, Sevens { left: self.left });
         match step.call {
             "save" => step.done_or_why(sessions.save(alloc, jar, &self.session, now, &mut rng)),
             "keep" => step.done_or_why(sessions.keys.add(jar, step.cookie()?, &mut rng)),
@@ -185,6 +184,15 @@ impl<'s> Visitors<'s> {
         let (url, text) = step.halves();
         let (site, text) = (site_of(step.alloc, url.words)?, text.bytes()?);
         outcome(step, self.agent.read(&site, &text, self.now).ok()?)
+    }
+
+    // Revokes the session, or forgets which ones are over.
+    fn revoke(&mut self, step: Step<'_>) -> Answer {
+        let (sessions, revoked) = (self.site.sessions(), self.revoked.as_mut()?);
+        match step.call {
+            "revoke" => step.outcome(sessions.revoke(&self.session, revoked)),
+            _ => step.outcome(revoked.forget(second_of(after(step.words)?))),
+        }
     }
 
     // Opens the session of a `Cookie` field, unless it is revoked.
@@ -234,8 +242,8 @@ impl<'s> Visitors<'s> {
         later: DateTime,
     ) -> Option<Option<Opened>> {
         let (alloc, now, sessions) = (step.alloc, self.now, self.site.sessions());
-        let mut rng = self.rng();
-        let (jar, client, session) = (&mut self.jars.jar, &mut self.client, &self.session);
+        let (mut rng, session) = (Sevens { left: self.left }, &self.session);
+        let (jar, client) = (&mut self.jars.jar, &mut self.client);
         if step.call == "save_and_return" {
             return save_and_return(
                 alloc, &sessions, jar, calls, session, client, pick, now, later, &mut rng,
@@ -262,10 +270,7 @@ impl Player for Visitors<'_> {
             | "revoked"
             | "back" => self.change(step),
             "text" | "session" | "times" | "id" | "since" | "kept" | "held" => self.looked(step),
-            "revoke" | "forget" => {
-                let (sessions, revoked) = (self.site.sessions(), self.revoked.as_mut()?);
-                revoked.answer(step, &sessions, &self.session)
-            }
+            "revoke" | "forget" => self.revoke(step),
             "open_field" => self.open_field(step),
             "open" | "open_for_agent" => self.open(step),
             "save_and_return" | "save_over_headers" => self.come_back(step),

@@ -123,12 +123,8 @@ fn outlives_its_connection(rt: HostRuntime) -> Result<(), Fail> {
     assert!(rt; holds(&mut last, "only ann, bob 150, forget 150")?);
     drop(last);
     let mut last = SqliteRevocations::new(Connection::open(&rt, path)?)?;
-    assert!(rt;
-        holds(
-            &mut last,
-            "forget 0, only ann, bob 150, only ann bob, forget 150"
-        )?
-    );
+    let calls = "forget 0, only ann, bob 150, only ann bob, forget 150";
+    assert!(rt; holds(&mut last, calls)?);
     let mut again = last.reopen(rt.alloc(), Options::new(7))?;
     assert!(rt; holds(&mut again, "forget 0, only ann")?);
     drop(again);

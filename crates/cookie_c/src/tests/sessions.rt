@@ -1,6 +1,7 @@
 //! Settings that are no site's, times out of range, bytes of other lengths, and a buffer that is too short. What is
 //! encrypted is by Python's `cryptography` and `urllib.parse` (tools/session-rows).
 use super::{KEY, holds, is};
+use crate::answer::Answer;
 use crate::sessions::SessionSettings;
 use crate::sessions::open::cookie_session_open;
 use crate::sessions::save::{cookie_session_end, cookie_session_save};
@@ -51,37 +52,28 @@ fn settings_that_are_no_sites_are_refused(rt: HostRuntime) {
     }
 }
 
+// Saves a new session at a time out of range.
+fn save(
+    alloc: Global,
+    site: &SessionSettings<'_>,
+    ids: &[u8],
+    random: &[u8],
+    out: &mut [u8],
+) -> Answer {
+    cookie_session_save(alloc, site, b"", ids, b"", true, u64::MAX, random, out)
+}
+
 // The random bytes are looked at first, and then the ids.
 #[test]
 fn random_bytes_and_ids_have_their_lengths(rt: HostRuntime) {
-    let (site, now, mut out) = (settings(b"", b""), u64::MAX, [0xa5; 8]);
+    let (site, mut out) = (settings(b"", b""), [0xa5; 8]);
     for random in [&KEY[..0], &KEY[..12], &KEY[..27], &KEY[..29]] {
-        let answer = cookie_session_save(
-            rt.alloc(),
-            &site,
-            b"",
-            b"i",
-            b"",
-            true,
-            now,
-            random,
-            &mut out,
-        );
+        let answer = save(rt.alloc(), &site, b"i", random, &mut out);
         assert!(rt; is(answer, 6, 0) && holds(&out, b""));
     }
     for ids in [&KEY[..1], &KEY[..15], &KEY[..17]] {
-        let answer = cookie_session_save(
-            rt.alloc(),
-            &site,
-            b"",
-            ids,
-            b"",
-            true,
-            now,
-            &RANDOM,
-            &mut out,
-        );
-        let opened = cookie_session_open(rt.alloc(), &site, b"", ids, now, &mut out);
+        let answer = save(rt.alloc(), &site, ids, &RANDOM, &mut out);
+        let opened = cookie_session_open(rt.alloc(), &site, b"", ids, u64::MAX, &mut out);
         assert!(rt; is(answer, 25, 0) && opened.status == 25 && holds(&out, b""));
     }
 }
@@ -98,28 +90,4 @@ fn a_short_buffer_is_left_as_it_is(rt: HostRuntime) {
     assert!(rt; (answer.status, answer.length > 8) == (1, true) && holds(&out, b""));
     let opened = cookie_session_open(rt.alloc(), &site, HEADER, b"", NOW, &mut out);
     assert!(rt; opened.status == 0 && holds(&out, b"user=ann"));
-}
-
-// The last id that is listed counts too.
-#[test]
-fn a_revoked_session_is_not_opened(rt: HostRuntime) {
-    let (keys, ids) = ([1; 64], [[8; 16], [7; 16]]);
-    let (revoked, mut out) = (ids.as_flattened(), [0xa5; 8]);
-    let site = settings(&keys, b"__Host-session=; Path=/; Secure");
-    let opened = cookie_session_open(rt.alloc(), &site, HEADER, revoked, NOW, &mut out);
-    assert!(rt; (opened.status, opened.started, opened.id) == (20, 0, [0; 16]) && holds(&out, b""));
-    let answer = cookie_session_save(
-        rt.alloc(),
-        &site,
-        HEADER,
-        revoked,
-        b"",
-        false,
-        NOW,
-        &RANDOM,
-        &mut out,
-    );
-    assert!(rt; is(answer, 20, 0) && holds(&out, b""));
-    let opened = cookie_session_open(rt.alloc(), &site, HEADER, &revoked[..16], NOW, &mut out);
-    assert!(rt; opened.status == 0 && opened.id == [7; 16] && holds(&out, b"user=ann"));
 }

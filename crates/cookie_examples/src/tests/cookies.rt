@@ -16,10 +16,8 @@ fn a_builder_sets_each_field(rt: HostRuntime) -> Result<(), Fail> {
     let texts = flags.same_site(SameSite::Lax).path("/x").domain(".b.c");
     let age = texts.max_age(SignedDuration::from_millis(90_700));
     let cookie = age.expires(Expiration::Session).build();
-    assert!(rt;
-        (cookie.name_value(), cookie.path(), cookie.domain())
-            == (("a", "1"), Some("/x"), Some("b.c"))
-    );
+    assert!(rt; cookie.name_value() == ("a", "1"));
+    assert!(rt; (cookie.path(), cookie.domain()) == (Some("/x"), Some("b.c")));
     assert!(rt; (cookie.secure(), cookie.http_only()) == (Some(false), Some(true)));
     assert!(rt; (cookie.partitioned(), cookie.same_site()) == (Some(true), Some(SameSite::Lax)));
     assert!(rt; cookie.max_age() == Some(SignedDuration::from_millis(90_700)));
@@ -102,10 +100,8 @@ fn white_space_at_the_ends_is_left_out(rt: HostRuntime) {
 #[test]
 fn long_headers_are_split(rt: HostRuntime) -> Result<(), Fail> {
     let header = "=;".repeat(rt.alloc(), 10_000)?;
-    for items in [
-        Cookie::split_parse(&header),
-        Cookie::split_parse_encoded(rt.alloc(), &header),
-    ] {
+    let decoded = Cookie::split_parse_encoded(rt.alloc(), &header);
+    for items in [Cookie::split_parse(&header), decoded] {
         let mut count = 0u32;
         for item in items {
             assert!(rt; matches!(item, Err(ParseError::EmptyName)));
@@ -113,18 +109,5 @@ fn long_headers_are_split(rt: HostRuntime) -> Result<(), Fail> {
         }
         assert!(rt; count == 10_000);
     }
-    Ok(())
-}
-
-#[test]
-fn long_ages_are_read(rt: HostRuntime) -> Result<(), Fail> {
-    let digits = "9".repeat(rt.alloc(), 100_000)?;
-    let text = format!(in rt.alloc(); "a=1; Max-Age={digits}")?;
-    let greatest = Some(SignedDuration::from_secs(i64::MAX));
-    assert!(rt; Cookie::parse(&text)?.max_age() == greatest);
-    assert!(rt; Cookie::parse_encoded(rt.alloc(), &text)?.max_age() == greatest);
-    let bad = format!(in rt.alloc(); "{text}x")?;
-    assert!(rt; Cookie::parse(&bad)?.max_age().is_none());
-    assert!(rt; Cookie::parse_encoded(rt.alloc(), &bad)?.max_age().is_none());
     Ok(())
 }

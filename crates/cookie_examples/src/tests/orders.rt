@@ -25,10 +25,8 @@ fn texts_come_in_the_order_of_the_numbers(rt: HostRuntime) -> Result<(), Fail> {
         for step in [0, 1, 2, 3, 5, 7919, usize::MAX, usize::MAX / 3] {
             let mut pick = Vec::new(alloc);
             for number in 1..=count.saturating_add(10) {
-                assert!(rt;
-                    is_ordered(alloc, &jar, &pick) == Some(true),
-                    "{count} {step}"
-                );
+                let is_ordered = is_ordered(alloc, &jar, &pick);
+                assert!(rt; is_ordered == Some(true), "{count} {step}");
                 pick.push(step.wrapping_mul(number))?;
             }
         }

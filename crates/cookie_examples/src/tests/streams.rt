@@ -1,6 +1,6 @@
 //! Sessions of the program over readers and writers that fail, and a long one.
 use cookie_client::{RunError, run};
-use std::alloc::{AllocError, Global};
+use std::alloc::Global;
 use std::io::{self, Read, Write};
 use std::test::Fail;
 
@@ -73,10 +73,8 @@ fn a_failed_read_writes_nothing(rt: HostRuntime) {
         for writes in [usize::MAX, 0] {
             let reader = FailingReader(INPUT.get(..reads).unwrap_or(b""));
             let (outcome, taken) = outcome(rt.alloc(), reader, 1, writes);
-            assert!(rt;
-                matches!(outcome, Err(RunError::Input)) && taken.is_empty(),
-                "{reads}"
-            );
+            assert!(rt; matches!(outcome, Err(RunError::Input)), "{reads}");
+            assert!(rt; taken.is_empty(), "{reads}");
         }
     }
     let mut written = Vec::new(rt.alloc());
@@ -100,27 +98,12 @@ fn a_failed_write_leaves_a_beginning(rt: HostRuntime) {
     assert!(rt; matches!(unmoved, Err(RunError::Output)) && taken.is_empty());
 }
 
-// A session that adds a hundred names, each with a value of 500 bytes that no other has, and its text.
-fn long_session(alloc: Global) -> Result<(String, String), AllocError> {
-    let (mut input, mut text) = (String::new(alloc), String::new(alloc));
-    let mut header = String::new(alloc);
-    for number in 100..200 {
-        let name = format!(in alloc; "n{number}")?;
-        let value = name.as_str().repeat(alloc, 125)?;
-        let mark = if header.is_empty() { ':' } else { ';' };
-        write!(input, "\nadd {name}={value}")?;
-        write!(text, "Set-Cookie: {name}={value}\n")?;
-        write!(header, "{mark} {name}={value}")?;
-    }
-    write!(text, "Cookie{header}\n")?;
-    Ok((input, text))
-}
-
 #[test]
 fn a_long_text_is_written_whole(rt: HostRuntime) -> Result<(), Fail> {
-    let (input, text) = long_session(rt.alloc())?;
+    let value = "abcd".repeat(rt.alloc(), 12_500)?;
+    let input = format!(in rt.alloc(); "\nadd n={value}")?;
+    let text = format!(in rt.alloc(); "Set-Cookie: n={value}\nCookie: n={value}\n")?;
     let (outcome, taken) = outcome(rt.alloc(), input.as_bytes(), usize::MAX, usize::MAX);
     assert!(rt; outcome.is_ok() && taken.as_slice() == text.as_bytes());
-    assert!(rt; input.len() > 50_000);
     Ok(())
 }

@@ -13,7 +13,7 @@ pub fn after(seconds: &str) -> Option<DateTime> {
     moment().checked_add(seconds).ok()
 }
 
-// The key of the rows on signed and private values. Its bytes are in the tests `roundtrip` of the crate `cookie`.
+// Its bytes are in the tests `roundtrip` of the crate `cookie`.
 const TEST_KEY: [u8; 64] = [
     89, 202, 200, 125, 230, 90, 197, 245, 166, 249, 34, 169, 135, 31, 20, 197, 94, 154, 254, 79,
     60, 26, 8, 143, 254, 24, 116, 138, 92, 225, 159, 60, 157, 41, 135, 129, 31, 226, 196, 16, 198,

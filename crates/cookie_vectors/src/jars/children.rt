@@ -19,10 +19,8 @@ fn with_raw(step: Step<'_>, cookie: Cookie<'_>) -> Answer {
     let (name, value) = (cookie.name_raw(), cookie.value_raw());
     let (path, domain) = (cookie.path_raw(), cookie.domain_raw());
     let parts = [name, value, path, domain].map(|part| part.unwrap_or("-"));
-    let (words, raw) = (
-        words(step.alloc, &cookie)?,
-        parts.join(step.alloc, "|").ok()?,
-    );
+    let words = words(step.alloc, &cookie)?;
+    let raw = parts.join(step.alloc, "|").ok()?;
     format!(in step.alloc; "{words} raw {raw}").ok()
 }
 
@@ -113,23 +111,20 @@ fn damaged(jar: &mut CookieJar, key: &Key, kind: &str, step: Step<'_>) -> Answer
 /// What the signed or the private jar returns. In a word such as `private7` is the byte of its nonces.
 pub fn secret<R: TryRng>(jar: &mut CookieJar, key: &Key, step: Step<'_>, rng: &mut R) -> Answer {
     let (kind, child) = (step.call, step.inner());
-    let byte: Option<u8> = kind
-        .strip_prefix("private")
-        .and_then(|byte| byte.parse().ok());
+    let byte = kind.strip_prefix("private");
+    let byte: Option<u8> = byte.and_then(|byte| byte.parse().ok());
     match (child.call, byte) {
         ("get", _) => get(jar, key, kind, child),
         ("open", _) => open(jar, key, kind, child, child.cookie()?),
         ("damaged", _) => damaged(jar, key, kind, child),
-        ("encrypt", Some(byte)) => {
-            let sealed = jar
-                .private(key)
-                .encrypt_with_nonce(child.cookie()?, [byte; 12]);
+        ("encrypt", _) => {
+            let (cookie, jar) = (child.cookie()?, jar.private(key));
+            let sealed = match byte {
+                Some(byte) => jar.encrypt_with_nonce(cookie, [byte; 12]),
+                None => jar.encrypt(cookie, rng),
+            };
             opened(step, sealed.map(Some))
         }
-        ("encrypt", None) => opened(
-            step,
-            jar.private(key).encrypt(child.cookie()?, rng).map(Some),
-        ),
         _ if kind == "signed" => make_on(&mut jar.signed_mut(key), child),
         _ => make_private(&mut jar.private_mut(key), child, byte, rng),
     }

@@ -1,6 +1,5 @@
-use crate::jar_calls::after;
-use crate::step::{Answer, Step};
-use cookie_session::{Revocations, Session, Sessions, second_of};
+use crate::step::Step;
+use cookie_session::Revocations;
 use hex::decode;
 use std::fmt::Error;
 
@@ -20,14 +19,6 @@ impl Revoked {
             untils.push((id.try_into().ok()?, u64::MAX)).ok()?;
         }
         Some(Revoked { untils, is_broken })
-    }
-
-    /// Revokes the session, or forgets which ones are over.
-    pub fn answer(&mut self, step: Step<'_>, sessions: &Sessions<'_>, session: &Session) -> Answer {
-        match step.call {
-            "revoke" => step.outcome(sessions.revoke(session, self)),
-            _ => step.outcome(self.forget(second_of(after(step.words)?))),
-        }
     }
 
     fn check(&self) -> Result<(), Error> {

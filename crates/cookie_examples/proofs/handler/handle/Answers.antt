@@ -1,10 +1,15 @@
-use Rattle.std.proofs.Common.{◌≡◌, Some, IfSome, codes, sym, ap, subst, ◌∙◌}
-use Rattle.std.specs.FinMap.{get}
+use Rattle.std.proofs.Common.{◌≡◌, ℕ, List, IfSome, codes, sym, ap, subst, ◌∙◌}
+use Rattle.std.specs.FinMap.{get, insert}
 use Rattle.std.specs.Option.{option_copied}
+use Rattle.cookie.specs.Jar.{view}
 use Rattle.cookie.proofs.NameLemmas.{get_inserted}
+use Rattle.cookie_session.specs.Sessions.{IsStored}
+use Rattle.cookie_session.specs.declared.opened.Opened.{Opened}
+use Rattle.std.proofs.lemmas.Option.{none-some, same_Some}
 use Rattle.cookie_session.specs.Seconds.{second_of}
 use Rattle.cookie_session.specs.Session.{SessionState, seen_at}
-use Rattle.cookie_examples.specs.Words.{IsLoggedIn}
+use Rattle.cookie_examples.specs.Words.{IsLoggedIn, KeepsTexts}
+use Rattle.cookie_examples.proofs.handler.handle.Goals.{in-Some-2, in-None+in_ok-session-in-None}
 use Rattle.cookie_examples.proofs.handler.handle.Goals as goal
 
 pub returns-clause-logs_in : goal.returns-clause-logs_in
@@ -17,3 +22,34 @@ returns-clause-logs_in g c =
       ap (λ (s : SessionState). get s.texts (codes "user")) c.in_ok-set.ensures.ok ∙ get_inserted renewed.texts (codes "user") c.in-Some.user.now (codes "user"),
       c.in_ok-save.ensures.opens,
     )
+
+-- what holds of the session that was renewed and set holds of it with its parts written out
+stored_parts : (F : SessionState → Type 0) (second : ℕ) (name text : List ℕ) (set renewed before session : SessionState)
+    → set ≡ record renewed { texts = insert renewed.texts name text }
+    → renewed ≡ record before { id = renewed.id; started = second; seen = second }
+    → before.texts ≡ session.texts → F (seen_at second set)
+    → F (record { id = renewed.id; started = second; seen = second; texts = insert session.texts name text })
+stored_parts F second name text set renewed before session is_set is_renewed same stored =
+    subst (λ texts. F (record { id = renewed.id; started = second; seen = second; texts = insert texts name text }))
+    (ap (λ (s : SessionState). s.texts) is_renewed ∙ same)
+    (subst (λ started. F (record { id = renewed.id; started = started; seen = second; texts = insert renewed.texts name text }))
+    (ap (λ (s : SessionState). s.started) is_renewed)
+    (subst (λ s. F (seen_at second s)) is_set stored))
+
+pub returns-clause-keeps : goal.returns-clause-keeps
+returns-clause-keeps g c =
+    let renewed : SessionState = c.renew.new.self in
+    let set : SessionState = c.set.new.self in
+    let before : SessionState = c.match-branch-3.session in
+    let site = c.args.sessions.now in
+    subst (λ o. IfSome (option_copied o) (λ name. KeepsTexts site c.args.jar.now c.save.new.jar c.args.now name)) (sym c.in-Some.is) (λ place session opens. (
+      renewed.id,
+      stored_parts (IsStored site (view c.save.new.jar site.cookie.now.fields.name)) (second_of c.args.now) (codes "user") c.in-Some.user.now set renewed before session
+          c.in_ok-set.ensures.ok c.in_ok-renew.ensures.renewed
+          (let answer = (c.in_ok-opened.ensures.answers place session).1 opens in
+          elim c.match-branch-3.branch [
+            | in-Some-2 w ↦ ap (λ (s : SessionState). s.texts) w.session-is ∙ ap (λ (o : Opened). o.session.texts) (same_Some _ _ (sym w.in-Some-2.is ∙ answer))
+            | in-None+in_ok-session-in-None w ↦ absurd (none-some _ (sym w.in-None.is ∙ answer))
+          ])
+          c.in_ok-save.ensures.opens,
+    ))
