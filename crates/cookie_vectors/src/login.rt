@@ -197,8 +197,10 @@ fn part(step: Step<'_>, whole: &str) -> Answer {
     }
 }
 
-// The request of words such as `1799 GET /` or `1800 POST /login user=ann`, at that number of seconds after the first.
-fn request(words: &str) -> TimedRequest<'_> {
+// The request in this place, of words such as `1799 GET /` or `1800 POST /login user=ann`, at that number of seconds
+// after the first.
+fn request(step: Step<'_>, place: usize) -> TimedRequest<'_> {
+    let words = step.words.split(" | ").nth(place).unwrap_or("");
     let mut words = words.splitn(4, ' ');
     let seconds = words.next().unwrap_or("");
     TimedRequest {
@@ -211,10 +213,7 @@ fn request(words: &str) -> TimedRequest<'_> {
 
 // What the pages of eight requests show. A list of requests can't be made one by one here.
 fn browsed(step: Step<'_>, state: RandomState, site: &LoginSite<'_>) -> Answer {
-    let (mut words, mut requests) = (step.words.split(" | "), [request(step.words); 8]);
-    for place in requests.iter_mut() {
-        *place = request(words.next()?);
-    }
+    let requests = [0, 1, 2, 3, 4, 5, 6, 7].map(|place| request(step, place));
     let (mut rng, mut texts) = (Sevens { left: 224 }, Vec::new(step.alloc));
     for page in &browse(step.alloc, state, site, &requests, &mut rng).ok()? {
         let text = match shown(page) {
