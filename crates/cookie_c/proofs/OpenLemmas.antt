@@ -1,5 +1,5 @@
 -- Which session is found for C.
-use Rattle.std.proofs.Common.{◌≡◌, ◌⊎◌, ℕ, List, Option, Some, None, Contains, refl, inl, inr, subst}
+use Rattle.std.proofs.Common.{◌≡◌, ◌⊎◌, ℕ, List, Some, None, Contains, refl, inl, inr, subst}
 use Rattle.std.proofs.lemmas.Option.{none-some, same_Some}
 use Rattle.jiff.specs.Types.{DateTime}
 use Rattle.cookie.specs.Record.{Record}

@@ -1,5 +1,5 @@
 -- A session that is saved for C: `old` is the buffer at the call and `new` at the return.
-use Rattle.std.specs.Prelude.{◌≡◌, ℕ, ◌<◌, ◌≤◌, ◌⊎◌, Bool, true, false, List, Option, Some}
+use Rattle.std.specs.Prelude.{◌≡◌, ℕ, ◌<◌, ◌≤◌, ◌⊎◌, Bool, true, false, List, Some}
 use Rattle.jiff.specs.Types.{DateTime}
 use Rattle.cookie.specs.Record.{Record}
 use Rattle.cookie.specs.Sealing.{CanSeal}

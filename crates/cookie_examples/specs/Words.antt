@@ -1,5 +1,5 @@
 -- What the uses promise, in the words of a web application.
-use Rattle.std.specs.Prelude.{◌≡◌, true, false, ℕ, List, map, Option, Some, codes, ◌++◌, length, option_map}
+use Rattle.std.specs.Prelude.{◌≡◌, true, ℕ, List, Option, Some, codes, ◌++◌, length, option_map}
 use Rattle.std.specs.FinMap.{get, insert}
 use Rattle.jiff.specs.Types.{DateTime}
 use Rattle.cookie.specs.AnswersExactly.{IsStoredFor}
@@ -7,7 +7,6 @@ use Rattle.cookie.specs.Jar.{JarState, Name, view}
 use Rattle.cookie.specs.Keys.{encryption_half}
 use Rattle.cookie.specs.Record.{Record}
 use Rattle.cookie.specs.Sealing.{IsSealingOf}
-use Rattle.cookie.specs.Text.{cookie_text}
 use Rattle.cookie.specs.Walk.{Walks}
 use Rattle.cookie_session.specs.Seconds.{second_of}
 use Rattle.cookie_session.specs.Session.{SessionState}
