@@ -2,7 +2,7 @@
 use super::draws::{Draws, code};
 use super::moment;
 use cookie::{Cookie, CookieJar};
-use cookie_client::{ClientRequest, JarCall, replay, rounds};
+use cookie_client::{ClientRequest, JarCall, Played, replay, rounds};
 use std::alloc::{AllocError, Global};
 
 // What each hundred lists come to by a second body of both, in tools/drawn-codes.
@@ -80,14 +80,24 @@ fn push_replayed(text: &mut String, calls: &[JarCall<'_>]) -> Option<()> {
     push_outcome(text, &jar, &outcomes)
 }
 
-// Appends what a request for each list comes to, and what the client holds then, if it reads texts in that order.
-fn push_requests(text: &mut String, lists: &[Vec<JarCall<'_>>], pick: &[usize]) -> Option<()> {
-    let mut requests = Vec::new(*text.allocator());
+// What comes of a request for each list, if the client reads texts in that order.
+fn played(alloc: Global, lists: &[Vec<JarCall<'static>>], pick: &[usize]) -> Option<Vec<Played>> {
+    let mut requests = Vec::new(alloc);
     for calls in lists {
         requests.push(ClientRequest { calls }).ok()?;
     }
-    let played = rounds(*text.allocator(), &requests, pick, moment()).ok()?;
-    for (calls, one) in lists.iter().zip(&played) {
+    rounds(alloc, &requests, pick, moment()).ok()
+}
+
+// Appends what requests for up to four drawn lists come to, and what the client then holds, in a drawn order.
+fn push_lists(text: &mut String, draws: &mut Draws) -> Option<()> {
+    let pick = [draws.below(24), draws.below(24)];
+    let mut lists = Vec::new(*text.allocator());
+    for _ in 0..draws.below(5) {
+        let calls = drawn_calls(*text.allocator(), draws).ok()?;
+        lists.push(calls).ok()?;
+    }
+    for (calls, one) in lists.iter().zip(&played(*text.allocator(), &lists, &pick)?) {
         push_outcome(text, &one.jar, &one.outcomes)?;
         push_replayed(text, calls)?;
         for name in NAMES.split('|') {
@@ -97,27 +107,14 @@ fn push_requests(text: &mut String, lists: &[Vec<JarCall<'_>>], pick: &[usize]) 
     Some(())
 }
 
-// Appends what up to four drawn lists come to, in a drawn order.
-fn push_lists(text: &mut String, draws: &mut Draws) -> Option<()> {
-    let pick = [draws.below(24), draws.below(24)];
-    let mut lists = Vec::new(*text.allocator());
-    for _ in 0..draws.below(5) {
-        let calls = drawn_calls(*text.allocator(), draws).ok()?;
-        lists.push(calls).ok()?;
-    }
-    push_requests(text, &lists, &pick)
-}
-
 #[test]
 fn drawn_calls_are_followed(rt: HostRuntime) {
     let mut draws = Draws::new();
     for wanted in CODES.split(' ') {
         let mut text = String::new(rt.alloc());
         for number in 0..100 {
-            assert!(rt;
-                push_lists(&mut text, &mut draws).is_some(),
-                "list {number}"
-            );
+            let followed = push_lists(&mut text, &mut draws);
+            assert!(rt; followed.is_some(), "list {number}");
         }
         assert!(rt; u64::from_str_radix(wanted, 16) == Ok(code(text.as_bytes())));
     }
