@@ -37,7 +37,9 @@ impl Browser<'_> {
         let first = step.with_words(first).bytes()?;
         let text = step.with_words(text).bytes()?;
         let site = site_of(step.alloc, url.words)?.with_context(context_of(step.call)?);
-        let received = Received::of(&first).ok()?;
+        let Ok(received) = Received::of(&first) else {
+            return None;
+        };
         let domain = received.attributes.bare_domain();
         let domain = domain.to_ascii_lowercase(step.alloc).ok()?;
         let stored = KeptCookie::of(self.0, &site.request(), &received, domain.as_slice());
