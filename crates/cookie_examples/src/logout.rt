@@ -20,7 +20,7 @@ pub fn log_out<R: Revocations>(
     now: DateTime,
     revocations: &mut R,
 ) -> Result<(), OpenError<R::Error>>
-    ensures revoked { R.is_kept revocations.new → ((set : R) → R.can_revoke set)
+    ensures revoked { R.is_kept revocations.new → R.can_revoke
         → OnOk result ((place : ℕ) (session : SessionState)
         → OpensUnrevoked (IsRevoked (R.revoked_until revocations.old)) sessions.now
         (field_cookies field.now) now place session

@@ -157,7 +157,7 @@ impl<'a> Sessions<'a> {
         session: &Session,
         revocations: &mut R,
     ) -> Result<(), R::Error>
-        ensures revoked { R.is_kept revocations.new → R.can_revoke revocations.old → OnOk result
+        ensures revoked { R.is_kept revocations.new → R.can_revoke → OnOk result
             (IsRevokedToo session.now.id (end_of self.now.lifetime session.now)
             (R.revoked_until revocations.old) (R.revoked_until revocations.new)) }
         ensures err { R.is_kept revocations.new → OnErr result

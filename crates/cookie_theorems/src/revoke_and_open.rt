@@ -26,17 +26,17 @@ pub fn revoke_and_open<R: Revocations>(
     requests: &[SiteRequest<'_>],
     revocations: &mut R,
 ) -> Result<Vec<Option<Opened>>, OpenError<R::Error>>
-    ensures refused { R.is_kept revocations.new → R.can_revoke revocations.old
+    ensures refused { R.is_kept revocations.new → R.can_revoke
         → HaveLifetime sessions.now.lifetime requests.now → AreInOrder 0 requests.now
         → IfOk result (λ answers. All (IsOther session.now) answers.items) }
 
     // Nobody else is logged out.
-    ensures others { R.is_kept revocations.new → R.can_revoke revocations.old
+    ensures others { R.is_kept revocations.new → R.can_revoke
         → IfOk result (λ answers. AllZip (OpensOther (λ id. (id ≡ session.now.id)
         ⊎ IsRevoked (R.revoked_until revocations.old) id)) requests.now answers.items) }
 
-    // So it goes on after these requests: `open_each` needs no more.
-    ensures stays { R.is_kept revocations.new → R.can_revoke revocations.old
+    // The session is still revoked after these requests, as `open_each` requires of one that it refuses.
+    ensures stays { R.is_kept revocations.new → R.can_revoke
         → AreBefore (end_of sessions.now.lifetime session.now) requests.now
         → OnOk result (IsRevokedToEnd (R.revoked_until revocations.new)
         sessions.now.lifetime session.now) }

@@ -14,10 +14,13 @@ const TRIES: usize = 180;
 
 const MILLISECONDS: u64 = 10;
 
+/// The database in a file.
+type Database = SqliteRevocations<FileStore<File>>;
+
 /// The database of revoked sessions, and why its last call failed, if it failed.
 #[derive(Drop)]
 pub struct Revoked {
-    sessions: SqliteRevocations<FileStore<File>>,
+    sessions: Database,
     pub failure: Option<RevocationError>,
 }
 
@@ -64,11 +67,11 @@ impl Revoked {
 impl Revocations for Revoked {
     type Error = RevocationError;
 
-    ghost is_kept = { λ r. ⟦<SqliteRevocations<FileStore<File>> as Revocations>⟧.is_kept r.sessions };
+    ghost is_kept = { λ r. ⟦<Database as Revocations>⟧.is_kept r.sessions };
 
-    ghost can_revoke = { λ r. ⟦<SqliteRevocations<FileStore<File>> as Revocations>⟧.can_revoke r.sessions };
+    ghost can_revoke = { ⟦<Database as Revocations>⟧.can_revoke };
 
-    ghost revoked_until = { λ r. ⟦<SqliteRevocations<FileStore<File>> as Revocations>⟧.revoked_until r.sessions };
+    ghost revoked_until = { λ r. ⟦<Database as Revocations>⟧.revoked_until r.sessions };
 
     fn is_revoked(&mut self, id: &[u8; 16]) -> Result<bool, RevocationError> {
         let found = Revocations::is_revoked(&mut self.sessions, id);

@@ -94,7 +94,7 @@ pub fn answer<G: TryRng, R: Revocations>(
         → rng.new ≡ rng.old }
 
     // A logout that is answered has revoked the request's session until its lifetime ends, and revokes no other.
-    ensures revoked { R.is_kept revocations.new → ((set : R) → R.can_revoke set)
+    ensures revoked { R.is_kept revocations.new → R.can_revoke
         → OnOk result ((session : SessionState)
         → LogsOut (IsRevoked (R.revoked_until revocations.old)) site.now request.now now session
         → Ends site.now session (R.revoked_until revocations.old)
@@ -102,11 +102,12 @@ pub fn answer<G: TryRng, R: Revocations>(
 
     // Each other request revokes nothing, nor does a logout without a session.
     ensures same { R.is_kept revocations.new → ((session : SessionState)
-        → ¬ (LogsOut (IsRevoked (R.revoked_until revocations.old)) site.now request.now now session))
+        → ¬ (LogsOut (IsRevoked (R.revoked_until revocations.old)) site.now request.now now
+        session))
         → AreSame (R.revoked_until revocations.old) (R.revoked_until revocations.new) }
 
     // After an error each session is revoked as before, but for the one that was to be revoked.
-    ensures err { R.is_kept revocations.new → ((set : R) → R.can_revoke set)
+    ensures err { R.is_kept revocations.new → R.can_revoke
         → OnErr result (AreSame (R.revoked_until revocations.old) (R.revoked_until revocations.new)
         ⊎ ((session : SessionState)
         × LogsOut (IsRevoked (R.revoked_until revocations.old)) site.now request.now now session

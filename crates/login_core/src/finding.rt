@@ -32,13 +32,14 @@ pub(crate) fn find_session<R: Revocations>(
         → (place : ℕ) × OpensOne site.now.sessions (cookies_of request.now) now place session) }
     ensures fails { IfErr result (λ why. (why ≡ failure.Session refusal.OutOfMemory)
         ⊎ ((why ≡ failure.Revocations) × R.Error)) }
-    ensures revoked { R.is_kept revocations.new → ((set : R) → R.can_revoke set)
+    ensures revoked { R.is_kept revocations.new → R.can_revoke
         → OnOk result ((session : SessionState)
         → LogsOut (IsRevoked (R.revoked_until revocations.old)) site.now request.now now session
         → Ends site.now session (R.revoked_until revocations.old)
         (R.revoked_until revocations.new)) }
     ensures same { R.is_kept revocations.new → ((session : SessionState)
-        → ¬ (LogsOut (IsRevoked (R.revoked_until revocations.old)) site.now request.now now session))
+        → ¬ (LogsOut (IsRevoked (R.revoked_until revocations.old)) site.now request.now now
+        session))
         → AreSame (R.revoked_until revocations.old) (R.revoked_until revocations.new) }
     ensures err { R.is_kept revocations.new → OnErr result
         (AreSame (R.revoked_until revocations.old) (R.revoked_until revocations.new)) }
@@ -83,7 +84,7 @@ fn revoke_at_logout<R: Revocations>(
     found: Option<&Session>,
     revocations: &mut R,
 ) -> Result<(), AnswerError>
-    ensures revoked { R.is_kept revocations.new → R.can_revoke revocations.old
+    ensures revoked { R.is_kept revocations.new → R.can_revoke
         → OnOk result ((session : SessionState) → route_for request.now ≡ Ok routes.LogOut
         → option_map (λ s. s.now) found.entry ≡ Some session
         → IsRevokedToo session.id (end_of sessions.now.lifetime session)
@@ -112,7 +113,7 @@ fn revoke<R: Revocations>(
     session: &Session,
     revocations: &mut R,
 ) -> Result<(), AnswerError>
-    ensures revoked { R.is_kept revocations.new → R.can_revoke revocations.old → OnOk result
+    ensures revoked { R.is_kept revocations.new → R.can_revoke → OnOk result
         (IsRevokedToo session.now.id (end_of sessions.now.lifetime session.now)
         (R.revoked_until revocations.old) (R.revoked_until revocations.new)) }
     ensures err { R.is_kept revocations.new → OnErr result

@@ -29,7 +29,7 @@ impl<'a> Listed<'a> {
 impl<'a> Revocations for Listed<'a> {
     type Error = Infallible;
 
-    ghost can_revoke = { λ _. ⊥ };
+    ghost can_revoke = { ⊥ };
 
     ghost revoked_until = { λ listed id _. Contains listed.ids.now id };
 

@@ -13,7 +13,7 @@ returns g c = record {
         let before = w.revoke.ensures.kept after in
         let answer = (c.in_ok-opened.ensures.answers before place session).1 opens in
         let same = ap (λ (o : Opened). o.session) (same_Some _ _ (sym answer ∙ w.in-Some.is)) in
-        let too = w.in_default-revoke.ensures.revoked after (can c.open_unrevoked.new.revocations) in
+        let too = w.in_default-revoke.ensures.revoked after can in
         subst (λ r. g.R.Revocations.revoked_until r session.id 0) (sym w.revocations-is) ((too session.id 0).1 (inl (ap (λ (s : SessionState). s.id) same, grind (arith))))
     | in_default w ↦
         let before = subst g.R.Revocations.is_kept w.revocations-is kept in

@@ -7,7 +7,7 @@ returns-clause-revoked g c kept can session out =
     let before = c.revoke_at_logout.ensures.kept kept in
     let finds = c.in_ok-found.ensures.finds before in
     let is = c.as_ref.ensures.value ∙ (finds.exact session).1 out.1 in
-    too_after _ _ _ (c.open_session.ensures.same before) _ _ (c.in_ok-revoke_at_logout.ensures.revoked kept (can c.open_session.new.revocations) session out.0 is)
+    too_after _ _ _ (c.open_session.ensures.same before) _ _ (c.in_ok-revoke_at_logout.ensures.revoked kept can session out.0 is)
 
 pub returns-clause-same : goal.returns-clause-same
 returns-clause-same g c kept none =
