@@ -1,6 +1,6 @@
 //! A request's handler that changes the session by the request's action.
 use cookie::CookieJar;
-use cookie_session::{Session, SessionError, Sessions};
+use cookie_session::{SessionError, Sessions, Visit};
 use jiff::civil::DateTime;
 use rand_core::TryRng;
 use std::alloc::Global;
@@ -13,7 +13,7 @@ pub enum Action<'a> {
     LogOut,
 }
 
-/// Opens the session, changes it by the action at the time `now` in UTC, and saves it.
+/// Opens the session, changes it by the action at the time `now` in UTC, and saves it if it must be saved.
 pub fn act<R: TryRng>(
     alloc: Global,
     sessions: &Sessions<'_>,
@@ -22,17 +22,15 @@ pub fn act<R: TryRng>(
     now: DateTime,
     rng: &mut R,
 ) -> Result<(), SessionError> {
-    let mut session = match sessions.open(alloc, jar, now)? {
-        Some(opened) => opened.session,
-        None => Session::start(alloc, now, rng)?,
-    };
+    let mut visit = Visit::of(alloc, sessions.open(alloc, jar, now)?, now, rng)?;
     match action {
         Action::None => {}
         Action::LogIn(user) => {
-            session.renew(now, rng)?;
-            session.set("user", user)?;
+            visit.renew(now, rng)?;
+            visit.set("user", user)?;
         }
         Action::LogOut => return Ok(sessions.end(alloc, jar, now)?),
     }
-    sessions.save(alloc, jar, &session, now, rng)
+    sessions.save_if_needed(alloc, jar, &visit, now, rng)?;
+    Ok(())
 }

@@ -1,3 +1,4 @@
+pub mod Flash
 pub mod Form
 pub mod Generation
 pub mod Id
@@ -8,4 +9,5 @@ pub mod Seconds
 pub mod Session
 pub mod SessionError
 pub mod Sessions
+pub mod Visit
 pub use Rattle.cookie.specs.Size

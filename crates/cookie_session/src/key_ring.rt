@@ -1,5 +1,5 @@
 //! The keys of a site.
-ghost use Rattle.std.specs.Prelude.{◌≡◌, ◌↔◌, ◌<◌, ◌++◌, [], ◌∷◌, ℕ, List, Some, Err, IfNone, IfOk, IfSome, OnErr, OnOk, alloc_error, length, slice_get};
+ghost use Rattle.std.specs.Prelude.{◌≡◌, ◌≢◌, ◌↔◌, ◌<◌, ◌++◌, [], ◌∷◌, ℕ, List, None, Some, Err, IfNone, IfOk, IfSome, OnErr, OnOk, alloc_error, length, slice_get};
 ghost use Rattle.cookie.specs.Jar.{Add, after, view};
 ghost use Rattle.cookie.specs.Keys.{encryption_half};
 ghost use Rattle.cookie.specs.Memory.{Gives};
@@ -45,6 +45,21 @@ impl KeyRing {
         let mut keys = Vec::new(alloc);
         keys.push(key)?;
         Ok(KeyRing { keys })
+    }
+
+    /// A ring of these keys, the newest first, or `None` if there are none. It doesn't allocate.
+    ///
+    /// ```
+    /// let keys = KeyRing::from_keys(keys).context("no key")?;
+    /// ```
+    pub fn from_keys(keys: Vec<Key>) -> Option<KeyRing>
+        ensures some { keys.items ≢ [] → result ≡ Some keys.items }
+        ensures none { keys.items ≡ [] → result ≡ None }
+    {
+        if keys.is_empty() {
+            return None;
+        }
+        Some(KeyRing { keys })
     }
 
     /// Puts a new key in front. It encrypts from now on, and the others still decrypt.

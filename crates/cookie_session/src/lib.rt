@@ -1,6 +1,7 @@
 //! Sessions in one encrypted cookie: keys that rotate, limits that the server checks, and a size that browsers take.
 #![tactic(auto)]
 
+mod flash;
 mod generation;
 mod id;
 mod key_ring;
@@ -11,6 +12,7 @@ mod opened;
 mod opening;
 mod prefix;
 mod revocations;
+mod save_if_needed;
 mod seconds;
 mod session;
 mod session_error;
@@ -18,6 +20,8 @@ mod session_form;
 mod session_text;
 mod sessions;
 mod size;
+mod typed;
+mod visit;
 
 pub use key_ring::KeyRing;
 pub use never_revoked::NeverRevoked;
@@ -29,3 +33,4 @@ pub use seconds::second_of;
 pub use session::Session;
 pub use session_error::SessionError;
 pub use sessions::Sessions;
+pub use visit::Visit;

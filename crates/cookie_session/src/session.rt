@@ -120,6 +120,13 @@ impl Session {
         self.texts.get(name)
     }
 
+    /// Whether it has no texts. It doesn't allocate.
+    pub fn is_empty(&self) -> bool
+        ensures { IsTrue result ↔ (self.now.texts ≡ empty) }
+    {
+        self.texts.pairs().next().is_none()
+    }
+
     /// Iterates over the names with their texts, in byte order of the names. It doesn't allocate.
     pub fn iter(&self) -> Pairs<'_>
         ensures listed { result ≡ entries self.now.texts }

@@ -3,7 +3,7 @@
 
 use anyhow::{Context, Result};
 use cookie::{Cookie, CookieBuilder, CookieJar, Key, SameSite};
-use cookie_session::{KeyRing, Session, Sessions};
+use cookie_session::{KeyRing, Sessions, Visit};
 use jiff::Timestamp;
 use jiff::civil::DateTime;
 use jiff::tz::Offset;
@@ -49,15 +49,15 @@ fn name_sent(rt: &HostRuntime) -> Result<Option<String>> {
     Ok(None)
 }
 
-// Saves the session, and returns the texts of the response's `Set-Cookie` fields.
+// Saves the session, if it must be saved, and returns the texts of the response's `Set-Cookie` fields.
 fn save(
     rt: &HostRuntime,
     sessions: &Sessions<'_>,
-    session: &Session,
+    visit: &Visit,
     now: DateTime,
 ) -> Result<Vec<String>> {
     let mut jar = CookieJar::with_hasher(rt.alloc(), RandomState::new(rt)?);
-    sessions.save(rt.alloc(), &mut jar, session, now, &mut SysRng::new(rt))?;
+    sessions.save_if_needed(rt.alloc(), &mut jar, visit, now, &mut SysRng::new(rt))?;
     Ok(jar.set_cookie_texts()?)
 }
 
@@ -71,36 +71,27 @@ fn greet(rt: &HostRuntime, cookies: &[String], name: &str) -> Result<()> {
     Ok(())
 }
 
-// Answers a request that sends a name, which its session keeps from now on.
-fn keep_name(
+// Answers a request. If it sends a name, its session keeps the name from now on.
+fn respond(
     rt: &HostRuntime,
     sessions: &Sessions<'_>,
-    session: &mut Session,
-    name: &str,
+    visit: &mut Visit,
     now: DateTime,
 ) -> Result<()> {
-    session.renew(now, &mut SysRng::new(rt))?;
-    session.set("name", name)?;
-    let cookies = save(rt, sessions, session, now)?;
-    greet(rt, &cookies, name)
-}
-
-// The session of the request, or a new one.
-fn session_of(rt: &HostRuntime, sessions: &Sessions<'_>, now: DateTime) -> Result<Session> {
-    let field = variable(rt, "HTTP_COOKIE")?;
-    match sessions.open_field(rt.alloc(), field.as_bytes(), now)? {
-        Some(opened) => Ok(opened.session),
-        None => Ok(Session::start(rt.alloc(), now, &mut SysRng::new(rt))?),
+    if let Some(name) = name_sent(rt)? {
+        visit.renew(now, &mut SysRng::new(rt))?;
+        visit.set("name", name.as_str())?;
     }
+    let cookies = save(rt, sessions, visit, now)?;
+    greet(rt, &cookies, visit.session().get("name").unwrap_or("stranger"))
 }
 
 fn answer(rt: &HostRuntime, sessions: &Sessions<'_>) -> Result<()> {
     let now = Offset::UTC.to_datetime(Timestamp::now(rt)?);
-    let mut session = session_of(rt, sessions, now)?;
-    match name_sent(rt)? {
-        Some(name) => keep_name(rt, sessions, &mut session, name.as_str(), now),
-        None => greet(rt, &[], session.get("name").unwrap_or("stranger")),
-    }
+    let field = variable(rt, "HTTP_COOKIE")?;
+    let opened = sessions.open_field(rt.alloc(), field.as_bytes(), now)?;
+    let mut visit = Visit::of(rt.alloc(), opened, now, &mut SysRng::new(rt))?;
+    respond(rt, sessions, &mut visit, now)
 }
 
 fn main(rt: HostRuntime) -> Result<()> {
