@@ -4,12 +4,12 @@ use crate::{
     agents, answer, carrying, counting, dates, flash, following, handler, headers, logout,
     printing, reading, refusal, removal, requests, responding, runtime, sealing, session, team,
 };
-use anyhow::Result;
+use anyhow::{Context, Result};
 use cookie::{Cookie, CookieBuilder, CookieJar, DateText, JarError, Key, SameSite};
 use cookie_agent::Site;
 use cookie_browser::{KeptCookie, Received, Suffixes};
 use cookie_client::{ChildCall, Client, ClientError, JarCall, Played};
-use cookie_session::{KeyRing, NeverRevoked, Sessions};
+use cookie_session::{KeyRing, NeverRevoked, Sessions, Visit};
 use http_header::{HeaderMap, HeaderValue};
 use jiff::civil::DateTime;
 use rand::SeedableRng;
@@ -65,7 +65,7 @@ fn print_user(rt: &HostRuntime, jar: &CookieJar, key: &Key) -> Result<()> {
 
 pub fn handler(rt: &HostRuntime, now: DateTime) -> Result<()> {
     let mut rng = generator();
-    let keys = KeyRing::new(rt.alloc(), Key::generate(&mut rng))?;
+    let keys = ring(rt.alloc(), &mut rng)?;
     let cookie = CookieBuilder::new("__Host-session", "")
         .path("/")
         .secure(true)
@@ -80,6 +80,13 @@ pub fn handler(rt: &HostRuntime, now: DateTime) -> Result<()> {
     };
     print_login(rt, &sessions, now, &mut rng)?;
     print_actions(rt, &sessions, now, &mut rng)
+}
+
+// A server reads its keys, the newest first.
+fn ring(alloc: Global, rng: &mut StdRng) -> Result<KeyRing> {
+    let mut keys = Vec::new(alloc);
+    keys.push(Key::generate(rng))?;
+    KeyRing::from_keys(keys).context("no key")
 }
 
 fn print_login(
@@ -139,6 +146,32 @@ fn print_action(
     let mut jar = CookieJar::new(rt.alloc());
     acting::act(rt.alloc(), sessions, &mut jar, action, now, rng)?;
     print_counts(rt, &jar)
+}
+
+pub fn visit(rt: &HostRuntime, now: DateTime) -> Result<()> {
+    let mut visit = Visit::of(rt.alloc(), None, now, &mut generator())?;
+    visit.set_flash("saved")?;
+    visit.set_as(rt.alloc(), "count", &3u32)?;
+    print_message(rt, &mut visit)?;
+    print_message(rt, &mut visit)?;
+    print_count(rt, &mut visit)
+}
+
+fn print_message(rt: &HostRuntime, visit: &mut Visit) -> Result<()> {
+    match visit.take_flash(rt.alloc())? {
+        Some(message) => println!(rt; "message: {message}")?,
+        None => println!(rt; "no message")?,
+    }
+    Ok(())
+}
+
+fn print_count(rt: &HostRuntime, visit: &mut Visit) -> Result<()> {
+    let count = visit.session().get_as::<u32>("count")?.unwrap_or(0);
+    visit.remove("count");
+    let (is_new, is_changed) = (visit.is_new(), visit.is_changed());
+    let is_empty = visit.session().is_empty();
+    println!(rt; "count: {count}, new: {is_new}, changed: {is_changed}, empty: {is_empty}")?;
+    Ok(())
 }
 
 pub fn flash(rt: &HostRuntime, now: DateTime) -> Result<()> {

@@ -83,7 +83,11 @@ fn respond(
         visit.set("name", name.as_str())?;
     }
     let cookies = save(rt, sessions, visit, now)?;
-    greet(rt, &cookies, visit.session().get("name").unwrap_or("stranger"))
+    greet(
+        rt,
+        &cookies,
+        visit.session().get("name").unwrap_or("stranger"),
+    )
 }
 
 fn answer(rt: &HostRuntime, sessions: &Sessions<'_>) -> Result<()> {
