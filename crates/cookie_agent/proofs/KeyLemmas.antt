@@ -54,7 +54,7 @@ alike a b e =
 pub same_named : (a b : KeptView) → is_same_cookie a b ≡ true → a.name ≡ b.name
 same_named a b e = (alike a b e).name
 
-itself : (b : KeptView) → is_same_cookie b b ≡ true
+pub itself : (b : KeptView) → is_same_cookie b b ≡ true
 itself b =
     ap (λ r. r && (bytes_eq b.domain b.domain && (both_or_neither b.is_host_only b.is_host_only && bytes_eq b.path b.path))) ((bytes_eq-Decides b.name b.name).1 refl)
     ∙ ap (λ r. r && (both_or_neither b.is_host_only b.is_host_only && bytes_eq b.path b.path)) ((bytes_eq-Decides b.domain b.domain).1 refl)

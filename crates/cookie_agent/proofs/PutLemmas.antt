@@ -6,17 +6,18 @@ use Rattle.std.proofs.lemmas.List.Elements.{All-nil, All-cons, All-head, All-tai
 use Rattle.std.specs.List.{filter}
 use Rattle.jiff.specs.Types.{DateTime}
 use Rattle.jiff.specs.Words.{civil_nanos}
-use Rattle.cookie_agent.specs.Apart.{IsApart, gives_place}
+use Rattle.cookie_agent.specs.Stored.{IsApart}
+use Rattle.cookie_agent.specs.StoredCode.{gives_place}
 use Rattle.cookie_agent.specs.Sent.{accessed}
 use Rattle.cookie_browser.specs.Request.{RequestView}
 use Rattle.cookie_browser.specs.Storage.{KeptView, CookieStore, is_same_cookie, is_sent, kept_with, lasts, lasting}
 use Rattle.cookie_agent.proofs.KeyLemmas.{turned_key, same_key}
 
 -- the others
-abbrev without : KeptView → CookieStore → CookieStore
+abbrev pub without : KeptView → CookieStore → CookieStore
 without x xs = filter (λ d. not (is_same_cookie d x)) xs
 
-kept_all : (c x : KeptView) → is_same_cookie c x ≡ true → (xs : CookieStore) → All (λ d. is_same_cookie d c ≡ false) xs → without x xs ≡ xs
+pub kept_all : (c x : KeptView) → is_same_cookie c x ≡ true → (xs : CookieStore) → All (λ d. is_same_cookie d c ≡ false) xs → without x xs ≡ xs
 kept_all c x e [] all = refl
 kept_all c x e (d ∷ xs) all =
     ap (λ b. cond (not b) (d ∷ without x xs) (without x xs)) (sym (same_key c x d e) ∙ All-head (λ y. is_same_cookie y c ≡ false) d xs all)
@@ -81,7 +82,7 @@ All-put P x p (c ∷ store) all = by (All-put P x p store (All-tail P c store al
     by rest true = All-cons P x (filter (λ d. not (is_same_cookie d x)) store) p (All-filter (λ d. not (is_same_cookie d x)) P store (All-tail P c store all))
     by rest false = All-cons P c (kept_with x store) (All-head P c store all) rest
 
-apart-put : (x : KeptView) (xs : CookieStore) → IsApart xs → IsApart (kept_with x xs)
+pub apart-put : (x : KeptView) (xs : CookieStore) → IsApart xs → IsApart (kept_with x xs)
 apart-put x [] apart = (All-nil (λ d. is_same_cookie d x ≡ false), tt)
 apart-put x (c ∷ xs) apart = by (apart-put x xs apart.1) (is_same_cookie c x) refl
   where

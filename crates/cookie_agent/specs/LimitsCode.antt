@@ -1,15 +1,94 @@
--- Mirrors private code: the search for the cookie that goes first, and when it ends.
-use Rattle.std.specs.Prelude.{ℕ, ◌≤◌, ◌&&◌, ◌||◌, not, Bool, List, All, count_by, Option}
-use Rattle.std.specs.Str.{bytes_eq}
+-- Mirrors private code: the order in which cookies go, and which stay, by their places.
+use Rattle.std.specs.Prelude.{ℕ, suc, pos, ◌<◌, ◌≤◌, ◌≡◌, ◌==◌, ◌&&◌, Bool, false, List, [], ◌∷◌, All, map, count_by, nat_lt, slice_index_or, Option, Some, None}
+use Rattle.std.specs.Cmp.Lexicographic.{slice_cmp}
+use Rattle.std.specs.Ordering.{bool_cmp, int_cmp, is_lt, nat_cmp, ordering_then}
+use Rattle.std.specs.declared.cmp.Ordering.{Ordering}
 use Rattle.cookie_browser.specs.Storage.{KeptView, CookieStore}
-use Rattle.cookie_agent.specs.Limits.{counts, goes_first}
+use Rattle.cookie_browser.specs.declared.enforcement.Enforcement.TheVariants as enforcement
+use Rattle.cookie_agent.specs.Limits.{counts}
+use Rattle.cookie_agent.specs.declared.group.Group.{Group}
+use Rattle.cookie_agent.specs.declared.group.Group.TheVariants.{Domain, Whole}
+use Rattle.cookie_agent.specs.declared.ranked.Ranked.{Ranked}
 
--- the left one counts, and the right one doesn't or goes later
-abbrev pub precedes : Option (List ℕ) → KeptView → KeptView → Bool
-precedes domain left right =
-    counts domain left && (not (counts domain right) || goes_first domain left right)
+-- a cookie and its place in the order of creation
+pub record Rank : Type 0 where
+  pub place : ℕ
+  pub cookie : KeptView
 
--- no cookie's domain has more than the limit
-abbrev pub AreFew : ℕ → CookieStore → Type 0
-AreFew limit store =
-    All (λ cookie. count_by (λ other. bytes_eq other.domain cookie.domain) store ≤ limit) store
+abbrev pub rank_of : Ranked → Rank
+rank_of ranked = record { place = ranked.place; cookie = ranked.cookie.now }
+
+abbrev pub ranks : List Ranked → List Rank
+ranks items = map rank_of items
+
+-- no place that is asked for has this one
+abbrev pub blank : KeptView
+blank =
+    record {
+      name = [];
+      value = [];
+      domain = [];
+      is_host_only = false;
+      path = [];
+      is_secure_only = false;
+      is_http_only = false;
+      same_site = enforcement.None;
+      expiry = None;
+      last_access = pos 0;
+    }
+
+abbrev pub rank_at : CookieStore → ℕ → Rank
+rank_at store place = record { place = place; cookie = slice_index_or store place blank }
+
+-- the cookies at these places
+abbrev pub picked : CookieStore → List ℕ → CookieStore
+picked store places = map (λ place. slice_index_or store place blank) places
+
+-- each is greater than the one before it, and the first is this or greater
+abbrev pub Ascends : ℕ → List ℕ → Type 0
+Ascends least [] = Unit {0}
+Ascends least (place ∷ places) = (least ≤ place) × Ascends (suc place) places
+
+-- the places ascend, and are below the length
+abbrev pub IsInOrder : ℕ → List ℕ → Type 0
+IsInOrder size places = Ascends 0 places × All (λ place. place < size) places
+
+-- each place is there once at most
+abbrev pub AreOnce : List Rank → Type 0
+AreOnce items = (place : ℕ) → count_by (λ rank. rank.place == place) items ≤ 1
+
+-- none comes before one that it follows
+abbrev pub Rises : {X : Type 0} → (X → X → Bool) → List X → Type 0
+Rises before [] = Unit {0}
+Rises before (x ∷ xs) = All (λ y. before y x ≡ false) xs × Rises before xs
+
+-- what a cookie is counted by
+abbrev pub group_of : Group → KeptView → Option (List ℕ)
+group_of Domain cookie = Some cookie.domain
+group_of Whole cookie = None
+
+-- the right one is of the group of the left one
+abbrev pub shares : Group → Rank → Rank → Bool
+shares group left right = counts (group_of group left.cookie) right.cookie
+
+-- by last access, and then by creation
+abbrev pub access_cmp : Rank → Rank → Ordering
+access_cmp left right =
+    ordering_then (int_cmp left.cookie.last_access right.cookie.last_access)
+    (nat_cmp left.place right.place)
+
+-- by domain, then those that aren't secure-only first, and then by last access
+abbrev pub rank_cmp : Group → Rank → Rank → Ordering
+rank_cmp Domain left right =
+    ordering_then (slice_cmp nat_cmp left.cookie.domain right.cookie.domain)
+    (ordering_then (bool_cmp left.cookie.is_secure_only right.cookie.is_secure_only)
+    (access_cmp left right))
+rank_cmp Whole left right = access_cmp left right
+
+abbrev pub comes_before : Group → Rank → Rank → Bool
+comes_before group left right = is_lt (rank_cmp group left right)
+
+-- fewer than the limit are of its group and go later
+abbrev pub stays : Group → ℕ → List Rank → Rank → Bool
+stays group limit items rank =
+    nat_lt (count_by (λ other. shares group rank other && comes_before group rank other) items) limit

@@ -1,5 +1,5 @@
--- Mirrors private code: a verdict as the definitions have it, and a cookie without its times.
-use Rattle.std.specs.Prelude.{None, pos, Result, Ok, Err}
+-- Mirrors private code: a verdict as the definitions have it.
+use Rattle.std.specs.Prelude.{Result, Ok, Err}
 use Rattle.cookie_browser.specs.Storage.{KeptView}
 use Rattle.cookie_browser.specs.declared.refusal.Refusal.{Refusal}
 use Rattle.cookie_agent.specs.declared.verdict.Verdict.{Verdict}
@@ -9,7 +9,3 @@ use Rattle.cookie_agent.specs.declared.verdict.Verdict.TheVariants.{Stored, Refu
 abbrev pub verdict_result : Verdict → Result KeptView Refusal
 verdict_result (Stored cookie) = Ok cookie
 verdict_result (Refused refusal) = Err refusal
-
--- the cookie without its expiry and its last access
-abbrev pub timeless : KeptView → KeptView
-timeless cookie = record cookie { expiry = None; last_access = pos 0 }

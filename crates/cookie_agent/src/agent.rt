@@ -1,50 +1,49 @@
 //! A user agent (RFC 6265bis, Storage Model, Retrieval Algorithm).
-ghost use Rattle.std.specs.Prelude.{◌≡◌, [], IfOk, OnOk, OnErr, Ok, map};
+ghost use Rattle.std.specs.Prelude.{◌≡◌, ◌&&◌, not, [], filter, IfOk, OnOk, OnErr, Ok, map};
+ghost use Rattle.std.specs.List.{list_any};
 ghost use Rattle.cookie_browser.specs.ReceivedCode.{received_view};
-ghost use Rattle.cookie_browser.specs.RefusedCode.{kept_view};
-ghost use Rattle.cookie_browser.specs.Storage.{kept_with, lasting, verdict_on};
-ghost use Rattle.cookie_agent.specs.Apart.{IsApart};
+ghost use Rattle.cookie_browser.specs.RefusedCode.{kept_view, request_view};
+ghost use Rattle.cookie_browser.specs.Storage.{is_overlaid, lasting, lasts, overlays, verdict_on};
 ghost use Rattle.cookie_agent.specs.HostJars.{AreOwnOriginals, IsLastOwn};
 ghost use Rattle.cookie_agent.specs.Hosts.{AreOnlyOwn};
 ghost use Rattle.cookie_agent.specs.Limits.{IsWithin, trimmed};
 ghost use Rattle.cookie_agent.specs.Removals.{IsMissed, IsRemovedAsSet};
 ghost use Rattle.cookie_agent.specs.Sent.{IsOrderedHeader, accessed};
 ghost use Rattle.cookie_agent.specs.Store.{agent_after_text, agent_verdict, refusal_of};
-ghost use Rattle.cookie_agent.specs.VerdictCode.{timeless, verdict_result};
+ghost use Rattle.cookie_agent.specs.Stored.{is_named_in, is_of_domain};
+ghost use Rattle.cookie_agent.specs.VerdictCode.{verdict_result};
 
 use crate::header::{by_path, joined_pairs, visible};
 use crate::limits::Limits;
+use crate::scope::Scope;
 use crate::site::Site;
+use crate::store::Store;
 use crate::stored::StoredCookie;
-use crate::trim::{trim_domains, trim_total};
 use crate::verdict::Verdict;
-use cookie_browser::{Expiry, KeptCookie, Received, Refusal, Suffixes, refused_by};
+use cookie_browser::{
+    BrowserRequest, Expiry, KeptCookie, Received, Refusal, Suffixes, refused_with,
+};
 use jiff::civil::DateTime;
 use std::alloc::{AllocError, Global};
 use std::marker::Model;
 
-/// A user agent. Contracts see its rules of public suffixes, and the cookies that it stores, in the order of their
-/// creation.
+/// A user agent: a store with rules of public suffixes. Contracts see the rules, and the cookies that it stores, in the
+/// order of their creation.
 #[derive(Drop)]
 pub struct Agent<'r> {
-    alloc: Global,
     suffixes: &'r Suffixes,
-    cookies: Vec<StoredCookie>,
+    store: Store,
 }
 
 impl<'r> Model for Agent<'r> {
-    ghost use Rattle.std.specs.Prelude.{map};
     ghost use Rattle.cookie_agent.specs.Store.{AgentView};
-    ghost use Rattle.cookie_agent.specs.Apart.{IsApart};
 
     ghost Value = { AgentView };
 
     ghost view = { λ a. record {
       rules = a.suffixes.now;
-      cookies = a.cookies.items;
+      cookies = a.store;
     } };
-
-    ghost invariant = { λ a. IsApart a.cookies.items };
 }
 
 impl<'r> Agent<'r> {
@@ -53,11 +52,23 @@ impl<'r> Agent<'r> {
     pub fn new(alloc: Global, suffixes: &'r Suffixes) -> Agent<'r>
         ensures { result ≡ record { rules = suffixes.now; cookies = [] } }
     {
-        Agent {
-            alloc,
-            suffixes,
-            cookies: Vec::new(alloc),
-        }
+        Agent::with_store(suffixes, Store::new(alloc))
+    }
+
+    /// A user agent with these stored cookies. [`into_store`](Agent::into_store) returns them.
+    pub fn with_store(suffixes: &'r Suffixes, store: Store) -> Agent<'r>
+        ensures { result ≡ record { rules = suffixes.now; cookies = store } }
+    {
+        Agent { suffixes, store }
+    }
+
+    /// Its store, without its rules, as a program keeps it between two requests. An agent of the same rules
+    /// [with this store](Agent::with_store) is the same.
+    pub fn into_store(self) -> Store
+        ensures { result ≡ self.entry.cookies }
+    {
+        let Agent { suffixes: _, store } = self;
+        store
     }
 
     /// What the agent makes of the text of a `Set-Cookie` header of the site's response at the time `now` in UTC: the
@@ -87,14 +98,14 @@ impl<'r> Agent<'r> {
         let domain = received
             .attributes
             .bare_domain()
-            .to_ascii_lowercase(self.alloc)?;
+            .to_ascii_lowercase(self.store.alloc())?;
         let request = site.request();
         let new = KeptCookie::of(self.suffixes, &request, received, domain.as_slice());
-        let kept = lasting_kept(self.alloc, &self.cookies, now)?;
-        if let Some(refusal) = refused_by(
+        let overlays = overlays(self.store.cookies(), &request, &new, now);
+        if let Some(refusal) = refused_with(
             self.suffixes,
             &request,
-            &kept,
+            overlays,
             received,
             domain.as_slice(),
             &new,
@@ -102,7 +113,7 @@ impl<'r> Agent<'r> {
             return Ok(Verdict::Refused(refusal));
         }
         let expiry = Expiry::of(&received.attributes, now);
-        Ok(Verdict::Stored(StoredCookie::of(self.alloc, &new, expiry, now)?))
+        Ok(Verdict::Stored(StoredCookie::of(self.store.alloc(), &new, expiry, now)?))
     }
 
     /// Reads the text of a `Set-Cookie` header of the site's response at the time `now` in UTC: does what
@@ -127,11 +138,11 @@ impl<'r> Agent<'r> {
     {
         match self.verdict(site, text, now)? {
             Verdict::Stored(cookie) => {
-                put(&mut self.cookies, cookie, now)?;
+                self.store.put(cookie, now)?;
                 Ok(None)
             }
             Verdict::Refused(refusal) => {
-                drop_expired(&mut self.cookies, now);
+                self.store.evict(now);
                 Ok(Some(refusal))
             }
         }
@@ -141,7 +152,7 @@ impl<'r> Agent<'r> {
     pub fn evict(&mut self, now: DateTime)
         ensures { self.new ≡ record self.old { cookies = lasting now self.old.cookies } }
     {
-        drop_expired(&mut self.cookies, now);
+        self.store.evict(now);
     }
 
     /// The value of the `Cookie` header of an http request to the site at the time `now` in UTC (RFC 6265bis, Retrieval
@@ -158,9 +169,9 @@ impl<'r> Agent<'r> {
         ensures own_originals { AreOwnOriginals }
         ensures last_own { IsLastOwn }
     {
-        let sent = visible(self.alloc, &self.cookies, site, now)?;
+        let sent = visible(self.store.alloc(), self.store.cookies(), site, now)?;
         let sent = by_path(sent)?;
-        joined_pairs(self.alloc, &sent)
+        joined_pairs(self.store.alloc(), &sent)
     }
 
     /// Does what [`header`](Agent::header) says, for a request that is made: `now` becomes the last access of each
@@ -174,34 +185,54 @@ impl<'r> Agent<'r> {
         ensures err { OnErr result (self.new ≡ self.old) }
     {
         let header = self.header(site, now)?;
-        access(&mut self.cookies, site, now);
+        self.store.access(site, now);
         Ok(header)
     }
 
-    /// Drops what is expired at the time `now` in UTC, and then the cookies above the limits, as RFC 6265bis orders
-    /// them (Storage Model). First, of each domain with too many cookies, those that aren't secure-only go before the
-    /// others. Then, if there are too many cookies in all, cookies of any domain go. If the order leaves a choice, the
-    /// cookie with the earliest last access goes.
-    ///
-    /// The last access is when a cookie was last stored, or sent by [`retrieve`](Agent::retrieve). Of cookies with the
-    /// same last access, the one that was created first goes.
-    pub fn trim(&mut self, limits: Limits, now: DateTime)
-        ensures value { self.new
-            ≡ record self.old { cookies = trimmed limits now self.old.cookies } }
-        ensures within { IsWithin limits self.new.cookies }
-        ensures needed { IsWithin limits (lasting now self.old.cookies)
-            → self.new.cookies ≡ lasting now self.old.cookies }
+    /// Drops what is expired at the time `now` in UTC, and then the cookies above the limits, as [`Store::trim`] says.
+    /// Fails only if out of memory, and then the agent is as before.
+    pub fn trim(&mut self, limits: Limits, now: DateTime) -> Result<(), AllocError>
+        ensures value { OnOk result (self.new
+            ≡ record self.old { cookies = trimmed limits now self.old.cookies }) }
+        ensures within { OnOk result (IsWithin limits self.new.cookies) }
+        ensures needed { OnOk result (IsWithin limits (lasting now self.old.cookies)
+            → self.new.cookies ≡ lasting now self.old.cookies) }
+        ensures err { OnErr result (self.new ≡ self.old) }
     {
-        drop_expired(&mut self.cookies, now);
-        trim_domains(&mut self.cookies, limits.per_domain);
-        trim_total(&mut self.cookies, limits.total);
+        self.store.trim(limits, now)
+    }
+
+    /// Removes the cookie of this name and this scope, as [`Store::remove`] says, and returns whether there was one.
+    pub fn remove(&mut self, name: &[u8], scope: &Scope) -> bool
+        ensures value { self.new ≡ record self.old {
+          cookies = filter (λ cookie. not (is_named_in name.now scope.now cookie)) self.old.cookies;
+        } }
+        ensures found { result ≡ list_any (is_named_in name.now scope.now) self.old.cookies }
+    {
+        self.store.remove(name, scope)
+    }
+
+    /// Removes the cookies of this domain and of the domains below it, as [`Store::clear_domain`] says.
+    pub fn clear_domain(&mut self, domain: &[u8])
+        ensures { self.new ≡ record self.old {
+          cookies = filter (λ cookie. not (is_of_domain domain.now cookie)) self.old.cookies;
+        } }
+    {
+        self.store.clear_domain(domain);
+    }
+
+    /// Its store. [`Store::cookies`] are the stored cookies.
+    pub fn store(&self) -> &Store
+        ensures { result.now ≡ self.now.cookies }
+    {
+        &self.store
     }
 
     /// The cookies that it stores, in the order of their creation. Some may be expired.
     pub fn cookies(&self) -> &[StoredCookie]
         ensures { result.now ≡ self.now.cookies }
     {
-        self.cookies.as_slice()
+        self.store.cookies()
     }
 
     /// A user agent that stores the same. Fails only if out of memory.
@@ -209,94 +240,34 @@ impl<'r> Agent<'r> {
         ensures { IfOk result (λ made. made ≡ self.now) }
     {
         Ok(Agent {
-            alloc: self.alloc,
             suffixes: self.suffixes,
-            cookies: copies(self.alloc, &self.cookies)?,
+            store: self.store.clone()?,
         })
     }
 }
 
-// The cookies that aren't expired, without their times.
-fn lasting_kept<'a>(
-    alloc: Global,
-    cookies: &'a [StoredCookie],
+// Whether the new cookie would overlay one that isn't expired.
+#[tactic(auto, using(crate::proofs::RefusalLemmas::any_lasting))]
+fn overlays(
+    cookies: &[StoredCookie],
+    request: &BrowserRequest<'_>,
+    new: &KeptCookie<'_>,
     now: DateTime,
-) -> Result<Vec<KeptCookie<'a>>, AllocError>
-    ensures { IfOk result (λ kept.
-        map kept_view kept.items ≡ map timeless (lasting now cookies.now)) }
+) -> bool
+    ensures { result
+        ≡ overlays (request_view request.now) (lasting now cookies.now) (kept_view new.now) }
 {
-    let mut kept = Vec::new(alloc);
-    for cookie in cookies {
-        if cookie.lasts(now) {
-            kept.push(cookie.as_kept())?;
-        }
-    }
-    Ok(kept)
+    !new.is_secure_only && !request.is_secure && any_overlaid(cookies, request, new, now)
 }
 
-// Drops the cookies that are expired.
-fn drop_expired(cookies: &mut Vec<StoredCookie>, now: DateTime)
-    ensures { cookies.new.items ≡ lasting now cookies.old.items }
-{
-    cookies.retain(|cookie| cookie.lasts(now));
-}
-
-// Sets the last access of each cookie that is sent.
-fn access(cookies: &mut Vec<StoredCookie>, site: &Site, now: DateTime)
-    ensures { cookies.new.items ≡ map (accessed site.now now) cookies.old.items }
-{
-    for cookie in cookies.iter_mut() {
-        cookie.access(site, now);
-    }
-}
-
-// Puts a cookie in the place of the one with its key that isn't expired, or last, and drops what is expired. After an
-// error the cookies are as before.
-fn put(
-    cookies: &mut Vec<StoredCookie>,
-    cookie: StoredCookie,
+fn any_overlaid(
+    cookies: &[StoredCookie],
+    request: &BrowserRequest<'_>,
+    new: &KeptCookie<'_>,
     now: DateTime,
-) -> Result<(), AllocError>
-    requires { IsApart cookies.now.items }
-    ensures ok { OnOk result (cookies.new.items
-        ≡ lasting now (kept_with cookie (lasting now cookies.old.items))) }
-    ensures err { OnErr result (cookies.new.items ≡ cookies.old.items) }
+) -> bool
+    ensures { result ≡ list_any (λ old. lasts old.expiry now
+        && is_overlaid (request_view request.now) (kept_view new.now) old) cookies.now }
 {
-    put_in_place(cookies, cookie, now)?;
-    drop_expired(cookies, now);
-    Ok(())
-}
-
-// Puts a cookie in the place of the one with its key that isn't expired, or last. After an error the cookies are as
-// before.
-fn put_in_place(
-    cookies: &mut Vec<StoredCookie>,
-    cookie: StoredCookie,
-    now: DateTime,
-) -> Result<(), AllocError>
-    requires { IsApart cookies.now.items }
-    ensures ok { OnOk result (lasting now cookies.new.items
-        ≡ lasting now (kept_with cookie (lasting now cookies.old.items))) }
-    ensures err { OnErr result (cookies.new.items ≡ cookies.old.items) }
-{
-    for index in 0..cookies.len() {
-        if cookies[index].gives_place(&cookie, now) {
-            cookies[index] = cookie;
-            return Ok(());
-        }
-    }
-    cookies.push(cookie)?;
-    Ok(())
-}
-
-// Copies of the cookies.
-fn copies(alloc: Global, cookies: &[StoredCookie]) -> Result<Vec<StoredCookie>, AllocError>
-    ensures { IfOk result (λ made. made.items ≡ cookies.now) }
-{
-    let mut made = Vec::new(alloc);
-    for cookie in cookies {
-        let copy = cookie.clone(alloc)?;
-        made.push(copy)?;
-    }
-    Ok(made)
+    cookies.iter().any(|old| old.lasts(now) && old.as_kept().is_overlaid_by(new, request))
 }

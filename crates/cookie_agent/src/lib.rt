@@ -4,10 +4,16 @@
 mod agent;
 mod bytes;
 mod context;
+mod group;
 mod header;
+mod in_turn;
+mod key;
 mod limits;
+mod ranked;
+mod saved;
 mod scope;
 mod site;
+mod store;
 mod stored;
 mod trim;
 mod verdict;
@@ -15,7 +21,12 @@ mod verdict;
 pub use agent::Agent;
 pub use context::RequestContext;
 pub use limits::Limits;
+pub use saved::{
+    LoadedCookies, SavedCookies, read_cookies_txt, read_json_lines, write_cookies_txt,
+    write_json_lines,
+};
 pub use scope::Scope;
 pub use site::Site;
+pub use store::Store;
 pub use stored::StoredCookie;
 pub use verdict::Verdict;

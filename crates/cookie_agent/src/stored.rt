@@ -1,17 +1,18 @@
 //! A stored cookie.
-ghost use Rattle.std.specs.Prelude.{◌≡◌, ◌++◌, None, pos, option_copied, IfOk, OnOk};
+ghost use Rattle.std.specs.Prelude.{◌≡◌, ◌++◌, true, None, pos, IfOk, OnOk};
 ghost use Rattle.jiff.specs.Words.{civil_nanos};
 ghost use Rattle.cookie_browser.specs.ExpiryCode.{expiry_time};
 ghost use Rattle.cookie_browser.specs.RefusedCode.{kept_view};
-ghost use Rattle.cookie_browser.specs.Storage.{is_sent, lasts};
-ghost use Rattle.cookie_agent.specs.Apart.{gives_place};
-ghost use Rattle.cookie_agent.specs.Limits.{counts, goes_first};
-ghost use Rattle.cookie_agent.specs.LimitsCode.{precedes};
+ghost use Rattle.cookie_browser.specs.Storage.{is_same_cookie, is_sent, lasts};
 ghost use Rattle.cookie_agent.specs.Sent.{accessed, path_length, sent_pair};
+ghost use Rattle.cookie_agent.specs.Stored.{is_named_in, is_of_domain};
+ghost use Rattle.cookie_agent.specs.StoredCode.{gives_place, key_view};
 
 use crate::bytes::copied;
+use crate::key::Key;
+use crate::scope::Scope;
 use crate::site::Site;
-use cookie_browser::{Enforcement, Expiry, KeptCookie};
+use cookie_browser::{Enforcement, Expiry, KeptCookie, is_in_domain};
 use jiff::civil::DateTime;
 use std::alloc::{AllocError, Global};
 use std::marker::Model;
@@ -53,8 +54,9 @@ impl Model for StoredCookie {
 }
 
 impl StoredCookie {
-    // A copy of the cookie, with its times.
-    pub(crate) fn of(
+    /// A stored cookie of these fields, with copies of the texts: for those who load cookies that were stored elsewhere.
+    /// Each value is taken as it is. `last_access` is in UTC. Fails only if out of memory.
+    pub fn of(
         alloc: Global,
         kept: &KeptCookie<'_>,
         expiry: Expiry,
@@ -138,6 +140,35 @@ impl StoredCookie {
         self.lasts(now) && self.as_kept().suits(&site.request())
     }
 
+    // What it is known by.
+    pub(crate) fn key(&self, alloc: Global) -> Result<Key, AllocError>
+        ensures { IfOk result (λ key. is_same_cookie self.now (key_view key) ≡ true) }
+    {
+        Ok(Key {
+            name: copied(alloc, &self.name)?,
+            domain: copied(alloc, &self.domain)?,
+            is_host_only: self.is_host_only,
+            path: copied(alloc, &self.path)?,
+        })
+    }
+
+    // Whether it has this name and this scope.
+    pub(crate) fn is_named_in(&self, name: &[u8], scope: &Scope) -> bool
+        ensures { result ≡ is_named_in name.now scope.now self.now }
+    {
+        self.name.as_slice() == name
+            && self.domain() == scope.domain()
+            && self.is_host_only == scope.is_host_only()
+            && self.path.as_slice() == scope.path()
+    }
+
+    // Whether its domain is this one, or below it.
+    pub(crate) fn is_of_domain(&self, domain: &[u8]) -> bool
+        ensures { result ≡ is_of_domain domain.now self.now }
+    {
+        is_in_domain(self.domain(), false, domain)
+    }
+
     // Its domain.
     pub(crate) fn domain(&self) -> &[u8]
         ensures { result.now ≡ self.now.domain }
@@ -152,34 +183,6 @@ impl StoredCookie {
         if self.is_sent(site, now) {
             self.last_access = now;
         }
-    }
-
-    // Whether it has the domain; without one, each has.
-    fn counts(&self, domain: Option<&[u8]>) -> bool
-        ensures { result ≡ counts (option_copied domain.entry) self.now }
-    {
-        match domain {
-            Some(domain) => self.domain() == domain,
-            None => true,
-        }
-    }
-
-    // Whether it goes before the other one, among those with the domain or among all.
-    fn goes_first(&self, other: &StoredCookie, domain: Option<&[u8]>) -> bool
-        ensures { result ≡ goes_first (option_copied domain.entry) self.now other.now }
-    {
-        if domain.is_some() && self.is_secure_only != other.is_secure_only {
-            other.is_secure_only
-        } else {
-            self.last_access < other.last_access
-        }
-    }
-
-    // Whether it counts, and the other one doesn't or goes later.
-    pub(crate) fn precedes(&self, other: &StoredCookie, domain: Option<&[u8]>) -> bool
-        ensures { result ≡ precedes (option_copied domain.entry) self.now other.now }
-    {
-        self.counts(domain) && (!other.counts(domain) || self.goes_first(other, domain))
     }
 
     // The length of its path, in bytes.

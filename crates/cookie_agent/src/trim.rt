@@ -1,60 +1,144 @@
-//! Which cookies go if there are too many (RFC 6265bis, Storage Model).
-ghost use Rattle.std.specs.Prelude.{◌≡◌, ◌<◌, ◌≤◌, length, count_by, option_copied};
-ghost use Rattle.std.specs.List.{IsFirstBest};
-ghost use Rattle.std.specs.Str.{bytes_eq};
-ghost use Rattle.cookie_agent.specs.Limits.{within_domains, within_total};
-ghost use Rattle.cookie_agent.specs.LimitsCode.{AreFew, precedes};
+//! Which cookies stay if there are too many (RFC 6265bis, Storage Model).
+ghost use Rattle.std.specs.Prelude.{◌≡◌, ◌<◌, ◌≤◌, [], All, filter, length, map, count_by, slice_index_or, IfOk};
+ghost use Rattle.std.specs.List.Sorted.{IsPermutation};
+ghost use Rattle.cookie_browser.specs.Storage.{lasting};
+ghost use Rattle.cookie_agent.specs.Limits.{IsWithin, counts, staying, trimmed};
+ghost use Rattle.cookie_agent.specs.LimitsCode.{AreOnce, IsInOrder, Rank, Rises, comes_before, group_of, picked, rank_at, rank_of, ranks, stays};
 
+use crate::group::Group;
+use crate::limits::Limits;
+use crate::ranked::Ranked;
 use crate::stored::StoredCookie;
+use jiff::civil::DateTime;
+use std::alloc::{AllocError, Global};
 
-// Drops cookies of each domain that has more than the limit.
-pub(crate) fn trim_domains(cookies: &mut Vec<StoredCookie>, limit: usize)
-    ensures value { cookies.new.items ≡ within_domains limit cookies.old.items }
-    ensures few { AreFew limit cookies.new.items }
+// The places of the cookies that stay, in their order.
+pub(crate) fn places_within(
+    alloc: Global,
+    cookies: &[StoredCookie],
+    limits: Limits,
+    now: DateTime,
+) -> Result<Vec<usize>, AllocError>
+    ensures value { IfOk result (λ places.
+        picked cookies.now places.items ≡ trimmed limits now cookies.now) }
+    ensures in_order { IfOk result (λ places. IsInOrder (length cookies.now) places.items) }
+    ensures within { IfOk result (λ places. IsWithin limits (picked cookies.now places.items)) }
 {
-    let mut index = 0;
-    while index < cookies.len() {
-        if count_of(cookies, cookies[index].domain()) > limit {
-            let first = first_to_go(cookies, Some(cookies[index].domain()));
-            cookies.remove(first);
-        } else {
-            index += 1;
+    let places = lasting_places(alloc, cookies, now)?;
+    let places = within(alloc, cookies, &places, Group::Domain, limits.per_domain)?;
+    let places = within(alloc, cookies, &places, Group::Whole, limits.total)?;
+    Ok(places)
+}
+
+// Keeps the cookies at these places only.
+pub(crate) fn keep(cookies: &mut Vec<StoredCookie>, places: &[usize])
+    requires { IsInOrder (length cookies.now.items) places.now }
+    ensures { cookies.new.items ≡ picked cookies.old.items places.now }
+{
+    for index in 0..places.len() {
+        cookies.swap(index, places[index]);
+    }
+    cookies.truncate(places.len());
+}
+
+// The places of the cookies that aren't expired.
+fn lasting_places(
+    alloc: Global,
+    cookies: &[StoredCookie],
+    now: DateTime,
+) -> Result<Vec<usize>, AllocError>
+    ensures value { IfOk result (λ places.
+        picked cookies.now places.items ≡ lasting now cookies.now) }
+    ensures in_order { IfOk result (λ places. IsInOrder (length cookies.now) places.items) }
+{
+    let mut places = Vec::new(alloc);
+    for index in 0..cookies.len() {
+        if cookies[index].lasts(now) {
+            places.push(index)?;
         }
     }
+    Ok(places)
 }
 
-// Drops cookies if there are more than the limit.
-pub(crate) fn trim_total(cookies: &mut Vec<StoredCookie>, limit: usize)
-    ensures value { cookies.new.items ≡ within_total limit cookies.old.items }
-    ensures few { length cookies.new.items ≤ limit }
+// Of the cookies at these places, the places of those that stay if no group has more than the limit.
+fn within(
+    alloc: Global,
+    cookies: &[StoredCookie],
+    places: &[usize],
+    group: Group,
+    limit: usize,
+) -> Result<Vec<usize>, AllocError>
+    requires { IsInOrder (length cookies.now) places.now }
+    ensures value { IfOk result (λ kept. picked cookies.now kept.items
+        ≡ staying (group_of group) limit [] (picked cookies.now places.now)) }
+    ensures in_order { IfOk result (λ kept. IsInOrder (length cookies.now) kept.items) }
+    ensures few { IfOk result (λ kept. (rank : Rank)
+        → count_by (counts (group_of group rank.cookie)) (picked cookies.now kept.items) ≤ limit) }
 {
-    while cookies.len() > limit {
-        let first = first_to_go(cookies, None);
-        cookies.remove(first);
+    let ranked = sorted(ranked(alloc, cookies, places)?, group);
+    let mut kept = staying_places(alloc, &ranked, group, limit)?;
+    kept.sort_unstable();
+    Ok(kept)
+}
+
+// The cookies at these places.
+fn ranked<'a>(
+    alloc: Global,
+    cookies: &'a [StoredCookie],
+    places: &[usize],
+) -> Result<Vec<Ranked<'a>>, AllocError>
+    requires { All (λ place. place < length cookies.now) places.now }
+    ensures { IfOk result (λ made. ranks made.items ≡ map (rank_at cookies.now) places.now) }
+{
+    let mut made = Vec::new(alloc);
+    for index in 0..places.len() {
+        let place = places[index];
+        let cookie = &cookies[place];
+        made.push(Ranked { place, cookie })?;
     }
+    Ok(made)
 }
 
-// The number of cookies with the domain.
-fn count_of(cookies: &[StoredCookie], domain: &[u8]) -> usize
-    ensures { result ≡ count_by (λ cookie. bytes_eq cookie.domain domain.now) cookies.now }
+// The same cookies in the order in which they go.
+fn sorted<'a>(mut ranked: Vec<Ranked<'a>>, group: Group) -> Vec<Ranked<'a>>
+    ensures moved { IsPermutation (ranks ranked.entry.items) (ranks result.items) }
+    ensures rises { Rises (comes_before group) (ranks result.items) }
 {
-    cookies
-        .iter()
-        .filter(|cookie| cookie.domain() == domain)
-        .count()
+    ranked.sort_unstable_by(|left, right| group.compare(left, right));
+    ranked
 }
 
-// The index of the cookie that goes first, of those with the domain or of all.
-fn first_to_go(cookies: &[StoredCookie], domain: Option<&[u8]>) -> usize
-    requires { 0 < length cookies.now }
-    ensures { IsFirstBest (precedes (option_copied domain.entry)) cookies.now
-        (length cookies.now) result }
+// The places of those that stay, in the order in which they go.
+fn staying_places(
+    alloc: Global,
+    ranked: &[Ranked<'_>],
+    group: Group,
+    limit: usize,
+) -> Result<Vec<usize>, AllocError>
+    requires rises { Rises (comes_before group) (ranks ranked.now) }
+    requires once { AreOnce (ranks ranked.now) }
+    ensures { IfOk result (λ kept. kept.items ≡ map (λ rank. rank.place)
+        (filter (stays group limit (ranks ranked.now)) (ranks ranked.now))) }
 {
-    let mut first = 0;
-    for index in 1..cookies.len() {
-        if cookies[index].precedes(&cookies[first], domain) {
-            first = index;
+    let mut kept = Vec::new(alloc);
+    for index in 0..ranked.len() {
+        if stays(ranked, index, group, limit) {
+            kept.push(ranked[index].place)?;
         }
     }
-    first
+    Ok(kept)
+}
+
+// Whether fewer than the limit come later and are of its group.
+fn stays(ranked: &[Ranked<'_>], index: usize, group: Group, limit: usize) -> bool
+    requires below { index < length ranked.now }
+    requires rises { Rises (comes_before group) (ranks ranked.now) }
+    requires once { AreOnce (ranks ranked.now) }
+    ensures { (rank : Rank) → rank ≡ slice_index_or (ranks ranked.now) index rank
+        → result ≡ stays group limit (ranks ranked.now) rank }
+{
+    if ranked.len() - index <= limit {
+        return true;
+    }
+    !group.shares(&ranked[index], &ranked[index + limit])
 }

@@ -103,6 +103,20 @@ impl<'s> KeptCookie<'s> {
             && self.path == other.path
     }
 
+    /// Whether a new cookie would overlay this stored one, if the new one isn't secure-only and comes over an insecure
+    /// connection: this one is secure-only and has the new one's name, its domain is the new one's, above it or below it,
+    /// and its path is the new one's or above it (RFC 6265bis, Storage Model).
+    pub fn is_overlaid_by(&self, new: &KeptCookie<'_>, request: &BrowserRequest<'_>) -> bool
+        ensures { result ≡ spec.is_overlaid (request_view request.now) (kept_view new.now)
+            (kept_view self.now) }
+    {
+        self.name == new.name
+            && self.is_secure_only
+            && (is_in_domain(self.domain, request.is_address, new.domain)
+                || is_in_domain(new.domain, request.is_address, self.domain))
+            && is_under_path(new.path, self.path)
+    }
+
     fn is_meant_for(&self, request: &BrowserRequest<'_>) -> bool
         ensures { result ≡ spec.is_meant_for (request_view request.now) (kept_view self.now) }
     {

@@ -18,6 +18,6 @@ pub use expiry::Expiry;
 pub use kept_cookie::KeptCookie;
 pub use received::Received;
 pub use refusal::Refusal;
-pub use refused::refused_by;
+pub use refused::{refused_by, refused_with};
 pub use request::{BrowserRequest, folder_of, is_in_domain, is_under_path};
 pub use suffixes::Suffixes;

@@ -4,6 +4,7 @@ ghost use Rattle.std.specs.List.{list_any};
 ghost use Rattle.std.specs.Str.{bytes_eq};
 ghost use Rattle.cookie_browser.specs.PrintedStored.{IsPrintedSent, IsPrintedStored};
 ghost use Rattle.cookie_browser.specs.Storage as spec;
+ghost use Rattle.cookie_browser.specs.Storage.{CookieStore};
 ghost use Rattle.cookie_browser.specs.ReceivedCode.{received_view};
 ghost use Rattle.cookie_browser.specs.RefusedCode.{kept_view, request_view};
 
@@ -11,7 +12,7 @@ use crate::enforcement::Enforcement;
 use crate::kept_cookie::KeptCookie;
 use crate::received::Received;
 use crate::refusal::Refusal;
-use crate::request::{BrowserRequest, is_in_domain, is_under_path};
+use crate::request::{BrowserRequest, is_in_domain};
 use crate::suffixes::Suffixes;
 use cookie_core::begins_in_any_case;
 
@@ -65,17 +66,6 @@ fn is_foreign(request: &BrowserRequest<'_>, domain: &[u8]) -> bool
     !domain.is_empty() && !is_in_domain(request.host, request.is_address, domain)
 }
 
-fn is_overlaid(request: &BrowserRequest<'_>, new: &KeptCookie<'_>, old: &KeptCookie<'_>) -> bool
-    ensures { result ≡ spec.is_overlaid (request_view request.now) (kept_view new.now)
-        (kept_view old.now) }
-{
-    old.name == new.name
-        && old.is_secure_only
-        && (is_in_domain(old.domain, request.is_address, new.domain)
-            || is_in_domain(new.domain, request.is_address, old.domain))
-        && is_under_path(new.path, old.path)
-}
-
 fn meets_host_prefix(received: &Received<'_>, new: &KeptCookie<'_>) -> bool
     ensures { result ≡ spec.meets_host_prefix (received_view received.now) (kept_view new.now) }
 {
@@ -127,7 +117,7 @@ fn any_kept(request: &BrowserRequest<'_>, store: &[KeptCookie<'_>], new: &KeptCo
     ensures { result ≡ list_any (λ k. spec.is_overlaid (request_view request.now)
         (kept_view new.now) (kept_view k)) store.now }
 {
-    store.iter().any(|old| is_overlaid(request, new, old))
+    store.iter().any(|old| old.is_overlaid_by(new, request))
 }
 
 fn overlays(request: &BrowserRequest<'_>, store: &[KeptCookie<'_>], new: &KeptCookie<'_>) -> bool
@@ -147,16 +137,17 @@ fn crosses(request: &BrowserRequest<'_>, new: &KeptCookie<'_>) -> bool
 #[tactic(auto, unfolding(crate::specs::Storage::refusal_by_connection))]
 fn refused_by_connection(
     request: &BrowserRequest<'_>,
-    store: &[KeptCookie<'_>],
+    overlays: bool,
     new: &KeptCookie<'_>,
 ) -> Option<Refusal>
-    ensures { result ≡ spec.refusal_by_connection (request_view request.now)
-        (map kept_view store.now) (kept_view new.now) }
+    ensures { (store : CookieStore)
+        → overlays ≡ spec.overlays (request_view request.now) store (kept_view new.now)
+        → result ≡ spec.refusal_by_connection (request_view request.now) store (kept_view new.now) }
 {
     if is_insecure(request, new) {
         return Some(Refusal::InsecureConnection);
     }
-    if overlays(request, store, new) {
+    if overlays {
         return Some(Refusal::OverlaysSecure);
     }
     if crosses(request, new) {
@@ -242,10 +233,31 @@ pub fn refused_by(
     ensures printed { IsPrintedStored }
     ensures sent { IsPrintedSent }
 {
+    let overlays = overlays(request, store, new);
+    refused_with(suffixes, request, overlays, received, domain, new)
+}
+
+/// Returns what [`refused_by`] does, without a list of the stored cookies. `overlays` is whether the cookie would overlay
+/// one: it isn't secure-only, comes over an insecure connection, and [`KeptCookie::is_overlaid_by`] holds of a stored
+/// cookie that isn't expired (RFC 6265bis, Storage Model).
+pub fn refused_with(
+    suffixes: &Suffixes,
+    request: &BrowserRequest<'_>,
+    overlays: bool,
+    received: &Received<'_>,
+    domain: &[u8],
+    new: &KeptCookie<'_>,
+) -> Option<Refusal>
+    requires { domain.now ≡ spec.asked_domain (received_view received.now).attributes }
+    ensures { (store : CookieStore)
+        → overlays ≡ spec.overlays (request_view request.now) store (kept_view new.now)
+        → result ≡ spec.first_refusal suffixes.now (request_view request.now) store
+        (received_view received.now) (kept_view new.now) }
+{
     if let Some(refusal) = refused_by_domain(suffixes, request, received, domain) {
         return Some(refusal);
     }
-    if let Some(refusal) = refused_by_connection(request, store, new) {
+    if let Some(refusal) = refused_by_connection(request, overlays, new) {
         return Some(refusal);
     }
     refused_by_prefix(received, new)

@@ -4,7 +4,9 @@ use crate::jar_calls::{after, calls_of, moment, test_key};
 use crate::jars::looks;
 use crate::step::{Answer, Player, Step};
 use cookie::CookieJar;
-use cookie_agent::{Agent, Limits, Scope, Site, StoredCookie, Verdict};
+use cookie_agent::{
+    Agent, Limits, Scope, Site, StoredCookie, Verdict, read_cookies_txt, write_cookies_txt,
+};
 use cookie_browser::Suffixes;
 use cookie_theorems::visits::visit;
 use cookie_theorems::{AgentRequest, Plan};
@@ -29,7 +31,7 @@ impl<'r> Agents<'r> {
             suffixes,
             agent: Agent::new(alloc, suffixes),
             copy: Agent::new(alloc, suffixes),
-            site: usual_site(alloc)?,
+            site: site_of(alloc, "http://example.com/")?,
             jar: CookieJar::new(alloc),
             now: moment(),
         })
@@ -39,14 +41,15 @@ impl<'r> Agents<'r> {
         match step.call {
             "on" => self.site = site_of(step.alloc, step.words)?,
             "by" => {
-                let site = replace(&mut self.site, usual_site(step.alloc)?);
+                let site = replace(&mut self.site, site_of(step.alloc, "http://example.com/")?);
                 self.site = site.with_context(context_of(step.words)?);
             }
             "at" => self.now = after(step.words)?,
             "copy" => self.copy = self.agent.clone().ok()?,
             "swap" => swap(&mut self.agent, &mut self.copy),
             "evict" => self.agent.evict(self.now),
-            _ => self.agent.trim(limits(step.words)?, self.now),
+            "clear" => self.agent.clear_domain(step.words.as_bytes()),
+            _ => self.agent.trim(limits(step.words)?, self.now).ok()?,
         }
         step.done()
     }
@@ -85,17 +88,16 @@ impl<'r> Agents<'r> {
 
     // Questions on connections, on scopes of cookies, and on the sites that they reach.
     fn ask(&self, step: Step<'_>) -> Answer {
-        let alloc = step.alloc;
         match step.call {
             "secure" => step.yes(self.site.is_secure()),
-            "host" => place(step, &self.site.host_scope(alloc).ok()?),
+            "host" => place(step, &self.site.host_scope(step.alloc).ok()?),
             "scope" => place_of(step, self.verdict(&self.site, step)?),
             "folder" => {
-                let site = Site::new(alloc, "a.com", step.words, false).ok()?;
+                let site = Site::new(step.alloc, "a.com", step.words, false).ok()?;
                 place_of(step, self.verdict(&site, step.with_words("n=1"))?)
             }
             "reached" => {
-                let usual = site_of(alloc, "http://www.example.com/a/b")?;
+                let usual = site_of(step.alloc, "http://www.example.com/a/b")?;
                 self.is_sent(step, self.verdict(&usual, step)?)
             }
             _ => is_reached(step),
@@ -120,31 +122,34 @@ impl<'r> Agents<'r> {
 impl Player for Agents<'_> {
     fn answer(&mut self, step: Step<'_>) -> Answer {
         match step.call {
-            "on" | "by" | "at" | "copy" | "swap" | "evict" | "trim" => self.change(step),
+            "on" | "by" | "at" | "copy" | "swap" | "evict" | "clear" | "trim" => self.change(step),
             "set" => {
                 let refusal = self.agent.read(&self.site, &step.bytes()?, self.now);
                 outcome(step, refusal.ok()?)
+            }
+            "remove" => {
+                let scope = self.site.host_scope(step.alloc).ok()?;
+                step.yes(self.agent.remove(step.words.as_bytes(), &scope))
             }
             "header" => step.shown(&self.agent.header(&self.site, self.now).ok()?),
             "retrieve" => step.shown(&self.agent.retrieve(&self.site, self.now).ok()?),
             "request" => self.request(step),
             "get" => looks::answer(&self.jar, step),
             "plan" => self.plan(step),
+            "loaded" => {
+                let loaded = read_cookies_txt(step.alloc, &step.bytes()?, self.now).ok()?;
+                let saved = write_cookies_txt(step.alloc, &loaded.cookies, self.now).ok()?;
+                step.shown(saved.text.get(28..)?)
+            }
             _ => self.ask(step),
         }
     }
 }
 
-fn usual_site(alloc: Global) -> Option<Site> {
-    site_of(alloc, "http://example.com/")
-}
-
 fn limits(words: &str) -> Option<Limits> {
     let (per_domain, total) = words.split_once(' ')?;
-    Some(Limits {
-        per_domain: per_domain.parse().ok()?,
-        total: total.parse().ok()?,
-    })
+    let (per_domain, total) = (per_domain.parse().ok()?, total.parse().ok()?);
+    Some(Limits { per_domain, total })
 }
 
 // `host www.example.com /a`, or `domain example.com /a`.

@@ -14,9 +14,9 @@ pub returns-clause-value : goal.returns-clause-value
 returns-clause-value c =
     IfOk-weaker c.joined_pairs.result _ _ (λ header written.
     ordered_header c.args.site.now c.args.now c.args.self.now.cookies header.items (targets c.in_ok-sent.sent.items) (targets c.in_ok-sent-2.sent.items)
-    (c.in_ok-sent.ensures ∙ ap (visible c.args.site.now c.args.now) (c.deref.ensures.value ∙ ap (λ (a : AgentView). a.cookies) c.self.view_is))
+    (c.in_ok-sent.ensures ∙ ap (visible c.args.site.now c.args.now) (c.cookies.ensures.value ∙ ap (λ (a : AgentView). a.cookies) c.self.view_is))
     c.in_ok-sent-2.ensures
-    (written ∙ ap (λ cookies. joined_texts (map sent_pair (targets cookies))) c.deref-2.ensures.value))
+    (written ∙ ap (λ cookies. joined_texts (map sent_pair (targets cookies))) c.deref.ensures.value))
     c.joined_pairs.ensures
 
 pub returns-clause-only_own : goal.returns-clause-only_own

@@ -1,31 +1,21 @@
--- What is stored stays apart, and a removal whose cookie no stored one is misses.
+-- A removal whose cookie no stored one is misses.
 use Rattle.std.proofs.Common.{◌≡◌, false, All, Ok, Err, sym, ap, subst, ◌∙◌}
-use Rattle.cookie_browser.specs.Storage.{is_same_cookie, kept_after_verdict, kept_with, lasts, lasting}
+use Rattle.cookie_browser.specs.Storage.{is_same_cookie, kept_after_verdict, kept_with, lasting}
 use Rattle.cookie_agent.specs.Sent.{seen}
-use Rattle.cookie_agent.specs.Apart.{IsApart}
 use Rattle.cookie_agent.specs.Store.{AgentView, agent_after_text, agent_verdict}
 use Rattle.cookie_agent.specs.VerdictCode.{verdict_result}
 use Rattle.cookie_agent.proofs.MissLemmas.{missed}
 use Rattle.cookie_agent.proofs.RemovalLemmas.{removed}
-use Rattle.cookie_agent.proofs.PutLemmas.{apart-filter, apart-stored}
 use Rattle.cookie_agent.proofs.agent.Agent.read.Goals as goal
-
-pub invariant_of-self-in-Stored : goal.invariant_of-self-in-Stored
-invariant_of-self-in-Stored c =
-    subst IsApart (sym c.in_ok-put-in-Stored.ensures.ok) (apart-stored c.args.now c.in-Stored.cookie c.self.inside.cookies.items c.self.invariant)
-
-pub invariant_of-self-in-Refused : goal.invariant_of-self-in-Refused
-invariant_of-self-in-Refused c =
-    subst IsApart (sym c.drop_expired.ensures) (apart-filter (λ d. lasts d.expiry c.args.now) c.self.inside.cookies.items c.self.invariant)
 
 pub returns-in_ok-put-in-Stored-clause-missed : goal.returns-in_ok-put-in-Stored-clause-missed
 returns-in_ok-put-in-Stored-clause-missed c x stored expired apart name =
     let site = c.args.site.now in
     let now = c.args.now in
     let before : AgentView = c.args.self.now in
-    let cookies : c.self.inside.cookies.items ≡ before.cookies = ap (λ (a : AgentView). a.cookies) c.self.view_is in
+    let cookies : c.self.inside.store ≡ before.cookies = ap (λ (a : AgentView). a.cookies) c.self.view_is in
     let found : agent_verdict before site now c.args.text.now ≡ Ok c.in-Stored.cookie = sym c.in_ok-cookie.ensures ∙ ap verdict_result c.in-Stored.is in
-    let after : c.put.new.cookies.items ≡ (agent_after_text site now c.args.text.now before).cookies =
+    let after : c.put.new.self ≡ (agent_after_text site now c.args.text.now before).cookies =
     c.in_ok-put-in-Stored.ensures.ok
     ∙ ap (λ s. lasting now (kept_with c.in-Stored.cookie (lasting now s))) cookies
     ∙ sym (ap (λ o. kept_after_verdict now o (lasting now before.cookies)) found) in
@@ -36,9 +26,9 @@ returns-in_ok-put-in-Stored-clause-removed c set moment is receivable past store
     let site = c.args.site.now in
     let now = c.args.now in
     let before : AgentView = c.args.self.now in
-    let cookies : c.self.inside.cookies.items ≡ before.cookies = ap (λ (a : AgentView). a.cookies) c.self.view_is in
+    let cookies : c.self.inside.store ≡ before.cookies = ap (λ (a : AgentView). a.cookies) c.self.view_is in
     let found : agent_verdict before site now c.args.text.now ≡ Ok c.in-Stored.cookie = sym c.in_ok-cookie.ensures ∙ ap verdict_result c.in-Stored.is in
-    let after : c.put.new.cookies.items ≡ (agent_after_text site now c.args.text.now before).cookies =
+    let after : c.put.new.self ≡ (agent_after_text site now c.args.text.now before).cookies =
     c.in_ok-put-in-Stored.ensures.ok
     ∙ ap (λ s. lasting now (kept_with c.in-Stored.cookie (lasting now s))) cookies
     ∙ sym (ap (λ o. kept_after_verdict now o (lasting now before.cookies)) found) in
@@ -49,9 +39,9 @@ returns-in-Refused-clause-removed c set moment is receivable past store kept sto
     let site = c.args.site.now in
     let now = c.args.now in
     let before : AgentView = c.args.self.now in
-    let cookies : c.self.inside.cookies.items ≡ before.cookies = ap (λ (a : AgentView). a.cookies) c.self.view_is in
+    let cookies : c.self.inside.store ≡ before.cookies = ap (λ (a : AgentView). a.cookies) c.self.view_is in
     let found : agent_verdict before site now c.args.text.now ≡ Err c.in-Refused.refusal = sym c.in_ok-cookie.ensures ∙ ap verdict_result c.in-Refused.is in
-    let after : c.drop_expired.new.cookies.items ≡ (agent_after_text site now c.args.text.now before).cookies =
-    c.drop_expired.ensures ∙ ap (lasting now) cookies
+    let after : c.evict.new.self ≡ (agent_after_text site now c.args.text.now before).cookies =
+    c.evict.ensures ∙ ap (lasting now) cookies
     ∙ sym (ap (λ o. kept_after_verdict now o (lasting now before.cookies)) found) in
     subst (All (λ c. is_same_cookie c kept ≡ false)) (sym after) (removed site now c.args.text.now before set moment is receivable past store kept stored uncovered)

@@ -1,0 +1,85 @@
+-- Stored cookies in a text of lines: a walk over cookies or lines, one after the other.
+use Rattle.std.proofs.Common.{◌≡◌, ℕ, ◌+◌, ◌<◌, ◌≤◌, ◌&&◌, Bool, true, false, not, cond, List, [], ◌∷◌, ◌++◌, length, get_or, drop, map, refl, sym, ap, ◌∙◌, append_assoc}
+use Rattle.std.proofs.lemmas.Bool.{and_from, and_right}
+use Rattle.std.proofs.lemmas.List.{append-nil, at_drop_all, drop_more, map-append}
+use Rattle.std.proofs.lemmas.List.Elements.{filter-append}
+use Rattle.std.proofs.lemmas.List.Folds.{concat-append}
+use Rattle.std.specs.List.{concat}
+use Rattle.jiff.specs.Types.{DateTime}
+use Rattle.cookie_browser.specs.Storage.{KeptView}
+use Rattle.cookie_agent.specs.Saved.{cookies_of, is_persistent, places_of, saved}
+use Rattle.cookie_agent.specs.declared.saved.line.Line.TheVariants as line
+
+-- ---- a list that is the parts of its elements, each with its place
+
+-- the parts of a list are those of its first element and those of the others
+abbrev pub IsByPart : {X T : Type 0} → (ℕ → List X → List T) → Type 0
+IsByPart {X} {T} parts =
+    (place : ℕ) (x : X) (xs : List X) → parts place (x ∷ xs) ≡ parts place (x ∷ []) ++ parts (place + 1) xs
+
+pub walk_step : {X T : Type 0} (parts : ℕ → List X → List T) → IsByPart parts
+    → (xs : List X) (i place : ℕ) (x : X) (old new whole : List T)
+    → i < length xs → x ≡ get_or xs i x
+    → new ≡ old ++ parts place (x ∷ [])
+    → old ++ parts place (drop i xs) ≡ whole
+    → new ++ parts (place + 1) (drop (i + 1) xs) ≡ whole
+walk_step parts by_part xs i place x old new whole below is step before =
+    let rest = drop (i + 1) xs in
+    let left : drop i xs ≡ x ∷ rest = drop_more xs i x below ∙ ap (λ y. y ∷ rest) (sym is) in
+    ap (λ t. t ++ parts (place + 1) rest) step
+    ∙ append_assoc old (parts place (x ∷ [])) (parts (place + 1) rest)
+    ∙ ap (λ t. old ++ t) (sym (by_part place x rest) ∙ ap (parts place) (sym left))
+    ∙ before
+
+pub walk_end : {X T : Type 0} (parts : ℕ → List X → List T) (xs : List X) (i place : ℕ) (old whole : List T)
+    → length xs ≤ i → parts place [] ≡ []
+    → old ++ parts place (drop i xs) ≡ whole
+    → old ≡ whole
+walk_end parts xs i place old whole past none before =
+    sym (ap (λ t. old ++ t) (at_drop_all (parts place) xs i past ∙ none) ∙ append-nil old) ∙ before
+
+-- ---- places, cookies and saved texts are such
+
+pub places_of_parts : {X : Type 0} (test : X → Bool) → IsByPart (places_of test)
+places_of_parts test place x xs = by (test x)
+  where
+    by : (b : Bool) → cond b (place ∷ places_of test (place + 1) xs) (places_of test (place + 1) xs) ≡ cond b (place ∷ []) [] ++ places_of test (place + 1) xs
+    by true = refl
+    by false = refl
+
+pub cookies_of_parts : IsByPart (λ place. cookies_of)
+cookies_of_parts place (line.Cookie cookie) lines = refl
+cookies_of_parts place line.Other lines = refl
+cookies_of_parts place line.Bad lines = refl
+
+-- the texts of the saved cookies
+pub saved_parts : (now : DateTime) (is_carried : KeptView → Bool) (text : KeptView → List ℕ)
+    → IsByPart (λ place store. concat (map text (saved now is_carried store)))
+saved_parts now is_carried text place cookie store =
+    let one = saved now is_carried (cookie ∷ []) in
+    let others = saved now is_carried store in
+    ap (λ cookies. concat (map text cookies)) (filter-append (λ c. is_persistent now c && is_carried c) (cookie ∷ []) store)
+    ∙ ap concat (map-append text one others)
+    ∙ concat-append (map text one) (map text others)
+
+-- ---- what is written of one persistent cookie: its text if the form carries it, and else its place
+
+pub record Writes (now : DateTime) (is_carried : KeptView → Bool) (text : KeptView → List ℕ) (place : ℕ) (cookie : KeptView) (written left : List ℕ) : Type 0 where
+  pub line : concat (map text (saved now is_carried (cookie ∷ []))) ≡ written
+  pub places : places_of (λ c. is_persistent now c && not (is_carried c)) place (cookie ∷ []) ≡ left
+
+pub writes : (now : DateTime) (is_carried : KeptView → Bool) (text : KeptView → List ℕ) (place : ℕ) (cookie : KeptView)
+    → is_persistent now cookie ≡ true → is_carried cookie ≡ true → Writes now is_carried text place cookie (text cookie) []
+writes now is_carried text place cookie lasts carries =
+    record {
+      line = ap (λ b. concat (map text (cond b (cookie ∷ []) []))) (and_from (is_persistent now cookie) (is_carried cookie) lasts carries) ∙ append-nil (text cookie);
+      places = ap (λ b. cond b (place ∷ []) []) (and_right (is_persistent now cookie) (not (is_carried cookie)) (ap not carries));
+    }
+
+pub passes_over : (now : DateTime) (is_carried : KeptView → Bool) (text : KeptView → List ℕ) (place : ℕ) (cookie : KeptView)
+    → is_persistent now cookie ≡ true → is_carried cookie ≡ false → Writes now is_carried text place cookie [] (place ∷ [])
+passes_over now is_carried text place cookie lasts missed =
+    record {
+      line = ap (λ b. concat (map text (cond b (cookie ∷ []) []))) (and_right (is_persistent now cookie) (is_carried cookie) missed);
+      places = ap (λ b. cond b (place ∷ []) []) (and_from (is_persistent now cookie) (not (is_carried cookie)) lasts (ap not missed));
+    }

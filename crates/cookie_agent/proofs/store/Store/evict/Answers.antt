@@ -1,0 +1,10 @@
+-- What is left is apart.
+use Rattle.std.proofs.Common.{sym, subst}
+use Rattle.cookie_agent.specs.Stored.{IsApart}
+use Rattle.cookie_browser.specs.Storage.{lasts}
+use Rattle.cookie_agent.proofs.PutLemmas.{apart-filter}
+use Rattle.cookie_agent.proofs.store.Store.evict.Goals as goal
+
+pub invariant_of-self : goal.invariant_of-self
+invariant_of-self c =
+    subst IsApart (sym c.drop_expired.ensures) (apart-filter (λ d. lasts d.expiry c.args.now) c.self.inside.cookies.items c.self.invariant)

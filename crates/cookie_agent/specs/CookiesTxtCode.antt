@@ -1,0 +1,73 @@
+-- Mirrors private code: parts of a `cookies.txt`, as the code writes them.
+use Rattle.std.specs.Prelude.{ℕ, ◌&&◌, not, Bool, List, [], ◌∷◌, ◌++◌, decimal, map, Option, Some, None, if◌then◌else◌}
+use denote.Ref.{Bor}
+use Rattle.std.specs.List.{concat, join_with_byte}
+use Rattle.std.specs.Str.Lines.{strip_carriage_return}
+use Rattle.jiff.specs.Types.{DateTime}
+use Rattle.jiff.specs.Words.{civil_nanos}
+use Rattle.cookie_core.specs.Attributes.{nanos_of_seconds, seconds_of_digits}
+use Rattle.cookie_browser.specs.Storage.{KeptView, CookieStore}
+use Rattle.cookie_agent.specs.CookiesTxt.{cookie_line, cookie_of, domain_field, expiry_seconds, flag_of, flag_text, has_fields, http_only_mark, is_carried, line_read, read_line}
+use Rattle.cookie_agent.specs.Saved.{is_persistent, places_of, saved}
+use Rattle.cookie_agent.specs.declared.saved.cookies_txt.Fields.{Fields}
+use Rattle.cookie_agent.specs.declared.saved.cookies_txt.Kind.{Kind}
+use Rattle.cookie_agent.specs.declared.saved.line.Line.{Line}
+use Rattle.cookie_agent.specs.declared.saved.line.Line.TheVariants as line
+
+-- the lines of the persistent cookies that the form can carry
+abbrev pub saved_text : DateTime → CookieStore → List ℕ
+saved_text now store = concat (map cookie_line (saved now is_carried store))
+
+-- the places, from the given one, of those that it can't carry
+abbrev pub left_out_from : ℕ → DateTime → CookieStore → List ℕ
+left_out_from place now store =
+    places_of (λ cookie. is_persistent now cookie && not (is_carried cookie)) place store
+
+-- the seconds of the cookie's expiry, if the form can carry the cookie
+abbrev pub carried_seconds : KeptView → Option ℕ
+carried_seconds cookie =
+    if has_fields cookie then expiry_seconds cookie.expiry else None
+
+-- the fields of the domain, with a tab after each
+abbrev pub domain_text : KeptView → List ℕ
+domain_text cookie =
+    (if cookie.is_http_only then http_only_mark else [])
+    ++ (domain_field cookie ++ 9 ∷ (flag_text (not cookie.is_host_only) ++ 9 ∷ []))
+
+-- the cookie with an expiry of so many seconds, as it is loaded at the time
+abbrev pub dated : ℕ → DateTime → KeptView → KeptView
+dated seconds now cookie =
+    record cookie { expiry = Some (nanos_of_seconds seconds); last_access = civil_nanos now }
+
+-- the cookie of the fields, the flags and the seconds
+abbrev pub cookie_as : DateTime → Kind → ℕ → Fields → KeptView
+cookie_as now kind seconds fields =
+    cookie_of now kind.is_http_only fields.domain.now kind.below fields.path.now kind.is_secure_only
+    seconds fields.name.now fields.value.now
+
+-- what the lines hold
+abbrev pub lines_read : DateTime → List (Bor (List ℕ)) → List Line
+lines_read now lines = map (λ l. line_read now (strip_carriage_return l.now)) lines
+
+-- what a line of the fields holds
+abbrev pub line_of_parts : DateTime → Bool → Option Fields → Line
+line_of_parts now http_only None = line.Bad
+line_of_parts now http_only (Some fields) =
+    read_line now http_only fields.domain.now (flag_of fields.below.now) fields.path.now
+    (flag_of fields.secure.now) (seconds_of_digits fields.expiry.now) fields.name.now
+    fields.value.now
+
+-- the line of the cookie with an expiry of so many seconds
+abbrev pub line_at : ℕ → KeptView → List ℕ
+line_at seconds cookie =
+    (if cookie.is_http_only then http_only_mark else [])
+    ++ (join_with_byte 9
+    (domain_field cookie
+    ∷ flag_text (not cookie.is_host_only)
+    ∷ cookie.path
+    ∷ flag_text cookie.is_secure_only
+    ∷ decimal seconds
+    ∷ cookie.name
+    ∷ cookie.value
+    ∷ [])
+    ++ 10 ∷ [])

@@ -1,0 +1,66 @@
+//! Stored cookies, saved in a text of lines.
+ghost use Rattle.std.specs.Prelude.{◌≡◌, ◌==◌, IfOk, map, pos};
+ghost use Rattle.std.specs.List.{slice_split};
+ghost use Rattle.std.specs.Str.Lines.{strip_carriage_return};
+ghost use Rattle.jiff.specs.Words.{civil_nanos};
+ghost use Rattle.cookie_agent.specs.Saved as spec;
+
+mod cookies_txt;
+mod json_lines;
+mod line;
+mod loaded;
+mod storable;
+
+use crate::stored::StoredCookie;
+use cookie_browser::Expiry;
+pub use cookies_txt::{read_cookies_txt, write_cookies_txt};
+use jiff::Timestamp;
+use jiff::civil::DateTime;
+use jiff::tz::Offset;
+pub use json_lines::{read_json_lines, write_json_lines};
+pub use loaded::LoadedCookies;
+use std::alloc::{AllocError, Global};
+
+/// A text in which stored cookies are saved, and which cookies it lacks.
+#[derive(Drop)]
+pub struct SavedCookies {
+    /// The text.
+    pub text: Vec<u8>,
+    /// The places, from 0, of the persistent cookies that aren't in the text, since its form can't carry them.
+    pub left_out: Vec<usize>,
+}
+
+// Whether the cookie is persistent, and not expired at the time `now`.
+fn is_persistent(cookie: &StoredCookie, now: DateTime) -> bool
+    ensures { result ≡ spec.is_persistent now cookie.now }
+{
+    match cookie.expiry() {
+        Expiry::Session => false,
+        _ => cookie.lasts(now),
+    }
+}
+
+// 1970-01-01 00:00:00.
+fn start_of_1970() -> DateTime
+    ensures { civil_nanos result ≡ pos 0 }
+{
+    Offset::UTC.to_datetime(Timestamp::UNIX_EPOCH)
+}
+
+// The texts between line feeds.
+fn lines_of(alloc: Global, text: &[u8]) -> Result<Vec<&[u8]>, AllocError>
+    ensures { IfOk result (λ lines.
+        map (λ l. l.now) lines.items ≡ slice_split (λ byte. byte == 10) text.now) }
+{
+    text.split(|byte| *byte == 10).collect(alloc)
+}
+
+// The text without one carriage return at its end.
+fn without_return(text: &[u8]) -> &[u8]
+    ensures { result.now ≡ strip_carriage_return text.now }
+{
+    match text {
+        [line @ .., b'\r'] => line,
+        _ => text,
+    }
+}
