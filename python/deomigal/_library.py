@@ -4,11 +4,14 @@ from __future__ import annotations
 import ctypes
 import os
 import pathlib
+import weakref
 from typing import Any, Callable, NoReturn
 
 from .errors import BufferTooShort, CookieError, error_of
 
 DONE = 0
+# COOKIE_VERSION of the header that this file follows.
+VERSION = 1
 
 
 class Answer(ctypes.Structure):
@@ -49,6 +52,8 @@ class Held(ctypes.Structure):
 
 
 class Handle(ctypes.Structure):
+    """What the library keeps for a jar, a site's sessions, a session, or a list of public suffixes."""
+
     _fields_ = [("is_open", ctypes.c_bool), ("held", Held)]
 
 
@@ -57,15 +62,14 @@ class Settings(ctypes.Structure):
         ("keys", ctypes.c_char_p), ("keys_length", ctypes.c_size_t),
         ("cookie", ctypes.c_char_p), ("cookie_length", ctypes.c_size_t),
         ("lifetime", ctypes.c_uint32), ("idle", ctypes.c_uint32),
-        ("seed", ctypes.c_uint64), ("other_seed", ctypes.c_uint64),
     ]
 
 
-class OpenedSession(ctypes.Structure):
-    _fields_ = [("status", ctypes.c_uint32)] + [
-        (name, size) for size, names in ((ctypes.c_size_t, ("length", "place")), (ctypes.c_uint64, ("started", "seen")))
-        for name in names
-    ] + [("id", ctypes.c_uint8 * 16)]
+class SessionFacts(ctypes.Structure):
+    _fields_ = [
+        ("status", ctypes.c_uint32), ("is_opened", ctypes.c_bool), ("place", ctypes.c_size_t),
+        ("started", ctypes.c_uint64), ("seen", ctypes.c_uint64), ("id", ctypes.c_uint8 * 16),
+    ]
 
 
 def library_at(path: str) -> ctypes.CDLL:
@@ -84,6 +88,7 @@ TEXT: list[Any] = [ctypes.c_char_p, ctypes.c_size_t]
 HANDLE: list[Any] = [ctypes.POINTER(Handle)]
 SEEDS: list[Any] = [ctypes.c_uint64] * 2
 SETTINGS: list[Any] = [ctypes.POINTER(Settings)]
+SECOND: list[Any] = [ctypes.c_uint64]
 
 
 def declare(name: str, parameters: list[Any], result: Any) -> Callable[..., Any]:
@@ -93,6 +98,8 @@ def declare(name: str, parameters: list[Any], result: Any) -> Callable[..., Any]
     return function  # type: ignore[no-any-return]
 
 
+if declare("version", [], ctypes.c_uint32)() != VERSION:
+    raise ImportError("deomigal found another version of its library: install the wheel that tools/c/install makes")
 DERIVE_KEY = declare("derive_key", TEXT * 2, Answer)
 SIGN = declare("sign", TEXT * 4, Answer)
 VERIFY = declare("verify", TEXT * 4, Answer)
@@ -114,11 +121,30 @@ JAR_REMOVE_SCOPED = declare("jar_remove_scoped", HANDLE + TEXT * 4, ctypes.c_uin
 JAR_GET = declare("jar_get", HANDLE + TEXT * 2, Answer)
 JAR_DELTA = declare("jar_delta", HANDLE + TEXT, Answer)
 JAR_FREE = declare("jar_free", HANDLE, None)
-SESSION_OPEN = declare("session_open", SETTINGS + TEXT * 2 + [ctypes.c_uint64] + TEXT, OpenedSession)
-SESSION_SAVE = declare(
-    "session_save", SETTINGS + TEXT * 3 + [ctypes.c_bool, ctypes.c_uint64] + TEXT * 2, Answer
-)
-SESSION_END = declare("session_end", SETTINGS + [ctypes.c_uint64] + TEXT, Answer)
+JAR_COOKIES = declare("jar_cookies", HANDLE + TEXT, Answer)
+SESSIONS_NEW = declare("sessions_new", SETTINGS + HANDLE, ctypes.c_uint32)
+SESSIONS_FREE = declare("sessions_free", HANDLE, None)
+SESSION_OPEN = declare("session_open", HANDLE + TEXT * 2 + SECOND + HANDLE, ctypes.c_uint32)
+SESSION_START = declare("session_start", TEXT + SECOND + HANDLE, ctypes.c_uint32)
+SESSION_DESCRIBE = declare("session_describe", HANDLE, SessionFacts)
+SESSION_GET = declare("session_get", HANDLE + TEXT * 2, Answer)
+SESSION_SET = declare("session_set", HANDLE + TEXT * 2, ctypes.c_uint32)
+SESSION_REMOVE = declare("session_remove", HANDLE + TEXT, ctypes.c_uint32)
+SESSION_TEXTS = declare("session_texts", HANDLE + TEXT, Answer)
+SESSION_SET_TEXTS = declare("session_set_texts", HANDLE + TEXT, ctypes.c_uint32)
+SESSION_RENEW = declare("session_renew", HANDLE + TEXT + SECOND, ctypes.c_uint32)
+SESSION_SAVE = declare("session_save", HANDLE * 2 + TEXT + SECOND + TEXT, Answer)
+SESSION_END = declare("session_end", HANDLE + SECOND + TEXT, Answer)
+SESSION_FREE = declare("session_free", HANDLE, None)
+SUFFIXES_NEW = declare("suffixes_new", TEXT + HANDLE, ctypes.c_uint32)
+SUFFIXES_FREE = declare("suffixes_free", HANDLE, None)
+
+
+def handle_of(owner: object, free: Callable[..., Any]) -> Handle:
+    """A handle with nothing, which is freed when its owner is gone."""
+    handle = Handle()
+    weakref.finalize(owner, free, handle)
+    return handle
 
 
 class Uncopied:

@@ -166,6 +166,24 @@ class BadIds(CookieError):
     status = 25
 
 
+class NoSessions(CookieError):
+    """The handle has no sessions of a site. No call of this package raises it."""
+
+    status = 26
+
+
+class NoSuffixes(CookieError):
+    """The handle has no list of public suffixes. No call of this package raises it."""
+
+    status = 27
+
+
+class NoAgent(CookieError):
+    """The handle has no user agent. No call of this package raises it."""
+
+    status = 28
+
+
 class RevocationsError(RuntimeError):
     """Whether a session is revoked can't be looked up, or that it is can't be kept. Answer the request with an error,
     such as status 503 (RFC 9110 15.6.4), and never as that of a visitor without a session."""

@@ -5,9 +5,12 @@ import ctypes
 import datetime
 import functools
 import pathlib
+import threading
 from typing import NamedTuple
 
-from ._library import DONE, TEXT, Place, bytes_of, declare
+from ._library import (
+    DONE, HANDLE, SECOND, SUFFIXES_FREE, SUFFIXES_NEW, TEXT, Place, bytes_of, declare, done, handle_of,
+)
 from .addresses import Address, address_of
 from .cookies import RULES
 from .dates import print_date
@@ -37,7 +40,7 @@ class Request(ctypes.Structure):
     _fields_ = [
         ("host", ctypes.c_char_p), ("host_length", ctypes.c_size_t),
         ("path", ctypes.c_char_p), ("path_length", ctypes.c_size_t),
-    ] + [(name, ctypes.c_bool) for name in ("is_address", "is_secure", "is_same_site", "is_top_level")]
+    ] + [(name, ctypes.c_bool) for name in ("is_address", "is_secure", "is_same_site", "is_top_level", "is_safe")]
 
 
 class StoredCookie(ctypes.Structure):
@@ -53,7 +56,17 @@ class Explanation(ctypes.Structure):
     ]
 
 
-EXPLAIN = declare("explain", [ctypes.POINTER(Request)] + TEXT * 2 + [ctypes.c_uint64] + TEXT, Explanation)
+EXPLAIN = declare("explain", HANDLE + [ctypes.POINTER(Request)] + TEXT + SECOND + TEXT, Explanation)
+
+
+class Suffixes:
+    """The rules of a list of public suffixes, read once. Threads may share it."""
+
+    def __init__(self, text: bytes) -> None:
+        self.handle = handle_of(self, SUFFIXES_FREE)
+        # Only one call at a time may use the handle.
+        self.lock = threading.Lock()
+        done(SUFFIXES_NEW, text, self.handle)
 
 
 class Refusal(NamedTuple):
@@ -132,7 +145,9 @@ def found_at(address: Address, text: bytes, suffixes: bytes, now: int) -> Found:
     # The texts of a stored cookie come from these three.
     room = ROOM + len(host) + len(path) + len(text)
     buffer = ctypes.create_string_buffer(room)
-    answer = EXPLAIN(request, suffixes, len(suffixes), text, len(text), now, buffer, room)
+    rules = rules_of(suffixes)
+    with rules.lock:
+        answer = EXPLAIN(rules.handle, request, text, len(text), now, buffer, room)
     if answer.status != DONE:
         raise error_of(answer.status)
     cookie, texts = answer.stored, buffer.raw
@@ -221,6 +236,12 @@ def suffix_list() -> tuple[str, bytes]:
         except OSError:
             pass
     return "none found, so only a domain of one label is one", b""
+
+
+@functools.lru_cache(maxsize=4)
+def rules_of(suffixes: bytes) -> Suffixes:
+    """The rules of the list, of which the last ones are kept."""
+    return Suffixes(suffixes)
 
 
 def list_text(suffixes: str | bytes | None) -> bytes:

@@ -3,10 +3,12 @@ from __future__ import annotations
 
 import datetime
 import threading
+from typing import Iterator
+from urllib.parse import unquote
 
 from ._library import (
-    JAR_ADD, JAR_ADD_ORIGINALS, JAR_DELTA, JAR_FREE, JAR_GET, JAR_NEW, JAR_REMOVE_SCOPED, RUN, Handle, done, given,
-    Uncopied, header_of, read, seeds,
+    JAR_ADD, JAR_ADD_ORIGINALS, JAR_COOKIES, JAR_DELTA, JAR_FREE, JAR_GET, JAR_NEW, JAR_REMOVE_SCOPED, RUN, Uncopied,
+    done, given, handle_of, header_of, read, seeds,
 )
 from .dates import print_date
 from .errors import NotFound
@@ -16,19 +18,18 @@ class Jar(Uncopied):
     """A jar whose originals are the cookies in a `Cookie` header, decoded. `with Jar(header) as jar` frees it at last.
 
     Pieces of the header that aren't cookies or UTF-8 are left out, and so is a name that another host of the domain
-    disguised, such as `%5F_Host-a`. Of several cookies with one name the first counts. A jar is looked up as `http.cookies.SimpleCookie`
-    is, but `jar[name]` is the value itself. It can't be iterated. Threads may share it.
+    disguised, such as `%5F_Host-a`. Of several cookies with one name the first counts. A jar is looked up as
+    `http.cookies.SimpleCookie` is, but `jar[name]` is the value itself. Iterating gives the names, in any order. Threads
+    may share it.
 
     >>> with Jar("lang=en") as jar:
     ...     jar.add("theme=dark; Path=/")
-    ...     jar["lang"], jar.delta()
-    ('en', ['Set-Cookie: theme=dark; Path=/'])
+    ...     jar["lang"], jar.delta(), sorted(jar.items())
+    ('en', ['Set-Cookie: theme=dark; Path=/'], [('lang', 'en'), ('theme', 'dark')])
     """
 
-    __iter__ = None
-
     def __init__(self, header: str | bytes | None = None) -> None:
-        self.handle = Handle()
+        self.handle = handle_of(self, JAR_FREE)
         # Only one call at a time may use the handle.
         self.lock = threading.Lock()
         originals = header_of(header)
@@ -39,9 +40,6 @@ class Jar(Uncopied):
         return self
 
     def __exit__(self, *_: object) -> None:
-        self.close()
-
-    def __del__(self) -> None:
         self.close()
 
     def add(self, text: str) -> None:
@@ -78,6 +76,20 @@ class Jar(Uncopied):
     def __contains__(self, name: str) -> bool:
         """Whether the jar has a cookie of that name."""
         return self.get(name) is not None
+
+    def items(self) -> list[tuple[str, str]]:
+        """The names of the jar's cookies with their values, in any order."""
+        with self.lock:
+            lines = given(JAR_COOKIES, self.handle).decode().split("\n")[:-1]
+        pairs = (line.partition("=") for line in lines)
+        return [(unquote(name), unquote(value)) for name, _, value in pairs]
+
+    def __iter__(self) -> Iterator[str]:
+        """The names of the jar's cookies, in any order."""
+        return (name for name, _ in self.items())
+
+    def __len__(self) -> int:
+        return len(self.items())
 
     def delta(self) -> list[str]:
         """The lines `Set-Cookie: ..` for the jar's changes, in any order."""

@@ -4,12 +4,15 @@ from __future__ import annotations
 
 import contextlib
 import os
+import threading
 import time
-from typing import Iterator, MutableMapping, Sequence
+from typing import Any, Iterator, MutableMapping, Sequence
 from urllib.parse import parse_qsl, urlencode
 
 from ._library import (
-    DONE, SESSION_END, SESSION_OPEN, SESSION_SAVE, Settings, Uncopied, given, header_of, key_of, seeds, told,
+    DONE, SESSION_DESCRIBE, SESSION_END, SESSION_FREE, SESSION_OPEN, SESSION_RENEW, SESSION_SAVE, SESSION_SET_TEXTS,
+    SESSION_START, SESSION_TEXTS, SESSIONS_FREE, SESSIONS_NEW, Settings, Uncopied, arguments_of, done, given, handle_of,
+    header_of, key_of,
 )
 from .cookies import print_cookie
 from .errors import KeyTooShort, NoDate, NoSession, RevocationsError, error_of
@@ -44,6 +47,8 @@ class Session(MutableMapping[str, str]):
         self.header = self.revoked = b""
         self.texts: dict[str, str] = {}
         self.is_renewed = True
+        # What the library keeps of the session, once it is opened or saved.
+        self.handle = handle_of(self, SESSION_FREE)
 
     @property
     def is_new(self) -> bool:
@@ -81,9 +86,17 @@ class Session(MutableMapping[str, str]):
     def __len__(self) -> int:
         return len(self.texts)
 
+    def __getstate__(self) -> dict[str, Any]:
+        # A copy has a handle of its own: it opens the header's session again when it is saved.
+        return {name: value for name, value in self.__dict__.items() if name != "handle"}
+
+    def __setstate__(self, state: dict[str, Any]) -> None:
+        self.__dict__.update(state)
+        self.handle = handle_of(self, SESSION_FREE)
+
     def __copy__(self) -> Session:
-        copied = Session(self.now)
-        copied.__dict__.update(self.__dict__, texts=dict(self.texts), starts=dict(self.starts))
+        copied = Session.__new__(Session)
+        copied.__setstate__({**self.__getstate__(), "texts": dict(self.texts), "starts": dict(self.starts)})
         return copied
 
     def __repr__(self) -> str:
@@ -143,7 +156,10 @@ class Sessions(Uncopied):
             name, "", path=path, domain=domain, secure=secure, http_only=http_only, same_site=same_site,
             partitioned=partitioned or None,
         ).encode()
-        self.settings = Settings(ring, len(ring), cookie, len(cookie), lifetime, idle, *seeds())
+        self.handle = handle_of(self, SESSIONS_FREE)
+        # Only one call at a time may use the handle.
+        self.lock = threading.Lock()
+        done(SESSIONS_NEW, Settings(ring, len(ring), cookie, len(cookie), lifetime, idle), self.handle)
         self.save(self.start())
 
     def start(self, now: float | None = None) -> Session:
@@ -170,22 +186,30 @@ class Sessions(Uncopied):
         (False, True)
         """
         session = self.start(now)
-        header = header_of(header)
-        while True:
-            answer, form = told(SESSION_OPEN, self.settings, header, session.revoked, seconds(session), room=ROOM)
-            found = bytes(answer.id)
-            if answer.status != DONE or not self.is_revoked(found):
+        session.header = header_of(header)
+        while (status := self.fill(session)) == DONE:
+            facts = SESSION_DESCRIBE(session.handle)
+            found = bytes(facts.id)
+            if not self.is_revoked(found):
                 break
             # The next cookie of the name counts.
             session.revoked += found
-        if answer.status == DONE:
-            session.started, session.seen, session.place = answer.started, answer.seen, answer.place
-            session.id, session.starts = found, {found: answer.started}
-            session.header, session.is_renewed = header, False
-            session.texts = dict(parse_qsl(form.decode(), keep_blank_values=True))
-        elif answer.status != NoSession.status:
-            raise error_of(answer.status)
-        return session
+        if status == DONE:
+            session.started, session.seen, session.place = facts.started, facts.seen, facts.place
+            session.id, session.starts, session.is_renewed = found, {found: facts.started}, False
+            form = given(SESSION_TEXTS, session.handle, room=ROOM).decode()
+            session.texts = dict(parse_qsl(form, keep_blank_values=True))
+            return session
+        if status != NoSession.status:
+            raise error_of(status)
+        return self.start(session.now)
+
+    def fill(self, session: Session) -> int:
+        """Opens the session of its header for its handle, and returns the status."""
+        inputs = (self.handle, session.header, session.revoked, seconds(session), session.handle)
+        with self.lock:
+            status: int = SESSION_OPEN(*arguments_of(SESSION_OPEN, inputs))
+        return status
 
     def is_revoked(self, id: bytes) -> bool:
         """Whether the session with this id is revoked. Raises `RevocationsError` for whatever the look-up raises."""
@@ -237,9 +261,16 @@ class Sessions(Uncopied):
         """
         if not isinstance(session, Session):
             raise TypeError("what is saved is a Session")
-        form, random = urlencode(session.texts), os.urandom(12) + session.id
-        inputs = (session.header, session.revoked, form, session.is_renewed, seconds(session), random)
-        text = given(SESSION_SAVE, self.settings, *inputs, room=ROOM).decode()
+        now, handle = seconds(session), session.handle
+        if session.is_renewed and not handle.is_open:
+            done(SESSION_START, session.id, now, handle)
+        elif session.is_renewed:
+            done(SESSION_RENEW, handle, session.id, now)
+        elif not handle.is_open and (status := self.fill(session)) != DONE:
+            raise error_of(status)
+        done(SESSION_SET_TEXTS, handle, urlencode(session.texts))
+        with self.lock:
+            text = given(SESSION_SAVE, self.handle, handle, os.urandom(12), now, room=ROOM).decode()
         session.starts[session.id] = session.started
         return text
 
@@ -252,7 +283,8 @@ class Sessions(Uncopied):
         >>> sessions.end(now=1445412480)
         'session=; HttpOnly; SameSite=Lax; Secure; Path=/; Max-Age=0; Expires=Tue, 21 Oct 2014 07:28:00 GMT'
         """
-        return given(SESSION_END, self.settings, seconds(self.start(now))).decode()
+        with self.lock:
+            return given(SESSION_END, self.handle, seconds(self.start(now))).decode()
 
 
 def seconds(session: Session) -> int:

@@ -76,7 +76,7 @@ static const char *const NAMES[] = {
     "DONE",      "BUFFER_TOO_SHORT", "OUT_OF_MEMORY", "NOT_UTF8", "KEY_TOO_SHORT", "MASTER_TOO_SHORT", "BAD_NONCE",
     "NOT_SIGNED", "NOT_SEALED", "TOO_LONG", "NO_DATE", "BAD_MOMENT", "BAD_LINE", "MISSING_PAIR", "EMPTY_NAME", "BAD_ESCAPE",
     "NO_PAIR", "NO_JAR", "NOT_FOUND", "BAD_ATTRIBUTE", "NO_SESSION", "BAD_PREFIX", "OVER", "TOO_LARGE",
-    "INVALID_VALUE", "BAD_IDS",
+    "INVALID_VALUE", "BAD_IDS", "NO_SESSIONS", "NO_SUFFIXES",
 };
 
 static uint32_t status_named(const char *name) {
@@ -174,8 +174,9 @@ static cookie_answer play_step(cookie_jar *jar, text step, uint8_t *out, size_t 
     }
     if (is_step("get", step, &rest))
         return cookie_jar_get(jar, rest.bytes, rest.length, out, length);
-    if (is_step("delta", step, &rest)) {
-        cookie_answer answer = cookie_jar_delta(jar, out, length);
+    int is_delta = is_step("delta", step, &rest);
+    if (is_delta || is_step("cookies", step, &rest)) {
+        cookie_answer answer = is_delta ? cookie_jar_delta(jar, out, length) : cookie_jar_cookies(jar, out, length);
         if (answer.status == COOKIE_DONE)
             sort_lines(out, answer.length);
         return answer;
@@ -221,46 +222,97 @@ static cookie_answer print_cookie(const text *in, uint8_t *out, size_t length) {
     return cookie_print(IN(0), IN(1), IN(2), IN(3), &attributes, in[5].bytes[0] == '1', out, length);
 }
 
-/* The settings of a row on sessions, whose numbers are the two limits, the second, and whether the session is renewed. No
- * pointer of settings is null. */
-static cookie_session_settings settings_in(const text *in, long long numbers[4]) {
+/* The sessions of a row, whose numbers are the two limits, the second, and whether the session is renewed. No pointer of
+ * settings is null. */
+static uint32_t make_sessions(const text *in, long long numbers[4], cookie_sessions *sessions) {
     static const uint8_t nothing = 0;
     numbers_in(in[2], 4, numbers);
-    return (cookie_session_settings){
+    cookie_session_settings settings = {
         .keys = in[0].length > 0 ? in[0].bytes : &nothing,
         .keys_length = in[0].length,
         .cookie = in[1].length > 0 ? in[1].bytes : &nothing,
         .cookie_length = in[1].length,
         .lifetime = (uint32_t)numbers[0],
         .idle = (uint32_t)numbers[1],
-        .seed = 1,
-        .other_seed = 2,
     };
+    return cookie_sessions_new(&settings, sessions);
 }
 
 /* A session that is opened: the place of its key and its times are the row's last numbers, and its id is the last text. */
 static cookie_answer open_session(const text *in, uint8_t *out, size_t length) {
     long long n[4], told[3];
-    cookie_session_settings settings = settings_in(in, n);
-    cookie_opened_session opened = cookie_session_open(&settings, IN(3), IN(4), (uint64_t)n[2], out, length);
+    cookie_sessions sessions = {0};
+    cookie_session session = {0};
+    cookie_answer answer = of_status(make_sessions(in, n, &sessions));
+    if (answer.status == COOKIE_DONE)
+        answer.status = cookie_session_open(&sessions, IN(3), IN(4), (uint64_t)n[2], &session);
+    cookie_session_facts facts = cookie_session_describe(&session);
+    if (answer.status == COOKIE_DONE)
+        answer = cookie_session_texts(&session, out, length);
     numbers_in(in[5], 3, told);
-    if (opened.place != (size_t)told[0] || opened.started != (uint64_t)told[1] || opened.seen != (uint64_t)told[2])
+    if (facts.place != (size_t)told[0] || facts.started != (uint64_t)told[1] || facts.seen != (uint64_t)told[2])
         fault("another key or another time");
-    if (in[6].length != sizeof opened.id || memcmp(opened.id, in[6].bytes, sizeof opened.id) != 0)
+    if (in[6].length != sizeof facts.id || memcmp(facts.id, in[6].bytes, sizeof facts.id) != 0)
         fault("another id");
-    return (cookie_answer){opened.status, opened.length};
+    if (facts.is_opened != (facts.status == COOKIE_DONE))
+        fault("a session that was opened is told as a new one");
+    cookie_session_free(&session);
+    cookie_sessions_free(&sessions);
+    return answer;
+}
+
+/* Puts a text at a name that no row has, and drops it again. */
+static void put_and_drop(cookie_session *session) {
+    static const uint8_t name[] = "rows.c", value[] = "kept";
+    uint8_t out[4];
+    if (cookie_session_set(session, name, 6, value, 4) != COOKIE_DONE)
+        fault("a text isn't put");
+    cookie_answer answer = cookie_session_get(session, name, 6, out, sizeof out);
+    if (answer.status != COOKIE_DONE || answer.length != 4 || memcmp(out, value, 4) != 0)
+        fault("another text is put");
+    if (cookie_session_remove(session, name, 6) != COOKIE_DONE
+        || cookie_session_get(session, name, 6, out, sizeof out).status != COOKIE_NOT_FOUND)
+        fault("a text isn't dropped");
+}
+
+/* Starts a session with another id, or opens the request's, and gives it the row's texts. The one that started is
+ * renewed, so that it has the row's id. */
+static uint32_t make_session(const text *in, const long long n[4], cookie_sessions *sessions, cookie_session *session) {
+    static const uint8_t id[16] = {1};
+    uint64_t now = (uint64_t)n[2];
+    uint32_t status = n[3] == 1 ? cookie_session_start(id, sizeof id, now, session)
+                                : cookie_session_open(sessions, IN(3), IN(4), now, session);
+    if (status != COOKIE_DONE)
+        return status;
+    status = cookie_session_set_texts(session, IN(5));
+    put_and_drop(session);
+    if (status == COOKIE_DONE && n[3] == 1)
+        status = cookie_session_renew(session, in[6].bytes + 12, 16, now);
+    return status;
 }
 
 static cookie_answer save_session(const text *in, uint8_t *out, size_t length) {
     long long n[4];
-    cookie_session_settings settings = settings_in(in, n);
-    return cookie_session_save(&settings, IN(3), IN(4), IN(5), n[3] == 1, (uint64_t)n[2], IN(6), out, length);
+    cookie_sessions sessions = {0};
+    cookie_session session = {0};
+    cookie_answer answer = of_status(make_sessions(in, n, &sessions));
+    if (answer.status == COOKIE_DONE)
+        answer.status = make_session(in, n, &sessions, &session);
+    if (answer.status == COOKIE_DONE)
+        answer = cookie_session_save(&sessions, &session, in[6].bytes, 12, (uint64_t)n[2], out, length);
+    cookie_session_free(&session);
+    cookie_sessions_free(&sessions);
+    return answer;
 }
 
 static cookie_answer end_session(const text *in, uint8_t *out, size_t length) {
     long long n[4];
-    cookie_session_settings settings = settings_in(in, n);
-    return cookie_session_end(&settings, (uint64_t)n[2], out, length);
+    cookie_sessions sessions = {0};
+    cookie_answer answer = of_status(make_sessions(in, n, &sessions));
+    if (answer.status == COOKIE_DONE)
+        answer = cookie_session_end(&sessions, (uint64_t)n[2], out, length);
+    cookie_sessions_free(&sessions);
+    return answer;
 }
 
 /* Whether the places have these lengths, and are one right after the other; or all are 0. */
@@ -280,8 +332,12 @@ static cookie_answer explain(const text *in, uint8_t *out, size_t length) {
     numbers_in(in[2], 5, n);
     numbers_in(in[5], 13, told);
     cookie_request request = {in[0].bytes, in[0].length, in[1].bytes, in[1].length,
-                              n[0] == 1, n[1] == 1, n[2] == 1, n[3] == 1};
-    cookie_explanation why = cookie_explain(&request, IN(3), IN(4), (uint64_t)n[4], out, length);
+                              n[0] == 1, n[1] == 1, n[2] == 1, n[3] == 1, false};
+    cookie_suffixes suffixes = {0};
+    if (cookie_suffixes_new(IN(3), &suffixes) != COOKIE_DONE)
+        fault("the list isn't read");
+    cookie_explanation why = cookie_explain(&suffixes, &request, IN(4), (uint64_t)n[4], out, length);
+    cookie_suffixes_free(&suffixes);
     cookie_stored it = why.stored;
     const cookie_place refused[] = {why.sentence, why.section}, stored[] = {it.name, it.value, it.domain, it.path};
     const long long rest[] = {(long long)it.lifetime, it.same_site,  it.is_persistent,
@@ -516,7 +572,7 @@ static size_t look(cookie_jar *jar, uint8_t *out, size_t length) {
 static void starve(void) {
     static char steps[][60] = {"new", "originals name=val; n=x%20y", "add a=1; Path=/",
                                "remove Wed, 21 Oct 2015 07:28:00 GMT\nname",
-                               "scoped Wed, 21 Oct 2015 07:28:00 GMT\nn\n/p\n.b.c", "delta"};
+                               "scoped Wed, 21 Oct 2015 07:28:00 GMT\nn\n/p\n.b.c", "delta", "cookies"};
     cookie_jar jar = {0};
     int refused = 0;
     for (size_t i = 0; i < sizeof steps / sizeof *steps; i++)
@@ -575,6 +631,68 @@ static void starve_decoding(void) {
     printf("%d requests for memory of decoding refused, each told with the buffer as it was\n", refused);
 }
 
+/* The form of a handle's session, and its id. */
+static size_t look_at_session(cookie_session *session, uint8_t *out, size_t length) {
+    cookie_session_facts facts = cookie_session_describe(session);
+    memcpy(out, facts.id, sizeof facts.id);
+    return sizeof facts.id + cookie_session_texts(session, out + sizeof facts.id, length - sizeof facts.id).length;
+}
+
+/* A step on the handles of a site and of a session. */
+static uint32_t session_step(int step, cookie_sessions *sessions, cookie_session *session) {
+    static const uint8_t key[64] = {7}, cookie[] = "s=; Path=/", id[16] = {1}, form[] = "a=1&b=%20", nonce[12] = {2};
+    static uint8_t saved[1000];
+    static size_t length = 0;
+    const cookie_session_settings settings = {key, sizeof key, cookie, sizeof cookie - 1, 60, 60};
+    switch (step) {
+    case 0:
+        return cookie_sessions_new(&settings, sessions);
+    case 1:
+        return cookie_session_start(id, sizeof id, 1445412480, session);
+    case 2:
+        return cookie_session_set(session, id, 1, form, 1);
+    case 3:
+        return cookie_session_set_texts(session, form, sizeof form - 1);
+    case 4: {
+        cookie_answer answer = cookie_session_save(sessions, session, nonce, 12, 1445412480, saved, sizeof saved);
+        if (answer.status == COOKIE_DONE)
+            length = (size_t)((uint8_t *)memchr(saved, ';', answer.length) - saved);
+        return answer.status;
+    }
+    default:
+        return cookie_session_open(sessions, saved, length, NULL, 0, 1445412480, session);
+    }
+}
+
+/* The same of handles of sessions as of a jar's. */
+static void starve_sessions(void) {
+    cookie_sessions sessions = {0};
+    cookie_session session = {0};
+    int refused = 0;
+    for (int step = 0; step < 6; step++)
+        for (size_t number = 1;; number++) {
+            uint8_t before[300] = {0}, after[300] = {0};
+            size_t before_length = look_at_session(&session, before, sizeof before);
+            asked = 0;
+            refused_at = number;
+            uint32_t status = session_step(step, &sessions, &session);
+            refused_at = 0;
+            if (status == COOKIE_DONE)
+                break;
+            refused++;
+            size_t after_length = look_at_session(&session, after, sizeof after);
+            if (status != COOKIE_OUT_OF_MEMORY || asked < number)
+                fault("a step on a session without memory has another status");
+            if (after_length != before_length || memcmp(after, before, before_length) != 0)
+                fault("a step on a session without memory has changed it");
+            if (number == 1000)
+                break;
+        }
+    cookie_session_free(&session);
+    cookie_sessions_free(&sessions);
+    printf("%d requests for memory of sessions refused, each told with the session as it was\n", refused);
+}
+
 int main(int count, char **arguments) {
     FILE *rows = count == 2 ? fopen(arguments[1], "r") : NULL;
     if (rows == NULL)
@@ -611,8 +729,11 @@ int main(int count, char **arguments) {
     free(line);
     fclose(rows);
     row = "rows.c";
+    if (cookie_version() != COOKIE_VERSION)
+        fault("another version");
     overlap();
     starve();
+    starve_sessions();
     starve_decoding();
     printf("C: %d calls, %d faults\n", played, faults);
     return faults != 0;

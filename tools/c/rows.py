@@ -61,8 +61,8 @@ def step(handle, text, out, length):
         return library.Answer(library.JAR_NEW(1, 2, handle), 0)
     if word == b"get":
         return library.JAR_GET(handle, *rest, out, length)
-    if word == b"delta":
-        return library.JAR_DELTA(handle, out, length)
+    if word in (b"delta", b"cookies"):
+        return (library.JAR_DELTA if word == b"delta" else library.JAR_COOKIES)(handle, out, length)
     if word == b"free":
         library.JAR_FREE(handle)
         return library.Answer(library.DONE, 0)
@@ -95,7 +95,7 @@ def played(call, inputs, length):
         answer = play_jar(inputs, out, length)
         given = answer.length if answer.status == library.DONE else 0
         text = buffer.raw[:given]
-        return answer.status, answer.length, (in_order(text) if inputs[-1] == b"delta" else text) + buffer.raw[given:]
+        return answer.status, answer.length, (in_order(text) if inputs[-1] in (b"delta", b"cookies") else text) + buffer.raw[given:]
     if call == "explain":
         answer = play_explain(inputs, out, length)
         return answer.status, answer.length, buffer.raw
@@ -119,7 +119,10 @@ def play_explain(inputs, out, length):
     host, path, numbers, listed, text, told = inputs
     *flags, now = numbers_in(numbers, 5)
     request = explain.Request(host, len(host), path, len(path), *(flag == 1 for flag in flags))
-    why = explain.EXPLAIN(request, listed or None, len(listed), text or None, len(text), now, out, length)
+    suffixes = library.Handle()
+    library.SUFFIXES_NEW(listed or None, len(listed), suffixes)
+    why = explain.EXPLAIN(suffixes, request, text or None, len(text), now, out, length)
+    library.SUFFIXES_FREE(suffixes)
     it = why.stored
     places = [why.sentence, why.section] if why.refusal else [it.name, it.value, it.domain, it.path]
     ends = list(itertools.accumulate(place.length for place in places))
@@ -130,22 +133,53 @@ def play_explain(inputs, out, length):
     return library.Answer(why.status, ends[-1])
 
 
+def make_session(rest, now, is_new, handle, session):
+    """Starts a session with another id, or opens the request's, and gives it the row's texts. The one that started is
+    renewed, so that it has the row's id. A text is put into it and dropped again."""
+    header, revoked, form, random = ((value or None, len(value)) for value in rest[:4])
+    if is_new:
+        status = library.SESSION_START(bytes(16), 16, now, session)
+    else:
+        status = library.SESSION_OPEN(handle, *header, *revoked, now, session)
+    if status != library.DONE:
+        return status
+    library.SESSION_SET_TEXTS(session, *form)
+    library.SESSION_SET(session, b"rows.py", 7, b"kept", 4)
+    buffer = ctypes.create_string_buffer(4)
+    answer = library.SESSION_GET(session, b"rows.py", 7, buffer, 4)
+    if (answer.status, answer.length, buffer.raw) != (library.DONE, 4, b"kept"):
+        fault("another text is put")
+    library.SESSION_REMOVE(session, b"rows.py", 7)
+    return library.SESSION_RENEW(session, random[0][12:], 16, now) if is_new else library.DONE
+
+
 def play_session(call, inputs, out, length):
     """A row on sessions, whose numbers are the two limits, the second, and whether the session is renewed."""
     keys, cookie, numbers, *rest = inputs
     lifetime, idle, now, *renew = (int(number) for number in numbers.split())
-    settings = library.Settings(keys, len(keys), cookie, len(cookie), lifetime, idle, 1, 2)
-    texts = [part for value in rest for part in (value or None, len(value))]
+    handle, session = library.Handle(), library.Handle()
+    settings = library.Settings(keys, len(keys), cookie, len(cookie), lifetime, idle)
+    answer = library.Answer(library.SESSIONS_NEW(settings, handle), 0)
+    if answer.status == library.DONE and call == "session_open":
+        texts = [part for value in rest[:2] for part in (value or None, len(value))]
+        answer.status = library.SESSION_OPEN(handle, *texts, now, session)
     if call == "session_open":
-        opened = library.SESSION_OPEN(settings, *texts[:4], now, out, length)
-        if [opened.place, opened.started, opened.seen] != numbers_in(rest[-2], 3):
+        facts = library.SESSION_DESCRIBE(session)
+        if [facts.place, facts.started, facts.seen] != numbers_in(rest[-2], 3):
             fault("another key or another time")
-        if bytes(opened.id) != rest[-1]:
+        if bytes(facts.id) != rest[-1]:
             fault("another id")
-        return opened
-    if call == "session_save":
-        return library.SESSION_SAVE(settings, *texts[:6], renew == [1], now, *texts[6:], out, length)
-    return library.SESSION_END(settings, now, out, length)
+        if answer.status == library.DONE:
+            answer = library.SESSION_TEXTS(session, out, length)
+    elif answer.status == library.DONE and call == "session_save":
+        answer.status = make_session(rest, now, renew == [1], handle, session)
+        if answer.status == library.DONE:
+            answer = library.SESSION_SAVE(handle, session, rest[-1][:12], 12, now, out, length)
+    elif answer.status == library.DONE:
+        answer = library.SESSION_END(handle, now, out, length)
+    library.SESSION_FREE(session)
+    library.SESSIONS_FREE(handle)
+    return answer
 
 
 def check(call, inputs, length, status, count, text):

@@ -68,10 +68,17 @@ struct Held {
     at: *mut (),
 }
 
+/// A handle of a jar, of a site's sessions, of a session, or of a list of public suffixes.
 #[repr(C)]
-struct Jar {
+struct Handle {
     is_open: bool,
     held: Held,
+}
+
+impl Handle {
+    const fn empty() -> Handle {
+        Handle { is_open: false, held: Held { at: ptr::null_mut() } }
+    }
 }
 
 #[repr(C)]
@@ -82,14 +89,12 @@ struct SessionSettings {
     cookie_length: usize,
     lifetime: u32,
     idle: u32,
-    seed: u64,
-    other_seed: u64,
 }
 
 #[repr(C)]
-struct OpenedSession {
+struct SessionFacts {
     status: u32,
-    length: usize,
+    is_opened: bool,
     place: usize,
     started: u64,
     seen: u64,
@@ -106,6 +111,7 @@ struct Request {
     is_secure: bool,
     is_same_site: bool,
     is_top_level: bool,
+    is_safe: bool,
 }
 
 #[repr(C)]
@@ -148,25 +154,40 @@ unsafe extern "C" {
     fn cookie_read_decoded(text: Text, text_length: usize, out: *mut u8, out_length: usize) -> Reading;
     fn cookie_print(name: Text, name_length: usize, value: Text, value_length: usize, path: Text, path_length: usize, domain: Text, domain_length: usize, attributes: &Attributes, is_escaped: bool, out: *mut u8, out_length: usize) -> Answer;
     fn cookie_run(seed: u64, other_seed: u64, moment: Text, moment_length: usize, input: Text, input_length: usize, out: *mut u8, out_length: usize) -> Answer;
-    fn cookie_jar_new(seed: u64, other_seed: u64, jar: &mut Jar) -> u32;
-    fn cookie_jar_add_originals(jar: &mut Jar, header: Text, header_length: usize) -> u32;
-    fn cookie_jar_add(jar: &mut Jar, text: Text, text_length: usize) -> u32;
-    fn cookie_jar_remove(jar: &mut Jar, moment: Text, moment_length: usize, name: Text, name_length: usize) -> u32;
-    fn cookie_jar_remove_scoped(jar: &mut Jar, moment: Text, moment_length: usize, name: Text, name_length: usize, path: Text, path_length: usize, domain: Text, domain_length: usize) -> u32;
-    fn cookie_jar_get(jar: &mut Jar, name: Text, name_length: usize, out: *mut u8, out_length: usize) -> Answer;
-    fn cookie_jar_delta(jar: &mut Jar, out: *mut u8, out_length: usize) -> Answer;
-    fn cookie_jar_free(jar: &mut Jar);
-    fn cookie_explain(request: &Request, list: Text, list_length: usize, text: Text, text_length: usize, now: u64, out: *mut u8, out_length: usize) -> Explanation;
-    fn cookie_session_open(settings: &SessionSettings, header: Text, header_length: usize, revoked: Text, revoked_length: usize, now: u64, out: *mut u8, out_length: usize) -> OpenedSession;
-    fn cookie_session_save(settings: &SessionSettings, header: Text, header_length: usize, revoked: Text, revoked_length: usize, texts: Text, texts_length: usize, renew: bool, now: u64, random: Text, random_length: usize, out: *mut u8, out_length: usize) -> Answer;
-    fn cookie_session_end(settings: &SessionSettings, now: u64, out: *mut u8, out_length: usize) -> Answer;
+    fn cookie_jar_new(seed: u64, other_seed: u64, jar: &mut Handle) -> u32;
+    fn cookie_jar_add_originals(jar: &mut Handle, header: Text, header_length: usize) -> u32;
+    fn cookie_jar_add(jar: &mut Handle, text: Text, text_length: usize) -> u32;
+    fn cookie_jar_remove(jar: &mut Handle, moment: Text, moment_length: usize, name: Text, name_length: usize) -> u32;
+    fn cookie_jar_remove_scoped(jar: &mut Handle, moment: Text, moment_length: usize, name: Text, name_length: usize, path: Text, path_length: usize, domain: Text, domain_length: usize) -> u32;
+    fn cookie_jar_get(jar: &mut Handle, name: Text, name_length: usize, out: *mut u8, out_length: usize) -> Answer;
+    fn cookie_jar_delta(jar: &mut Handle, out: *mut u8, out_length: usize) -> Answer;
+    fn cookie_jar_free(jar: &mut Handle);
+    fn cookie_jar_cookies(jar: &mut Handle, out: *mut u8, out_length: usize) -> Answer;
+    fn cookie_sessions_new(settings: &SessionSettings, sessions: &mut Handle) -> u32;
+    fn cookie_sessions_free(sessions: &mut Handle);
+    fn cookie_session_open(sessions: &mut Handle, header: Text, header_length: usize, revoked: Text, revoked_length: usize, now: u64, session: &mut Handle) -> u32;
+    fn cookie_session_start(id: Text, id_length: usize, now: u64, session: &mut Handle) -> u32;
+    fn cookie_session_describe(session: &mut Handle) -> SessionFacts;
+    fn cookie_session_get(session: &mut Handle, name: Text, name_length: usize, out: *mut u8, out_length: usize) -> Answer;
+    fn cookie_session_set(session: &mut Handle, name: Text, name_length: usize, text: Text, text_length: usize) -> u32;
+    fn cookie_session_remove(session: &mut Handle, name: Text, name_length: usize) -> u32;
+    fn cookie_session_texts(session: &mut Handle, out: *mut u8, out_length: usize) -> Answer;
+    fn cookie_session_set_texts(session: &mut Handle, form: Text, form_length: usize) -> u32;
+    fn cookie_session_renew(session: &mut Handle, id: Text, id_length: usize, now: u64) -> u32;
+    fn cookie_session_save(sessions: &mut Handle, session: &mut Handle, nonce: Text, nonce_length: usize, now: u64, out: *mut u8, out_length: usize) -> Answer;
+    fn cookie_session_end(sessions: &mut Handle, now: u64, out: *mut u8, out_length: usize) -> Answer;
+    fn cookie_session_free(session: &mut Handle);
+    fn cookie_suffixes_new(list: Text, list_length: usize, suffixes: &mut Handle) -> u32;
+    fn cookie_suffixes_free(suffixes: &mut Handle);
+    fn cookie_explain(suffixes: &mut Handle, request: &Request, text: Text, text_length: usize, now: u64, out: *mut u8, out_length: usize) -> Explanation;
+    fn cookie_version() -> u32;
 }
 
-const STATUSES: [&str; 26] = [
+const STATUSES: [&str; 28] = [
     "DONE", "BUFFER_TOO_SHORT", "OUT_OF_MEMORY", "NOT_UTF8", "KEY_TOO_SHORT", "MASTER_TOO_SHORT", "BAD_NONCE",
     "NOT_SIGNED", "NOT_SEALED", "TOO_LONG", "NO_DATE", "BAD_MOMENT", "BAD_LINE", "MISSING_PAIR", "EMPTY_NAME", "BAD_ESCAPE",
     "NO_PAIR", "NO_JAR", "NOT_FOUND", "BAD_ATTRIBUTE", "NO_SESSION", "BAD_PREFIX", "OVER", "TOO_LARGE",
-    "INVALID_VALUE", "BAD_IDS",
+    "INVALID_VALUE", "BAD_IDS", "NO_SESSIONS", "NO_SUFFIXES",
 ];
 
 fn number_of(status: &str) -> u32 {
@@ -183,7 +204,7 @@ fn place(text: &[u8]) -> Text {
 }
 
 /// Plays a step of a jar's row: its word, a blank and its text.
-fn play_step(jar: &mut Jar, step: &[u8], out: *mut u8, length: usize) -> Answer {
+fn play_step(jar: &mut Handle, step: &[u8], out: *mut u8, length: usize) -> Answer {
     let end = step.iter().position(|byte| *byte == b' ').unwrap_or(step.len());
     let rest = &step[step.len().min(end + 1)..];
     let of_status = |status| Answer { status, length: 0 };
@@ -204,6 +225,7 @@ fn play_step(jar: &mut Jar, step: &[u8], out: *mut u8, length: usize) -> Answer 
             }
             b"get" => cookie_jar_get(jar, place(rest), rest.len(), out, length),
             b"delta" => cookie_jar_delta(jar, out, length),
+            b"cookies" => cookie_jar_cookies(jar, out, length),
             b"free" => {
                 cookie_jar_free(jar);
                 of_status(0)
@@ -215,7 +237,7 @@ fn play_step(jar: &mut Jar, step: &[u8], out: *mut u8, length: usize) -> Answer 
 
 /// Plays the steps of a jar's row on a handle: each but the last is done.
 fn play_jar(steps: &[Vec<u8>], out: *mut u8, length: usize) -> Answer {
-    let mut jar = Jar { is_open: false, held: Held { at: ptr::null_mut() } };
+    let mut jar = Handle::empty();
     let (last, before) = steps.split_last().expect("a step");
     for step in before {
         assert_eq!(play_step(&mut jar, step, out, length).status, 0, "a step before the last is refused");
@@ -257,6 +279,29 @@ fn attributes_in(text: &[u8]) -> Attributes {
     }
 }
 
+/// Starts a session with another id, or opens the request's, and gives it the row's texts. The one that started is
+/// renewed, so that it has the row's id. A text is put into it and dropped again.
+unsafe fn make_session(inputs: &[Vec<u8>], now: u64, is_new: bool, sessions: &mut Handle, session: &mut Handle) -> u32 {
+    let (name, text, mut out) = (b"rows.rs", b"kept", [0; 4]);
+    let [header, revoked, form, random] = &inputs[3..7] else { panic!("no header, ids, form and random bytes") };
+    unsafe {
+        let status = if is_new {
+            cookie_session_start([1; 16].as_ptr(), 16, now, session)
+        } else {
+            cookie_session_open(sessions, place(header), header.len(), place(revoked), revoked.len(), now, session)
+        };
+        if status != 0 {
+            return status;
+        }
+        assert_eq!(cookie_session_set_texts(session, place(form), form.len()), 0);
+        assert_eq!(cookie_session_set(session, name.as_ptr(), 7, text.as_ptr(), 4), 0);
+        assert_eq!(cookie_session_get(session, name.as_ptr(), 7, out.as_mut_ptr(), 4), Answer { status: 0, length: 4 });
+        assert_eq!(&out, text);
+        assert_eq!(cookie_session_remove(session, name.as_ptr(), 7), 0);
+        if is_new { cookie_session_renew(session, random[12..].as_ptr(), 16, now) } else { 0 }
+    }
+}
+
 /// A row on sessions, whose numbers are the two limits, the second, and whether the session is renewed. No pointer of
 /// settings is null.
 fn play_session(name: &str, inputs: &[Vec<u8>], out: *mut u8, length: usize) -> Answer {
@@ -268,30 +313,43 @@ fn play_session(name: &str, inputs: &[Vec<u8>], out: *mut u8, length: usize) -> 
         cookie_length: cookie.len(),
         lifetime: n[0] as u32,
         idle: n[1] as u32,
-        seed: 1,
-        other_seed: 2,
     };
     let now = n[2] as u64;
-    let at = |i: usize| place(&inputs[i]);
-    let size = |i: usize| inputs[i].len();
+    let (mut sessions, mut session) = (Handle::empty(), Handle::empty());
+    let of_status = |status| Answer { status, length: 0 };
+    let mut answer = of_status(unsafe { cookie_sessions_new(&settings, &mut sessions) });
     unsafe {
         match name {
             "session_open" => {
-                let opened = cookie_session_open(&settings, at(3), size(3), at(4), size(4), now, out, length);
-                let told = [opened.place as i64, opened.started as i64, opened.seen as i64];
+                if answer.status == 0 {
+                    let (header, revoked) = (&inputs[3], &inputs[4]);
+                    answer.status = cookie_session_open(&mut sessions, place(header), header.len(), place(revoked), revoked.len(), now, &mut session);
+                }
+                let facts = cookie_session_describe(&mut session);
+                let told = [facts.place as i64, facts.started as i64, facts.seen as i64];
                 assert_eq!(told[..], numbers_in(&inputs[5], 3)[..], "another key or another time");
-                assert_eq!(opened.id[..], inputs[6][..], "another id");
-                Answer { status: opened.status, length: opened.length }
+                assert_eq!(facts.id[..], inputs[6][..], "another id");
+                assert_eq!(facts.is_opened, facts.status == 0, "a session that was opened is told as a new one");
+                if answer.status == 0 {
+                    answer = cookie_session_texts(&mut session, out, length);
+                }
             }
             "session_save" => {
-                cookie_session_save(
-                    &settings, at(3), size(3), at(4), size(4), at(5), size(5), n.get(3) == Some(&1), now, at(6), size(6), out, length,
-                )
+                if answer.status == 0 {
+                    answer.status = make_session(inputs, now, n.get(3) == Some(&1), &mut sessions, &mut session);
+                }
+                if answer.status == 0 {
+                    answer = cookie_session_save(&mut sessions, &mut session, inputs[6].as_ptr(), 12, now, out, length);
+                }
             }
-            "session_end" => cookie_session_end(&settings, now, out, length),
+            "session_end" if answer.status == 0 => answer = cookie_session_end(&mut sessions, now, out, length),
+            "session_end" => {}
             _ => panic!("no call {name}"),
         }
+        cookie_session_free(&mut session);
+        cookie_sessions_free(&mut sessions);
     }
+    answer
 }
 
 /// The lengths of texts whose places are one right after the other; or else all are 0.
@@ -316,9 +374,16 @@ fn explain(inputs: &[Vec<u8>], out: *mut u8, length: usize) -> Answer {
         is_secure: n[1] == 1,
         is_same_site: n[2] == 1,
         is_top_level: n[3] == 1,
+        is_safe: false,
     };
     let (list, text) = (&inputs[3], &inputs[4]);
-    let why = unsafe { cookie_explain(&request, place(list), list.len(), place(text), text.len(), n[4] as u64, out, length) };
+    let mut suffixes = Handle::empty();
+    let why = unsafe {
+        assert_eq!(cookie_suffixes_new(place(list), list.len(), &mut suffixes), 0, "the list isn't read");
+        let why = cookie_explain(&mut suffixes, &request, place(text), text.len(), n[4] as u64, out, length);
+        cookie_suffixes_free(&mut suffixes);
+        why
+    };
     let it = &why.stored;
     let length = why.section.start + why.section.length + it.path.start + it.path.length;
     let mut told = vec![why.refusal as i64];
@@ -369,7 +434,7 @@ fn is_right(name: &str, inputs: &[Vec<u8>], length: usize, wanted: Answer, text:
     let out = if length == 0 { ptr::null_mut() } else { buffer.as_mut_ptr() };
     let answer = call(name, inputs, out, length);
     let given = if wanted.status == 0 { text.len() } else { 0 };
-    if inputs.last().is_some_and(|last| last == b"delta") {
+    if inputs.last().is_some_and(|last| last == b"delta" || last == b"cookies") {
         let ordered = in_order(&buffer[..given]);
         buffer[..given].copy_from_slice(&ordered);
     }
@@ -487,6 +552,7 @@ fn is_row_right(name: &str, status: u32, length: usize, wanted: &[u8], inputs: &
 }
 
 fn main() {
+    assert_eq!(unsafe { cookie_version() }, 1, "another version");
     let path = env::args().nth(1).expect("the rows");
     let text = fs::read_to_string(path).expect("the rows");
     let (mut rows, mut faults) = (0, 0);

@@ -1,5 +1,5 @@
 -- What a browser makes of a cookie, for C.
-use Rattle.std.proofs.Common.{◌≡◌, ℕ, ℤ, pos, ◌+ℤ◌, ◌-ℤ◌, ◌*ℤ◌, List, [], Bool, true, false, cond, Option, Some, None, Ok, inl, refl, sym, ap, subst, ◌∙◌, arith}
+use Rattle.std.proofs.Common.{◌≡◌, ℕ, ℤ, pos, ◌+ℤ◌, ◌-ℤ◌, ◌*ℤ◌, List, [], Bool, true, false, cond, Option, Some, None, Ok, refl, sym, ap, subst, ◌∙◌, arith}
 use Rattle.std.specs.Prelude.{Result, int_lt}
 use Rattle.jiff.specs.Types.{DateTime}
 use Rattle.jiff.specs.Words.{IsCivilNanos, IsDurationNanos, civil_nanos}
@@ -8,12 +8,10 @@ use Rattle.jiff.proofs.SpanFacts.{signed_arith}
 use Rattle.cookie_browser.specs.Received.{ReceivedView}
 use Rattle.cookie_browser.specs.Request.{RequestView}
 use Rattle.cookie_browser.specs.Storage.{KeptView, earlier_of, first_refusal, kept_as, kept_until, refusal_by_connection, refusal_by_prefix, seconds_after, unless_refused, verdict, verdict_on}
-use Rattle.cookie_browser.specs.SuffixList.{rules_of}
-use Rattle.cookie_browser.specs.Suffixes.{HasSameElements, Rule}
+use Rattle.cookie_browser.specs.Suffixes.{Rule}
 use Rattle.cookie_browser.specs.declared.refusal.Refusal.{Refusal}
 use Rattle.cookie_c.specs.ExplanationParts.{IsDraftOf}
-use Rattle.cookie_c.specs.Explanations.{Explains, IsExplained, request_of}
-use Rattle.cookie_c.specs.Sites.{IsAtSecond}
+use Rattle.cookie_c.specs.Explanations.{Explains, request_of}
 use Rattle.cookie_c.specs.declared.explanation.draft.Draft.{Draft}
 use Rattle.cookie_c.specs.declared.explanation.Explanation.{Explanation}
 use Rattle.cookie_c.specs.declared.explanation.request.Request.{Request}
@@ -44,10 +42,9 @@ module _ (rules : List Rule) (request : RequestView) (now : DateTime) (cookie : 
       ap (λ o. unless_refused o (kept_as rules request now cookie)) (first ∙ ap (first_refusal rules request [] cookie) is ∙ timeless)
 
 -- the draft of the verdict explains the text
-pub explained : (request : Request) (list text : List ℕ) (second : ℕ) (rules : List Rule) (now : DateTime) (seen : RequestView) (draft : Draft)
-    (answer : Explanation) (old new : List ℕ) → HasSameElements rules (rules_of list) → IsAtSecond second now → seen ≡ request_of request
-    → IsDraftOf now (verdict rules seen now [] text) draft
+pub explained : (request : Request) (text : List ℕ) (rules : List Rule) (now : DateTime) (seen : RequestView) (draft : Draft)
+    (answer : Explanation) (old new : List ℕ) → seen ≡ request_of request → IsDraftOf now (verdict rules seen now [] text) draft
     → ((time : DateTime) (outcome : Result KeptView Refusal) → IsDraftOf time outcome draft → Explains time outcome answer old new)
-    → IsExplained request list text second answer old new
-explained request list text second rules now seen draft answer old new same at is made gives =
-    inl (rules, now, same, at, gives now (verdict rules (request_of request) now [] text) (subst (λ s. IsDraftOf now (verdict rules s now [] text) draft) is made))
+    → Explains now (verdict rules (request_of request) now [] text) answer old new
+explained request text rules now seen draft answer old new is made gives =
+    gives now (verdict rules (request_of request) now [] text) (subst (λ s. IsDraftOf now (verdict rules s now [] text) draft) is made)

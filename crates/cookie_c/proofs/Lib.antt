@@ -1,6 +1,8 @@
+mod AgentLemmas
 mod DateLemmas
 mod DecodedLemmas
 mod ExplainLemmas
+mod HandleLemmas
 mod HeldBox
 mod JarLemmas
 mod KeyBytesLemmas

@@ -1,14 +1,15 @@
 -- Which session is found for C.
-use Rattle.std.proofs.Common.{◌≡◌, ◌⊎◌, ℕ, List, Some, None, Contains, refl, inl, inr, subst}
-use Rattle.std.proofs.lemmas.Option.{none-some, same_Some}
+use Rattle.std.proofs.Common.{ℕ, List, Option, Some, None, refl, inl, inr}
+use Rattle.std.proofs.lemmas.Option.{none-some}
 use Rattle.jiff.specs.Types.{DateTime}
 use Rattle.cookie.specs.Record.{Record}
-use Rattle.cookie_session.specs.Session.{SessionState}
 use Rattle.cookie_session.specs.Sessions.{OpensUnrevoked}
 use Rattle.cookie_session.specs.declared.opened.Opened.{Opened}
 use Rattle.cookie_session.specs.declared.sessions.Sessions.{Sessions}
-use Rattle.cookie_c.specs.OpenedSessions.{Finds, GivesSession, HasNone, IsOpening, IsRefusedOpening}
-use Rattle.cookie_c.specs.declared.opened_session.OpenedSession.{OpenedSession}
+use Rattle.cookie_c.specs.Handles.{IsKept, IsPut}
+use Rattle.cookie_c.specs.OpenedSessions.{Finds, HasNone, IsOpening}
+use Rattle.cookie_c.specs.declared.sessions.open_session.OpenSession.{OpenSession}
+use Rattle.cookie_c.specs.declared.status.Status.{Status}
 use Rattle.cookie_c.specs.declared.status.Status.TheVariants as status
 
 module _ (IsRevoked : List ℕ → Type 0) (site : Sessions) (cookies : List Record) (time : DateTime) where
@@ -16,31 +17,19 @@ module _ (IsRevoked : List ℕ → Type 0) (site : Sessions) (cookies : List Rec
   pub found_is_open : (opened : Opened) → Finds IsRevoked site cookies time (Some opened) → OpensUnrevoked IsRevoked site cookies time opened.place opened.session
   found_is_open opened finds = (finds.exact opened.place opened.session).0 refl
 
-  -- and is each one that is open
-  pub found_is_it : (opened : Opened) (place : ℕ) (session : SessionState) → Finds IsRevoked site cookies time (Some opened)
-      → OpensUnrevoked IsRevoked site cookies time place session → opened.session ≡ session
-  found_is_it opened place session finds is =
-      let same = same_Some opened (record { session = session; place = place }) ((finds.exact place session).1 is) in
-      λ i. (same i).session
-
   pub found_none : Finds IsRevoked site cookies time None → HasNone IsRevoked site cookies time
   found_none finds place session is = none-some (record { session = session; place = place }) ((finds.exact place session).1 is)
 
   -- if none is found, there is none
-  pub opening_none : (answer : OpenedSession) (old new : List ℕ) → Finds IsRevoked site cookies time None → IsRefusedOpening status.NoSession answer old new
+  pub opening_none : (answer : Status) (old new : Option OpenSession) → Finds IsRevoked site cookies time None → IsKept status.NoSession answer old new
       → IsOpening IsRevoked site cookies time answer old new
-  opening_none answer old new finds refused = inl (finds.first, inr (found_none finds, refused))
+  opening_none answer old new finds kept = inl (finds.first, inr (found_none finds, kept))
 
-  -- it is given, or memory ran out
-  pub opening_given : (opened : Opened) (answer : OpenedSession) (old new : List ℕ) → Finds IsRevoked site cookies time (Some opened)
-      → GivesSession opened.place opened.session answer old new ⊎ IsRefusedOpening status.OutOfMemory answer old new
+  -- it is put into the handle, or memory ran out
+  pub opening_put : (opened : Opened) (answer : Status) (old new : Option OpenSession) → Finds IsRevoked site cookies time (Some opened)
+      → IsPut (record { session = opened.session; place = Some opened.place }) answer old new
       → IsOpening IsRevoked site cookies time answer old new
-  opening_given opened answer old new finds (inl gives) =
+  opening_put opened answer old new finds (inl puts) =
       let first = found_is_open opened finds in
-      inl (finds.first, inl (opened.place, opened.session, first, finds.once opened.place opened.session first, gives))
-  opening_given opened answer old new finds (inr refused) = inr refused
-
--- the same where other ids are listed that are equal
-pub opening_same : (ids listed : List (List ℕ)) (site : Sessions) (cookies : List Record) (time : DateTime) (answer : OpenedSession) (old new : List ℕ)
-    → ids ≡ listed → IsOpening (Contains ids) site cookies time answer old new → IsOpening (Contains listed) site cookies time answer old new
-opening_same ids listed site cookies time answer old new same = subst (λ l. IsOpening (Contains l) site cookies time answer old new) same
+      inl (finds.first, inl (opened.place, opened.session, first, finds.once opened.place opened.session first, puts))
+  opening_put opened answer old new finds (inr kept) = inr kept

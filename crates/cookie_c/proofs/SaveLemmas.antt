@@ -1,5 +1,5 @@
 -- How a session is saved for C, by what the library's call does.
-use Rattle.std.proofs.Common.{◌≡◌, ◌↔◌, ℕ, ◌<◌, ◌≤◌, ◌⊎◌, inl, inr, Bool, true, false, List, Contains, Option, None, Some, option_map, Result, Ok, Err, IfSome, MatchResult, IsOkAnd, OnOk, arith, refl, sym, ap, subst, ◌∙◌}
+use Rattle.std.proofs.Common.{◌≡◌, ◌↔◌, ℕ, ◌<◌, ◌≤◌, ◌⊎◌, inl, inr, true, false, List, Option, Some, option_map, Result, Ok, Err, IfSome, MatchResult, IsOkAnd, OnOk, arith, refl, sym, ap, subst, ◌∙◌}
 use Rattle.std.proofs.lemmas.Option.{same_Some}
 use Rattle.jiff.specs.Types.{DateTime}
 use Rattle.cookie.proofs.AnswerLemmas.{view-stored}
@@ -11,18 +11,14 @@ use Rattle.cookie_session.specs.Seconds.{second_of}
 use Rattle.cookie_session.specs.Session.{SessionState, seen_at}
 use Rattle.cookie_session.specs.Sessions.{CanSave, IsStored, bare_cookie, meets_prefix, saved_cookie}
 use Rattle.cookie_session.specs.Size.{browser_length, most_bytes}
-use Rattle.cookie_session.specs.declared.opened.Opened.{Opened}
 use Rattle.cookie_session.specs.declared.session_error.SessionError.{SessionError}
 use Rattle.cookie_session.specs.declared.session_error.SessionError.TheVariants as failure
 use Rattle.cookie_session.specs.declared.sessions.Sessions.{Sessions}
 use Rattle.cookie_c.specs.SaveParts.{IsSaved}
-use Rattle.cookie_c.specs.Answers.{IsGiven, IsRefused, IsTold}
-use Rattle.cookie_c.specs.OpenedSessions.{Finds}
-use Rattle.cookie_c.specs.SavedSessions.{IsUnsaved, Saves, SavesTexts, new_session, unsaved_number, unsaved_status, with_form}
+use Rattle.cookie_c.specs.Answers.{IsGiven, IsTold}
+use Rattle.cookie_c.specs.SavedSessions.{IsUnsaved, Saves, unsaved_number, unsaved_status}
 use Rattle.cookie_c.specs.declared.answer.Answer.{Answer}
 use Rattle.cookie_c.specs.declared.status.Status.{Status}
-use Rattle.cookie_c.specs.declared.status.Status.TheVariants as status
-use Rattle.cookie_c.proofs.OpenLemmas.{found_is_it, found_is_open, found_none}
 
 module _ (site : Sessions) (nonce : List ℕ) (time : DateTime) (session : SessionState) where
   -- memory ran out
@@ -179,53 +175,3 @@ module _ (site : Sessions) (nonce : List ℕ) (time : DateTime) (session : Sessi
       saves_as (λ w. result ≡ Err w) (IsUnsaved answer old new) (λ wanted. IsOkAnd result (λ m. bytes m ≡ wanted))
       (λ text. IsGiven text answer old new) (λ w same. subst (IsUnsaved answer old new) (let e : why ≡ w = cc in e) mine)
       (λ text made. absurd (subst (λ r. IsOkAnd r (λ m. bytes m ≡ text)) is made)) saves
-
--- a refusal is passed on, of a session that is equal
-pub text_refused : {T X : Type 0} (site : Sessions) (nonce : List ℕ) (time : DateTime) (session other : SessionState) (bytes : X → List ℕ)
-    (why : SessionError) (shown : Option Record) (result : Result X SessionError) → session ≡ other → result ≡ Err why
-    → IsSaved {T = T} site nonce time session (Err why) shown
-    → Saves site nonce time other (λ w. result ≡ Err w) (λ wanted. IsOkAnd result (λ m. bytes m ≡ wanted))
-text_refused site nonce time session other bytes why shown result same fails is =
-    subst (λ s. Saves site nonce time s (λ w. result ≡ Err w) (λ wanted. IsOkAnd result (λ m. bytes m ≡ wanted))) same
-    (saves_passed site nonce time session bytes why shown result fails is)
-
-module _ (IsRevoked : List ℕ → Type 0) (site : Sessions) (cookies : List Record) (form : List ℕ) (time : DateTime) (nonce id : List ℕ) (answer : Answer)
-    (old new : List ℕ) where
-  abbrev SavesAs : SessionState → Type 0
-  SavesAs session = Saves site nonce time session (IsUnsaved answer old new) (λ text. IsGiven text answer old new)
-
-  -- a new session is saved
-  pub texts_renewed : (renew : Bool) → renew ≡ true → SavesAs (new_session id time form) → SavesTexts IsRevoked site cookies form renew time nonce id answer old new
-  texts_renewed renew is saves = record {
-    renewed = λ _. saves;
-    continued = λ no place session open'. absurd (let clash : true ≡ false = sym is ∙ no in cc);
-    none = λ no has. absurd (let clash : true ≡ false = sym is ∙ no in cc);
-  }
-
-  -- the session that is open is saved
-  pub texts_continued : (renew : Bool) (opened : Opened) → renew ≡ false → Finds IsRevoked site cookies time (Some opened)
-      → SavesAs (with_form form opened.session) → SavesTexts IsRevoked site cookies form renew time nonce id answer old new
-  texts_continued renew opened is finds saves = record {
-    renewed = λ yes. absurd (let clash : true ≡ false = sym yes ∙ is in cc);
-    continued = λ _ place session there. subst (λ s. SavesAs (with_form form s)) (found_is_it IsRevoked site cookies time opened place session finds there) saves;
-    none = λ _ has. absurd (has opened.place opened.session (found_is_open IsRevoked site cookies time opened finds));
-  }
-
-  -- there is no session to save
-  pub texts_none : (renew : Bool) → renew ≡ false → Finds IsRevoked site cookies time None → IsRefused status.NoSession answer old new
-      → SavesTexts IsRevoked site cookies form renew time nonce id answer old new
-  texts_none renew is finds refused = record {
-    renewed = λ yes. absurd (let clash : true ≡ false = sym yes ∙ is in cc);
-    continued = λ _ place session there. absurd (found_none IsRevoked site cookies time finds place session there);
-    none = λ _ _. inl refused;
-  }
-
--- the same under bytes that are equal
-pub saves_same : (ids listed : List (List ℕ)) (site : Sessions) (cookies : List Record) (form : List ℕ) (renew : Bool) (time : DateTime)
-    (nonce other id drawn : List ℕ) (answer : Answer) (old new : List ℕ) → ids ≡ listed → nonce ≡ other → id ≡ drawn
-    → SavesTexts (Contains ids) site cookies form renew time nonce id answer old new
-    → SavesTexts (Contains listed) site cookies form renew time other drawn answer old new
-saves_same ids listed site cookies form renew time nonce other id drawn answer old new lists same draws saves =
-    subst (λ l. SavesTexts (Contains l) site cookies form renew time other drawn answer old new) lists
-    (subst (λ n. SavesTexts (Contains ids) site cookies form renew time n drawn answer old new) same
-    (subst (λ d. SavesTexts (Contains ids) site cookies form renew time nonce d answer old new) draws saves))

@@ -1,5 +1,6 @@
--- Which site C's settings stand for, and why they are refused.
-use Rattle.std.proofs.Common.{◌≡◌, ℕ, ◌<◌, ◌≤◌, ◌⊎◌, inl, inr, List, Some, true, IsUtf8, refl, sym, ap, subst, ◌∙◌}
+-- Why C's settings of a site are refused, and what a call on a handle of a site comes to.
+use Rattle.std.proofs.Common.{◌≡◌, ℕ, ◌≤◌, ◌⊎◌, Option, None, arith, sym, inl, inr, List, Some, true, IsUtf8, refl, subst}
+use Rattle.jiff.specs.Types.{DateTime}
 use Rattle.cookie.specs.AttributeValues.{FitsField}
 use Rattle.cookie.specs.CookieOf.{cookie_of}
 use Rattle.cookie.specs.Record.{Record}
@@ -7,53 +8,58 @@ use Rattle.cookie.specs.declared.ParseError.{ParseError}
 use Rattle.cookie_session.specs.declared.sessions.Sessions.{Sessions}
 use Rattle.cookie_c.specs.Codes.{refusal_status}
 use Rattle.cookie_c.specs.Decoded.{IsDecodingRefusal}
-use Rattle.cookie_c.specs.SiteParts.{IsMadeOf}
-use Rattle.cookie_c.specs.Sites.{AreKeys, CanBeSite, HasKeys, IsSiteOf, IsUnusable, last_second}
+use Rattle.cookie_c.specs.Handles.{site_in}
+use Rattle.cookie_c.specs.Sites.{AreOf, AtSecond, AtSite, CanBeSite, HasKeys, IsAtSecond, IsUnusable, last_second}
+use Rattle.cookie_c.specs.declared.handle.content.Content.{Content}
+use Rattle.cookie_c.specs.declared.handle.content.Content.TheVariants as content
 use Rattle.cookie_c.specs.declared.sessions.SessionSettings.{SessionSettings}
 use Rattle.cookie_c.specs.declared.sessions.site.Site.{Site}
 use Rattle.cookie_c.specs.declared.status.Status.{Status}
 use Rattle.cookie_c.specs.declared.status.Status.TheVariants as status
 
-module _ (settings : SessionSettings) (second : ℕ) where
-  pub unusable_date : last_second < second → IsUnusable settings second status.NoDate
-  unusable_date late = inl (refl, late)
+module _ (settings : SessionSettings) where
+  pub unusable_keys : ¬ HasKeys settings.keys.now → IsUnusable settings status.KeyTooShort
+  unusable_keys lacks = inl (refl, lacks)
 
-  pub unusable_keys : second ≤ last_second → ¬ HasKeys settings.keys.now → IsUnusable settings second status.KeyTooShort
-  unusable_keys within lacks = inr (inl (refl, within, lacks))
+  pub unusable_text : HasKeys settings.keys.now → ¬ IsUtf8 settings.cookie.now → IsUnusable settings status.NotUtf8
+  unusable_text keys other = inr (inl (refl, keys, other))
 
-  pub unusable_text : second ≤ last_second → HasKeys settings.keys.now → ¬ IsUtf8 settings.cookie.now
-      → IsUnusable settings second status.NotUtf8
-  unusable_text within keys other = inr (inr (inl (refl, within, keys, other)))
-
-  module _ (within : second ≤ last_second) (keys : HasKeys settings.keys.now) (text : IsUtf8 settings.cookie.now) where
-    can : CanBeSite settings second
-    can = record { within = within; keys = keys; text = text }
-
+  module _ (can : CanBeSite settings) where
     pub unusable_cookie : (read : List ℕ) (why : Status) → read ≡ settings.cookie.now
         → ((error : ParseError) × IsDecodingRefusal read error × (why ≡ refusal_status error)) ⊎ (why ≡ status.OutOfMemory)
-        → IsUnusable settings second why
-    unusable_cookie read why same (inl is) =
-        inr (inr (inr (inl (can, is.0, subst (λ t. IsDecodingRefusal t is.0) same is.1, is.2))))
-    unusable_cookie read why same (inr is) = inr (inr (inr (inr (inr (can, is)))))
+        → IsUnusable settings why
+    unusable_cookie read why same (inl is) = inr (inr (inl (can, is.0, subst (λ t. IsDecodingRefusal t is.0) same is.1, is.2)))
+    unusable_cookie read why same (inr is) = inr (inr (inr (inr (can, is))))
 
     pub unusable_scope : (read : List ℕ) (cookie : Record) → read ≡ settings.cookie.now → cookie_of true read ≡ Some cookie → ¬ FitsField cookie
-        → IsUnusable settings second status.InvalidValue
+        → IsUnusable settings status.InvalidValue
     unusable_scope read cookie same is unfit =
-        inr (inr (inr (inr (inl (can, cookie, subst (λ t. cookie_of true t ≡ Some cookie) same is, unfit, refl)))))
+        inr (inr (inr (inl (can, cookie, subst (λ t. cookie_of true t ≡ Some cookie) same is, unfit, refl))))
 
-    pub unusable_memory : IsUnusable settings second status.OutOfMemory
-    unusable_memory = inr (inr (inr (inr (inr (can, refl)))))
+    pub unusable_memory : IsUnusable settings status.OutOfMemory
+    unusable_memory = inr (inr (inr (inr (can, refl))))
 
-  -- the sessions of a site that has the settings' parts
-  pub is_site : (site : Site) (sessions : Sessions) → IsMadeOf settings second site
-      → sessions.keys.now ≡ site.keys → sessions.cookie.now ≡ site.cookie → sessions.lifetime ≡ site.lifetime → sessions.idle ≡ site.idle
-      → IsSiteOf settings second sessions site.time
-  is_site site sessions made keys cookie lifetime idle = record {
-    keys = subst (AreKeys settings.keys.now) (sym keys) made.keys;
-    cookie = made.cookie ∙ ap (λ c. Some c.fields) (sym cookie);
-    fits = subst FitsField (ap (λ c. c.fields) (sym cookie)) made.fits;
-    lifetime = lifetime ∙ made.lifetime;
-    idle = idle ∙ made.idle;
-    within = made.within;
-    at = made.time;
-  }
+-- a second of a date
+pub at_second : (second : ℕ) (Holds : DateTime → Type 0) (Refuses : Status → Type 0) (time : DateTime)
+    → (second ≤ last_second) × IsAtSecond second time → Holds time → AtSecond second Holds Refuses
+at_second second Holds Refuses time is holds = record {
+  no_date = λ late. absurd (omega (arith, late, is.0));
+  dated = λ _. (time, is.1, holds);
+}
+
+module _ (second : ℕ) (Holds : Sessions → DateTime → Type 0) (Refuses : Status → Type 0) where
+  -- a site, in a second of a date
+  pub at_site : (had : Content) (site : Site) (sessions : Sessions) (time : DateTime) → had ≡ content.Sessions site → AreOf site sessions
+      → (second ≤ last_second) × IsAtSecond second time → Holds sessions time → AtSite (site_in (Some had)) second Holds Refuses
+  at_site had site sessions time is of at holds =
+      subst (λ h. AtSite (site_in (Some h)) second Holds Refuses) (sym is)
+      (at_second second (λ t. (s : Sessions) × AreOf site s × Holds s t) Refuses time at (sessions, of, holds))
+
+  -- a handle that has nothing
+  pub site_none : (had : Option Content) → had ≡ None → Refuses status.NoSessions → AtSite (site_in had) second Holds Refuses
+  site_none had none refuses = subst (λ h. AtSite (site_in h) second Holds Refuses) (sym none) refuses
+
+  -- a handle that has this
+  pub site_some : (had : Option Content) (content : Content) → Some content ≡ had → AtSite (site_in (Some content)) second Holds Refuses
+      → AtSite (site_in had) second Holds Refuses
+  site_some had content some at = subst (λ h. AtSite (site_in h) second Holds Refuses) some at

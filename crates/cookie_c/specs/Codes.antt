@@ -33,6 +33,9 @@ code_of status.Over = 22
 code_of status.TooLarge = 23
 code_of status.InvalidValue = 24
 code_of status.BadIds = 25
+code_of status.NoSessions = 26
+code_of status.NoSuffixes = 27
+code_of status.NoAgent = 28
 
 -- the status of a text that is refused as no cookie
 abbrev pub refusal_status : ParseError → Status
@@ -40,3 +43,7 @@ refusal_status errors.MissingPair = status.MissingPair
 refusal_status errors.EmptyName = status.EmptyName
 refusal_status (errors.Utf8Error e) = status.BadEscape
 refusal_status errors.OutOfMemory = status.OutOfMemory
+
+-- the number of the header that callers in C know
+abbrev pub header_version : ℕ
+header_version = 1

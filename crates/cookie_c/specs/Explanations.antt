@@ -14,16 +14,18 @@ use Rattle.cookie_browser.specs.declared.refusal.Refusal.TheVariants as refusal
 use Rattle.cookie_session.specs.Seconds.{from_zero}
 use Rattle.cookie_c.specs.Answers.{IsGiven}
 use Rattle.cookie_c.specs.Codes.{code_of}
+use Rattle.cookie_c.specs.Handles.{IsKept, IsPut, suffixes_in}
 use Rattle.cookie_c.specs.Places.{no_place}
-use Rattle.cookie_c.specs.Sites.{IsAtSecond}
+use Rattle.cookie_c.specs.Sites.{AtSecond}
 use Rattle.cookie_c.specs.declared.explanation.Explanation.{Explanation}
 use Rattle.cookie_c.specs.declared.explanation.request.Request.{Request}
 use Rattle.cookie_c.specs.declared.explanation.stored.Stored.{Stored}
 use Rattle.cookie_c.specs.declared.place.Place.{Place}
 use Rattle.cookie_c.specs.declared.status.Status.{Status}
 use Rattle.cookie_c.specs.declared.status.Status.TheVariants as status
+use Rattle.cookie_c.specs.declared.suffixes.Suffixes.{Suffixes}
 
--- C's request as a browser sees it; neither a refusal nor what is stored depends on its method
+-- C's request as a browser sees it
 abbrev pub request_of : Request → RequestView
 request_of request =
     record {
@@ -33,7 +35,7 @@ request_of request =
       is_secure = request.is_secure;
       is_same_site = request.is_same_site;
       is_top_level = request.is_top_level;
-      is_safe = false;
+      is_safe = request.is_safe;
     }
 
 -- ---- numbers
@@ -145,11 +147,29 @@ pub record Explains (now : DateTime) (outcome : Result KeptView Refusal) (answer
 abbrev pub IsUnexplained : Status → Explanation → List ℕ → List ℕ → Type 0
 IsUnexplained why answer old new = (answer ≡ unexplained why) × (new ≡ old)
 
--- The answer explains what a browser that stores no cookie makes of a `Set-Cookie` text in that second, by the rules of
--- the list, in an order that means nothing. Or memory ran out.
-abbrev pub IsExplained : Request → List ℕ → List ℕ → ℕ → Explanation → List ℕ → List ℕ → Type 0
-IsExplained request list text second answer old new =
-    ((rules : List Rule) × (now : DateTime)
-    × HasSameElements rules (rules_of list) × IsAtSecond second now
-    × Explains now (verdict rules (request_of request) now [] text) answer old new)
-    ⊎ IsUnexplained status.OutOfMemory answer old new
+-- The answer explains what a browser that stores no cookie makes of a `Set-Cookie` text in that second, by these rules.
+-- Or memory ran out.
+abbrev pub IsExplained : Request → List ℕ → ℕ → List Rule → Explanation → List ℕ → List ℕ → Type 0
+IsExplained request text second rules answer old new =
+    AtSecond second
+    (λ now. Explains now (verdict rules (request_of request) now [] text) answer old new
+    ⊎ IsUnexplained status.OutOfMemory answer old new)
+    (λ why. IsUnexplained why answer old new)
+
+-- the same by the rules that a handle has, which a handle without them refuses first
+abbrev pub IsExplainedBy : Option (List Rule) → Request → List ℕ → ℕ → Explanation → List ℕ → List ℕ
+    → Type 0
+IsExplainedBy None request text second answer old new =
+    IsUnexplained status.NoSuffixes answer old new
+IsExplainedBy (Some rules) request text second answer old new =
+    IsExplained request text second rules answer old new
+
+-- what a handle has as the rules of a list, in an order that means nothing
+abbrev pub suffixes_of : Suffixes → Option (List Rule)
+suffixes_of suffixes = suffixes_in suffixes.handle.held.content
+
+-- the handle has the rules of the list, or memory ran out and it is as before
+abbrev pub MakesRules : List ℕ → Status → Option (List Rule) → Option (List Rule) → Type 0
+MakesRules list answer old new =
+    ((rules : List Rule) × HasSameElements rules (rules_of list) × IsPut rules answer old new)
+    ⊎ IsKept status.OutOfMemory answer old new

@@ -1,6 +1,6 @@
 -- The calls on a jar in a handle: what each answers, and what it leaves. `old` is the jar at the call, and `new` at
 -- the return; of a call that gives a text they are the buffer.
-use Rattle.std.specs.Prelude.{◌≡◌, ℕ, ◌⊎◌, true, false, List, [], map, IsUtf8, Option, Some, None, option_map}
+use Rattle.std.specs.Prelude.{◌≡◌, ℕ, ◌⊎◌, true, false, List, [], ◌∷◌, ◌++◌, codes, map, IsUtf8, Option, Some, None, option_map}
 use Rattle.std.specs.FinMap.{FinMap, get}
 use Rattle.jiff.specs.Types.{DateTime}
 use Rattle.cookie.specs.AttributeValues.{AllFitFields, FitsField}
@@ -13,15 +13,14 @@ use Rattle.cookie.specs.Walk.{Walks}
 use Rattle.cookie.specs.declared.ParseError.{ParseError}
 use Rattle.cookie_client.specs.Session.{set_cookie_lines}
 use Rattle.cookie_c.specs.Answers.{IsGiven, IsRefused}
-use Rattle.cookie_c.specs.Codes.{code_of, refusal_status}
+use Rattle.cookie_c.specs.Codes.{refusal_status}
 use Rattle.cookie_c.specs.Decoded.{IsDecodingRefusal}
+use Rattle.cookie_c.specs.Handles.{Changes, IsKept, Tells, jar_in}
 use Rattle.cookie_c.specs.declared.answer.Answer.{Answer}
+use Rattle.cookie_c.specs.declared.handle.content.Content.{Content}
+use Rattle.cookie_c.specs.declared.jar.Jar.{Jar}
 use Rattle.cookie_c.specs.declared.status.Status.{Status}
 use Rattle.cookie_c.specs.declared.status.Status.TheVariants as status
-
--- this is the refusal, and the jar is as before
-abbrev pub IsKept : Status → Status → JarState → JarState → Type 0
-IsKept why answer old new = (answer ≡ why) × (new ≡ old)
 
 -- the change was made, or memory was wanting
 abbrev pub IsChanged : (JarState → JarState) → Status → JarState → JarState → Type 0
@@ -84,16 +83,33 @@ pub record IsDeltaGiven (jar : JarState) (answer : Answer) (old new : List ℕ) 
       → ((text : List ℕ) × HasLines jar.delta text × IsGiven text answer old new)
       ⊎ IsRefused status.OutOfMemory answer old new
 
--- A handle's jar is as a call makes it, and the number is that of the call's answer. A handle without a jar stays so.
-abbrev pub AtJar : (Status → JarState → JarState → Type 0) → ℕ → Option JarState → Option JarState
-    → Type 0
-AtJar Makes number None new = (number ≡ code_of status.NoJar) × (new ≡ None)
-AtJar Makes number (Some old) new =
-    (answer : Status) × (jar : JarState) × (number ≡ code_of answer) × (new ≡ Some jar)
-    × Makes answer old jar
+-- a line for each text
+abbrev pub lines_of : List (List ℕ) → List ℕ
+lines_of [] = []
+lines_of (text ∷ texts) = text ++ (codes "\n" ++ lines_of texts)
 
--- the answer is a call's on a handle's jar; of a handle without one nothing is given
-abbrev pub OfJar : (JarState → Answer → List ℕ → List ℕ → Type 0) → Option JarState → Answer
-    → List ℕ → List ℕ → Type 0
-OfJar Gives None answer old new = IsRefused status.NoJar answer old new
-OfJar Gives (Some jar) answer old new = Gives jar answer old new
+-- the text has a line `name=value` for each cookie that the jar shows, each once, in any order
+pub record HasPairs (jar : JarState) (text : List ℕ) : Type 0 where
+  pub cookies : List Record
+  pub are : Walks (view jar) cookies
+  pub lines : text ≡ lines_of (map (cookie_text true true) cookies)
+
+-- such a text is given, or memory was wanting
+abbrev pub ArePairsGiven : JarState → Answer → List ℕ → List ℕ → Type 0
+ArePairsGiven jar answer old new =
+    ((text : List ℕ) × HasPairs jar text × IsGiven text answer old new)
+    ⊎ IsRefused status.OutOfMemory answer old new
+
+-- what a handle has as a jar
+abbrev pub jar_of : Jar → Option JarState
+jar_of jar = jar_in jar.handle.held.content
+
+-- The handle's jar is as a call makes it, and the number is that of the call's answer.
+abbrev pub AtJar : (Status → JarState → JarState → Type 0) → ℕ → Jar → Jar → Type 0
+AtJar Makes number old new =
+    Tells (λ answer. Changes status.NoJar Makes answer (jar_of old) (jar_of new)) number
+
+-- the same of a content
+abbrev pub InJar : (Status → JarState → JarState → Type 0) → Status → Content → Content → Type 0
+InJar Makes answer old new =
+    Changes status.NoJar Makes answer (jar_in (Some old)) (jar_in (Some new))

@@ -1,9 +1,11 @@
+pub mod Agents
 pub mod Answers
 pub mod Codes
 pub mod Dates
 pub mod Decoded
 pub mod ExplanationParts
 pub mod Explanations
+pub mod Handles
 pub mod Held
 pub mod Jars
 pub mod Keyed
@@ -18,5 +20,5 @@ pub mod Readings
 pub mod Revoked
 pub mod SaveParts
 pub mod SavedSessions
-pub mod SiteParts
+pub mod SessionCalls
 pub mod Sites

@@ -1,20 +1,19 @@
 -- A session that is saved for C: `old` is the buffer at the call and `new` at the return.
-use Rattle.std.specs.Prelude.{◌≡◌, ℕ, ◌<◌, ◌≤◌, ◌⊎◌, Bool, true, false, List, Some}
+use Rattle.std.specs.Prelude.{◌≡◌, ℕ, ◌<◌, ◌≤◌, ◌⊎◌, true, false, List, Option, Some}
 use Rattle.jiff.specs.Types.{DateTime}
-use Rattle.cookie.specs.Record.{Record}
 use Rattle.cookie.specs.Sealing.{CanSeal}
 use Rattle.cookie.specs.Text.{cookie_text}
-use Rattle.cookie_session.specs.Form.{texts_of_form}
 use Rattle.cookie_session.specs.Seconds.{second_of}
 use Rattle.cookie_session.specs.Session.{SessionState, seen_at}
-use Rattle.cookie_session.specs.Sessions.{CanSave, IsStored, OpensUnrevoked, bare_cookie, meets_prefix, saved_cookie}
+use Rattle.cookie_session.specs.Sessions.{CanSave, IsStored, bare_cookie, meets_prefix, saved_cookie}
 use Rattle.cookie_session.specs.Size.{browser_length, most_bytes}
 use Rattle.cookie_session.specs.declared.session_error.SessionError.{SessionError}
 use Rattle.cookie_session.specs.declared.session_error.SessionError.TheVariants as failure
 use Rattle.cookie_session.specs.declared.sessions.Sessions.{Sessions}
-use Rattle.cookie_c.specs.Answers.{IsGiven, IsRefused, IsTold}
-use Rattle.cookie_c.specs.OpenedSessions.{HasNone}
+use Rattle.cookie_c.specs.Answers.{IsGiven, IsTold}
+use Rattle.cookie_c.specs.Handles.{Reads}
 use Rattle.cookie_c.specs.declared.answer.Answer.{Answer}
+use Rattle.cookie_c.specs.declared.sessions.open_session.OpenSession.{OpenSession}
 use Rattle.cookie_c.specs.declared.status.Status.{Status}
 use Rattle.cookie_c.specs.declared.status.Status.TheVariants as status
 
@@ -62,29 +61,9 @@ pub record Saves (site : Sessions) (nonce : List ℕ) (time : DateTime) (session
       (seen_at (second_of time) session))
       ⊎ Fails failure.OutOfMemory
 
--- a session with this id that starts at this time, with the texts of a form
-abbrev pub new_session : List ℕ → DateTime → List ℕ → SessionState
-new_session id time form = record {
-  id = id;
-  started = second_of time;
-  seen = second_of time;
-  texts = texts_of_form form;
-}
-
--- the session with the texts of a form in place of its own
-abbrev pub with_form : List ℕ → SessionState → SessionState
-with_form form session = record session { texts = texts_of_form form }
-
--- What is saved with the texts of a form: a new session with this id, if the lifetime starts anew, or else the one of the
--- first cookie in which one is open that isn't revoked, whose id stays and whose lifetime goes on.
-pub record SavesTexts (IsRevoked : List ℕ → Type 0) (site : Sessions) (cookies : List Record)
-    (form : List ℕ) (renew : Bool) (time : DateTime) (nonce id : List ℕ) (answer : Answer)
-    (old new : List ℕ) : Type 0 where
-  pub renewed : renew ≡ true → Saves site nonce time (new_session id time form)
-      (IsUnsaved answer old new) (λ text. IsGiven text answer old new)
-  pub continued : renew ≡ false → (place : ℕ) (session : SessionState)
-      → OpensUnrevoked IsRevoked site cookies time place session
-      → Saves site nonce time (with_form form session)
-      (IsUnsaved answer old new) (λ text. IsGiven text answer old new)
-  pub none : renew ≡ false → HasNone IsRevoked site cookies time
-      → IsRefused status.NoSession answer old new ⊎ IsRefused status.OutOfMemory answer old new
+-- The same of the session that a handle has, which a handle without one refuses. The text is given.
+abbrev pub SavesHeld : Sessions → List ℕ → DateTime → Option OpenSession → Answer → List ℕ
+    → List ℕ → Type 0
+SavesHeld site nonce time =
+    Reads status.NoSession (λ had answer old new. Saves site nonce time had.session
+    (IsUnsaved answer old new) (λ text. IsGiven text answer old new))

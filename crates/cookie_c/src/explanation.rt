@@ -1,18 +1,18 @@
 //! What a browser makes of a cookie, for C: why it refuses it, or what it stores (RFC 6265bis).
-ghost use Rattle.std.specs.Prelude.{◌≡◌, ◌<◌, ◌≤◌};
-ghost use Rattle.cookie_c.specs.Explanations.{IsExplained, IsUnexplained, unexplained};
-ghost use Rattle.cookie_c.specs.Sites.{last_second};
-ghost use Rattle.cookie_c.specs.declared.status.Status.TheVariants as status;
+ghost use Rattle.std.specs.Prelude.{◌≡◌, Some};
+ghost use Rattle.cookie_c.specs.Explanations.{IsExplained, IsExplainedBy, suffixes_of, unexplained};
+ghost use Rattle.cookie_c.specs.Handles.{suffixes_in};
 
 mod draft;
 mod request;
 mod stored;
 
+use crate::handle::content::Content;
 use crate::place::Place;
 use crate::sessions::time::time_at;
 use crate::status::Status;
 use cookie_browser::Suffixes;
-use draft::Draft;
+pub(crate) use draft::{Draft, code_of};
 pub use request::Request;
 use std::alloc::Global;
 pub use stored::Stored;
@@ -37,30 +37,61 @@ pub struct Explanation {
 /// step refuses it, one sentence on that is for the buffer, and right after it the title of the step's section. Else
 /// the name, the value, the domain and the path of the stored cookie are for the buffer. If the buffer is too short for
 /// all, nothing is written, and the status is `Status::BufferTooShort`; all else is as it would be with room for all.
-/// `list` is the text of the list of publicsuffix.org. If it is empty, exactly the domains of one label are public
-/// suffixes. `now` is the time in seconds since 1970 in UTC.
+/// `now` is the time in seconds since 1970 in UTC. The rules are as before.
 ///
-/// Refuses a time after 9999-12-30 22:00:00. It may also run out of memory.
+/// Refuses a handle without rules, and then a time after 9999-12-30 22:00:00. It may also run out of memory.
 #[unsafe(no_mangle)]
 pub extern "C" fn cookie_explain(
     alloc: Global,
+    suffixes: &mut crate::suffixes::Suffixes,
     request: &Request<'_>,
-    list: &[u8],
     text: &[u8],
     now: u64,
     out: &mut [u8],
 ) -> Explanation
-    ensures no_date { last_second < now → IsUnexplained status.NoDate result out.old out.new }
-    ensures explained { now ≤ last_second
-        → IsExplained request.now list.now text.now now result out.old out.new }
+    ensures kept { suffixes_of suffixes.new ≡ suffixes_of suffixes.old }
+    ensures explained { IsExplainedBy (suffixes_of suffixes.old) request.now text.now now
+        result out.old out.new }
+{
+    let Some(held) = suffixes.handle.take(alloc) else {
+        return Explanation::none(Status::NoSuffixes);
+    };
+    let answer = explain_in(alloc, held.as_ref(), request, text, now, out);
+    suffixes.handle.put(held);
+    answer
+}
+
+fn explain_in(
+    alloc: Global,
+    content: &Content,
+    request: &Request<'_>,
+    text: &[u8],
+    now: u64,
+    out: &mut [u8],
+) -> Explanation
+    ensures { IsExplainedBy (suffixes_in (Some content.now)) request.now text.now now
+        result out.old out.new }
+{
+    let Content::Suffixes(suffixes) = content else {
+        return Explanation::none(Status::NoSuffixes);
+    };
+    explain(alloc, suffixes, request, text, now, out)
+}
+
+fn explain(
+    alloc: Global,
+    suffixes: &Suffixes,
+    request: &Request<'_>,
+    text: &[u8],
+    now: u64,
+    out: &mut [u8],
+) -> Explanation
+    ensures { IsExplained request.now text.now now suffixes.now result out.old out.new }
 {
     let Some(now) = time_at(now) else {
         return Explanation::none(Status::NoDate);
     };
-    let Ok(suffixes) = Suffixes::new(alloc, list) else {
-        return Explanation::none(Status::OutOfMemory);
-    };
-    match Draft::of(alloc, &suffixes, request.as_seen(), text, now) {
+    match Draft::of(alloc, suffixes, request.as_seen(), text, now) {
         Ok(draft) => draft.give(out),
         Err(_) => Explanation::none(Status::OutOfMemory),
     }
@@ -68,7 +99,7 @@ pub extern "C" fn cookie_explain(
 
 impl Explanation {
     // What a refused call returns: it explains nothing.
-    fn none(why: Status) -> Explanation
+    pub(crate) fn none(why: Status) -> Explanation
         ensures { result ≡ unexplained why }
     {
         Explanation {

@@ -1,16 +1,17 @@
 //! Cookies for C, Python and Rust: each export is a call of the crates below over the caller's own buffers.
 #![tactic(auto)]
 
+mod agent;
 mod answer;
 mod attributes;
 mod date;
 mod decoded;
 mod explanation;
+mod handle;
 mod jar;
 mod key;
 mod keyed;
 mod next_piece;
-mod opened_session;
 mod pair;
 mod place;
 mod print;
@@ -20,5 +21,7 @@ mod sealing;
 mod sessions;
 mod signing;
 mod status;
+mod suffixes;
 #[cfg(test)]
 mod tests;
+mod version;

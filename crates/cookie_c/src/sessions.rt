@@ -1,12 +1,25 @@
-//! The sessions of a site for C, without a handle: each call has the settings of the site.
+//! The sessions of a site for C.
+ghost use Rattle.std.specs.Prelude.{◌≡◌, None};
+ghost use Rattle.cookie_c.specs.Handles.{Tells};
+ghost use Rattle.cookie_c.specs.Sites.{MakesSite, site_of};
 
+pub(crate) mod ending;
+pub(crate) mod facts;
+pub(crate) mod given;
 mod keys;
 mod listed;
 pub(crate) mod open;
-mod random;
+pub(crate) mod open_session;
 pub(crate) mod save;
-mod site;
+pub(crate) mod site;
+pub(crate) mod start;
+pub(crate) mod texts;
 pub(crate) mod time;
+
+use crate::handle::Handle;
+use crate::handle::content::Content;
+use site::Site;
+use std::alloc::Global;
 
 /// How a site keeps its sessions: one encrypted cookie holds a session.
 #[repr(C)]
@@ -21,8 +34,54 @@ pub struct SessionSettings<'a> {
     pub lifetime: u32,
     /// The seconds that a session lives after it was last saved.
     pub idle: u32,
-    /// A number that isn't used.
-    pub seed: u64,
-    /// Another number that isn't used.
-    pub other_seed: u64,
+}
+
+/// A handle of a site's sessions.
+#[repr(C)]
+#[derive(Drop)]
+pub struct Sessions {
+    /// What has them.
+    pub handle: Handle,
+}
+
+/// A handle of a session.
+#[repr(C)]
+#[derive(Drop)]
+pub struct Session {
+    /// What has it.
+    pub handle: Handle,
+}
+
+/// Puts the sessions of a site into the handle, and frees those that it had, if it had some.
+///
+/// Refuses unusable settings (`IsUnusable`). It may also run out of memory. After a refusal the handle is as before.
+#[unsafe(no_mangle)]
+pub extern "C" fn cookie_sessions_new(
+    alloc: Global,
+    settings: &SessionSettings<'_>,
+    sessions: &mut Sessions,
+) -> u32
+    ensures { Tells (λ answer. MakesSite settings.now answer
+        (site_of sessions.old) (site_of sessions.new)) result }
+{
+    match Site::of(alloc, settings) {
+        Ok(site) => sessions.handle.set(alloc, Content::Sessions(site)).code(),
+        Err(why) => why.code(),
+    }
+}
+
+/// Frees the handle's sessions, if it has some. The handle has none then.
+#[unsafe(no_mangle)]
+pub extern "C" fn cookie_sessions_free(alloc: Global, sessions: &mut Sessions)
+    ensures { sessions.new.handle.held.content ≡ None }
+{
+    sessions.handle.free(alloc);
+}
+
+/// Frees the handle's session, if it has one. The handle has none then.
+#[unsafe(no_mangle)]
+pub extern "C" fn cookie_session_free(alloc: Global, session: &mut Session)
+    ensures { session.new.handle.held.content ≡ None }
+{
+    session.handle.free(alloc);
 }

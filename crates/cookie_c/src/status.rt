@@ -17,7 +17,7 @@ pub enum Status {
     KeyTooShort = 4,
     /// The master key has fewer than 32 bytes.
     MasterTooShort = 5,
-    /// The nonce doesn't have twelve bytes, or the random bytes of a session aren't 28.
+    /// The nonce doesn't have twelve bytes, or the id of a session sixteen.
     BadNonce = 6,
     /// The value isn't signed under the key and the name.
     NotSigned = 7,
@@ -41,11 +41,11 @@ pub enum Status {
     NoPair = 16,
     /// The handle has no jar.
     NoJar = 17,
-    /// The jar has no cookie of that name.
+    /// The jar has no cookie of that name, the session no text, or the user agent no such cookie.
     NotFound = 18,
     /// An attribute has an undefined value.
     BadAttribute = 19,
-    /// The request has no open session.
+    /// The request has no open session, or the handle has no session.
     NoSession = 20,
     /// The cookie lacks what a browser requires for the prefix of its name.
     BadPrefix = 21,
@@ -57,6 +57,12 @@ pub enum Status {
     InvalidValue = 24,
     /// The ids of the revoked sessions don't have sixteen bytes each.
     BadIds = 25,
+    /// The handle has no sessions of a site.
+    NoSessions = 26,
+    /// The handle has no list of public suffixes.
+    NoSuffixes = 27,
+    /// The handle has no user agent.
+    NoAgent = 28,
 }
 
 impl Status {

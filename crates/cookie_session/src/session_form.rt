@@ -1,5 +1,5 @@
 //! A session with the texts of a form (URL Standard 5.1).
-ghost use Rattle.std.specs.Prelude.{◌≡◌, IfOk};
+ghost use Rattle.std.specs.Prelude.{◌≡◌, IfOk, OnErr, OnOk};
 ghost use Rattle.cookie_session.specs.Form.{texts_of_form};
 
 use crate::session::Session;
@@ -18,5 +18,17 @@ impl Session {
     {
         let texts = texts_of(alloc, raw_pairs(form))?;
         Ok(Session::of(*self.id(), self.started(), self.seen(), texts))
+    }
+
+    /// Puts the texts of a form in place of its own, as `with_form` does. Fails only if out of memory, and then leaves the
+    /// session as it was.
+    pub fn set_form(&mut self, alloc: Global, form: &[u8]) -> Result<(), AllocError>
+        ensures ok { OnOk result (self.new
+            ≡ record self.old { texts = texts_of_form form.now }) }
+        ensures err { OnErr result (self.new ≡ self.old) }
+    {
+        let texts = texts_of(alloc, raw_pairs(form))?;
+        *self = Session::of(*self.id(), self.started(), self.seen(), texts);
+        Ok(())
     }
 }

@@ -80,6 +80,13 @@ class Jar:
         text = b"".join(sorted(b"Set-Cookie: " + line + b"\n" for line in texts))
         return done("jar", text, *self.steps, b"all" if step.call == "all" else b"delta")
 
+    def pairs(self, step):
+        """A call that returns the names and values of all cookies."""
+        items = step.wanted.split(" | ") if step.wanted != "-" else []
+        made = [rowfile.cookie(item) for item in items]
+        text = b"".join(sorted(escaped(one.name) + b"=" + escaped(one.value) + b"\n" for one in made))
+        return done("jar", text, *self.steps, b"cookies")
+
     def look(self, step):
         """The call that looks at the jar, or None."""
         if step.call == "get" or step.call == "get-original" and unescaped(step.words) not in self.changed:
@@ -87,7 +94,7 @@ class Jar:
         if step.call in ("delta", "texts"):
             return self.lines(step)
         if self.player != "original":
-            return None
+            return self.pairs(step) if step.call == "all" else None
         if step.call == "host" and step.words.startswith("get "):
             return self.get(step, b"host-" + step.words.encode())
         if step.call == "counts":

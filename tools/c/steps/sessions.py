@@ -17,6 +17,8 @@ REFUSED_SAVES = {
     "the cookie lacks what a browser asks of the prefix of its name": "BAD_PREFIX",
     "the session is over": "OVER",
 }
+# What is told of a handle without a session: the place of the key, both times, and the id.
+UNTOLD = lists([0, 0, 0]), bytes(16)
 QUIET = LOOKS | {"get", "text", "keys", "newest"}
 
 
@@ -96,8 +98,7 @@ class Sessions:
             header = b"; ".join(escaped(name) + b"=" + escaped(value) for name, value in self.originals.items())
         inputs = [*self.settings(), header, self.revoked]
         if step.wanted == "-" or status_of(step.wanted):
-            told = lists([0, 0, 0]), bytes(16)
-            return [refused("session_open", status_of(step.wanted) or "NO_SESSION", *inputs, *told)]
+            return [refused("session_open", status_of(step.wanted) or "NO_SESSION", *inputs, *UNTOLD)]
         self.opened, self.told, self.header = (int(step.wanted), inputs), {}, header
         return []
 
@@ -123,6 +124,9 @@ class Sessions:
         drawn = self.nonce + self.new_id
         inputs = [*self.settings(int(is_new)), self.header or b"", self.revoked, form, drawn]
         self.form = None
+        if status_of(step.wanted) == "BAD_IDS":
+            # Only the call that opens a session takes the list.
+            return [refused("session_open", "BAD_IDS", *self.settings(), self.header or b"", self.revoked, *UNTOLD)]
         if step.wanted in REFUSED_SAVES or status_of(step.wanted):
             return [refused("session_save", REFUSED_SAVES.get(step.wanted) or status_of(step.wanted), *inputs)]
         if step.wanted.startswith(TOO_LARGE):

@@ -1,19 +1,23 @@
 //! An explanation before it is given to C: what a browser makes of a text, or of a cookie.
-ghost use Rattle.std.specs.Prelude.{Result as ResultOf, ◌≡◌, ◌++◌, [], IfOk, OnOk, Ok, Err, length, int_div, option_map, pos};
+ghost use Rattle.std.specs.Prelude.{Result as ResultOf, Option, ℤ, ◌≡◌, ◌++◌, [], IfOk, IsNone, IsSomeAnd, MatchResult, OnOk, None, Some, Ok, Err, length, int_div, option_map, pos};
 ghost use Rattle.jiff.specs.Types.{DateTime as CivilDateTime};
 ghost use Rattle.jiff.specs.Words.{civil_nanos, signed_nanos};
+ghost use Rattle.cookie_browser.specs.ExpiryCode.{expiry_time};
 ghost use Rattle.cookie_browser.specs.ReceivedCode.{received_view};
 ghost use Rattle.cookie_browser.specs.RefusedCode.{kept_view, request_view};
 ghost use Rattle.cookie_browser.specs.Storage.{KeptView, asked_domain, kept_until, verdict, verdict_on};
 ghost use Rattle.cookie_browser.specs.declared.refusal.Refusal.{Refusal as RefusalValue};
 ghost use Rattle.cookie_session.specs.Seconds.{from_zero};
+ghost use Rattle.cookie_c.specs.Agents.{IsTooFar, IsUntold};
 ghost use Rattle.cookie_c.specs.ExplanationParts.{IsDraftOf};
 ghost use Rattle.cookie_c.specs.Explanations.{Explains, enforcement_code, place_at, refusal_code, seconds_until};
+ghost use Rattle.cookie_c.specs.declared.status.Status.TheVariants as status;
 
 use crate::answer::Answer;
 use crate::explanation::{Explanation, Stored};
 use crate::place::Place;
 use crate::status::Status;
+use cookie_agent::StoredCookie;
 use cookie_browser::{
     BrowserRequest, Enforcement, Expiry, KeptCookie, Received, ReceivedAttributes, Refusal,
     Suffixes, refused_by,
@@ -24,7 +28,7 @@ use std::alloc::{AllocError, Global};
 
 /// An explanation, with the texts that are for the buffer.
 #[derive(Drop)]
-pub(super) struct Draft {
+pub(crate) struct Draft {
     answer: Explanation,
     texts: Vec<u8>,
 }
@@ -73,7 +77,7 @@ impl Draft {
     }
 
     // The explanation, with its texts for the buffer.
-    pub(super) fn give(self, out: &mut [u8]) -> Explanation
+    pub(crate) fn give(self, out: &mut [u8]) -> Explanation
         ensures { (time : CivilDateTime) (outcome : ResultOf KeptView RefusalValue)
             → IsDraftOf time outcome self → Explains time outcome result out.old out.new }
     {
@@ -110,8 +114,38 @@ impl Draft {
           last_access = civil_nanos now;
         }))) }
     {
+        Draft::of_cookie(alloc, cookie, lifetime(attributes, now))
+    }
+
+    // The draft of a cookie that a user agent stores, or why there is none.
+    pub(crate) fn of_kept(
+        alloc: Global,
+        cookie: &StoredCookie,
+        now: DateTime,
+    ) -> Result<Draft, Status>
+        ensures { MatchResult result (IsDraftOf now (Ok cookie.now)) (IsUntold now cookie.now) }
+    {
+        let lifetime = seconds_left(cookie.expiry(), now)?;
+        match Draft::of_cookie(alloc, &cookie.as_kept(), lifetime) {
+            Ok(draft) => Ok(draft),
+            Err(_) => Err(Status::OutOfMemory),
+        }
+    }
+
+    // The draft of a stored cookie with this lifetime, if it has one.
+    fn of_cookie(
+        alloc: Global,
+        cookie: &KeptCookie<'_>,
+        lifetime: Option<u64>,
+    ) -> Result<Draft, AllocError>
+        ensures { (time : CivilDateTime) (expiry : Option ℤ) (last_access : ℤ)
+            → lifetime ≡ option_map (seconds_until time) expiry
+            → IfOk result (IsDraftOf time (Ok (record (kept_view cookie.now) {
+              expiry = expiry;
+              last_access = last_access;
+            }))) }
+    {
         let mut texts = Vec::new(alloc);
-        let lifetime = lifetime(attributes, now);
         let stored = Stored {
             name: push(&mut texts, cookie.name)?,
             value: push(&mut texts, cookie.value)?,
@@ -145,7 +179,8 @@ fn push(texts: &mut Vec<u8>, text: &[u8]) -> Result<Place, AllocError>
     Ok(place)
 }
 
-fn code_of(refusal: Refusal) -> u32
+// The number of the step that refuses a cookie.
+pub(crate) fn code_of(refusal: Refusal) -> u32
     ensures { result ≡ refusal_code refusal }
 {
     match refusal {
@@ -188,6 +223,32 @@ fn lifetime(attributes: &ReceivedAttributes<'_>, now: DateTime) -> Option<u64>
         Expiry::Session => None,
         Expiry::At(moment) => Some(whole_seconds(moment.duration_since(now))),
         Expiry::After(moment, age) => Some(whole_seconds(age - now.duration_since(moment))),
+    }
+}
+
+// The whole seconds from now on until the expiry, if there is one. Refuses an expiry that is too far off.
+fn seconds_left(expiry: Expiry, now: DateTime) -> Result<Option<u64>, Status>
+    ensures { MatchResult result
+        (λ left. left ≡ option_map (seconds_until now) (expiry_time expiry))
+        (λ why. (why ≡ status.NoDate) × IsTooFar now (expiry_time expiry)) }
+{
+    match expiry {
+        Expiry::Session => Ok(None),
+        Expiry::At(moment) => Ok(Some(whole_seconds(moment.duration_since(now)))),
+        Expiry::After(moment, age) => seconds_of(age.checked_sub(now.duration_since(moment))),
+    }
+}
+
+// The whole seconds of a time that is still left, if a duration has it.
+fn seconds_of(left: Option<SignedDuration>) -> Result<Option<u64>, Status>
+    ensures { MatchResult result
+        (λ seconds. IsSomeAnd left (λ time. seconds
+        ≡ Some (from_zero (int_div (signed_nanos time) (pos 1000000000)))))
+        (λ why. (why ≡ status.NoDate) × IsNone left) }
+{
+    match left {
+        Some(left) => Ok(Some(whole_seconds(left))),
+        None => Err(Status::NoDate),
     }
 }
 

@@ -21,6 +21,8 @@ pub struct Request<'a> {
     pub is_same_site: bool,
     /// Whether the request is a top-level navigation.
     pub is_top_level: bool,
+    /// Whether its method is safe, as `GET` is. Whether a response's cookie is stored doesn't depend on it.
+    pub is_safe: bool,
 }
 
 impl Request<'_> {
@@ -35,7 +37,7 @@ impl Request<'_> {
             is_secure: self.is_secure,
             is_same_site: self.is_same_site,
             is_top_level: self.is_top_level,
-            is_safe: false,
+            is_safe: self.is_safe,
         }
     }
 }

@@ -1,16 +1,17 @@
 //! The calls that change a jar in a handle.
-ghost use Rattle.std.specs.Prelude.{◌≡◌, ◌⊎◌, [], Some, None, IfOk, IsUtf8, true};
+ghost use Rattle.std.specs.Prelude.{◌≡◌, [], Some, None, IfOk, IsUtf8, true};
 ghost use Rattle.jiff.specs.Types.{DateTime};
 ghost use Rattle.cookie.specs.AttributeValues.{FitsField};
 ghost use Rattle.cookie.specs.Jar.{Add, Remove, after, empty_jar};
 ghost use Rattle.cookie.specs.Moments.{date_of};
 ghost use Rattle.cookie.specs.Record.{plain};
 ghost use Rattle.cookie.specs.Originals.{field_cookies, with_originals};
-ghost use Rattle.cookie_c.specs.Codes.{code_of};
-ghost use Rattle.cookie_c.specs.Jars.{AtJar, IsAdded, IsChanged, IsFitAdded, IsKept, IsRemoved, scoped_record};
+ghost use Rattle.cookie_c.specs.Handles.{IsKept, IsPut, Tells};
+ghost use Rattle.cookie_c.specs.Jars.{AtJar, InJar, IsAdded, IsChanged, IsFitAdded, IsRemoved, jar_of, scoped_record};
 ghost use Rattle.cookie_c.specs.declared.status.Status.TheVariants as status;
 
 use super::Jar;
+use crate::handle::content::Content;
 use crate::run::Seed;
 use crate::status::Status;
 use cookie::{Cookie, CookieJar, fits_field, read_date};
@@ -23,35 +24,30 @@ use std::hash::RandomState;
 /// It fails only when memory runs out, and then the handle's jar is as before.
 #[unsafe(no_mangle)]
 pub extern "C" fn cookie_jar_new(alloc: Global, seed: u64, other_seed: u64, jar: &mut Jar) -> u32
-    ensures { ((result ≡ code_of status.Done) × (jar.new.held.jar ≡ Some empty_jar))
-        ⊎ ((result ≡ code_of status.OutOfMemory) × (jar.new.held.jar ≡ jar.old.held.jar)) }
+    ensures { Tells (λ answer. IsPut empty_jar answer (jar_of jar.old) (jar_of jar.new)) result }
 {
     let Ok(state) = RandomState::new(&Seed::of(seed, other_seed)) else {
         return Status::OutOfMemory.code();
     };
-    let Ok(made) = Box::new(alloc, CookieJar::with_hasher(alloc, state)) else {
-        return Status::OutOfMemory.code();
-    };
-    drop(jar.take(alloc));
-    jar.put(made);
-    Status::Done.code()
+    let made = CookieJar::with_hasher(alloc, state);
+    jar.handle.set(alloc, Content::Jar(made)).code()
 }
 
 /// Adds the cookies in the value of a `Cookie` header as originals, decoded (RFC 6265 5.4). A piece between semicolons
 /// that isn't UTF-8 or isn't a cookie is skipped, so that one bad byte costs no other cookie.
 ///
 /// Refuses a handle without a jar. Else it fails only when memory runs out. After a refusal the jar is as before.
-#[tactic(auto, using(crate::proofs::JarLemmas::at_none, crate::proofs::JarLemmas::at_some))]
+#[tactic(auto, using(crate::proofs::HandleLemmas::jar_none, crate::proofs::HandleLemmas::jar_some))]
 #[unsafe(no_mangle)]
 pub extern "C" fn cookie_jar_add_originals(alloc: Global, jar: &mut Jar, header: &[u8]) -> u32
     ensures { AtJar (IsChanged (with_originals (field_cookies header.now)))
-        result jar.old.held.jar jar.new.held.jar }
+        result jar.old jar.new }
 {
-    let Some(mut held) = jar.take(alloc) else {
+    let Some(mut held) = jar.handle.take(alloc) else {
         return Status::NoJar.code();
     };
-    let answer = add_originals(held.as_mut(), header);
-    jar.put(held);
+    let answer = add_originals_in(held.as_mut(), header);
+    jar.handle.put(held);
     answer.code()
 }
 
@@ -60,16 +56,16 @@ pub extern "C" fn cookie_jar_add_originals(alloc: Global, jar: &mut Jar, header:
 ///
 /// Refuses a handle without a jar, then as `cookie_read_decoded` does, and then a path or a domain with a control
 /// character. Else it fails only when memory runs out. After a refusal the jar is as before.
-#[tactic(auto, using(crate::proofs::JarLemmas::at_none, crate::proofs::JarLemmas::at_some))]
+#[tactic(auto, using(crate::proofs::HandleLemmas::jar_none, crate::proofs::HandleLemmas::jar_some))]
 #[unsafe(no_mangle)]
 pub extern "C" fn cookie_jar_add(alloc: Global, jar: &mut Jar, text: &[u8]) -> u32
-    ensures { AtJar (IsAdded text.now) result jar.old.held.jar jar.new.held.jar }
+    ensures { AtJar (IsAdded text.now) result jar.old jar.new }
 {
-    let Some(mut held) = jar.take(alloc) else {
+    let Some(mut held) = jar.handle.take(alloc) else {
         return Status::NoJar.code();
     };
-    let answer = add(alloc, held.as_mut(), text);
-    jar.put(held);
+    let answer = add_in(alloc, held.as_mut(), text);
+    jar.handle.put(held);
     answer.code()
 }
 
@@ -78,17 +74,17 @@ pub extern "C" fn cookie_jar_add(alloc: Global, jar: &mut Jar, text: &[u8]) -> u
 ///
 /// Refuses a handle without a jar, then a `moment` or a name that isn't UTF-8, and then a `moment` that isn't a date.
 /// Else it fails only when memory runs out. After a refusal the jar is as before.
-#[tactic(auto, using(crate::proofs::JarLemmas::at_none, crate::proofs::JarLemmas::at_some))]
+#[tactic(auto, using(crate::proofs::HandleLemmas::jar_none, crate::proofs::HandleLemmas::jar_some))]
 #[unsafe(no_mangle)]
 pub extern "C" fn cookie_jar_remove(alloc: Global, jar: &mut Jar, moment: &[u8], name: &[u8]) -> u32
     ensures { AtJar (IsRemoved moment.now (IsUtf8 name.now) (plain name.now []))
-        result jar.old.held.jar jar.new.held.jar }
+        result jar.old jar.new }
 {
-    let Some(mut held) = jar.take(alloc) else {
+    let Some(mut held) = jar.handle.take(alloc) else {
         return Status::NoJar.code();
     };
-    let answer = remove(alloc, held.as_mut(), moment, name);
-    jar.put(held);
+    let answer = remove_in(alloc, held.as_mut(), moment, name);
+    jar.handle.put(held);
     answer.code()
 }
 
@@ -98,7 +94,7 @@ pub extern "C" fn cookie_jar_remove(alloc: Global, jar: &mut Jar, moment: &[u8],
 /// Refuses a handle without a jar, then a `moment`, a name, a path or a domain that isn't UTF-8, then a path or a domain
 /// with a control character or a `;`, and then a `moment` that isn't a date. It may also run out of memory. After a
 /// refusal the jar is as before.
-#[tactic(auto, using(crate::proofs::JarLemmas::at_none, crate::proofs::JarLemmas::at_some))]
+#[tactic(auto, using(crate::proofs::HandleLemmas::jar_none, crate::proofs::HandleLemmas::jar_some))]
 #[unsafe(no_mangle)]
 pub extern "C" fn cookie_jar_remove_scoped(
     alloc: Global,
@@ -109,22 +105,32 @@ pub extern "C" fn cookie_jar_remove_scoped(
     domain: &[u8],
 ) -> u32
     ensures { AtJar (IsRemoved moment.now (IsUtf8 name.now × IsUtf8 path.now × IsUtf8 domain.now)
-        (scoped_record name.now path.now domain.now)) result jar.old.held.jar jar.new.held.jar }
+        (scoped_record name.now path.now domain.now)) result jar.old jar.new }
 {
-    let Some(mut held) = jar.take(alloc) else {
+    let Some(mut held) = jar.handle.take(alloc) else {
         return Status::NoJar.code();
     };
-    let answer = remove_scoped(alloc, held.as_mut(), moment, name, path, domain);
-    jar.put(held);
+    let answer = remove_scoped_in(alloc, held.as_mut(), moment, name, path, domain);
+    jar.handle.put(held);
     answer.code()
 }
 
 /// Frees the handle's jar, if it has one. The handle has none then.
 #[unsafe(no_mangle)]
 pub extern "C" fn cookie_jar_free(alloc: Global, jar: &mut Jar)
-    ensures { jar.new.held.jar ≡ None }
+    ensures { jar.new.handle.held.content ≡ None }
 {
-    drop(jar.take(alloc));
+    jar.handle.free(alloc);
+}
+
+fn add_originals_in(content: &mut Content, header: &[u8]) -> Status
+    ensures { InJar (IsChanged (with_originals (field_cookies header.now)))
+        result content.old content.new }
+{
+    let Content::Jar(jar) = content else {
+        return Status::NoJar;
+    };
+    add_originals(jar, header)
 }
 
 fn add_originals(jar: &mut CookieJar, header: &[u8]) -> Status
@@ -149,6 +155,15 @@ fn copy_with(jar: &CookieJar, header: &[u8]) -> Result<CookieJar, AllocError>
         Ok(copy) => copy.with_field(header),
         Err(_) => Err(AllocError),
     }
+}
+
+fn add_in(alloc: Global, content: &mut Content, text: &[u8]) -> Status
+    ensures { InJar (IsAdded text.now) result content.old content.new }
+{
+    let Content::Jar(jar) = content else {
+        return Status::NoJar;
+    };
+    add(alloc, jar, text)
 }
 
 fn add(alloc: Global, jar: &mut CookieJar, text: &[u8]) -> Status
@@ -187,6 +202,16 @@ fn add_copy(alloc: Global, jar: &mut CookieJar, cookie: Cookie<'_>) -> Status
     }
 }
 
+fn remove_in(alloc: Global, content: &mut Content, moment: &[u8], name: &[u8]) -> Status
+    ensures { InJar (IsRemoved moment.now (IsUtf8 name.now) (plain name.now []))
+        result content.old content.new }
+{
+    let Content::Jar(jar) = content else {
+        return Status::NoJar;
+    };
+    remove(alloc, jar, moment, name)
+}
+
 fn remove(alloc: Global, jar: &mut CookieJar, moment: &[u8], name: &[u8]) -> Status
     ensures { IsRemoved moment.now (IsUtf8 name.now) (plain name.now []) result jar.old jar.new }
 {
@@ -194,6 +219,23 @@ fn remove(alloc: Global, jar: &mut CookieJar, moment: &[u8], name: &[u8]) -> Sta
         return Status::NotUtf8;
     };
     remove_at(alloc, jar, moment, Cookie::named(name))
+}
+
+fn remove_scoped_in(
+    alloc: Global,
+    content: &mut Content,
+    moment: &[u8],
+    name: &[u8],
+    path: &[u8],
+    domain: &[u8],
+) -> Status
+    ensures { InJar (IsRemoved moment.now (IsUtf8 name.now × IsUtf8 path.now × IsUtf8 domain.now)
+        (scoped_record name.now path.now domain.now)) result content.old content.new }
+{
+    let Content::Jar(jar) = content else {
+        return Status::NoJar;
+    };
+    remove_scoped(alloc, jar, moment, name, path, domain)
 }
 
 fn remove_scoped(

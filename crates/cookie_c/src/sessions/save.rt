@@ -1,207 +1,192 @@
-//! Saving and ending a session for C.
-ghost use Rattle.std.specs.FinMap.{empty};
-ghost use Rattle.std.specs.Prelude.{◌≡◌, ◌≢◌, true, false, Contains, Some, Err, IfOk, IsOkAnd, MatchResult, drop, length, option_map, string_bytes, take};
+//! Saving a session for C.
+ghost use Rattle.std.specs.Prelude.{◌≡◌, ◌≢◌, true, false, Some, Err, IsOkAnd, MatchResult, length, option_map, string_bytes};
 ghost use Rattle.cookie.specs.Jar.{view};
-ghost use Rattle.cookie.specs.Originals.{field_cookies};
-ghost use Rattle.cookie.specs.Removal.{removal};
 ghost use Rattle.cookie.specs.Text.{cookie_text};
-ghost use Rattle.cookie_session.specs.Seconds.{second_of};
 ghost use Rattle.cookie_session.specs.declared.session_error.SessionError.TheVariants as failure;
-ghost use Rattle.cookie_c.specs.Answers.{IsGiven, IsGivenInMemory, IsRefused};
-ghost use Rattle.cookie_c.specs.Revoked.{HasIds, IsListed};
-ghost use Rattle.cookie_c.specs.SavedSessions.{IsUnsaved, Saves, SavesTexts, unsaved_number, unsaved_status, with_form};
+ghost use Rattle.cookie_c.specs.Answers.{IsGiven, IsRefused};
+ghost use Rattle.cookie_c.specs.Handles.{Reads, session_in, site_in};
+ghost use Rattle.cookie_c.specs.OpenedSessions.{session_of};
+ghost use Rattle.cookie_c.specs.SavedSessions.{IsUnsaved, Saves, SavesHeld, unsaved_number, unsaved_status};
 ghost use Rattle.cookie_c.specs.SaveParts.{IsSaved};
-ghost use Rattle.cookie_c.specs.Sites.{AtSite};
+ghost use Rattle.cookie_c.specs.Sites.{AtSite, site_of};
 ghost use Rattle.cookie_c.specs.declared.status.Status.TheVariants as status;
 
-use super::SessionSettings;
-use super::listed::Listed;
-use super::open::find;
-use super::random::Random;
-use super::site::Site;
+use super::given::Given;
+use super::time::time_at;
 use crate::answer::Answer;
-use crate::print::give_text;
+use crate::handle::content::Content;
 use crate::status::Status;
 use cookie::{Cookie, CookieJar};
 use cookie_session::{Session, SessionError, Sessions};
 use jiff::civil::DateTime;
-use std::alloc::{AllocError, Global};
+use std::alloc::Global;
 
-/// Saves a session with the texts of a form (URL Standard 5.1). The value of the `Set-Cookie` header that sets its
-/// cookie, encrypted under the newest key, is for the buffer. If `renew` is true, the session starts now. If it is
-/// false, the session is the request's, as `cookie_session_open` finds it with the same `revoked`, and its lifetime goes
-/// on. `random` has 28 random bytes. The first twelve are the nonce: under one key no nonce may be used twice, and at
-/// most 2^32 may be drawn (SP 800-38D 8.3). The other sixteen are the id of a session that starts now. `now` is the time
-/// in seconds since 1970 in UTC.
+const NONCE_LENGTH: usize = 12;
+
+/// Saves the handle's session. The value of the `Set-Cookie` header that sets its cookie, encrypted under the newest
+/// key, is for the buffer. Its lifetime goes on. `nonce` has twelve random bytes: under one key no nonce may be used
+/// twice, and at most 2^32 may be drawn (SP 800-38D 8.3). `now` is the time in seconds since 1970 in UTC. Both handles
+/// are as before.
 ///
-/// Refuses random bytes of another length, then ids that don't have sixteen bytes each, then unusable settings or an
-/// unusable time (`IsUnusable`), and then a request without an open session, unless `renew` is true. It then fails as
-/// `Sessions::save` does, with the size in bytes of a cookie that is too large. It may also run out of memory.
+/// Refuses a nonce of another length, then a handle without sessions, then a time after 9999-12-30 22:00:00, and then a
+/// handle without a session. It then fails as `Sessions::save` does, with the size in bytes of a cookie that is too
+/// large. It may also run out of memory.
 #[unsafe(no_mangle)]
 pub extern "C" fn cookie_session_save(
     alloc: Global,
-    settings: &SessionSettings<'_>,
-    header: &[u8],
-    revoked: &[u8],
-    texts: &[u8],
-    renew: bool,
+    sessions: &mut super::Sessions,
+    session: &mut super::Session,
+    nonce: &[u8],
     now: u64,
-    random: &[u8],
     out: &mut [u8],
 ) -> Answer
-    ensures bad_nonce { length random.now ≢ 28
+    ensures kept { (site_of sessions.new ≡ site_of sessions.old)
+        × (session_of session.new ≡ session_of session.old) }
+    ensures bad_nonce { length nonce.now ≢ 12
         → IsRefused status.BadNonce result out.old out.new }
-    ensures bad_ids { length random.now ≡ 28 → ¬ HasIds revoked.now
-        → IsRefused status.BadIds result out.old out.new }
-    ensures saves { length random.now ≡ 28 → HasIds revoked.now → AtSite settings.now now
-        (λ site time. SavesTexts (IsListed revoked.now) site (field_cookies header.now) texts.now
-        renew time (take 12 random.now) (drop 12 random.now) result out.old out.new)
+    ensures saves { length nonce.now ≡ 12 → AtSite (site_of sessions.old) now
+        (λ site time. SavesHeld site nonce.now time (session_of session.old)
+        result out.old out.new)
         (λ why. IsRefused why result out.old out.new) }
 {
-    let Some(random) = Random::of(random) else {
+    if nonce.len() != NONCE_LENGTH {
         return Answer::refusal(Status::BadNonce);
-    };
-    let Some(revoked) = Listed::of(revoked) else {
-        return Answer::refusal(Status::BadIds);
-    };
-    match Site::of(alloc, settings, now) {
-        Ok(site) => give_saved(
-            alloc,
-            &site.sessions(),
-            header,
-            revoked,
-            texts,
-            renew,
-            site.time,
-            random,
-            out,
-        ),
-        Err(why) => Answer::refusal(why),
     }
+    let Some(held) = sessions.handle.take(alloc) else {
+        return Answer::refusal(Status::NoSessions);
+    };
+    let answer = save_at(
+        alloc,
+        held.as_ref(),
+        session,
+        Given { bytes: nonce },
+        now,
+        out,
+    );
+    sessions.handle.put(held);
+    answer
 }
 
-/// Ends a session. The value of the `Set-Cookie` header that has the client drop the site's cookie, with the path and
-/// the domain that the site sets, is for the buffer. A copy of the cookie stays open until the session's limits, unless
-/// the caller revokes the session: keeps its id, and passes it in as revoked. `now` is the time in seconds since 1970 in
-/// UTC.
-///
-/// Refuses unusable settings or an unusable time (`IsUnusable`). It may also run out of memory.
-#[unsafe(no_mangle)]
-pub extern "C" fn cookie_session_end(
+// Saves the handle's session, by the site that the content is.
+fn save_at(
     alloc: Global,
-    settings: &SessionSettings<'_>,
+    content: &Content,
+    session: &mut super::Session,
+    nonce: Given<'_>,
     now: u64,
     out: &mut [u8],
 ) -> Answer
-    ensures { AtSite settings.now now
-        (λ site time. IsGivenInMemory
-        (cookie_text true false (removal time site.cookie.now.fields)) result out.old out.new)
+    requires { length nonce.bytes.now ≡ 12 }
+    ensures kept { session_of session.new ≡ session_of session.old }
+    ensures saves { AtSite (site_in (Some content.now)) now
+        (λ site time. SavesHeld site nonce.entry.bytes.now time (session_of session.old)
+        result out.old out.new)
         (λ why. IsRefused why result out.old out.new) }
 {
-    match Site::of(alloc, settings, now) {
-        Ok(site) => give_removal(alloc, &site.sessions(), site.time, out),
-        Err(why) => Answer::refusal(why),
+    let Content::Sessions(site) = content else {
+        return Answer::refusal(Status::NoSessions);
+    };
+    match time_at(now) {
+        Some(time) => save_handle(alloc, &site.sessions(), session, nonce, time, out),
+        None => Answer::refusal(Status::NoDate),
     }
 }
 
-// The session with the texts of the form, saved, for the buffer.
+// Saves the handle's session.
+#[tactic(auto, using(crate::proofs::HandleLemmas::session_read_none, crate::proofs::HandleLemmas::session_read_some))]
+fn save_handle(
+    alloc: Global,
+    sessions: &Sessions<'_>,
+    session: &mut super::Session,
+    nonce: Given<'_>,
+    time: DateTime,
+    out: &mut [u8],
+) -> Answer
+    requires { length nonce.bytes.now ≡ 12 }
+    ensures kept { session_of session.new ≡ session_of session.old }
+    ensures saves { SavesHeld sessions.now nonce.entry.bytes.now time (session_of session.old)
+        result out.old out.new }
+{
+    let Some(held) = session.handle.take(alloc) else {
+        return Answer::refusal(Status::NoSession);
+    };
+    let answer = save_in(alloc, sessions, held.as_ref(), nonce, time, out);
+    session.handle.put(held);
+    answer
+}
+
+// Saves the session that the content is.
+fn save_in(
+    alloc: Global,
+    sessions: &Sessions<'_>,
+    content: &Content,
+    nonce: Given<'_>,
+    time: DateTime,
+    out: &mut [u8],
+) -> Answer
+    requires { length nonce.bytes.now ≡ 12 }
+    ensures { SavesHeld sessions.now nonce.entry.bytes.now time (session_in (Some content.now))
+        result out.old out.new }
+{
+    let Content::Session(opened) = content else {
+        return Answer::refusal(Status::NoSession);
+    };
+    give_saved(alloc, sessions, &opened.session, nonce, time, out)
+}
+
+// The session, saved, for the buffer.
 fn give_saved(
     alloc: Global,
     sessions: &Sessions<'_>,
-    header: &[u8],
-    revoked: Listed<'_>,
-    texts: &[u8],
-    renew: bool,
+    session: &Session,
+    nonce: Given<'_>,
     time: DateTime,
-    random: Random,
     out: &mut [u8],
 ) -> Answer
-    ensures { SavesTexts (Contains revoked.entry.ids.now) sessions.now (field_cookies header.now)
-        texts.now renew time random.nonce random.id result out.old out.new }
-{
-    let mut random = random;
-    if renew {
-        let session = start(alloc, time, &mut random);
-        return give_session(alloc, sessions, session, texts, time, random, out);
-    }
-    match find(alloc, sessions, header, revoked, time) {
-        Ok(Some(opened)) => give_session(alloc, sessions, opened.session, texts, time, random, out),
-        Ok(None) => Answer::refusal(Status::NoSession),
-        Err(_) => Answer::refusal(Status::OutOfMemory),
-    }
-}
-
-// A session that starts at this time, with the id of the random bytes.
-fn start(alloc: Global, time: DateTime, random: &mut Random) -> Session
-    ensures started { result ≡ record {
-      id = random.old.id;
-      started = second_of time;
-      seen = second_of time;
-      texts = empty;
-    } }
-    ensures same { random.new ≡ random.old }
-{
-    match Session::start(alloc, time, random) {
-        Ok(session) => session,
-        Err(_) => unreachable!(),
-    }
-}
-
-// This session with the texts of the form, saved, for the buffer.
-fn give_session(
-    alloc: Global,
-    sessions: &Sessions<'_>,
-    session: Session,
-    texts: &[u8],
-    time: DateTime,
-    random: Random,
-    out: &mut [u8],
-) -> Answer
-    ensures { Saves sessions.now random.nonce time (with_form texts.now session)
+    requires { length nonce.bytes.now ≡ 12 }
+    ensures { Saves sessions.now nonce.entry.bytes.now time session.now
         (IsUnsaved result out.old out.new) (λ text. IsGiven text result out.old out.new) }
 {
-    match saved_text(alloc, sessions, session, texts, time, random) {
+    match saved_text(alloc, sessions, session, nonce, time) {
         Ok(text) => Answer::give(text.as_bytes(), out),
         Err(error) => Answer::of(unsaved_status(error), unsaved_number(error)),
     }
 }
 
-// The text of the cookie of the session with the texts of the form.
+// The text of the session's cookie.
 fn saved_text(
     alloc: Global,
     sessions: &Sessions<'_>,
-    session: Session,
-    texts: &[u8],
+    session: &Session,
+    nonce: Given<'_>,
     time: DateTime,
-    random: Random,
 ) -> Result<String, SessionError>
-    ensures { Saves sessions.now random.nonce time (with_form texts.now session)
+    requires { length nonce.bytes.now ≡ 12 }
+    ensures { Saves sessions.now nonce.entry.bytes.now time session.now
         (λ why. result ≡ Err why) (λ text. IsOkAnd result (λ made. string_bytes made ≡ text)) }
 {
-    let Ok(session) = session.with_form(alloc, texts) else {
-        return Err(SessionError::OutOfMemory);
-    };
     let mut jar = CookieJar::new(alloc);
-    match save_in(alloc, sessions, &mut jar, &session, time, random) {
+    match save_in_jar(alloc, sessions, &mut jar, session, nonce, time) {
         Ok(()) => shown_text(alloc, &jar, sessions.cookie.name()),
         Err(error) => Err(error),
     }
 }
 
 // Saves the session in the jar.
-fn save_in(
+fn save_in_jar(
     alloc: Global,
     sessions: &Sessions<'_>,
     jar: &mut CookieJar,
     session: &Session,
+    nonce: Given<'_>,
     time: DateTime,
-    random: Random,
 ) -> Result<(), SessionError>
-    ensures { IsSaved sessions.now random.nonce time session.now result
+    requires { length nonce.bytes.now ≡ 12 }
+    ensures { IsSaved sessions.now nonce.entry.bytes.now time session.now result
         (view jar.new sessions.now.cookie.now.fields.name) }
 {
-    let mut random = random;
-    sessions.save(alloc, jar, session, time, &mut random)
+    let mut nonce = nonce;
+    sessions.save(alloc, jar, session, time, &mut nonce)
 }
 
 // The text of the jar's cookie of that name.
@@ -249,28 +234,4 @@ fn unsaved_number(error: SessionError) -> usize
         SessionError::TooLarge(size) => size,
         _ => 0,
     }
-}
-
-// The text that has the client drop the site's cookie, for the buffer.
-fn give_removal(alloc: Global, sessions: &Sessions<'_>, time: DateTime, out: &mut [u8]) -> Answer
-    ensures { IsGivenInMemory (cookie_text true false (removal time sessions.now.cookie.now.fields))
-        result out.old out.new }
-{
-    match removed_cookie(alloc, sessions.cookie, time) {
-        Ok(cookie) => give_text(alloc, &cookie, true, out),
-        Err(_) => Answer::refusal(Status::OutOfMemory),
-    }
-}
-
-// The cookie that has the client drop this one.
-fn removed_cookie(
-    alloc: Global,
-    cookie: &Cookie<'static>,
-    time: DateTime,
-) -> Result<Cookie<'static>, AllocError>
-    ensures { IfOk result (λ removed. removed.fields ≡ removal time cookie.now.fields) }
-{
-    let mut removed = cookie.clone(alloc)?;
-    removed.make_removal(time);
-    Ok(removed)
 }

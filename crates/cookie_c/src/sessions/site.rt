@@ -1,45 +1,37 @@
-//! The site of C's settings, at a time.
+//! The site of C's settings.
 ghost use Rattle.std.specs.Prelude.{◌≡◌, ◌⊎◌, MatchResult, Some, true};
 ghost use Rattle.cookie.specs.CookieOf.{cookie_of};
 ghost use Rattle.cookie.specs.declared.ParseError.{ParseError as ParseErrorValue};
 ghost use Rattle.cookie_c.specs.Codes.{refusal_status};
 ghost use Rattle.cookie_c.specs.Decoded.{IsDecodingRefusal};
-ghost use Rattle.cookie_c.specs.SiteParts.{IsMadeOf};
-ghost use Rattle.cookie_c.specs.Sites.{IsUnusable};
+ghost use Rattle.cookie_c.specs.Sites.{AreOf, IsSiteOf, IsUnusable};
 ghost use Rattle.cookie_c.specs.declared.status.Status.TheVariants as status;
 
 use super::SessionSettings;
 use super::keys::{has_keys, ring_of};
-use super::time::time_at;
 use crate::status::Status;
 use cookie::{Cookie, fits_field};
 use cookie_session::{KeyRing, Sessions};
-use jiff::civil::DateTime;
 use std::alloc::Global;
 
-/// A site, at a time.
+/// How a site keeps its sessions.
 #[derive(Drop)]
-pub(super) struct Site {
-    pub(super) keys: KeyRing,
-    pub(super) cookie: Cookie<'static>,
-    pub(super) lifetime: u32,
-    pub(super) idle: u32,
-    pub(super) time: DateTime,
+pub struct Site {
+    /// The keys. The newest encrypts, and each of them decrypts.
+    pub keys: KeyRing,
+    /// The cookie with the name and the attributes that the site sets.
+    pub cookie: Cookie<'static>,
+    /// The seconds that a session lives after its start.
+    pub lifetime: u32,
+    /// The seconds that a session lives after it was last saved.
+    pub idle: u32,
 }
 
 impl Site {
-    // The site of the settings in that second, or why there is none.
-    pub(super) fn of(
-        alloc: Global,
-        settings: &SessionSettings<'_>,
-        second: u64,
-    ) -> Result<Site, Status>
-        ensures { MatchResult result (IsMadeOf settings.now second)
-            (IsUnusable settings.now second) }
+    // The site of the settings, or why there is none.
+    pub(super) fn of(alloc: Global, settings: &SessionSettings<'_>) -> Result<Site, Status>
+        ensures { MatchResult result (IsSiteOf settings.now) (IsUnusable settings.now) }
     {
-        let Some(time) = time_at(second) else {
-            return Err(Status::NoDate);
-        };
         if !has_keys(settings.keys) {
             return Err(Status::KeyTooShort);
         }
@@ -58,16 +50,12 @@ impl Site {
             cookie,
             lifetime: settings.lifetime,
             idle: settings.idle,
-            time,
         })
     }
 
     // Its sessions.
     pub(super) fn sessions(&self) -> Sessions<'_>
-        ensures keys { result.keys.now ≡ self.now.keys }
-        ensures cookie { result.cookie.now ≡ self.now.cookie }
-        ensures lifetime { result.lifetime ≡ self.now.lifetime }
-        ensures idle { result.idle ≡ self.now.idle }
+        ensures { AreOf self.now result }
     {
         Sessions {
             keys: &self.keys,

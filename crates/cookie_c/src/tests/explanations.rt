@@ -1,6 +1,8 @@
 //! Explanations in a short buffer, without a list, and at times out of range.
 use super::holds;
 use crate::explanation::{Explanation, Request, cookie_explain};
+use crate::handle::Handle;
+use crate::suffixes::{Suffixes, cookie_suffixes_free, cookie_suffixes_new};
 use std::alloc::Global;
 
 // What a browser makes of the text at https://github.io, at Wed, 21 Oct 2015 07:28:00 GMT, or `later` seconds after.
@@ -12,9 +14,16 @@ fn explain(alloc: Global, path: &[u8], text: &[u8], later: u64, out: &mut [u8]) 
         is_secure: true,
         is_same_site: true,
         is_top_level: true,
+        is_safe: true,
     };
     let now = later.saturating_add(1_445_412_480);
-    cookie_explain(alloc, &request, b"", text, now, out)
+    let mut suffixes = Suffixes {
+        handle: Handle::closed(alloc),
+    };
+    cookie_suffixes_new(alloc, b"", &mut suffixes);
+    let why = cookie_explain(alloc, &mut suffixes, &request, text, now, out);
+    cookie_suffixes_free(alloc, &mut suffixes);
+    why
 }
 
 #[test]

@@ -1,0 +1,100 @@
+-- The calls on a session in a handle: `old` is the session at the call and `new` at the return. Of a call that gives a
+-- text they are the buffer.
+use Rattle.std.specs.Prelude.{◌≡◌, ◌≢◌, ℕ, ◌⊎◌, List, IsUtf8, Option, Some, None, length}
+use Rattle.std.specs.FinMap.{FinMap, empty, get, insert, remove}
+use Rattle.jiff.specs.Types.{DateTime}
+use Rattle.cookie.specs.Jar.{name_cmp}
+use Rattle.cookie_session.specs.Form.{texts_of_form}
+use Rattle.cookie_session.specs.Id.{id_length}
+use Rattle.cookie_session.specs.Seconds.{second_of}
+use Rattle.cookie_c.specs.Answers.{IsGiven, IsRefused}
+use Rattle.cookie_c.specs.Handles.{Changes, IsKept, IsPut, Tells, session_in}
+use Rattle.cookie_c.specs.OpenedSessions.{session_of}
+use Rattle.cookie_c.specs.Sites.{AtSecond}
+use Rattle.cookie_c.specs.declared.answer.Answer.{Answer}
+use Rattle.cookie_c.specs.declared.handle.content.Content.{Content}
+use Rattle.cookie_c.specs.declared.sessions.Session.{Session as Handle}
+use Rattle.cookie_c.specs.declared.sessions.open_session.OpenSession.{OpenSession}
+use Rattle.cookie_c.specs.declared.status.Status.{Status}
+use Rattle.cookie_c.specs.declared.status.Status.TheVariants as status
+
+-- a session with this id that starts at this time, without texts
+abbrev pub new_session : List ℕ → DateTime → OpenSession
+new_session id time =
+    record {
+      session = record {
+        id = id;
+        started = second_of time;
+        seen = second_of time;
+        texts = empty;
+      };
+      place = None;
+    }
+
+-- a session with this id is in the handle, which starts in that second
+pub record IsStarted (id : List ℕ) (second : ℕ) (answer : Status) (old new : Option OpenSession)
+    : Type 0 where
+  pub bad_id : length id ≢ id_length → IsKept status.BadNonce answer old new
+  pub started : length id ≡ id_length → AtSecond second
+      (λ time. IsPut (new_session id time) answer old new) (λ why. IsKept why answer old new)
+
+-- the session with another id, which starts at this time; the place of the key that opened it stays
+abbrev pub renewed_session : List ℕ → DateTime → OpenSession → OpenSession
+renewed_session id time had =
+    record had {
+      session = record had.session { id = id; started = second_of time; seen = second_of time };
+    }
+
+-- the session starts anew in that second, with this id
+pub record IsRenewed (id : List ℕ) (second : ℕ) (answer : Status) (old new : OpenSession)
+    : Type 0 where
+  pub bad_id : length id ≢ id_length → IsKept status.BadNonce answer old new
+  pub renewed : length id ≡ id_length → AtSecond second
+      (λ time. (answer ≡ status.Done) × (new ≡ renewed_session id time old))
+      (λ why. IsKept why answer old new)
+
+-- the session with these texts in place of its own
+abbrev pub with_texts : FinMap name_cmp (List ℕ) → OpenSession → OpenSession
+with_texts texts had = record had { session = record had.session { texts = texts } }
+
+-- the session has these texts now, or memory ran out
+abbrev pub HasTexts : FinMap name_cmp (List ℕ) → Status → OpenSession → OpenSession → Type 0
+HasTexts texts answer old new =
+    ((answer ≡ status.Done) × (new ≡ with_texts texts old))
+    ⊎ IsKept status.OutOfMemory answer old new
+
+-- the text is put at the name
+pub record IsSet (name text : List ℕ) (answer : Status) (old new : OpenSession) : Type 0 where
+  pub not_utf8 : ¬ (IsUtf8 name × IsUtf8 text) → IsKept status.NotUtf8 answer old new
+  pub set : IsUtf8 name → IsUtf8 text
+      → HasTexts (insert old.session.texts name text) answer old new
+
+-- the text at the name is gone
+pub record IsUnset (name : List ℕ) (answer : Status) (old new : OpenSession) : Type 0 where
+  pub not_utf8 : ¬ IsUtf8 name → IsKept status.NotUtf8 answer old new
+  pub unset : IsUtf8 name
+      → (answer ≡ status.Done) × (new ≡ with_texts (remove old.session.texts name) old)
+
+-- the texts are those of the form, and no others
+abbrev pub HasForm : List ℕ → Status → OpenSession → OpenSession → Type 0
+HasForm form answer old new = HasTexts (texts_of_form form) answer old new
+
+-- the text at the name is given
+pub record IsTextGiven (name : List ℕ) (had : OpenSession) (answer : Answer) (old new : List ℕ)
+    : Type 0 where
+  pub not_utf8 : ¬ IsUtf8 name → IsRefused status.NotUtf8 answer old new
+  pub not_found : IsUtf8 name → get had.session.texts name ≡ None
+      → IsRefused status.NotFound answer old new
+  pub given : (text : List ℕ) → IsUtf8 name → get had.session.texts name ≡ Some text
+      → IsGiven text answer old new
+
+-- the handle's session is as a call makes it, and the number is that of the call's answer
+abbrev pub AtSession : (Status → OpenSession → OpenSession → Type 0) → ℕ → Handle → Handle → Type 0
+AtSession Makes number old new =
+    Tells (λ answer. Changes status.NoSession Makes answer (session_of old) (session_of new)) number
+
+-- the same of a content
+abbrev pub InSession : (Status → OpenSession → OpenSession → Type 0) → Status → Content → Content
+    → Type 0
+InSession Makes answer old new =
+    Changes status.NoSession Makes answer (session_in (Some old)) (session_in (Some new))
