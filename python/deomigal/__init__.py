@@ -11,6 +11,7 @@ Texts are `str` and keys are `bytes`. A call that is refused raises an exception
 True
 """
 from . import errors, explain, revocations
+from .agents import Agent
 from .cookies import decoded_pairs, pairs, print_cookie, read_cookie, read_decoded_cookie
 from .dates import print_date, read_date
 from .errors import CookieError
@@ -20,7 +21,7 @@ from .sessions import Session, Sessions
 
 __version__ = "0.2.0"
 __all__ = [
-    "CookieError", "Jar", "Session", "Sessions", "decoded_pairs", "derive_key", "errors", "explain", "keys_of",
+    "Agent", "CookieError", "Jar", "Session", "Sessions", "decoded_pairs", "derive_key", "errors", "explain", "keys_of",
     "open_sealed", "pairs", "print_cookie", "print_date", "read_cookie", "read_date", "read_decoded_cookie",
     "revocations", "run", "seal", "sign", "verify",
 ]

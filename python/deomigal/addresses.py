@@ -1,6 +1,8 @@
-"""Where a request goes: the address of a URL of http or https, read as browsers read it (WHATWG URL)."""
+"""Where a request goes: the address of a URL of http or https, read as browsers read it (WHATWG URL), or that of a
+request that a client makes."""
 from __future__ import annotations
 
+import functools
 import ipaddress
 import re
 from typing import NamedTuple
@@ -10,6 +12,12 @@ from urllib.parse import unquote_to_bytes
 FORBIDDEN = re.compile(r"[\x00-\x20#%/:<>?@\[\\\]^|\x7f]")
 # What a path has escaped (WHATWG URL, path percent-encode set).
 ESCAPED = re.compile(rb"[^!$-;=@-Z\[\]_a-z|~]")
+# A path without such steps, and with nothing to escape.
+PLAIN = re.compile(r"(/(?![.%])[!$-.0-;=@-Z\[\]_a-z|~]*)+")
+# What is dropped at the ends of a URL, and within it (WHATWG URL, basic URL parser).
+BLANKS, DROPPED = "".join(map(chr, range(33))), re.compile(r"[\t\n\r]")
+# The scheme, the credentials, the authority and the path of a URL.
+URL = re.compile(r"(https?):[/\\]*(?:([^/\\?#]*)@)?([^/\\?#]*)([^?#]*).*", re.I | re.S)
 
 
 class Address(NamedTuple):
@@ -24,24 +32,60 @@ class Address(NamedTuple):
     is_top_level: bool = True
 
 
-def address_of(url: str, is_cross_site: bool = False) -> Address:
+def address_of(url: str, is_cross_site: bool = False, is_localhost_secure: bool = True) -> Address:
     """The address of a URL, for a request of its own site, or for one that another site's page made, as a frame does.
 
-    Raises `ValueError` if the URL isn't one of http or https, or its host isn't in ASCII.
+    A host that isn't in ASCII is read as `ascii_host` says. Raises `ValueError` if the URL isn't one of http or https, or
+    its host is none.
     """
     if not isinstance(url, str):
         raise TypeError("a URL is a str")
-    url = re.sub(r"[\t\n\r]", "", url.strip("".join(map(chr, range(33)))))
-    parts = re.fullmatch(r"(?is)(https?):[/\\]*(?:([^/\\?#]*)@)?([^/\\?#]*)([^?#]*).*", url)
+    parts = URL.fullmatch(DROPPED.sub("", url.strip(BLANKS)))
     if not parts:
         raise ValueError("the address is no URL of https or http")
     scheme, _, authority, path = parts.groups()
     host, is_address, is_local = host_of(authority)
     # Browsers count a connection that doesn't leave the machine as secure.
-    is_secure = scheme.lower() == "https" or is_local
+    is_secure = scheme.lower() == "https" or is_local and is_localhost_secure
     return Address(host, path_of(path), is_address, is_secure, not is_cross_site, not is_cross_site)
 
 
+def address_at(scheme: str, host: str, path: str, is_localhost_secure: bool = True) -> Address:
+    """The address of a request that a client makes, for a request of its own site.
+
+    `host` is the one that the client connects to, as it names it, in brackets or not. So a URL that the client and this
+    package would read otherwise can't have a cookie stored for a host that didn't answer. Raises `ValueError` if the
+    scheme isn't one of http, https, ws and wss, or the host is none.
+
+    >>> address_at("https", "Shop.Example", "/cart/../view")
+    Address(host='shop.example', path='/view', is_address=False, is_secure=True, is_same_site=True, is_top_level=True)
+    """
+    scheme = scheme.lower()
+    if scheme not in ("http", "https", "ws", "wss"):
+        raise ValueError("the scheme is no http or https")
+    if "%" in host:
+        # Browsers read an escape here, and clients connect to a host with this name.
+        raise ValueError("the host has an escape")
+    name, is_address, is_local = host_of(f"[{host}]" if ":" in host and not host.startswith("[") else host)
+    is_secure = scheme in ("https", "wss") or is_local and is_localhost_secure
+    return Address(name, path_of(path), is_address, is_secure)
+
+
+def ascii_host(host: str) -> str:
+    """The host in Punycode, as browsers have it: by the package `idna`, if it is installed (UTS 46, not transitional), and
+    else by the codec `idna` of Python, whose rules are older (RFC 3490). Raises `ValueError` if it has none.
+
+    >>> ascii_host("b\xfccher.example")
+    'xn--bcher-kva.example'
+    """
+    try:
+        import idna
+    except ImportError:
+        return host.encode("idna").decode()
+    return idna.encode(host, uts46=True).decode()
+
+
+@functools.lru_cache(maxsize=1024)
 def host_of(authority: str) -> tuple[str, bool, bool]:
     """The host in lower case, whether it is an IP address, and whether it is this machine."""
     parts = re.fullmatch(r"(?s)(\[.*\]|[^:\[]*)(?::([0-9]*))?", authority)
@@ -51,7 +95,7 @@ def host_of(authority: str) -> tuple[str, bool, bool]:
         return host_of_six(parts[1][1:-1])
     host = unquote_to_bytes(parts[1]).decode(errors="replace").lower()
     if not host.isascii():
-        raise ValueError("the host isn't in ASCII: write it in Punycode")
+        host = ascii_host(host)
     if not host or FORBIDDEN.search(host):
         raise ValueError("the address has no host that is one")
     if re.search(r"(^|\.)([0-9]+|0x[0-9a-f]*)\.?$", host):
@@ -95,6 +139,8 @@ def host_of_six(text: str) -> tuple[str, bool, bool]:
 
 def path_of(text: str) -> str:
     """The path, without the steps `.` and `..`, and escaped."""
+    if PLAIN.fullmatch(text):
+        return text
     steps: list[str] = []
     pieces = re.split(r"[/\\]", text)[1:]
     for index, piece in enumerate(pieces):

@@ -10,7 +10,7 @@ import unittest
 from inspect import isclass
 
 import deomigal
-from deomigal import Jar, Session, Sessions, errors, explain
+from deomigal import Agent, Jar, Session, Sessions, errors, explain
 from deomigal.errors import TooLarge
 from deomigal.werkzeug import dump_cookie, parse_cookie
 
@@ -20,6 +20,7 @@ MANY = 2**32
 WRONG = (MANY, 1.5, object())
 NOW = datetime.datetime(2015, 10, 21, 7, 28)
 SITE = Sessions([KEY], "session", 60, 60)
+AGENT = Agent(b"")
 
 
 def jar_of(call):
@@ -64,6 +65,9 @@ CALLS = [
     (Sessions, [[KEY], "session", 60, 60], "01"),
     (SITE.open, ["a=1", 1], "0"),
     (SITE.save, [SITE.start()], "0"),
+    (Agent, [b""], "0"),
+    (AGENT.read, ["https://a.example/", "a=1", NOW], "012"),
+    (AGENT.header, ["https://a.example/", NOW], "01"),
     (explain.verdict, ["https://a.example/", "a=1", "", False, NOW], "0124"),
     (explain.refusal, ["https://a.example/", "a=1", ""], "012"),
     (explain.explain, ["https://a.example/", "a=1", "", False, NOW], "0124"),
@@ -92,6 +96,9 @@ OTHERS = [
     lambda: dump_cookie("a", expires=[]),
     lambda: SITE.start().update(user=1),
     lambda: SITE.start().update({1: "ann"}),
+    lambda: Agent(b"", per_domain="1"),
+    lambda: AGENT.read(b"https://a.example/", "a=1"),
+    lambda: AGENT.load(1.5),
 ]
 
 
@@ -150,7 +157,7 @@ class TypeFacts(unittest.TestCase):
     def test_no_copies(self):
         """What holds memory or keys of the library has none, and says so."""
         with Jar("a=1") as jar:
-            for value in (jar, SITE):
+            for value in (jar, SITE, AGENT):
                 for make in (copy.copy, copy.deepcopy, pickle.dumps):
                     with self.assertRaisesRegex(TypeError, "can't be copied or pickled"):
                         make(value)

@@ -1,0 +1,289 @@
+"""The agent of the library, in a handle, and the files of its cookies."""
+from __future__ import annotations
+
+import ctypes
+import functools
+import json
+import re
+from typing import Any, Iterator, NamedTuple
+
+from ._library import DONE, HANDLE, SECOND, TEXT, Answer, bytes_of, declare, done, given, handle_of
+from .addresses import Address, address_at
+from .cookies import RULES
+from .errors import BufferTooShort, NotFound, error_of
+from .explain import LONGEST, ROOM, STEPS, Explanation, Refusal, Request, StoredCookie, rules_of
+
+# The rules of `SameSite` that a navigation from another site passes.
+LAX = (None, "Lax")
+# The forms of a file: a line of JSON for each cookie, and cookies.txt, as Netscape, curl and wget have it.
+JSON, NETSCAPE = "json", "netscape"
+# The first line of a cookies.txt, and what is before the fields of an http-only cookie.
+HEAD, HTTP_ONLY = b"# Netscape HTTP Cookie File\n", b"#HttpOnly_"
+# A longer value of an attribute doesn't count (RFC 6265bis, The Set-Cookie Header Field).
+LONGEST_VALUE = 1024
+# More than most headers have, and than most cookies.
+HEADER_ROOM = 4096
+
+
+class AgentReading(ctypes.Structure):
+    _fields_ = [("status", ctypes.c_uint32), ("refusal", ctypes.c_uint32)]
+
+
+REQUEST: list[Any] = [ctypes.POINTER(Request)]
+COUNT: list[Any] = [ctypes.c_size_t]
+AGENT_NEW = declare("agent_new", HANDLE, ctypes.c_uint32)
+AGENT_FREE = declare("agent_free", HANDLE, None)
+AGENT_READ = declare("agent_read", HANDLE * 2 + REQUEST + TEXT + SECOND, AgentReading)
+AGENT_HEADER = declare("agent_header", HANDLE + REQUEST + SECOND + TEXT, Answer)
+AGENT_RETRIEVE = declare("agent_retrieve", HANDLE + REQUEST + SECOND + TEXT, Answer)
+AGENT_TRIM = declare("agent_trim", HANDLE + COUNT * 2 + SECOND, ctypes.c_uint32)
+AGENT_EVICT = declare("agent_evict", HANDLE + SECOND, ctypes.c_uint32)
+AGENT_REMOVE = declare("agent_remove", HANDLE + TEXT * 2 + [ctypes.c_bool] + TEXT, ctypes.c_uint32)
+AGENT_COOKIE = declare("agent_cookie", HANDLE + COUNT + SECOND + TEXT, Explanation)
+REFUSAL_SENTENCE = declare("refusal_sentence", [ctypes.c_uint32] + TEXT, Answer)
+REFUSAL_SECTION = declare("refusal_section", [ctypes.c_uint32] + TEXT, Answer)
+
+
+class KeptCookie(NamedTuple):
+    """A cookie that an agent stores, with name and value as the header had them. A byte that isn't UTF-8 is a lone
+    surrogate, as in names of files (PEP 383).
+
+    `expiry` is the second since 1970 at which it is expired. It is None if the cookie lives until the session ends.
+    `same_site` is "Strict", "Lax", "None", or None if nothing is set.
+    """
+
+    name: str
+    value: str
+    domain: str
+    path: str
+    expiry: int | None
+    same_site: str | None
+    is_host_only: bool
+    is_secure: bool
+    is_http_only: bool
+
+    def lasts(self, now: int) -> bool:
+        """Whether it isn't expired at that second."""
+        return self.expiry is None or now < self.expiry
+
+    def key(self) -> tuple[str, str, bool, str]:
+        """What no two stored cookies have in common."""
+        return self.name, self.domain, self.is_host_only, self.path
+
+    def obstacles(self, address: Address, is_safe: bool, now: int) -> Iterator[str]:
+        """Why a request to the address doesn't send it (RFC 6265bis, Retrieval Algorithm)."""
+        is_for = address.host == self.domain
+        if not self.is_host_only:
+            is_for = is_in_domain(address.host, address.is_address, self.domain)
+        if not self.lasts(now):
+            yield "it is expired"
+        if not is_for:
+            yield "the request goes to another host"
+        if not is_under_path(address.path, self.path):
+            yield "the request goes to another path"
+        if self.is_secure and not address.is_secure:
+            yield "the connection is insecure and the cookie Secure"
+        is_lax = address.is_top_level and is_safe and self.same_site in LAX
+        if not (address.is_same_site or self.same_site == "None" or is_lax):
+            yield "the request comes from another site, and SameSite forbids it"
+
+
+class Core:
+    """The library's agent: the stored cookies, in the order of their creation. Only one call at a time may use it."""
+
+    def __init__(self, suffixes: bytes) -> None:
+        self.rules, self.handle = rules_of(suffixes), handle_of(self, AGENT_FREE)
+        done(AGENT_NEW, self.handle)
+
+    def read(self, address: Address, text: bytes, now: int) -> Refusal | None:
+        """Reads the text of a `Set-Cookie` header of a response from the address. Returns why it is refused, or None."""
+        with self.rules.lock:
+            reading = AGENT_READ(self.handle, self.rules.handle, request_of(address), text, len(text), now)
+        if reading.status != DONE:
+            raise error_of(reading.status)
+        return refusal_of(reading.refusal) if reading.refusal else None
+
+    def header(self, address: Address, is_safe: bool, now: int) -> bytes:
+        """The value of the `Cookie` header of a request to the address."""
+        return given(AGENT_HEADER, self.handle, request_of(address, is_safe), now, room=HEADER_ROOM)
+
+    def retrieve(self, address: Address, is_safe: bool, now: int) -> bytes:
+        """The same, for a request that is made: `now` is the last access of what it sends."""
+        return given(AGENT_RETRIEVE, self.handle, request_of(address, is_safe), now, room=HEADER_ROOM)
+
+    def evict(self, now: int) -> None:
+        """Drops what is expired."""
+        done(AGENT_EVICT, self.handle, now)
+
+    def trim(self, per_domain: int, total: int, now: int) -> None:
+        """Drops what is expired, and then what is above the limits."""
+        done(AGENT_TRIM, self.handle, per_domain, total, now)
+
+    def cookies(self, now: int) -> Iterator[KeptCookie]:
+        """The stored cookies. Some may be expired at that second: such a one has it as its expiry."""
+        index, room = 0, ROOM
+        while True:
+            buffer = ctypes.create_string_buffer(room)
+            kept = AGENT_COOKIE(self.handle, index, now, buffer, room)
+            end = kept.stored.path.start + kept.stored.path.length
+            if kept.status == NotFound.status:
+                return
+            if kept.status == BufferTooShort.status:
+                room = end
+            elif kept.status != DONE:
+                raise error_of(kept.status)
+            else:
+                yield kept_of(kept.stored, buffer.raw[:end], now)
+                index += 1
+
+    def remove(self, cookie: KeptCookie) -> bool:
+        """Removes the cookie with the key of this one. Returns whether there was one."""
+        name, domain, path = map(header_bytes, (cookie.name, cookie.domain, cookie.path))
+        status = AGENT_REMOVE(
+            self.handle, name, len(name), domain, len(domain), cookie.is_host_only, path, len(path)
+        )
+        if status not in (DONE, NotFound.status):
+            raise error_of(status)
+        return bool(status == DONE)
+
+    def clear(self) -> None:
+        """Removes all cookies."""
+        done(AGENT_NEW, self.handle)
+
+    def save(self, form: str, now: int) -> bytes:
+        """The text of the cookies that have an expiry and aren't expired, in that form."""
+        saved = [cookie for cookie in self.cookies(now) if cookie.expiry is not None and cookie.lasts(now)]
+        if form == JSON:
+            return b"".join(json.dumps(cookie._asdict()).encode() + b"\n" for cookie in saved)
+        # A nameless cookie, and a tab, have no place in a line.
+        fit = (cookie for cookie in saved if cookie.name and "\t" not in cookie.name + cookie.value + cookie.path)
+        return HEAD + b"".join(map(line_of, fit))
+
+    def load(self, form: str, text: bytes, now: int) -> list[int]:
+        """Reads the cookies of a text in that form, each as if a secure response of its domain had set it. Returns the
+        numbers of the lines that hold none."""
+        bad = []
+        for number, line in enumerate(text.split(b"\n"), 1):
+            line = line[:-1] if line.endswith(b"\r") else line
+            try:
+                cookie = cookie_of_json(line) if form == JSON else cookie_of_line(line)
+                made = as_set(cookie, now) if cookie is not None and cookie.lasts(now) else None
+            except ValueError:
+                bad.append(number)
+                continue
+            if made is not None and self.read(*made, now) is not None:
+                bad.append(number)
+        return bad
+
+
+@functools.lru_cache(maxsize=1024)
+def request_of(address: Address, is_safe: bool = True) -> Request:
+    """The request to the address, for C."""
+    host, path = bytes_of(address.host), bytes_of(address.path)
+    return Request(host, len(host), path, len(path), *address[2:], is_safe)
+
+
+@functools.lru_cache(maxsize=None)
+def refusal_of(number: int) -> Refusal:
+    """Why the step with the number refuses a cookie."""
+    sentence, section = (given(call, number, room=ROOM).decode() for call in (REFUSAL_SENTENCE, REFUSAL_SECTION))
+    return Refusal(STEPS[number - 1], sentence, section)
+
+
+def kept_of(stored: StoredCookie, texts: bytes, now: int) -> KeptCookie:
+    """The stored cookie, whose texts are in these bytes."""
+    name, value, domain, path = (
+        text_of(texts[at.start : at.start + at.length])
+        for at in (stored.name, stored.value, stored.domain, stored.path)
+    )
+    expiry = now + stored.lifetime if stored.is_persistent else None
+    return KeptCookie(
+        name, value, domain, path, expiry, RULES[stored.same_site], stored.is_host_only, stored.is_secure,
+        stored.is_http_only,
+    )
+
+
+def line_of(cookie: KeptCookie) -> bytes:
+    """The cookie's line in a cookies.txt."""
+    fields = (
+        cookie.domain if cookie.is_host_only else "." + cookie.domain, str(not cookie.is_host_only).upper(), cookie.path,
+        str(cookie.is_secure).upper(), str(cookie.expiry), cookie.name, cookie.value,
+    )
+    return HTTP_ONLY * cookie.is_http_only + header_bytes("\t".join(fields)) + b"\n"
+
+
+def cookie_of_line(line: bytes) -> KeptCookie | None:
+    """The cookie in a line of a cookies.txt. None if the line is empty or a comment, or its cookie had no expiry. Raises
+    `ValueError` if it isn't such a line."""
+    is_http_only = line.startswith(HTTP_ONLY)
+    line = line[len(HTTP_ONLY) :] if is_http_only else line
+    if not line or line.startswith(b"#"):
+        return None
+    # Without the last field the value is empty.
+    domain, is_wide, path, is_secure, expiry, name, value, *more = (*text_of(line).split("\t"), "", "")
+    if len(more) not in (1, 2) or not re.fullmatch(r"[0-9]{1,18}", expiry) or not name:
+        raise ValueError("this is no line of a cookies.txt")
+    if int(expiry) == 0:
+        return None
+    return KeptCookie(
+        name, value, domain[1:] if domain.startswith(".") else domain, path, int(expiry), None, not flag_of(is_wide),
+        flag_of(is_secure), is_http_only,
+    )
+
+
+def flag_of(text: str) -> bool:
+    """The flag in a field of a cookies.txt, or `ValueError`."""
+    if text.upper() not in ("TRUE", "FALSE"):
+        raise ValueError("this is no flag of a cookies.txt")
+    return text.upper() == "TRUE"
+
+
+def cookie_of_json(line: bytes) -> KeptCookie | None:
+    """The cookie in a line of JSON. None if the line is empty. Raises `ValueError` if it isn't such a line."""
+    if not line:
+        return None
+    try:
+        cookie = KeptCookie(**json.loads(line))
+    except (TypeError, RecursionError) as error:
+        raise ValueError("this is no cookie in JSON") from error
+    kinds: tuple[Any, ...] = (str, str, str, str, int, (str, type(None)), bool, bool, bool)
+    if isinstance(cookie.expiry, bool) or not all(isinstance(part, kind) for part, kind in zip(cookie, kinds)):
+        raise ValueError("this is no cookie in JSON")
+    return cookie
+
+
+def as_set(cookie: KeptCookie, now: int) -> tuple[Address, bytes]:
+    """The address and the text of a secure response that sets the cookie. Raises `ValueError` if a text isn't one that a
+    cookie has."""
+    texts = cookie.name, cookie.value, cookie.domain, cookie.path
+    is_bad = any(re.search(r"[\x00-\x08\x0a-\x1f\x7f;]", text) for text in texts) or "=" in cookie.name
+    if is_bad or not cookie.path.startswith("/") or max(map(len, map(header_bytes, texts[2:]))) > LONGEST_VALUE:
+        raise ValueError("a name, a value, a domain or a path holds what none has")
+    pieces = [f"{cookie.name}={cookie.value}", f"Path={cookie.path}"]
+    pieces += [f"Domain={cookie.domain}"] * (not cookie.is_host_only)
+    if cookie.expiry is not None:
+        pieces.append(f"Max-Age={min(max(cookie.expiry - now, 0), LONGEST)}")
+    pieces += [f"SameSite={cookie.same_site}"] * (cookie.same_site in RULES[1:])
+    pieces += ["Secure"] * cookie.is_secure + ["HttpOnly"] * cookie.is_http_only
+    return address_at("https", cookie.domain, "/"), header_bytes("; ".join(pieces))
+
+
+def is_in_domain(host: str, is_address: bool, domain: str) -> bool:
+    """Whether the host is the domain, or is below it (RFC 6265bis, Domain Matching)."""
+    return host == domain or (not is_address and host.endswith("." + domain))
+
+
+def is_under_path(request: str, cookie: str) -> bool:
+    """Whether the path is the cookie's, or is below it (RFC 6265bis, Paths and Path-Match)."""
+    below = request.startswith(cookie) and (cookie.endswith("/") or request[len(cookie) :].startswith("/"))
+    return request == cookie or below
+
+
+def header_bytes(text: str | bytes) -> bytes:
+    """The bytes of a text of a header. A lone surrogate stands for a byte that isn't UTF-8 (PEP 383)."""
+    return text.encode(errors="surrogateescape") if isinstance(text, str) else bytes_of(text)
+
+
+def text_of(text: bytes) -> str:
+    """The text of the bytes, from which `header_bytes` makes them again."""
+    return text.decode(errors="surrogateescape")

@@ -1,0 +1,195 @@
+"""An agent's cookies for `aiohttp`:
+
+    from deomigal import Agent
+    from deomigal.aiohttp import cookies_of
+
+    async with aiohttp.ClientSession(**cookies_of(Agent())) as session:
+
+These are its `cookie_jar`, `request_class` and `response_class`. aiohttp reads `Set-Cookie` headers, and prints the
+`Cookie` header, by `http.cookies`, which drops names and orders that RFC 6265bis has. The classes give the agent the
+headers as they came, and send its header, also at each redirect. Around them goes nothing that a session requests.
+`cookies=` and a header `Cookie` of the caller are sent with the agent's. aiohttp prints headers in UTF-8, so a cookie that
+isn't UTF-8 isn't sent.
+"""
+from __future__ import annotations
+
+from http.cookies import Morsel, SimpleCookie
+from typing import Any, Iterator, Mapping, Sequence
+
+import aiohttp
+from aiohttp.abc import AbstractCookieJar, ClearCookiePredicate
+from aiohttp.typedefs import LooseCookies
+from yarl import URL
+
+from ._agent import KeptCookie, header_bytes
+from .addresses import Address, address_at
+from .agents import SAFE_METHODS, SAME_SITE, Agent, Context
+from .dates import print_date
+from .explain import date_after
+
+EMPTY = URL()
+
+
+def cookies_of(agent: Agent | None = None, *, context: Context = SAME_SITE) -> dict[str, Any]:
+    """The arguments of an `aiohttp.ClientSession` that keeps the cookies of an agent, by default a new one. Call it in a
+    coroutine."""
+    jar = CookieJar(agent, context=context)
+    return {"cookie_jar": jar, "request_class": ClientRequest, "response_class": ClientResponse}
+
+
+class SentCookies(SimpleCookie[str]):
+    """The cookies that a request to the URL sends. `header` is the agent's header. `added` are those of the caller."""
+
+    def __init__(self, jar: CookieJar, url: URL) -> None:
+        self.jar, self.url, self.header = jar, url, jar.header(url)
+        self.added: dict[str, Morsel[str]] = {}
+        super().__init__()
+        for name, value in pairs_of(self.header):
+            if name not in self:
+                super().__setitem__(name, morsel_of(name, value))
+
+    def __setitem__(self, name: str, value: Any) -> None:
+        super().__setitem__(name, value)
+        self.added[name] = self[name]
+
+    def text(self, method: str, own: str | None) -> str:
+        """The text of the header of a request with the method, with the caller's own header after it. A cookie of the
+        caller takes the place of those of its name."""
+        is_as_safe = self.jar.context.is_same_site or method in SAFE_METHODS
+        header = self.header if is_as_safe else self.jar.header(self.url, is_safe=False)
+        pieces = [f"{name}={value}" if name else value for name, value in pairs_of(header) if name not in self.added]
+        pieces += [f"{name}={morsel.coded_value}" for name, morsel in self.added.items()]
+        return "; ".join([*pieces, own] if own else pieces)
+
+
+class ReadCookies(SimpleCookie[str]):
+    """The cookies of a response whose headers the agent has read."""
+
+
+class CookieJar(AbstractCookieJar):
+    """The cookies of an agent, by default a new one, as aiohttp's. Pass it with the two classes: see `cookies_of`.
+
+    `context` says how its requests come about, by default same-site.
+    """
+
+    def __init__(self, agent: Agent | None = None, *, context: Context = SAME_SITE) -> None:
+        super().__init__()
+        self.agent, self.context = Agent() if agent is None else agent, context
+
+    def address_of(self, url: URL) -> Address | None:
+        """Where a request to the URL goes: the host is the one that aiohttp connects to. None if that is no URL of http or
+        https with a host: then no cookie is read or sent."""
+        try:
+            address = address_at(url.scheme, url.raw_host or "", url.raw_path, self.agent.is_localhost_secure)
+        except ValueError:
+            return None
+        return address._replace(is_same_site=self.context.is_same_site, is_top_level=self.context.is_top_level)
+
+    def read(self, texts: Sequence[bytes], url: URL) -> None:
+        """Reads the values of the `Set-Cookie` headers of a response from the URL."""
+        address = self.address_of(url)
+        if address is not None:
+            self.agent.read_all(address, texts)
+
+    def header(self, url: URL, is_safe: bool = True) -> bytes:
+        """The value of the `Cookie` header of a request to the URL."""
+        address = self.address_of(url)
+        return b"" if address is None else self.agent.header_at(address, self.context.is_safe and is_safe)
+
+    def update_cookies(self, cookies: LooseCookies, response_url: URL = EMPTY) -> None:
+        """Stores the cookies as if the URL's response had set them. Raises `ValueError` for a cookie without a domain, if
+        there is no URL: RFC 6265bis knows no cookie of all hosts."""
+        if isinstance(cookies, ReadCookies):
+            return
+        named: Any = cookies.items() if isinstance(cookies, Mapping) else cookies
+        for name, value in named:
+            made: SimpleCookie[str] = SimpleCookie()
+            made[name] = value
+            domain = made[name]["domain"].lstrip(".")
+            url = response_url if response_url.host or not domain else URL.build(scheme="https", host=domain)
+            address = self.address_of(url)
+            if address is None:
+                raise ValueError(f"the cookie {name!r} has no host: pass the URL of its response")
+            self.agent.read_at(address, header_bytes(made[name].OutputString()))
+
+    def update_cookies_from_headers(self, headers: Sequence[str], response_url: URL) -> None:
+        """Reads the `Set-Cookie` headers of a response. Newer versions of aiohttp call it."""
+        self.read([header_bytes(text) for text in headers], response_url)
+
+    def filter_cookies(self, request_url: URL = EMPTY) -> SentCookies:
+        """The cookies that a request to the URL sends."""
+        return SentCookies(self, request_url)
+
+    def clear(self, predicate: ClearCookiePredicate | None = None) -> None:
+        """Removes all cookies, or those for which the predicate is true."""
+        for kept in list(self.agent):
+            if predicate is None or predicate(morsel_with_attributes(kept)):
+                self.agent.remove(kept)
+
+    def clear_domain(self, domain: str) -> None:
+        """Removes the cookies of the domain and of those below it."""
+        for kept in list(self.agent):
+            if kept.domain == domain or kept.domain.endswith(f".{domain}"):
+                self.agent.remove(kept)
+
+    def __iter__(self) -> Iterator[Morsel[str]]:
+        return map(morsel_with_attributes, self.agent)
+
+    def __len__(self) -> int:
+        return len(self.agent)
+
+
+class ClientRequest(aiohttp.ClientRequest):
+    """A request that sends the agent's header as it is."""
+
+    def update_cookies(self, cookies: LooseCookies | None) -> None:
+        if not isinstance(cookies, SentCookies):
+            super().update_cookies(cookies)
+            return
+        text = cookies.text(self.method, self.headers.pop("Cookie", None))
+        if text:
+            self.headers["Cookie"] = text
+
+
+class ClientResponse(aiohttp.ClientResponse):
+    """A response whose `Set-Cookie` headers the agent reads as they came."""
+
+    def __init__(self, *words: Any, session: aiohttp.ClientSession, **named: Any) -> None:
+        super().__init__(*words, session=session, **named)
+        self.jar = session.cookie_jar
+
+    async def start(self, connection: Any) -> ClientResponse:
+        await super().start(connection)
+        if isinstance(self.jar, CookieJar) and not hasattr(AbstractCookieJar, "update_cookies_from_headers"):
+            self.jar.read([value for name, value in self.raw_headers if name.lower() == b"set-cookie"], self.url)
+            read = ReadCookies()
+            read.update(self.cookies)
+            self.cookies = read
+        return self
+
+
+def pairs_of(header: bytes) -> Iterator[tuple[str, str]]:
+    """The names and values in the agent's header that are UTF-8. A cookie without a name has an empty one."""
+    for piece in header.split(b"; ") if header else ():
+        try:
+            name, equals, value = piece.decode().partition("=")
+        except UnicodeDecodeError:
+            continue
+        yield (name, value) if equals else ("", name)
+
+
+def morsel_of(name: str, value: str) -> Morsel[str]:
+    """A morsel, whose name may be one that `http.cookies` refuses."""
+    morsel: Morsel[str] = Morsel()
+    morsel.__setstate__({"key": name, "value": value, "coded_value": value})  # type: ignore[attr-defined]
+    return morsel
+
+
+def morsel_with_attributes(kept: KeptCookie) -> Morsel[str]:
+    """The stored cookie as a morsel."""
+    morsel = morsel_of(kept.name, kept.value)
+    morsel["domain"], morsel["path"], morsel["samesite"] = kept.domain, kept.path, kept.same_site or ""
+    morsel["secure"], morsel["httponly"] = kept.is_secure or "", kept.is_http_only or ""
+    if kept.expiry is not None:
+        morsel["expires"] = print_date(date_after(0, kept.expiry))
+    return morsel

@@ -1,0 +1,209 @@
+"""A `http.cookiejar.CookieJar` whose cookies and rules are an agent's (RFC 6265bis):
+
+    from deomigal.cookiejar import CookieJar
+
+    opener = urllib.request.build_opener(urllib.request.HTTPCookieProcessor(CookieJar()))
+
+It also serves as mechanize's `Browser.set_cookiejar`. As the `cookies` of `requests.Session` or `httpx.Client` it
+decides what is stored, but these two copy its cookies into jars of their own, which decide what is sent. There use
+`deomigal.requests` and `deomigal.httpx`.
+"""
+from __future__ import annotations
+
+import http.cookiejar
+import re
+from typing import Any, Iterable, Iterator
+from urllib.parse import unquote, urlsplit
+
+from ._agent import KeptCookie, header_bytes
+from .addresses import Address, address_at
+from .agents import SAFE_METHODS, SAME_SITE, Agent, Context
+from .cookies import RULES
+
+
+class CookieJar(http.cookiejar.CookieJar):
+    """The cookies of an agent, by default a new one, as a `http.cookiejar.CookieJar`. Several jars may have one agent.
+
+    `context` says how its requests come about, by default same-site. A `policy` of `http.cookiejar` isn't used.
+
+    >>> import urllib.request
+    >>> jar = CookieJar()
+    >>> jar.agent.read("https://shop.example/", "lang=en")
+    >>> request = urllib.request.Request("https://shop.example/")
+    >>> jar.add_cookie_header(request)
+    >>> request.get_header("Cookie")
+    'lang=en'
+    """
+
+    def __init__(self, agent: Agent | None = None, *, context: Context = SAME_SITE) -> None:
+        super().__init__()
+        self.agent, self.context = Agent() if agent is None else agent, context
+
+    def extract_cookies(self, response: Any, request: Any) -> None:
+        """Reads the `Set-Cookie` headers of the response to the request. `Set-Cookie2` is no longer used (RFC 6265 9.4)."""
+        address = self.address_of(request)
+        if address is not None:
+            self.agent.read_all(address, texts_of(response.info().get_all("Set-Cookie", [])))
+
+    def add_cookie_header(self, request: Any) -> None:
+        """Sets the request's `Cookie` header, unless it has one."""
+        address = self.address_of(request)
+        if address is not None and not request.has_header("Cookie"):
+            method = request.get_method() if hasattr(request, "get_method") else "GET"
+            header = self.agent.header_at(address, self.context.is_safe and method.upper() in SAFE_METHODS)
+            if header:
+                # http.client prints a character as the byte of Latin-1.
+                request.add_unredirected_header("Cookie", header.decode("latin-1"))
+
+    def address_of(self, request: Any) -> Address | None:
+        """Where the request goes. None if that is no URL of http or https with a host: then no cookie is read or sent."""
+        try:
+            parts = urlsplit(request.get_full_url())
+            # The stand-in of requests names the host of the header `Host`, which is also sent where a redirect goes.
+            netloc = request.get_host() if hasattr(request, "get_new_headers") else parts.netloc
+            named = urlsplit(f"//{netloc}")
+            # A proxy may read a `/` where there is a backslash. A port that isn't a number raises `ValueError`.
+            if "\\" in unquote(netloc) or named.port == 0:
+                return None
+            host = named.hostname or ""
+            # The codec that http.client connects with.
+            host = host if host.isascii() else host.encode("idna").decode()
+            address = address_at(parts.scheme, host, parts.path, self.agent.is_localhost_secure)
+        except ValueError:
+            return None
+        return address._replace(is_same_site=self.context.is_same_site, is_top_level=self.context.is_top_level)
+
+    def set_policy(self, policy: http.cookiejar.CookiePolicy) -> None:
+        """Raises `TypeError`: the rules are those of RFC 6265bis."""
+        raise TypeError("this jar has no policy but RFC 6265bis")
+
+    def make_cookies(self, response: Any, request: Any) -> list[http.cookiejar.Cookie]:
+        """The cookies that an agent without cookies would store of the response."""
+        jar = CookieJar(Agent(self.agent.suffixes, clock=self.agent.clock), context=self.context)
+        jar.extract_cookies(response, request)
+        return list(jar)
+
+    def set_cookie(self, cookie: http.cookiejar.Cookie) -> None:
+        """Stores the cookie as a secure response of its domain would. Raises `ValueError` if RFC 6265bis refuses it, as
+        it does without a domain.
+
+        >>> jar = CookieJar()
+        >>> jar.agent.read("https://shop.example/", "lang=en")
+        >>> other = CookieJar()
+        >>> for cookie in jar:
+        ...     other.set_cookie(cookie)
+        >>> other.agent.header("https://shop.example/")
+        b'lang=en'
+        """
+        host = without_local(cookie.domain).lstrip(".")
+        refusal = self.agent.read_at(address_at("https", host, "/"), text_of(cookie, self.agent.clock()))
+        if refusal is not None:
+            raise ValueError(f"the cookie {cookie.name!r} isn't stored: {refusal.sentence}")
+
+    def set_cookie_if_ok(self, cookie: http.cookiejar.Cookie, request: Any) -> None:
+        """Stores the cookie if the response to the request could set it."""
+        address = self.address_of(request)
+        if address is not None:
+            self.agent.read_at(address, text_of(cookie, self.agent.clock()))
+
+    def clear(self, domain: str | None = None, path: str | None = None, name: str | None = None) -> None:
+        """Removes all cookies, or those of the domain, the path and the name. Raises `KeyError` if there is none."""
+        if name is not None and (domain is None or path is None):
+            raise ValueError("domain and path must be given to remove a cookie by name")
+        if path is not None and domain is None:
+            raise ValueError("domain must be given to remove cookies by path")
+        if domain is None:
+            self.agent.clear()
+            return
+        found = [
+            cookie for cookie in self.agent
+            if domain == domain_of(cookie) and path in (None, cookie.path) and name in (None, cookie.name)
+        ]
+        if not found:
+            raise KeyError(name or path or domain)
+        for cookie in found:
+            self.agent.remove(cookie)
+
+    def clear_session_cookies(self) -> None:
+        """Removes the cookies without an expiry."""
+        for cookie in self.agent:
+            if cookie.expiry is None:
+                self.agent.remove(cookie)
+
+    def clear_expired_cookies(self) -> None:
+        """Does nothing: an expired cookie is neither shown nor sent, and the agent drops it."""
+
+    def __iter__(self) -> Iterator[http.cookiejar.Cookie]:
+        return map(cookie_of, self.agent)
+
+    def __len__(self) -> int:
+        return len(self.agent)
+
+
+class NoCookies(http.cookiejar.CookieJar):
+    """A jar that stays empty, for a client whose cookies an agent keeps. `set_cookie` raises `TypeError`."""
+
+    def extract_cookies(self, response: Any, request: Any) -> None:
+        """Does nothing: the agent has read the response."""
+
+    def set_cookie(self, cookie: http.cookiejar.Cookie) -> None:
+        """Raises `TypeError`."""
+        raise TypeError("an agent keeps the cookies of this client: have it read this one")
+
+
+def texts_of(values: Iterable[str]) -> list[bytes]:
+    """The bytes of the fields of a response as http.client reads them: each character is a byte. A line that goes on in
+    the next is one line (RFC 9112 5.2)."""
+    return [wire_bytes(re.sub(r"\r?\n[ \t]+", " ", value)) for value in values]
+
+
+def wire_bytes(value: str) -> bytes:
+    """The bytes of a field's value. One with other characters didn't come from http.client, and is UTF-8."""
+    try:
+        return value.encode("latin-1")
+    except UnicodeEncodeError:
+        return header_bytes(value)
+
+
+def domain_of(cookie: KeptCookie) -> str:
+    """The domain as http.cookiejar has it: with a dot before it, if the hosts below it get the cookie too. A host of one
+    label has `.local` after it."""
+    if not cookie.is_host_only:
+        return "." + cookie.domain
+    return cookie.domain if "." in cookie.domain or ":" in cookie.domain else cookie.domain + ".local"
+
+
+def without_local(domain: str) -> str:
+    """The domain without the `.local` that http.cookiejar sets after a host of one label."""
+    host = domain[:-6] if domain.endswith(".local") else domain
+    return host if "." not in host.lstrip(".") else domain
+
+
+def cookie_of(kept: KeptCookie) -> http.cookiejar.Cookie:
+    """The cookie as http.cookiejar has it. One without a name has the value as its name, and no value."""
+    rest: dict[str, str | None] = {"HttpOnly": None} if kept.is_http_only else {}
+    if kept.same_site is not None:
+        rest["SameSite"] = kept.same_site
+    return http.cookiejar.Cookie(
+        version=0, name=kept.name or kept.value, value=kept.value if kept.name else None, port=None,
+        port_specified=False, domain=domain_of(kept), domain_specified=not kept.is_host_only,
+        domain_initial_dot=not kept.is_host_only, path=kept.path, path_specified=True, secure=kept.is_secure,
+        expires=kept.expiry, discard=kept.expiry is None, comment=None, comment_url=None, rest=rest,  # type: ignore
+    )
+
+
+def text_of(cookie: http.cookiejar.Cookie, now: float) -> bytes:
+    """The text of the `Set-Cookie` header that sets the cookie. Raises `ValueError` if a part holds what would end it."""
+    name, value = ("", cookie.name) if cookie.value is None else (cookie.name, cookie.value)
+    if "=" in name or any(re.search(r"[\x00-\x1f\x7f;]", part) for part in (name, value, cookie.path)):
+        raise ValueError("a name, a value or a path holds a control character, a `;` or a `=`")
+    pieces = [f"{name}={value}", f"Path={cookie.path}"]
+    if cookie.domain_specified or cookie.domain.startswith("."):
+        pieces.append(f"Domain={without_local(cookie.domain)}")
+    if cookie.expires is not None:
+        pieces.append(f"Max-Age={max(cookie.expires - int(now), 0)}")
+    same_site = cookie.get_nonstandard_attr("SameSite")
+    if same_site in RULES[1:]:
+        pieces.append(f"SameSite={same_site}")
+    flags = ["Secure"] * bool(cookie.secure) + ["HttpOnly"] * cookie.has_nonstandard_attr("HttpOnly")
+    return header_bytes("; ".join(pieces + flags))

@@ -1,0 +1,149 @@
+"""An agent's cookies for `httpx`:
+
+    from deomigal import Agent
+    from deomigal.httpx import async_cookies_of, cookies_of
+
+    client = httpx.Client(**cookies_of(Agent()))
+    client = httpx.AsyncClient(**async_cookies_of(Agent()))
+
+These are its `transport` and its `cookies`, which stay empty. The agent decides what is stored and sent, also at each
+redirect and each request of an `auth`. `verify`, `cert`, `http2` and a proxy are for the transport within:
+`cookies_of(agent, httpx.HTTPTransport(verify=context))`. Around it go other transports, of `mounts`. What a request's
+`cookies=` or a header `Cookie` of the caller says isn't sent: have the agent read such a cookie.
+
+Without the empty `cookies` httpx fills its own, by the rules of `http.cookiejar`, and then raises `UnicodeEncodeError` at
+each request to a site that set a cookie outside ASCII.
+"""
+from __future__ import annotations
+
+from types import TracebackType
+from typing import Any
+
+import httpx
+
+from .addresses import Address, address_at
+from .agents import SAFE_METHODS, SAME_SITE, Agent, Context
+from .cookiejar import NoCookies
+
+
+def cookies_of(
+    agent: Agent | None = None, transport: httpx.BaseTransport | None = None, *, context: Context = SAME_SITE
+) -> dict[str, Any]:
+    """The arguments of a `httpx.Client` that keeps the cookies of an agent, by default a new one. `transport` makes the
+    requests, by default httpx's own. `context` says how they come about, by default same-site."""
+    return {"transport": CookieTransport(agent, transport, context=context), "cookies": NoCookies()}
+
+
+def async_cookies_of(
+    agent: Agent | None = None, transport: httpx.AsyncBaseTransport | None = None, *, context: Context = SAME_SITE
+) -> dict[str, Any]:
+    """The same for a `httpx.AsyncClient`."""
+    return {"transport": AsyncCookieTransport(agent, transport, context=context), "cookies": NoCookies()}
+
+
+class Cookies:
+    """What both transports share: the agent, by default a new one, and how the requests come about."""
+
+    def __init__(self, agent: Agent | None, context: Context) -> None:
+        self.agent, self.context = Agent() if agent is None else agent, context
+
+    def prepare(self, request: httpx.Request) -> Address | None:
+        """Sets the request's `Cookie` header. Returns where it goes, or None if that is no URL of http or https with a
+        host: then no cookie is read or sent."""
+        fields = [field for field in request.headers.raw if field[0].lower() != b"cookie"]
+        address = self.address_of(request.url)
+        if address is not None:
+            is_safe = self.context.is_safe and request.method.upper() in SAFE_METHODS
+            header = self.agent.header_at(address, is_safe)
+            fields += [(b"Cookie", header)] * bool(header)
+        request.headers = httpx.Headers(fields)
+        return address
+
+    def address_of(self, url: httpx.URL) -> Address | None:
+        """Where a request to the URL goes: the host is the one that httpx connects to."""
+        path = url.raw_path.partition(b"?")[0].decode("latin-1")
+        try:
+            address = address_at(url.scheme, url.raw_host.decode(), path, self.agent.is_localhost_secure)
+        except ValueError:
+            return None
+        return address._replace(is_same_site=self.context.is_same_site, is_top_level=self.context.is_top_level)
+
+    def read(self, address: Address | None, response: httpx.Response) -> None:
+        """Reads the cookies of the response."""
+        if address is not None:
+            texts = [value for name, value in response.headers.raw if name.lower() == b"set-cookie"]
+            self.agent.read_all(address, texts)
+
+
+class CookieTransport(httpx.BaseTransport):
+    """A transport that sends the cookies of an agent, by default a new one, and has it read those of each response.
+
+    `transport` makes the requests, by default httpx's own. `context` says how they come about, by default same-site.
+    """
+
+    def __init__(
+        self, agent: Agent | None = None, transport: httpx.BaseTransport | None = None, *, context: Context = SAME_SITE
+    ) -> None:
+        self.cookies = Cookies(agent, context)
+        self.transport = httpx.HTTPTransport() if transport is None else transport
+
+    @property
+    def agent(self) -> Agent:
+        """Its agent."""
+        return self.cookies.agent
+
+    def handle_request(self, request: httpx.Request) -> httpx.Response:
+        """Sends the request with the agent's cookies, and reads the cookies of the response."""
+        address = self.cookies.prepare(request)
+        response = self.transport.handle_request(request)
+        self.cookies.read(address, response)
+        return response
+
+    def __enter__(self) -> CookieTransport:
+        self.transport.__enter__()
+        return self
+
+    def __exit__(
+        self, kind: type[BaseException] | None = None, error: BaseException | None = None,
+        trace: TracebackType | None = None,
+    ) -> None:
+        self.transport.__exit__(kind, error, trace)
+
+    def close(self) -> None:
+        self.transport.close()
+
+
+class AsyncCookieTransport(httpx.AsyncBaseTransport):
+    """The same for `httpx.AsyncClient`."""
+
+    def __init__(
+        self, agent: Agent | None = None, transport: httpx.AsyncBaseTransport | None = None, *,
+        context: Context = SAME_SITE,
+    ) -> None:
+        self.cookies = Cookies(agent, context)
+        self.transport = httpx.AsyncHTTPTransport() if transport is None else transport
+
+    @property
+    def agent(self) -> Agent:
+        """Its agent."""
+        return self.cookies.agent
+
+    async def handle_async_request(self, request: httpx.Request) -> httpx.Response:
+        """Sends the request with the agent's cookies, and reads the cookies of the response."""
+        address = self.cookies.prepare(request)
+        response = await self.transport.handle_async_request(request)
+        self.cookies.read(address, response)
+        return response
+
+    async def __aenter__(self) -> AsyncCookieTransport:
+        await self.transport.__aenter__()
+        return self
+
+    async def __aexit__(
+        self, kind: type[BaseException] | None = None, error: BaseException | None = None,
+        trace: TracebackType | None = None,
+    ) -> None:
+        await self.transport.__aexit__(kind, error, trace)
+
+    async def aclose(self) -> None:
+        await self.transport.aclose()

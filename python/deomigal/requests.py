@@ -1,0 +1,81 @@
+"""An agent's cookies for `requests`:
+
+    from deomigal import Agent
+    from deomigal.requests import session_of
+
+    session = session_of(Agent())
+
+It is a `requests.Session` with a `CookieAdapter` for both schemes, and with empty `session.cookies`. The agent decides
+what is stored and sent, also at each redirect and at each answer to a 401. Around it go other adapters that are mounted on
+longer prefixes, and the responses that urllib3 retries by itself (`max_retries`): their cookies aren't read. What a
+request's `cookies=` or a header `Cookie` of the caller says isn't sent: have the agent read such a cookie.
+"""
+from __future__ import annotations
+
+from typing import Any
+from urllib.parse import urlsplit
+
+from requests import PreparedRequest, Response, Session
+from requests.adapters import HTTPAdapter
+from urllib3.util import parse_url
+
+from ._library import Uncopied
+from .addresses import Address, address_at
+from .agents import SAFE_METHODS, SAME_SITE, Agent, Context
+from .cookiejar import NoCookies, texts_of
+
+
+def session_of(agent: Agent | None = None, *, context: Context = SAME_SITE) -> Session:
+    """A session that keeps the cookies of an agent, by default a new one. `context` says how its requests come about, by
+    default same-site.
+
+    >>> session_of().cookies
+    <NoCookies[]>
+    """
+    session, adapter = Session(), CookieAdapter(agent, context=context)
+    session.cookies = NoCookies()
+    for prefix in ("https://", "http://"):
+        session.mount(prefix, adapter)
+    return session
+
+
+class CookieAdapter(Uncopied, HTTPAdapter):
+    """An adapter that sends the cookies of an agent, by default a new one, and has it read those of each response.
+
+    `context` says how its requests come about, by default same-site. The other arguments are those of `HTTPAdapter`.
+    Sessions and threads may share it.
+    """
+
+    def __init__(self, agent: Agent | None = None, *, context: Context = SAME_SITE, **named: Any) -> None:
+        super().__init__(**named)
+        self.agent, self.context = Agent() if agent is None else agent, context
+
+    def send(self, request: PreparedRequest, *words: Any, **named: Any) -> Response:
+        """Sends the request with the agent's cookies, and reads the cookies of the response."""
+        request.headers.pop("Cookie", None)
+        address = self.address_of(request.url or "")
+        if address is None:
+            return super().send(request, *words, **named)
+        is_safe = self.context.is_safe and (request.method or "").upper() in SAFE_METHODS
+        header = self.agent.header_at(address, is_safe)
+        if header:
+            # http.client prints a character as the byte of Latin-1.
+            request.headers["Cookie"] = header.decode("latin-1")
+        response = super().send(request, *words, **named)
+        self.agent.read_all(address, texts_of(response.raw.headers.getlist("Set-Cookie")))
+        return response
+
+    def address_of(self, url: str) -> Address | None:
+        """Where the request goes, by the two readings of URLs that requests and urllib3 connect by. None if they differ,
+        or there is no host: then no cookie is read or sent."""
+        is_local = self.agent.is_localhost_secure
+        try:
+            parts, named = urlsplit(url), parse_url(url)
+            address = address_at(parts.scheme, parts.hostname or "", parts.path, is_local)
+            other = address_at(named.scheme or "", named.host or "", parts.path, is_local)
+            is_one = address == other and parts.port == named.port and "\\" not in parts.netloc
+        except ValueError:
+            return None
+        if not is_one:
+            return None
+        return address._replace(is_same_site=self.context.is_same_site, is_top_level=self.context.is_top_level)
