@@ -1,5 +1,6 @@
 """The site that tools/try-login plays, and the CGI servers in front of it."""
 
+import base64
 import http.server
 import os
 import secrets
@@ -30,8 +31,7 @@ class Site:
         self.folder.chmod(0o755)
         shutil.copy(program, self.folder / "login")
         (self.folder / "login").chmod(0o755)
-        for name in ("first.key", "second.key"):
-            (self.folder / name).write_bytes(secrets.token_bytes(64))
+        self.keys = {name: base64.b64encode(secrets.token_bytes(64)).decode() for name in ("first", "second")}
         (self.folder / "users").write_text(USERS)
         self.program = self.folder / "cgi-bin" / "login.cgi"
         self.program.parent.mkdir()
@@ -48,8 +48,8 @@ class Site:
     def set(self, *keys, now=None, revoked=None):
         """From the next request on, these are the keys, the newest first, that is the time, if one is given, and that is the
         file of revoked sessions, if one is given."""
-        paths = ":".join(f"{self.folder}/{key}.key" for key in keys)
-        settings = f"export LOGIN_KEY={paths} LOGIN_USERS={self.folder}/users\n"
+        (self.folder / "keys").write_text("".join(f"{self.keys[key]}\n" for key in keys))
+        settings = f"export LOGIN_KEYS={self.folder}/keys LOGIN_USERS={self.folder}/users\n"
         if now is not None:
             settings += f"export LOGIN_NOW={now}\n"
         if revoked is not None:

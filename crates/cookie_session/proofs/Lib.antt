@@ -1,6 +1,7 @@
 pub mod FillLemmas
 pub mod FirstLemmas
 pub mod KeyRingLemmas
+pub mod KeyTextLemmas
 pub mod ReadLemmas
 pub mod RotateLemmas
 pub mod SaveLemmas

@@ -3,6 +3,7 @@ pub mod Form
 pub mod Generation
 pub mod Id
 pub mod KeyRing
+pub mod KeyText
 pub mod Reading
 pub mod Revocations
 pub mod Seconds

@@ -5,6 +5,8 @@ mod flash;
 mod generation;
 mod id;
 mod key_ring;
+mod key_text;
+mod key_text_error;
 mod never_revoked;
 mod open_error;
 mod open_unrevoked;
@@ -24,6 +26,7 @@ mod typed;
 mod visit;
 
 pub use key_ring::KeyRing;
+pub use key_text_error::KeyTextError;
 pub use never_revoked::NeverRevoked;
 pub use open_error::OpenError;
 pub use opened::Opened;

@@ -1,10 +1,11 @@
 //! Saving the session of a request only if it must be saved.
-ghost use Rattle.std.specs.Prelude.{◌≡◌, ◌↔◌, ◌+◌, ◌/◌, ◌<◌, ◌≤◌, ℕ, Err, IfOk, IsTrue, List, Ok, OnErr, OnOk, false, true};
+ghost use Rattle.std.specs.Prelude.{◌≡◌, ◌↔◌, ◌+◌, ◌/◌, ◌<◌, ◌≤◌, ℕ, Err, IfOk, IfSome, IsTrue, List, Ok, OnErr, OnOk, false, true};
 ghost use Rattle.cookie.specs.Jar.{Add, after, view};
-ghost use Rattle.cookie.specs.Sealing.{IsNonce};
+ghost use Rattle.cookie.specs.Record.{IsCookie};
+ghost use Rattle.cookie.specs.Sealing.{CanSeal, IsNonce};
 ghost use Rattle.cookie_session.specs.Seconds.{second_of};
 ghost use Rattle.cookie_session.specs.Session.{seen_at};
-ghost use Rattle.cookie_session.specs.Sessions.{CanSave, IsStored, meets_prefix, saved_cookie};
+ghost use Rattle.cookie_session.specs.Sessions.{CanSave, IsStored, bare_cookie, meets_prefix, saved_cookie};
 ghost use Rattle.cookie_session.specs.Size.{browser_length, most_bytes};
 ghost use Rattle.cookie_session.specs.Visit.{IsDue, MustSave};
 ghost use Rattle.cookie_session.specs.declared.session_error.SessionError.TheVariants as refusal;
@@ -59,6 +60,13 @@ impl<'a> Sessions<'a> {
             × (jar.new ≡ after (Add (saved_cookie self.now nonce now visit.now.session))
             jar.old)) }
 
+        // A browser takes its size and its prefix, and its texts and its age are those of a cookie.
+        ensures fits { MustSave self.now now visit.now → OnOk result (IfSome
+            (view jar.new self.now.cookie.now.fields.name)
+            (λ cookie. browser_length cookie ≤ most_bytes)) }
+        ensures cookie { MustSave self.now now visit.now → OnOk result (IfSome
+            (view jar.new self.now.cookie.now.fields.name) IsCookie) }
+
         // As long as the session lives, each request with this name and value opens it by the newest key.
         ensures opens { MustSave self.now now visit.now → OnOk result (IsStored self.now
             (view jar.new self.now.cookie.now.fields.name)
@@ -71,6 +79,14 @@ impl<'a> Sessions<'a> {
         ensures over { MustSave self.now now visit.now
             → meets_prefix self.now.cookie.now.fields ≡ true
             → (¬ (CanSave self.now now visit.now.session)) ↔ (result ≡ Err refusal.Over) }
+        ensures too_long { MustSave self.now now visit.now
+            → CanSave self.now now visit.now.session
+            → ¬ (result ≡ Err refusal.Prefix) → ¬ (result ≡ Err refusal.OutOfMemory)
+            → (¬ (CanSeal (bare_cookie self.now now visit.now.session)))
+            ↔ (result ≡ Err refusal.TooLong) }
+        ensures undrawn { ¬ ((meets_prefix self.now.cookie.now.fields ≡ true)
+            × CanSave self.now now visit.now.session
+            × CanSeal (bare_cookie self.now now visit.now.session)) → rng.new ≡ rng.old }
         ensures too_large { (size : ℕ) → result ≡ Err (refusal.TooLarge size)
             → (most_bytes < size) × (nonce : List ℕ) × IsNonce nonce
             × R.may_fill rng.old nonce rng.new
