@@ -60,7 +60,7 @@ impl<'a> Sessions<'a> {
             × (jar.new ≡ after (Add (saved_cookie self.now nonce now visit.now.session))
             jar.old)) }
 
-        // A browser takes its size and its prefix, and its texts and its age are those of a cookie.
+        // A browser takes its size. Its texts are UTF-8, and its age is one that a duration can have.
         ensures fits { MustSave self.now now visit.now → OnOk result (IfSome
             (view jar.new self.now.cookie.now.fields.name)
             (λ cookie. browser_length cookie ≤ most_bytes)) }
