@@ -77,6 +77,15 @@ def read():
     return {"user": session.get("user"), "worker": os.getpid()}
 
 
+@app.get("/nested")
+def nested():
+    """Counts within a list of the session."""
+    items = session.setdefault("cart", [{"item": f"item {number}", "count": 0} for number in range(10)])
+    items[0]["count"] += 1
+    session.modified = True
+    return {"count": items[0]["count"], "worker": os.getpid()}
+
+
 @app.get("/slow")
 def slow():
     """Changes the session a while after it was opened."""
