@@ -32,14 +32,17 @@ fn argument(rt: &HostRuntime, name: &str) -> Result<String> {
     Ok(String::new(rt.alloc()))
 }
 
-// The name in the form of a request, if it sends one.
+// The name in the form of a request, if it sends one. A longer form isn't read.
 fn name_sent(rt: &HostRuntime) -> Result<Option<String>> {
     if variable(rt, "REQUEST_METHOD")?.as_str() != "POST" {
         return Ok(None);
     }
     let length = variable(rt, "CONTENT_LENGTH")?;
     let length = length.as_str().parse::<u64>().context("CONTENT_LENGTH")?;
-    let form = io::read_to_string(rt.alloc(), rt.stdin().take(length.min(4096)))?;
+    if length > 4096 {
+        return Ok(None);
+    }
+    let form = io::read_to_string(rt.alloc(), rt.stdin().take(length))?;
     for pair in form_urlencoded::parse(rt.alloc(), form.as_bytes()) {
         let (name, value) = pair?;
         if &*name == "name" {
