@@ -2,6 +2,7 @@ pub mod FillLemmas
 pub mod FirstLemmas
 pub mod KeyRingLemmas
 pub mod KeyTextLemmas
+pub mod MarkLemmas
 pub mod ReadLemmas
 pub mod RotateLemmas
 pub mod SaveLemmas

@@ -50,8 +50,8 @@ pub parsed : (text : List ℕ) (p0 p1 p2 p3 p4 : RawPairs) (version : ℕ) (id :
     → (s : SessionState) → IsSession s → form_pairs text ≡ session_pairs s
     → ◌≡◌ {A = SessionState} (record { id = id; started = started; seen = seen; texts = texts }) s
 parsed text p0 p1 p2 p3 p4 version id started seen texts begun r0 r1 r2 r3 full s is shown =
-    let a = r0 (codes "v") (codes "2") ((codes "id", id_text s.id) ∷ (codes "started", decimal s.started) ∷ (codes "seen", decimal s.seen) ∷ entries s.texts) 2 (omega arith)
-    (ap decoded_pairs begun ∙ shown) (sym (decimal_digit 2 (omega arith))) in
+    let a = r0 (codes "v") (codes "3") ((codes "id", id_text s.id) ∷ (codes "started", decimal s.started) ∷ (codes "seen", decimal s.seen) ∷ entries s.texts) 3 (omega arith)
+    (ap decoded_pairs begun ∙ shown) (sym (decimal_digit 3 (omega arith))) in
     let i = r1 (codes "id") (id_text s.id) ((codes "started", decimal s.started) ∷ (codes "seen", decimal s.seen) ∷ entries s.texts) s.id is.id a.1 refl in
     let b = r2 (codes "started") (decimal s.started) ((codes "seen", decimal s.seen) ∷ entries s.texts) s.started is.started i.1 refl in
     let c = r3 (codes "seen") (decimal s.seen) (entries s.texts) s.seen is.seen b.1 refl in

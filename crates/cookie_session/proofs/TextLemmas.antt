@@ -10,7 +10,7 @@ use Rattle.std.specs.List.{list_all}
 use Rattle.std.specs.FinMap.{entries}
 use Rattle.std.specs.Fmt.{decimal}
 use Rattle.std.specs.Str.Lossy.{utf8_lossy}
-use Rattle.form_urlencoded.specs.Form.{decode, extend_pairs, raw_pairs}
+use Rattle.form_urlencoded.specs.Form.{decode, extend_pairs, parse, raw_pairs}
 use Rattle.form_urlencoded.proofs.FormLemmas.{IsBytePair, round_trip}
 use Rattle.base64.specs.Engines.{url_safe_no_pad}
 use Rattle.base64.specs.GeneralPurpose.{encode_of}
@@ -20,6 +20,7 @@ use Rattle.cookie.proofs.SealingLemmas.{bytes_text}
 use Rattle.cookie_session.specs.Form.{form_pairs}
 use Rattle.cookie_session.specs.Id.{id_text}
 use Rattle.cookie_session.specs.Session.{IsSession, SessionState, session_pairs, session_text}
+use Rattle.cookie_session.proofs.MarkLemmas.{parse-compact_form}
 
 abbrev IsTextPair : List ℕ × List ℕ → Type 0
 IsTextPair e = IsUtf8 e.0 × IsUtf8 e.1
@@ -57,22 +58,26 @@ text_id id = IsUtf8-from_ascii (encode_of url_safe_no_pad id) (IsAscii-encode_of
 -- the pairs of a session are texts
 text_pairs-session : (s : SessionState) → IsSession s → All IsTextPair (session_pairs s)
 text_pairs-session s is =
-    let version : IsTextPair (codes "v", codes "2") = (ascii (codes "v") (search rules), ascii (codes "2") (search rules)) in
+    let version : IsTextPair (codes "v", codes "3") = (ascii (codes "v") (search rules), ascii (codes "3") (search rules)) in
     let id : IsTextPair (codes "id", id_text s.id) = (ascii (codes "id") (search rules), text_id s.id) in
     let started : IsTextPair (codes "started", decimal s.started) = (ascii (codes "started") (search rules), text_decimal s.started is.started) in
     let seen : IsTextPair (codes "seen", decimal s.seen) = (ascii (codes "seen") (search rules), text_decimal s.seen is.seen) in
-    All-cons IsTextPair (codes "v", codes "2") ((codes "id", id_text s.id) ∷ (codes "started", decimal s.started) ∷ (codes "seen", decimal s.seen) ∷ entries s.texts) version
+    All-cons IsTextPair (codes "v", codes "3") ((codes "id", id_text s.id) ∷ (codes "started", decimal s.started) ∷ (codes "seen", decimal s.seen) ∷ entries s.texts) version
     (All-cons IsTextPair (codes "id", id_text s.id) ((codes "started", decimal s.started) ∷ (codes "seen", decimal s.seen) ∷ entries s.texts) id
     (All-cons IsTextPair (codes "started", decimal s.started) ((codes "seen", decimal s.seen) ∷ entries s.texts) started
     (All-cons IsTextPair (codes "seen", decimal s.seen) (entries s.texts) seen is.texts)))
 
+-- a form that is read as pairs of texts has these texts
+form_pairs-read : (form : List ℕ) (es : List (List ℕ × List ℕ)) → All IsTextPair es → (All IsBytePair es → parse form ≡ es) → form_pairs form ≡ es
+form_pairs-read form es are reads =
+    sym (map-map lossy_pair (λ (e : List ℕ × List ℕ). (decode e.0, decode e.1)) (raw_pairs form))
+    ∙ ap (map lossy_pair) (reads (All-weaker IsTextPair IsBytePair (λ e t. (small_text e.0 t.0, small_text e.1 t.1)) es are))
+    ∙ lossy_pairs es are
+
 -- a form of texts has these texts as its pairs
 pub form_pairs-extended : (es : List (List ℕ × List ℕ)) → All IsTextPair es → form_pairs (extend_pairs [] es) ≡ es
-form_pairs-extended es are =
-    sym (map-map lossy_pair (λ (e : List ℕ × List ℕ). (decode e.0, decode e.1)) (raw_pairs (extend_pairs [] es)))
-    ∙ ap (map lossy_pair) (round_trip es (All-weaker IsTextPair IsBytePair (λ e t. (small_text e.0 t.0, small_text e.1 t.1)) es are))
-    ∙ lossy_pairs es are
+form_pairs-extended es are = form_pairs-read (extend_pairs [] es) es are (round_trip es)
 
 -- a session's text has its pairs
 pub form_pairs-session_text : (s : SessionState) → IsSession s → form_pairs (session_text s) ≡ session_pairs s
-form_pairs-session_text s is = form_pairs-extended (session_pairs s) (text_pairs-session s is)
+form_pairs-session_text s is = form_pairs-read (session_text s) (session_pairs s) (text_pairs-session s is) (parse-compact_form (session_pairs s))

@@ -12,6 +12,7 @@ mod open_error;
 mod open_unrevoked;
 mod opened;
 mod opening;
+mod pair_text;
 mod prefix;
 mod revocations;
 mod save_if_needed;

@@ -9,6 +9,7 @@ ghost use Rattle.cookie_session.specs.Session.{IsAlive, IsSessionText, seen_at};
 ghost use Rattle.cookie_session.specs.declared.session_error.SessionError.TheVariants as refusal;
 
 use crate::id::{ID_LENGTH, draw_id};
+use crate::pair_text::push_pair;
 use crate::seconds::second_of;
 use crate::session_error::SessionError;
 use base64::engine::general_purpose::URL_SAFE_NO_PAD;
@@ -207,15 +208,16 @@ impl Session {
     pub(crate) fn text_at(&self, alloc: Global, seen: u64) -> Result<String, AllocError>
         ensures { IfOk result (λ text. IsSessionText (string_bytes text) (seen_at seen self.now)) }
     {
-        let mut form = Serializer::new(String::new(alloc));
-        form.append_pair("v", "2")?;
-        form.append_pair("id", URL_SAFE_NO_PAD.encode(alloc, &self.id)?.as_str())?;
+        let mut text = String::new(alloc);
+        push_pair(&mut text, "v", "3")?;
+        let id = URL_SAFE_NO_PAD.encode(alloc, &self.id)?;
+        push_pair(&mut text, "id", id.as_str())?;
         let started = self.started;
-        form.append_pair("started", started.to_string(alloc)?.as_str())?;
-        form.append_pair("seen", seen.to_string(alloc)?.as_str())?;
-        for (name, text) in self.texts.pairs() {
-            form.append_pair(name, text)?;
+        push_pair(&mut text, "started", started.to_string(alloc)?.as_str())?;
+        push_pair(&mut text, "seen", seen.to_string(alloc)?.as_str())?;
+        for (name, value) in self.texts.pairs() {
+            push_pair(&mut text, name, value)?;
         }
-        Ok(form.finish())
+        Ok(text)
     }
 }

@@ -18,7 +18,7 @@ const NOW: u64 = 1_445_412_480;
 
 // The session of ann, with the id of bytes 7, under the key of bytes 1.
 const HEADER: &[u8] =
-    b"__Host-session=BwcHBwcHBwcHBwcH+87YgmbKjONu+Uxy0aMviNDKyZsTCEcbfEF7/5EyIdktW7bnpeCI2ZBoCu2FBUCJvjj9Q/BEVKhC6CoMc+9Tkpk72dHUtmPrWFnf0MKSibGNPW3806VVFeE=";
+    b"__Host-session=BwcHBwcHBwcHBwcH+87ZgmbKjONu+Uxy0aMviNDKyZsTCEcbfEF7/5EyIdktW7bnpeCI2ZBoCu2FBUCJvjj9Q/BEVKhC6CoMc+9Tkpk72dHUtmPrWOVksf86cKUykZAOETsDS3w=";
 
 fn settings<'a>(keys: &'a [u8], cookie: &'a [u8]) -> SessionSettings<'a> {
     SessionSettings {

@@ -1,0 +1,174 @@
+-- A form with no more escapes than its reader needs: the reader gives its pairs back.
+use Rattle.std.proofs.Common.{◌≡◌, ◌≢◌, ℕ, ◌+◌, ◌/◌, ◌<◌, ◌≤◌, true, false, ltb, ⊎_elim, List, [], ◌∷◌, ◌++◌, map, length, All, refl, sym, ap, ◌∙◌, append_assoc, append-nil, arith, length-append, fold}
+use Rattle.std.proofs.lemmas.Bool.{cases_lt, cond-true, cond-false, cond_both, lt-ltb, ltb-true, ne_eqb}
+use Rattle.std.proofs.lemmas.Bool.Decides.{nat_tests}
+use Rattle.std.proofs.lemmas.Grind.{flat_map-append}
+use Rattle.std.proofs.lemmas.List.{map-append}
+use Rattle.std.proofs.lemmas.List.Elements.{All-nil, All-cons, All-head, All-tail, All-append, All-weaker}
+use Rattle.std.proofs.lemmas.Str.{encode_ascii}
+use lib.Utf8.{encode, next}
+use Rattle.percent_encoding.specs.Percent.{percent_encode_byte}
+use Rattle.percent_encoding.proofs.PercentLemmas.{IsByte, IsEscapeByte, All-percent_encode_byte, percent_decode-nil, percent_decode_not_percent, percent_decode-percent_encode_byte}
+use Rattle.form_urlencoded.specs.Form.{decode, parse, plus_to_space, separator, split_once, split_pair}
+use Rattle.form_urlencoded.proofs.FormLemmas.{IsBytePair, map-plus_to_space, raw_pairs-nil, raw_pairs_first, split_once_after_at, split_once_after_none, split_once_before_at, split_once_before_none}
+use Rattle.cookie_session.specs.Form.{compact_form, compact_pair, escape_mark, escape_marks, is_mark, with_pair}
+
+-- ---- escapes
+
+pub escape_marks-nil : escape_marks [] ≡ []
+unfolding escape_marks
+escape_marks-nil = refl
+
+escape_marks-cons : (b : ℕ) (bs : List ℕ) → escape_marks (b ∷ bs) ≡ escape_mark b ++ escape_marks bs
+unfolding escape_marks
+escape_marks-cons b bs = refl
+
+pub escape_marks-append : (xs ys : List ℕ) → escape_marks (xs ++ ys) ≡ escape_marks xs ++ escape_marks ys
+unfolding escape_marks
+escape_marks-append xs ys = flat_map-append escape_mark xs ys
+
+-- bytes that aren't marks stay
+escape_marks-plain : (bs : List ℕ) → All (λ b. is_mark b ≡ false) bs → escape_marks bs ≡ bs
+escape_marks-plain [] plain = escape_marks-nil
+escape_marks-plain (b ∷ bs) plain =
+    escape_marks-cons b bs
+    ∙ ap (λ front. front ++ escape_marks bs) (cond-false _ _ _ (All-head (λ x. is_mark x ≡ false) b bs plain))
+    ∙ ap (λ rest. b ∷ rest) (escape_marks-plain bs (All-tail (λ x. is_mark x ≡ false) b bs plain))
+
+-- ---- a character
+
+past_ascii : (b : ℕ) → 128 ≤ b → is_mark b ≡ false
+past_ascii b large = grind (arith, nat_tests)
+
+marks_are_ascii : (b : ℕ) → is_mark b ≡ true → b < 128
+marks_are_ascii b is = grind (arith, nat_tests)
+
+-- the bytes of a character past ASCII are past ASCII
+All-past : (c : ℕ) → 128 ≤ c → All (λ b. 128 ≤ b) (encode c)
+unfolding encode
+All-past c large =
+    let P = λ (b : ℕ). 128 ≤ b in
+    let one : List ℕ = next c ∷ [] in
+    let two : List ℕ = next (c / 64) ∷ one in
+    let three : List ℕ = next (c / 4096) ∷ two in
+    let last : All P one = All-cons P (next c) [] (omega arith) (All-nil P) in
+    let second : All P two = All-cons P (next (c / 64)) one (omega arith) last in
+    let first : All P three = All-cons P (next (c / 4096)) two (omega arith) second in
+    cond_both (ltb c 128) (c ∷ []) _ (All P) (λ e. let small = ltb-true c 128 e in absurd (omega (arith, small, large)))
+    (λ _. cond_both (ltb c 2048) ((192 + c / 64) ∷ one) _ (All P) (λ _. All-cons P (192 + c / 64) one (omega arith) last)
+    (λ _. cond_both (ltb c 65536) ((224 + c / 4096) ∷ two) ((240 + c / 262144) ∷ three) (All P)
+    (λ _. All-cons P (224 + c / 4096) two (omega arith) second)
+    (λ _. All-cons P (240 + c / 262144) three (omega arith) first)))
+
+-- a mark is escaped
+pub marked_character : (c : ℕ) → is_mark c ≡ true → escape_marks (encode c) ≡ percent_encode_byte c
+marked_character c is =
+    ap escape_marks (encode_ascii c (marks_are_ascii c is)) ∙ escape_marks-cons c [] ∙ ap (λ rest. escape_mark c ++ rest) escape_marks-nil
+    ∙ append-nil (escape_mark c) ∙ cond-true _ _ _ is
+
+-- and each other character stays
+pub unmarked_character : (c : ℕ) → is_mark c ≡ false → escape_marks (encode c) ≡ encode c
+unmarked_character c is = ⊎_elim small large (cases_lt c 128)
+  where
+    small : c < 128 → escape_marks (encode c) ≡ encode c
+    small below =
+        let alone = encode_ascii c below in
+        ap escape_marks alone ∙ escape_marks-plain (c ∷ []) (All-cons (λ b. is_mark b ≡ false) c [] is (All-nil (λ b. is_mark b ≡ false))) ∙ sym alone
+
+    large : 128 ≤ c → escape_marks (encode c) ≡ encode c
+    large past = escape_marks-plain (encode c) (All-weaker (λ b. 128 ≤ b) (λ b. is_mark b ≡ false) past_ascii (encode c) (All-past c past))
+
+-- ---- the reader
+
+not_plus : (b : ℕ) → IsEscapeByte b → b ≢ 43
+not_plus b escape e = grind arith
+
+not_separator : (b : ℕ) → IsEscapeByte b → (b ≢ 38) × (b ≢ 61)
+not_separator b escape = (λ e. grind arith, λ e. grind arith)
+
+not_mark : (b : ℕ) → is_mark b ≡ false → (b ≢ 37) × (b ≢ 38) × (b ≢ 43) × (b ≢ 61)
+not_mark b is =
+    (λ e. grind (arith, nat_tests), λ e. grind (arith, nat_tests), λ e. grind (arith, nat_tests), λ e. grind (arith, nat_tests))
+
+decode-escape_mark : (b : ℕ) (rest : List ℕ) → b < 256 → decode (escape_mark b ++ rest) ≡ b ∷ decode rest
+decode-escape_mark b rest small =
+    let P = λ (x : List ℕ). decode (x ++ rest) ≡ b ∷ decode rest in
+    cond_both (is_mark b) (percent_encode_byte b) (b ∷ []) P
+    (λ _.
+    let no_plus = All-weaker IsEscapeByte (λ x. x ≢ 43) not_plus (percent_encode_byte b) (All-percent_encode_byte b) in
+    rw (map-append plus_to_space (percent_encode_byte b) rest, map-plus_to_space _ no_plus) (percent_decode-percent_encode_byte b _ small))
+    (λ is. let other = not_mark b is in rw (ne_eqb b 43 other.2) (percent_decode_not_percent b _ other.0))
+
+-- decoding undoes the escapes
+decode-escape_marks : (bs : List ℕ) → All IsByte bs → decode (escape_marks bs) ≡ bs
+decode-escape_marks [] small = rw escape_marks-nil percent_decode-nil
+decode-escape_marks (b ∷ bs) small =
+    rw escape_marks-cons (decode-escape_mark b _ (All-head IsByte b bs small) ∙ ap (λ l. b ∷ l) (decode-escape_marks bs (All-tail IsByte b bs small)))
+
+-- what holds of `%`, of the digits and of each byte that isn't a mark
+All-escape_marks : (P : ℕ → Type 0) (bs : List ℕ) → ((b : ℕ) → is_mark b ≡ false → P b) → ((b : ℕ) → IsEscapeByte b → P b) → All P (escape_marks bs)
+All-escape_marks P [] kept escape = rw escape_marks-nil (All-nil P)
+All-escape_marks P (b ∷ bs) kept escape =
+    rw escape_marks-cons (All-append P (escape_mark b) (escape_marks bs)
+    (cond_both (is_mark b) (percent_encode_byte b) (b ∷ []) (All P)
+    (λ _. All-weaker IsEscapeByte P escape (percent_encode_byte b) (All-percent_encode_byte b)) (λ is. All-cons P b [] (kept b is) (All-nil P)))
+    (All-escape_marks P bs kept escape))
+
+no_equals : (bs : List ℕ) → All (λ b. b ≢ 61) (escape_marks bs)
+no_equals bs = All-escape_marks (λ b. b ≢ 61) bs (λ b is. (not_mark b is).3) (λ b escape. (not_separator b escape).1)
+
+no_ampersand : (pair : List ℕ × List ℕ) → All (λ b. b ≢ 38) (compact_pair pair)
+no_ampersand pair =
+    let P = λ (b : ℕ). b ≢ 38 in
+    let part = λ (bs : List ℕ). All-escape_marks P bs (λ b is. (not_mark b is).1) (λ b escape. (not_separator b escape).0) in
+    All-append P (escape_marks pair.0 ++ 61 ∷ []) (escape_marks pair.1)
+    (All-append P (escape_marks pair.0) (61 ∷ []) (part pair.0) (All-cons P 61 [] (λ e. omega arith) (All-nil P))) (part pair.1)
+
+split_pair-compact : (pair : List ℕ × List ℕ) → split_pair (compact_pair pair) ≡ (escape_marks pair.0, escape_marks pair.1)
+split_pair-compact pair =
+    let none = no_equals pair.0 in
+    rw (append_assoc, split_once_before_at 61 _ (escape_marks pair.1) none, split_once_after_at 61 _ (escape_marks pair.1) none)
+
+compact_pair_nonempty : (pair : List ℕ × List ℕ) → 0 < length (compact_pair pair)
+compact_pair_nonempty pair = simp length-append (omega arith)
+
+-- each further pair, with `&` before it
+abbrev later_pairs : List (List ℕ × List ℕ) → List ℕ
+later_pairs [] = []
+later_pairs (pair ∷ pairs) = 38 ∷ compact_pair pair ++ later_pairs pairs
+
+compact_nonempty : (form : List ℕ) (pairs : List (List ℕ × List ℕ)) → 0 < length form → fold with_pair form pairs ≡ form ++ later_pairs pairs
+compact_nonempty form [] nonempty = sym (append-nil form)
+compact_nonempty form (pair ∷ pairs) nonempty =
+    let longer : 0 < length (with_pair form pair) = simp length-append (omega arith) in
+    let joined : separator form ≡ 38 ∷ [] = cond-true _ _ _ (lt-ltb 0 _ nonempty) in
+    compact_nonempty (with_pair form pair) pairs longer ∙ simp (joined, append_assoc)
+
+abbrev decode_pair : List ℕ × List ℕ → List ℕ × List ℕ
+decode_pair pair = (decode pair.0, decode pair.1)
+
+-- a pair at the front of the input is read as that pair
+parse_first : (pair : List ℕ × List ℕ) (input rest : List ℕ) → IsBytePair pair → (split_once 38 input).0 ≡ compact_pair pair → (split_once 38 input).1 ≡ rest → parse input ≡ pair ∷ parse rest
+parse_first pair input rest small first others =
+    let nonempty : 0 < length ((split_once 38 input).0) = rw first (compact_pair_nonempty pair) in
+    let decoded : decode_pair (split_pair ((split_once 38 input).0)) ≡ pair = ap (λ x. decode_pair (split_pair x)) first ∙ ap decode_pair (split_pair-compact pair) ∙ (λ i. (decode-escape_marks pair.0 small.0 i, decode-escape_marks pair.1 small.1 i)) in
+    ap (map decode_pair) (raw_pairs_first input nonempty) ∙ (λ i. decoded i ∷ parse (others i))
+
+parse-nil : parse [] ≡ []
+parse-nil = ap (map decode_pair) raw_pairs-nil
+
+parse_pairs : (pair : List ℕ × List ℕ) (pairs : List (List ℕ × List ℕ)) → IsBytePair pair → All IsBytePair pairs → parse (compact_pair pair ++ later_pairs pairs) ≡ pair ∷ pairs
+parse_pairs pair [] small others =
+    let none = no_ampersand pair in
+    ap parse (append-nil (compact_pair pair)) ∙ parse_first pair _ [] small (split_once_before_none 38 _ none) (split_once_after_none 38 _ none) ∙ ap (λ l. pair ∷ l) parse-nil
+parse_pairs pair (following ∷ pairs) small others =
+    let none = no_ampersand pair in
+    let rest = compact_pair following ++ later_pairs pairs in
+    let later = parse_pairs following pairs (All-head IsBytePair following pairs others) (All-tail IsBytePair following pairs others) in
+    parse_first pair _ rest small (split_once_before_at 38 _ rest none) (split_once_after_at 38 _ rest none) ∙ ap (λ l. pair ∷ l) later
+
+-- reading what was written gives the pairs back
+pub parse-compact_form : (pairs : List (List ℕ × List ℕ)) → All IsBytePair pairs → parse (compact_form pairs) ≡ pairs
+parse-compact_form [] small = parse-nil
+parse-compact_form (pair ∷ pairs) small =
+    ap parse (compact_nonempty (compact_pair pair) pairs (compact_pair_nonempty pair)) ∙ parse_pairs pair pairs (All-head IsBytePair pair pairs small) (All-tail IsBytePair pair pairs small)

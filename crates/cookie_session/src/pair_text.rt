@@ -1,0 +1,48 @@
+//! Pairs, written with no more escapes than the reader of a form needs (URL Standard 5.1).
+ghost use Rattle.std.specs.Prelude.{◌≡◌, ◌++◌, OnOk, encode_utf8, string_bytes};
+ghost use Rattle.cookie_session.specs.Form.{escape_marks, is_mark, with_pair};
+
+use percent_encoding::percent_encode_byte;
+use std::alloc::AllocError;
+
+// Appends `name=text`, after an `&` if it isn't the first pair.
+pub(crate) fn push_pair(form: &mut String, name: &str, text: &str) -> Result<(), AllocError>
+    ensures { OnOk result (string_bytes form.new
+        ≡ with_pair (string_bytes form.old) (name.now, text.now)) }
+{
+    if !form.is_empty() {
+        form.push('&')?;
+    }
+    push_escaped(form, name)?;
+    form.push('=')?;
+    push_escaped(form, text)
+}
+
+// Appends the text, with its marks escaped.
+fn push_escaped(form: &mut String, text: &str) -> Result<(), AllocError>
+    ensures { OnOk result (string_bytes form.new ≡ string_bytes form.old ++ escape_marks text.now) }
+{
+    for character in text.chars() {
+        push_character(form, character)?;
+    }
+    Ok(())
+}
+
+// Appends the character, escaped if it is a mark.
+fn push_character(form: &mut String, character: char) -> Result<(), AllocError>
+    ensures { OnOk result (string_bytes form.new
+        ≡ string_bytes form.old ++ escape_marks (encode_utf8 character)) }
+{
+    if is_mark(character) {
+        form.push_str(percent_encode_byte(character as u8))
+    } else {
+        form.push(character)
+    }
+}
+
+// Whether the reader of a form gives the character a meaning.
+fn is_mark(character: char) -> bool
+    ensures { result ≡ is_mark character }
+{
+    matches!(character, '%' | '&' | '+' | '=')
+}
