@@ -10,6 +10,7 @@ pub mod NameHashLemmas
 pub mod NameLemmas
 pub mod OriginalLemmas
 pub mod PrefixLemmas
+pub mod PurposeLemmas
 pub mod SealingLemmas
 pub mod ShownLemmas
 mod SigningFacts

@@ -1,24 +1,27 @@
 -- Sealed values: what is sealed opens, and nothing else does.
-use Rattle.std.proofs.Common.{◌≡◌, ◌↔◌, ℕ, ◌+◌, ◌-◌, ◌/◌, ◌<◌, ◌≤◌, true, ltb, List, [], ◌∷◌, ◌++◌, length, take, drop, Option, None, Some, Result, Ok, Err, IfOk, IsUtf8, refl, sym, ap, subst, ◌∙◌, arith, ⊎_elim}
+use Rattle.std.proofs.Common.{◌≡◌, ◌↔◌, ℕ, ◌+◌, ◌-◌, ◌/◌, ◌<◌, ◌≤◌, true, ltb, List, [], ◌∷◌, ◌++◌, length, take, drop, Option, None, Some, Result, Ok, Err, IfOk, IsUtf8, alloc_error, option_map, refl, sym, ap, subst, ◌∙◌, arith, ⊎_elim}
 use Rattle.std.proofs.lemmas.Bool.{and_parts, ltb-true}
 use Rattle.std.proofs.lemmas.List.{append_assoc, length-append, length-drop, append-nil, take_all, drop_all, take_at, drop_at, take-append-drop, length-take-le}
 use Rattle.std.proofs.lemmas.Str.{IsUtf8-from_ascii}
 use borrow.Rule.Slice.PartMut.{mid_of, post_of, put_mid}
 use lib.Utf8.{scalar, scalars, scalar_cases, encode, encodes, next}
-use Rattle.base64.specs.Engines.{standard}
+use Rattle.base64.specs.Engines.{standard, url_safe_no_pad}
 use Rattle.base64.specs.GeneralPurpose.{encode_of}
+use Rattle.base64.specs.declared.engine.general_purpose.GeneralPurpose.{GeneralPurpose}
 use Rattle.base64.proofs.EngineFacts.{IsAscii-encode_of, front_bytes}
 use Rattle.cookie_crypt.specs.Bytes.{IsBytes}
 use Rattle.cookie_crypt.specs.Gcm.{IsSealing, SealsToBytes, gctr, tag_of}
 use Rattle.cookie_crypt.proofs.BytesLemmas.{bytes_either, bytes_first, bytes_joined, bytes_none}
 use Rattle.cookie_crypt.proofs.GcmLemmas.{length-gctr, length-sealed, length-tag_of, sealing_of}
+use Rattle.std.specs.declared.alloc.AllocError.{AllocError}
 use Rattle.cookie_core.specs.Memory.{Gives}
 use Rattle.cookie_core.specs.Record.{Record, IsCookie}
 use Rattle.cookie.specs.AnswersExactly.{AnswersPair}
 use Rattle.cookie.specs.Jar.{JarState, Add, after, view}
-use Rattle.cookie.specs.Opening.{IsSealedBytes}
+use Rattle.cookie.specs.Opening.{IsSealedBytes, IsSealedTextBytes}
 use Rattle.cookie.specs.SealingCalls.{IsSealedText}
-use Rattle.cookie.specs.Sealing.{IsNonce, IsSealable, IsSealed, IsSealingOf, sealed_cookie, sealed_bytes, sealing}
+use Rattle.cookie.specs.Purposes.{IsSealableFor, IsTextFor, purpose_data}
+use Rattle.cookie.specs.Sealing.{IsNonce, IsSealable, IsSealedWith, IsSealingOf, sealed_cookie, sealed_bytes, sealed_text, sealing}
 use Rattle.cookie.specs.declared.jar_error.JarError.{JarError}
 use Rattle.cookie.specs.declared.jar_error.JarError.TheVariants as refusal
 use Rattle.cookie.proofs.AnswerLemmas.{answered_added, if_added}
@@ -87,15 +90,33 @@ buffer-put nonce value text items whole n long same are even size =
     omega (arith, ap length put_is, length-append nonce text, length-append nonce value, ap length (same ∙ are), even, size) in
     take_at put (drop (length put) items) n put_long ∙ put_is
 
+-- a sealing under a nonce, as the encoding of its bytes
+pub sealed_of_nonce : (engine : GeneralPurpose) (key bound nonce value bytes slice text : List ℕ)
+    → IsUtf8 value → IsSealable bound value → IsNonce nonce → slice ≡ bytes → bytes ≡ sealed_bytes key bound nonce value → text ≡ encode_of engine slice
+    → (text ≡ sealed_text engine key bound nonce value) × IsSealedWith engine key bound text value
+unfolding sealed_text
+sealed_of_nonce engine key bound nonce value bytes slice text is_text fits is same are encoded =
+    let made = encoded ∙ ap (encode_of engine) (same ∙ are) in
+    (made, record { is_text = is_text; sealable = fits; sealed = (nonce, is, made) })
+
 -- what an encoding of these bytes gives
 pub sealed_text_of : {X E : Type 0} (bytes_of : X → List ℕ) (key name nonce value bytes slice : List ℕ) (r : Result X E)
     → IsUtf8 value → IsSealable name value → IsNonce nonce → slice ≡ bytes → bytes ≡ sealed_bytes key name nonce value
     → IfOk r (λ t. bytes_of t ≡ encode_of standard slice) → IfOk r (λ t. IsSealedText key name value nonce (bytes_of t))
-unfolding sealing
 sealed_text_of bytes_of key name nonce value bytes slice (Ok t) text fits is same are encoded =
-    let made = encoded ∙ ap (encode_of standard) (same ∙ are) in
-    record { made = made; opens = record { is_text = text; sealable = fits; sealed = (nonce, is, made) } }
+    let both = sealed_of_nonce standard key name nonce value bytes slice (bytes_of t) text fits is same are encoded in
+    record { made = both.0; opens = both.1 }
 sealed_text_of bytes_of key name nonce value bytes slice (Err e) text fits is same are encoded = tt
+
+-- and for a purpose
+pub text_for_of : {X E : Type 0} (bytes_of : X → List ℕ) (key purpose name nonce value bound bytes slice : List ℕ) (r : Result X E)
+    → IsUtf8 value → IsSealableFor purpose name value → IsNonce nonce → bound ≡ purpose_data purpose name → slice ≡ bytes → bytes ≡ sealed_bytes key bound nonce value
+    → IfOk r (λ t. bytes_of t ≡ encode_of url_safe_no_pad slice) → IfOk r (λ t. IsTextFor key purpose name value nonce (bytes_of t))
+text_for_of bytes_of key purpose name nonce value bound bytes slice (Ok t) text fits is bound_is same are encoded =
+    let both = sealed_of_nonce url_safe_no_pad key (purpose_data purpose name) nonce value bytes slice (bytes_of t) text fits is same
+    (are ∙ ap (λ b. sealed_bytes key b nonce value) bound_is) encoded in
+    record { made = both.0; opens = both.1 }
+text_for_of bytes_of key purpose name nonce value bound bytes slice (Err e) text fits is bound_is same are encoded = tt
 
 bytes_sealed : (key name nonce value : List ℕ) → SealsToBytes key → IsNonce nonce → IsUtf8 value → IsSealable name value → IsBytes (sealed_bytes key name nonce value)
 unfolding sealed_bytes
@@ -184,80 +205,94 @@ pub opened_whole : (key nonce aad plain old tag items : List ℕ) (n : ℕ) → 
 opened_whole key nonce aad plain old tag items n is long =
     take_at plain (drop (length plain) items) n (sym (length-sealed key nonce aad plain old tag is) ∙ long)
 
+-- ---- the text in the bytes
+
+module _ (key bound bytes : List ℕ) (opened : Option (List ℕ)) (opens : (v : List ℕ) → (opened ≡ Some v) ↔ IsSealedBytes key bound bytes v) where
+  -- the answer where the bytes are no sealing
+  pub text_unopened : opened ≡ None → (v : List ℕ) → (◌≡◌ {A = Option (List ℕ)} None (Some v)) ↔ IsSealedTextBytes key bound bytes v
+  text_unopened none v = (λ e. cc, λ is. let clash : None ≡ Some v = sym none ∙ (opens v).1 is.1 in cc)
+
+  module _ (plain : List ℕ) (opened_is : opened ≡ Some plain) where
+    -- what they hold, where they are one
+    plain_is : (v : List ℕ) → IsSealedTextBytes key bound bytes v → plain ≡ v
+    plain_is v is = let both : Some plain ≡ Some v = sym opened_is ∙ (opens v).1 is.1 in cc
+
+    -- the answer where that is no text
+    pub text_bad : (IsUtf8 plain → ⊥) → (v : List ℕ) → (◌≡◌ {A = Option (List ℕ)} None (Some v)) ↔ IsSealedTextBytes key bound bytes v
+    text_bad bad v = (λ e. cc, λ is. absurd (bad (subst IsUtf8 (sym (plain_is v is)) is.0)))
+
+    -- the answer where it is one
+    pub text_right : (value : List ℕ) → value ≡ plain → IsUtf8 value → (v : List ℕ) → (Some value ≡ Some v) ↔ IsSealedTextBytes key bound bytes v
+    text_right value value_is is_text v = (
+      λ e. let same : value ≡ v = cc in (subst IsUtf8 same is_text, (opens v).0 (opened_is ∙ ap Some (sym value_is ∙ same))),
+      λ is. ap Some (value_is ∙ plain_is v is),
+    )
+
 -- ---- from the text
 
-module _ (key name text : List ℕ) (seals : SealsToBytes key) (answer : Option (List ℕ)) (decodes : (b : List ℕ) → IsBytes b → (answer ≡ Some b) ↔ (text ≡ encode_of standard b)) where
+module _ (engine : GeneralPurpose) (key bound text : List ℕ) (seals : SealsToBytes key) (answer : Option (List ℕ))
+    (decodes : (b : List ℕ) → IsBytes b → (answer ≡ Some b) ↔ (text ≡ encode_of engine b)) where
   -- what a sealing decodes to
-  sealed_decodes : (v : List ℕ) → IsSealed key name text v → (b : List ℕ) × (answer ≡ Some b) × IsSealedBytes key name b v
-  unfolding sealing
+  sealed_decodes : (v : List ℕ) → IsSealedWith engine key bound text v → (b : List ℕ) × (answer ≡ Some b) × IsSealedBytes key bound b v
+  unfolding sealed_text
   sealed_decodes v is =
       let nonce : List ℕ = is.sealed.0 in
-      let b : List ℕ = sealed_bytes key name nonce v in (
+      let b : List ℕ = sealed_bytes key bound nonce v in (
         b,
-        (decodes b (bytes_sealed key name nonce v seals is.sealed.1 is.is_text is.sealable)).1 is.sealed.2,
+        (decodes b (bytes_sealed key bound nonce v seals is.sealed.1 is.is_text is.sealable)).1 is.sealed.2,
         record { sealable = is.sealable; sealed = (nonce, is.sealed.1.long, refl) },
       )
 
   -- the answer where the text is no base64
-  pub unsealed_undecoded : answer ≡ None → (v : List ℕ) → (◌≡◌ {A = Option (List ℕ)} None (Some v)) ↔ IsSealed key name text v
+  pub unsealed_undecoded : answer ≡ None → (v : List ℕ) → (◌≡◌ {A = Option (List ℕ)} None (Some v)) ↔ IsSealedWith engine key bound text v
   unsealed_undecoded none v = (λ e. cc, λ is. let d = sealed_decodes v is in let clash : None ≡ Some d.0 = sym none ∙ d.1 in cc)
 
-  module _ (bytes : List ℕ) (some : answer ≡ Some bytes) where
+  module _ (bytes : List ℕ) (some : answer ≡ Some bytes) (are : IsBytes bytes) where
     -- the bytes are a sealing where the text is
-    bytes_of_sealed : (v : List ℕ) → IsSealed key name text v → IsSealedBytes key name bytes v
+    bytes_of_sealed : (v : List ℕ) → IsSealedWith engine key bound text v → IsSealedBytes key bound bytes v
     bytes_of_sealed v is =
         let d = sealed_decodes v is in
         let clash : Some bytes ≡ Some d.0 = sym some ∙ d.1 in
         let same : bytes ≡ d.0 = cc in
-        subst (λ b. IsSealedBytes key name b v) (sym same) d.2
+        subst (λ b. IsSealedBytes key bound b v) (sym same) d.2
 
     -- the text is a sealing where the bytes are one, of a text
-    sealed_of_bytes : IsBytes bytes → (v : List ℕ) → IsUtf8 v → IsSealedBytes key name bytes v → IsSealed key name text v
-    unfolding sealed_bytes sealing
-    sealed_of_bytes are v is_text is =
+    sealed_of_bytes : (v : List ℕ) → IsUtf8 v → IsSealedBytes key bound bytes v → IsSealedWith engine key bound text v
+    unfolding sealed_bytes sealed_text
+    sealed_of_bytes v is_text is =
         let nonce : List ℕ = is.sealed.0 in
         let g : List ℕ = gctr key nonce v in
-        let t : List ℕ = tag_of key nonce name g in
+        let t : List ℕ = tag_of key nonce bound g in
         let nonce_bytes : IsBytes nonce = front_bytes nonce (g ++ t) (subst IsBytes (is.sealed.2 ∙ append_assoc nonce g t) are) in
         record {
           is_text = is_text;
           sealable = is.sealable;
-          sealed = (nonce, record { long = is.sealed.1; bytes = nonce_bytes }, (decodes bytes are).0 some ∙ ap (encode_of standard) is.sealed.2);
+          sealed = (nonce, record { long = is.sealed.1; bytes = nonce_bytes }, (decodes bytes are).0 some ∙ ap (encode_of engine) is.sealed.2);
         }
 
-    module _ (cipher slice : List ℕ) (opened : Option (List ℕ)) (same_key : cipher ≡ key) (same_bytes : slice ≡ bytes) (opens : (v : List ℕ) → (opened ≡ Some v) ↔ IsSealedBytes cipher name slice v) where
-      -- the same of the key and the bytes
-      turned_opens : (v : List ℕ) → (opened ≡ Some v) ↔ IsSealedBytes key name bytes v
-      turned_opens v =
-          subst (λ k. (opened ≡ Some v) ↔ IsSealedBytes k name bytes v) same_key (subst (λ b. (opened ≡ Some v) ↔ IsSealedBytes cipher name b v) same_bytes (opens v))
+    -- so the answer to the bytes is that to the text
+    sealed_as_bytes : (opened : Option (List ℕ)) → ((v : List ℕ) → (opened ≡ Some v) ↔ IsSealedTextBytes key bound bytes v)
+        → (v : List ℕ) → (opened ≡ Some v) ↔ IsSealedWith engine key bound text v
+    sealed_as_bytes opened opens v = (
+      λ e. let is = (opens v).0 e in sealed_of_bytes v is.0 is.1,
+      λ is. (opens v).1 (is.is_text, bytes_of_sealed v is),
+    )
 
-      -- the answer where the bytes are no sealing
-      pub unsealed_unopened : opened ≡ None → (v : List ℕ) → (◌≡◌ {A = Option (List ℕ)} None (Some v)) ↔ IsSealed key name text v
-      unsealed_unopened none v = (λ e. cc, λ is. let clash : None ≡ Some v = sym none ∙ (turned_opens v).1 (bytes_of_sealed v is) in clash)
-
-      module _ (plain : List ℕ) (opened_is : opened ≡ Some plain) where
-        -- what they hold, where the text is a sealing
-        plain_of_sealed : (v : List ℕ) → IsSealed key name text v → plain ≡ v
-        plain_of_sealed v is = let both : Some plain ≡ Some v = sym opened_is ∙ (turned_opens v).1 (bytes_of_sealed v is) in cc
-
-        -- the answer where what they hold is no text
-        pub unsealed_not_text : (IsUtf8 plain → ⊥) → (v : List ℕ) → (◌≡◌ {A = Option (List ℕ)} None (Some v)) ↔ IsSealed key name text v
-        unsealed_not_text bad v = (λ e. cc, λ is. absurd (bad (subst IsUtf8 (sym (plain_of_sealed v is)) is.is_text)))
-
-        -- the answer where it is one
-        pub unsealed_right : (value : List ℕ) → value ≡ plain → IsBytes bytes → IsUtf8 value → (v : List ℕ) → (Some value ≡ Some v) ↔ IsSealed key name text v
-        unsealed_right value value_is are is_text v = (
-          λ e.
-              let same : value ≡ v = cc in
-              subst (IsSealed key name text) (sym value_is ∙ same) (sealed_of_bytes are plain (subst IsUtf8 value_is is_text) ((turned_opens plain).0 opened_is)),
-          λ is. ap Some (value_is ∙ plain_of_sealed v is),
-        )
+    -- the same of a call that opens the bytes under a key and data that are these
+    pub answered_as_bytes : {X : Type 0} (bytes_of : X → List ℕ) (cipher other : List ℕ) → cipher ≡ key → other ≡ bound → (r : Result (Option X) AllocError)
+        → IfOk r (λ opened. (v : List ℕ) → (option_map bytes_of opened ≡ Some v) ↔ IsSealedTextBytes cipher other bytes v)
+        → Gives alloc_error r (λ opened. (v : List ℕ) → (option_map bytes_of opened ≡ Some v) ↔ IsSealedWith engine key bound text v)
+    answered_as_bytes bytes_of cipher other same_key same_other (Ok opened) opens =
+        sealed_as_bytes (option_map bytes_of opened)
+        (subst (λ k. (v : List ℕ) → (option_map bytes_of opened ≡ Some v) ↔ IsSealedTextBytes k bound bytes v) same_key
+        (subst (λ d. (v : List ℕ) → (option_map bytes_of opened ≡ Some v) ↔ IsSealedTextBytes cipher d bytes v) same_other opens))
+    answered_as_bytes bytes_of cipher other same_key same_other (Err e) opens = refl
 
 -- ---- private jars
 
 -- a sealed cookie is a cookie
 pub IsCookie-sealed : (key nonce : List ℕ) (cookie : Record) → IsCookie cookie → IsCookie (sealed_cookie key nonce cookie)
-unfolding sealing
+unfolding sealed_text
 IsCookie-sealed key nonce cookie is =
     record {
       name = is.name;

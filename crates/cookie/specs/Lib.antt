@@ -16,6 +16,7 @@ pub mod NameHash
 pub mod Opening
 pub mod Originals
 pub mod Prefixes
+pub mod Purposes
 pub mod SealedAdditions
 pub mod SealingCalls
 pub mod Sealing

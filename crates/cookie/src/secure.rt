@@ -2,7 +2,9 @@
 
 mod key;
 mod key_error;
+mod nonce;
 mod private;
+mod purpose;
 mod reading;
 mod sealed_text;
 mod sealer;

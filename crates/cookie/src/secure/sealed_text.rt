@@ -21,13 +21,14 @@ pub struct SealedText<'t> {
 impl<'t> Model for SealedText<'t> {
     ghost use Rattle.std.specs.Prelude.{List, ℕ};
     ghost use Rattle.std.specs.Option.{option_map};
+    ghost use Rattle.base64.specs.Engines.{standard};
     ghost use Rattle.cookie.specs.Opening.{DecodesTo};
 
     ghost Value = { List ℕ };
 
     ghost view = { λ s. s.text.now };
 
-    ghost invariant = { λ s. DecodesTo s.text.now (option_map (λ b. b.items) s.bytes) };
+    ghost invariant = { λ s. DecodesTo standard s.text.now (option_map (λ b. b.items) s.bytes) };
 }
 
 impl<'t> SealedText<'t> {
@@ -45,7 +46,7 @@ impl<'t> SealedText<'t> {
 
     // The bytes whose padded base64 is the text, or `None` if there are none.
     pub(crate) fn bytes(&self) -> Option<&[u8]>
-        ensures { DecodesTo self.now (option_map (λ b. b.now) result) }
+        ensures { DecodesTo standard self.now (option_map (λ b. b.now) result) }
     {
         match &self.bytes {
             Some(bytes) => Some(bytes.as_slice()),

@@ -6,9 +6,10 @@ ghost use Rattle.cookie.specs.SealingCalls.{IsDrawnCall, IsNoncedCall, IsSealedA
 ghost use Rattle.cookie.specs.declared.jar_error.JarError.TheVariants as refusal;
 
 use crate::jar_error::JarError;
+use crate::secure::nonce::draw_nonce;
 use crate::secure::reading::Reading;
 use crate::secure::sealed_text::SealedText;
-use crate::secure::sealing::{is_sealable, open, sealed_bytes};
+use crate::secure::sealing::{is_sealable, open_text, sealed_bytes};
 use base64::engine::general_purpose::STANDARD;
 use cookie_core::Cookie;
 use cookie_crypt::Gcm;
@@ -28,7 +29,7 @@ use std::marker::Model;
 /// ```
 #[derive(Drop)]
 pub struct Sealer {
-    cipher: Gcm,
+    pub(super) cipher: Gcm,
 }
 
 impl Model for Sealer {
@@ -134,16 +135,9 @@ impl Sealer {
         ensures { Gives alloc_error result (λ answer. (v : List ℕ)
             → (option_map string_bytes answer ≡ Some v) ↔ IsSealed self.now name.now text.now v) }
     {
-        let cipher = &self.cipher;
-        let Some(bytes) = text.bytes() else {
-            return Ok(None);
-        };
-        let Some(plain) = open(alloc, cipher, name, bytes)? else {
-            return Ok(None);
-        };
-        match String::from_utf8(plain) {
-            Ok(value) => Ok(Some(value)),
-            Err(_) => Ok(None),
+        match text.bytes() {
+            Some(bytes) => open_text(alloc, &self.cipher, name.as_bytes(), bytes),
+            None => Ok(None),
         }
     }
 
@@ -159,7 +153,7 @@ impl Sealer {
         ensures { IfOk result (λ text.
             IsSealedText self.now name.now value.now nonce.now (string_bytes text)) }
     {
-        let bytes = sealed_bytes(alloc, &self.cipher, name, nonce, value)?;
+        let bytes = sealed_bytes(alloc, &self.cipher, name.as_bytes(), nonce, value)?;
         STANDARD.encode(alloc, bytes.as_slice())
     }
 
@@ -226,9 +220,5 @@ fn nonce_for<R: TryRng>(name: &str, value: &str, rng: &mut R) -> Result<[u8; 12]
     if !is_sealable(name, value) {
         return Err(JarError::TooLong);
     }
-    let mut nonce = [0; 12];
-    if rng.try_fill_bytes(&mut nonce).is_err() {
-        return Err(JarError::Generator);
-    }
-    Ok(nonce)
+    draw_nonce(rng)
 }

@@ -1,6 +1,6 @@
-//! The bytes of sealed values: AES-256-GCM over a name and a value (SP 800-38D 7).
-ghost use Rattle.std.specs.Prelude.{◌≡◌, ◌↔◌, ℕ, List, Some, IfOk, IsTrue, option_map};
-ghost use Rattle.cookie.specs.Opening.{IsSealedBytes};
+//! The bytes of sealed values: AES-256-GCM over associated data and a value (SP 800-38D 7).
+ghost use Rattle.std.specs.Prelude.{◌≡◌, ◌↔◌, ℕ, List, Some, IfOk, IsTrue, option_map, string_bytes};
+ghost use Rattle.cookie.specs.Opening.{IsSealedBytes, IsSealedTextBytes};
 ghost use Rattle.cookie.specs.Sealing.{IsSealable, sealed_bytes};
 
 use cookie_crypt::{Gcm, LONGEST_DATA, LONGEST_TEXT, Steps};
@@ -21,35 +21,55 @@ pub(crate) fn is_sealable(name: &str, value: &str) -> bool
 pub(crate) fn sealed_bytes(
     alloc: Global,
     cipher: &Gcm,
-    name: &str,
+    bound: &[u8],
     nonce: &[u8; 12],
     value: &str,
 ) -> Result<Vec<u8>, AllocError>
-    requires { IsSealable name.now value.now }
+    requires { IsSealable bound.now value.now }
     ensures { IfOk result (λ bytes.
-        bytes.items ≡ sealed_bytes cipher.now name.now nonce.now value.now) }
+        bytes.items ≡ sealed_bytes cipher.now bound.now nonce.now value.now) }
 {
     let mut bytes = Vec::from_slice(alloc, nonce)?;
     bytes.extend_from_slice(value.as_bytes())?;
     let text = &mut bytes[NONCE_LENGTH..];
-    let Some(tag) = cipher.seal_in_place(nonce, name.as_bytes(), text, &mut Steps::new()) else {
+    let Some(tag) = cipher.seal_in_place(nonce, bound, text, &mut Steps::new()) else {
         unreachable!();
     };
     bytes.extend_from_slice(&tag)?;
     Ok(bytes)
 }
 
-// The bytes of the value that the others are a sealing of under the name, if they are one.
-pub(crate) fn open(
+// The text that the bytes are a sealing of with this associated data, if they are one.
+pub(crate) fn open_text(
     alloc: Global,
     cipher: &Gcm,
-    name: &str,
+    bound: &[u8],
+    bytes: &[u8],
+) -> Result<Option<String>, AllocError>
+    ensures { IfOk result (λ answer. (v : List ℕ)
+        → (option_map string_bytes answer ≡ Some v)
+        ↔ IsSealedTextBytes cipher.now bound.now bytes.now v) }
+{
+    let Some(plain) = open(alloc, cipher, bound, bytes)? else {
+        return Ok(None);
+    };
+    match String::from_utf8(plain) {
+        Ok(value) => Ok(Some(value)),
+        Err(_) => Ok(None),
+    }
+}
+
+// The same of bytes that may be no text.
+fn open(
+    alloc: Global,
+    cipher: &Gcm,
+    bound: &[u8],
     bytes: &[u8],
 ) -> Result<Option<Vec<u8>>, AllocError>
     ensures { IfOk result (λ answer.
         (v : List ℕ)
         → (option_map (λ p. p.items) answer ≡ Some v)
-        ↔ IsSealedBytes cipher.now name.now bytes.now v) }
+        ↔ IsSealedBytes cipher.now bound.now bytes.now v) }
 {
     let Some((nonce, rest)) = bytes.split_first_chunk::<NONCE_LENGTH>() else {
         return Ok(None);
@@ -58,8 +78,7 @@ pub(crate) fn open(
         return Ok(None);
     };
     let mut plain = Vec::from_slice(alloc, text)?;
-    let name = name.as_bytes();
-    if cipher.open_in_place(nonce, name, plain.as_mut_slice(), tag, &mut Steps::new()) {
+    if cipher.open_in_place(nonce, bound, plain.as_mut_slice(), tag, &mut Steps::new()) {
         Ok(Some(plain))
     } else {
         Ok(None)

@@ -12,8 +12,8 @@ returns c =
     let text = c.seal_in_place.new.text in
     let filled = c.in_ok-extend_from_slice.ensures.items ∙ ap (λ xs. xs ++ c.as_bytes.result.now) c.in_ok-bytes.ensures.items ∙ ap (λ xs. nonce ++ xs) c.as_bytes.ensures.value in
     let same = c.deref_mut.ensures.value in
-    let sealing = sealing-turned c.args.cipher.now c.args.cipher.now nonce c.as_bytes-2.result.now c.args.name.now _ value text c.in-Some.tag
-    refl c.as_bytes-2.ensures.value (buffer-value nonce value items whole (search rules) same filled) c.in-Some.ensures.sealed in
+    let sealing = sealing-turned c.args.cipher.now c.args.cipher.now nonce c.args.bound.now c.args.bound.now _ value text c.in-Some.tag
+    refl refl (buffer-value nonce value items whole (search rules) same filled) c.in-Some.ensures.sealed in
     c.in_ok-extend_from_slice-2.ensures.items
     ∙ ap (λ xs. xs ++ c.in-Some.tag) (buffer-put nonce value text items whole _ (search rules) same filled (length-sealed _ _ _ _ _ _ sealing) c.deref_mut.ensures.len)
-    ∙ sealed_bytes-from c.args.cipher.now c.args.name.now nonce value text c.in-Some.tag sealing
+    ∙ sealed_bytes-from c.args.cipher.now c.args.bound.now nonce value text c.in-Some.tag sealing
