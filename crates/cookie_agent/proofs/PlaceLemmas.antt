@@ -218,3 +218,11 @@ none_others (x ∷ xs) = (All-nil (λ c. is_same_cookie c x ≡ false), none_oth
 -- different cookies are stored as they are
 pub kept_with_each-apart : (xs : CookieStore) → IsApart xs → kept_with_each xs [] ≡ xs
 kept_with_each-apart xs apart = kept_after [] xs (none_others xs) apart
+
+-- cookies that are stored after others that differ are stored in turn among them
+pub kept_with_each-after : (ys xs : CookieStore) → IsApart ys → kept_with_each (ys ++ xs) [] ≡ kept_with_each xs ys
+kept_with_each-after ys xs apart = joined ys [] ∙ ap (kept_with_each xs) (kept_with_each-apart ys apart)
+  where
+    joined : (ys store : CookieStore) → kept_with_each (ys ++ xs) store ≡ kept_with_each xs (kept_with_each ys store)
+    joined [] store = refl
+    joined (y ∷ ys) store = joined ys (kept_with y store)

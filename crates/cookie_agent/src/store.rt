@@ -1,5 +1,5 @@
 //! A store of cookies (RFC 6265bis, Storage Model).
-ghost use Rattle.std.specs.Prelude.{◌≡◌, not, [], filter, map, IfOk, OnOk, OnErr};
+ghost use Rattle.std.specs.Prelude.{◌≡◌, ◌++◌, not, [], filter, map, IfOk, OnOk, OnErr};
 ghost use Rattle.std.specs.List.{list_any};
 ghost use Rattle.cookie_browser.specs.Storage.{kept_with, lasting};
 ghost use Rattle.cookie_agent.specs.Limits.{IsWithin, trimmed};
@@ -57,6 +57,19 @@ impl Store {
             alloc,
             cookies: stored_in_turn(alloc, cookies)?,
         })
+    }
+
+    /// Stores each of these cookies in turn, but for those that are expired at the time `now` in UTC: it takes the place
+    /// of the one with its name, domain, host-only flag and path, or comes last. So a program loads what it saved. For n
+    /// cookies it makes about n log n comparisons. Fails only if out of memory, and then the store is as before.
+    pub fn load(&mut self, cookies: Vec<StoredCookie>, now: DateTime) -> Result<(), AllocError>
+        ensures ok { OnOk result (self.new ≡ kept_with_each (lasting now cookies.items) self.old) }
+        ensures err { OnErr result (self.new ≡ self.old) }
+    {
+        let mut all = copies(self.alloc, &self.cookies)?;
+        push_lasting(&mut all, cookies, now)?;
+        self.cookies = stored_in_turn(self.alloc, all)?;
+        Ok(())
     }
 
     /// The cookies, in the order of their creation. Some may be expired.
@@ -208,4 +221,20 @@ fn copies(alloc: Global, cookies: &[StoredCookie]) -> Result<Vec<StoredCookie>, 
         made.push(copy)?;
     }
     Ok(made)
+}
+
+// Puts the cookies that aren't expired after the others.
+fn push_lasting(
+    stored: &mut Vec<StoredCookie>,
+    cookies: Vec<StoredCookie>,
+    now: DateTime,
+) -> Result<(), AllocError>
+    ensures { OnOk result (stored.new.items ≡ stored.old.items ++ lasting now cookies.items) }
+{
+    for cookie in cookies {
+        if cookie.lasts(now) {
+            stored.push(cookie)?;
+        }
+    }
+    Ok(())
 }

@@ -19,6 +19,7 @@ pub mod Prints
 pub mod Readings
 pub mod Revoked
 pub mod SaveParts
+pub mod SavedAgents
 pub mod SavedSessions
 pub mod SessionCalls
 pub mod Sites

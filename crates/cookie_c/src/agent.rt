@@ -4,8 +4,11 @@ ghost use Rattle.cookie_c.specs.Agents.{store_of};
 ghost use Rattle.cookie_c.specs.Handles.{IsPut, Tells};
 
 mod change;
+mod form;
+mod load;
 mod read;
 mod refusal;
+mod save;
 mod send;
 mod site;
 mod walk;

@@ -43,7 +43,7 @@ pub enum Status {
     NoJar = 17,
     /// The jar has no cookie of that name, the session no text, or the user agent no such cookie.
     NotFound = 18,
-    /// An attribute has an undefined value.
+    /// An attribute, or the form of a saved text, has an undefined value.
     BadAttribute = 19,
     /// The request has no open session, or the handle has no session.
     NoSession = 20,

@@ -1,0 +1,15 @@
+-- The cookies that are loaded are stored in turn after those that are there.
+use Rattle.std.proofs.Common.{◌++◌, [], ap, ◌∙◌}
+use Rattle.cookie_browser.specs.Storage.{CookieStore, lasting}
+use Rattle.cookie_agent.specs.Stored.{kept_with_each}
+use Rattle.cookie_agent.proofs.PlaceLemmas.{kept_with_each-after}
+use Rattle.cookie_agent.proofs.store.Store.load.Goals as goal
+
+pub returns-clause-ok : goal.returns-clause-ok
+returns-clause-ok c =
+    let store : CookieStore = c.self.inside.cookies.items in
+    let fresh : CookieStore = lasting c.args.now c.args.cookies.items in
+    c.in_ok-self-inside.ensures.value
+    ∙ ap (λ all. kept_with_each all []) (c.in_ok-push_lasting.ensures ∙ ap (λ had. had ++ fresh) (c.in_ok-all.ensures ∙ c.deref.ensures.value))
+    ∙ kept_with_each-after store fresh c.self.invariant
+    ∙ ap (kept_with_each fresh) c.self.view_is

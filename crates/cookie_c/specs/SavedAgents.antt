@@ -1,0 +1,134 @@
+-- A user agent's cookies in a saved text, for C: `old` is what its handle has at the call and `new` at the return. Of a
+-- call that gives a text `before` and `after` are the buffer.
+use Rattle.std.specs.Prelude.{◌≡◌, ◌==◌, ◌⊎◌, ℕ, Bool, List, [], ◌∷◌, length, Option, Some, None, if◌then◌else◌}
+use Rattle.jiff.specs.Types.{DateTime}
+use Rattle.cookie_browser.specs.Storage.{CookieStore, KeptView, lasting}
+use Rattle.cookie_agent.specs.CookiesTxt.{cookies_txt, is_carried, txt_bad_lines, txt_cookies}
+use Rattle.cookie_agent.specs.JsonLines.{is_json_carried, json_bad_lines, json_cookies, json_lines}
+use Rattle.cookie_agent.specs.Saved.{left_out}
+use Rattle.cookie_agent.specs.Stored.{kept_with_each}
+use Rattle.cookie_c.specs.Agents.{AtStore}
+use Rattle.cookie_c.specs.Answers.{IsGiven}
+use Rattle.cookie_c.specs.Codes.{code_of}
+use Rattle.cookie_c.specs.Sites.{AtSecond}
+use Rattle.cookie_c.specs.declared.agent.form.SavedForm.{SavedForm}
+use Rattle.cookie_c.specs.declared.agent.form.SavedForm.TheVariants as forms
+use Rattle.cookie_c.specs.declared.agent.load.AgentLoading.{AgentLoading}
+use Rattle.cookie_c.specs.declared.agent.save.AgentSaving.{AgentSaving}
+use Rattle.cookie_c.specs.declared.answer.Answer.{Answer}
+use Rattle.cookie_c.specs.declared.status.Status.{Status}
+use Rattle.cookie_c.specs.declared.status.Status.TheVariants as status
+
+-- ---- the forms of a saved text
+
+-- the form of a number, if it is one's
+abbrev pub form_of : ℕ → Option SavedForm
+form_of number =
+    if number == 0 then Some forms.CookiesTxt
+    else if number == 1 then Some forms.JsonLines else None
+
+-- the text of the persistent cookies that the form can carry
+abbrev pub saved_text : SavedForm → DateTime → CookieStore → List ℕ
+saved_text forms.CookiesTxt now store = cookies_txt now store
+saved_text forms.JsonLines now store = json_lines now store
+
+-- the form can carry the cookie
+abbrev pub carries : SavedForm → KeptView → Bool
+carries forms.CookiesTxt cookie = is_carried cookie
+carries forms.JsonLines cookie = is_json_carried cookie
+
+-- the cookies of a text
+abbrev pub loaded_cookies : SavedForm → DateTime → List ℕ → CookieStore
+loaded_cookies forms.CookiesTxt now text = txt_cookies now text
+loaded_cookies forms.JsonLines now text = json_cookies text
+
+-- the numbers, from 1, of its bad lines
+abbrev pub bad_lines : SavedForm → DateTime → List ℕ → List ℕ
+bad_lines forms.CookiesTxt now text = txt_bad_lines now text
+bad_lines forms.JsonLines now text = json_bad_lines text
+
+-- this holds of the form, or there is none and the call is refused
+abbrev pub InForm : Option SavedForm → (SavedForm → Type 0) → (Status → Type 0) → Type 0
+InForm None Holds Refuses = Refuses status.BadAttribute
+InForm (Some form) Holds Refuses = Holds form
+
+-- the same of the form of a number, and then of a second, which a second past the last refuses
+abbrev pub ForForm : ℕ → ℕ → (SavedForm → DateTime → Type 0) → (Status → Type 0) → Type 0
+ForForm number second Holds Refuses =
+    InForm (form_of number) (λ form. AtSecond second (Holds form) Refuses) Refuses
+
+-- the first of the numbers, and 0 if there is none
+abbrev pub first_of : List ℕ → ℕ
+first_of [] = 0
+first_of (number ∷ numbers) = number
+
+-- ---- saving
+
+-- the status and the length of the answer
+abbrev pub answer_of : AgentSaving → Answer
+answer_of answer = record { status = answer.status; length = answer.length }
+
+-- the answer of a call that saves nothing
+abbrev pub unsaved : Status → AgentSaving
+unsaved why = record { status = code_of why; length = 0; left_out = 0; first_left_out = 0 }
+
+-- nothing is saved, and nothing is written
+abbrev pub IsUnsaved : Status → AgentSaving → List ℕ → List ℕ → Type 0
+IsUnsaved why answer before after = (answer ≡ unsaved why) × (after ≡ before)
+
+-- the text of the cookies is given, and it is told which persistent ones it lacks
+pub record GivesSaved (form : SavedForm) (now : DateTime) (store : CookieStore)
+    (answer : AgentSaving) (before after : List ℕ) : Type 0 where
+  pub given : IsGiven (saved_text form now store) (answer_of answer) before after
+  pub lacks : answer.left_out ≡ length (left_out now (carries form) store)
+  pub first : answer.first_left_out ≡ first_of (left_out now (carries form) store)
+
+-- the same of the form of this number in that second; or nothing is saved
+abbrev pub Saves : ℕ → ℕ → CookieStore → AgentSaving → List ℕ → List ℕ → Type 0
+Saves number second store answer before after =
+    ForForm number second
+    (λ form now. GivesSaved form now store answer before after
+    ⊎ IsUnsaved status.OutOfMemory answer before after)
+    (λ why. IsUnsaved why answer before after)
+
+-- the same of what a handle has
+abbrev pub SavesAt : ℕ → ℕ → Option CookieStore → AgentSaving → List ℕ → List ℕ → Type 0
+SavesAt number second None answer before after = IsUnsaved status.NoAgent answer before after
+SavesAt number second (Some store) answer before after =
+    Saves number second store answer before after
+
+-- ---- loading
+
+-- the answer of a call that loads nothing
+abbrev pub unloaded : Status → AgentLoading
+unloaded why = record { status = code_of why; bad_lines = 0; first_bad_line = 0 }
+
+-- the answer to a text with these bad lines
+abbrev pub loaded_with : List ℕ → AgentLoading
+loaded_with lines =
+    record {
+      status = code_of status.Done;
+      bad_lines = length lines;
+      first_bad_line = first_of lines;
+    }
+
+-- Each cookie of the text that isn't expired is stored, in turn, and it is told which lines are bad.
+pub record LoadsText (form : SavedForm) (now : DateTime) (text : List ℕ) (answer : AgentLoading)
+    (old new : CookieStore) : Type 0 where
+  pub left : new ≡ kept_with_each (lasting now (loaded_cookies form now text)) old
+  pub told : answer ≡ loaded_with (bad_lines form now text)
+
+-- the same in the form of this number in that second; or nothing is loaded
+abbrev pub Loads : ℕ → ℕ → List ℕ → AgentLoading → CookieStore → CookieStore → Type 0
+Loads number second text answer old new =
+    ForForm number second
+    (λ form now. LoadsText form now text answer old new
+    ⊎ ((answer ≡ unloaded status.OutOfMemory) × (new ≡ old)))
+    (λ why. (answer ≡ unloaded why) × (new ≡ old))
+
+-- the same of what a handle has
+abbrev pub LoadsAt : ℕ → ℕ → List ℕ → AgentLoading → Option CookieStore → Option CookieStore
+    → Type 0
+LoadsAt number second text answer old new =
+    AtStore (λ had made. Loads number second text answer had made) (λ why. answer ≡ unloaded why)
+    old new

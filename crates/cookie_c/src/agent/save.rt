@@ -1,0 +1,145 @@
+//! Saving a user agent's cookies for C.
+ghost use Rattle.std.specs.Prelude.{◌≡◌, ◌⊎◌, Some, length};
+ghost use Rattle.cookie_c.specs.Agents.{store_of};
+ghost use Rattle.cookie_c.specs.Answers.{IsGiven};
+ghost use Rattle.cookie_c.specs.Handles.{store_in};
+ghost use Rattle.cookie_c.specs.SavedAgents.{GivesSaved, IsUnsaved, Saves, SavesAt, answer_of, first_of, unsaved};
+ghost use Rattle.cookie_c.specs.Sites.{AtSecond};
+ghost use Rattle.cookie_c.specs.declared.status.Status.TheVariants as status;
+
+use super::Agent;
+use super::form::SavedForm;
+use crate::answer::Answer;
+use crate::handle::content::Content;
+use crate::sessions::time::time_at;
+use crate::status::Status;
+use cookie_agent::{SavedCookies, Store};
+use jiff::civil::DateTime;
+use std::alloc::Global;
+
+/// The return value of a call that saves a user agent's cookies.
+#[repr(C)]
+#[derive(Clone, Copy)]
+pub struct AgentSaving {
+    /// The number of a `Status`. If it is neither `Status::Done` nor `Status::BufferTooShort`, all else is 0.
+    pub status: u32,
+    /// The number of bytes of the text, whether they had room or not.
+    pub length: usize,
+    /// How many persistent cookies the text lacks, since its form can't carry them.
+    pub left_out: usize,
+    /// The index of the first of these, for `cookie_agent_cookie`; 0 if there is none.
+    pub first_left_out: usize,
+}
+
+/// The text of the persistent cookies that aren't expired, for the buffer: in the form of this number, of `SavedForm`.
+/// `now` is the time in seconds since 1970 in UTC. The agent is as before. `write_cookies_txt` and `write_json_lines` of
+/// `cookie_agent` say which cookies a form can't carry: a `cookies.txt` none with a tab or another control character.
+///
+/// A caller writes the text to a new file beside the old one, and renames it: then a crash leaves one of the two. Only
+/// the owner should be able to read it, since cookies are credentials.
+///
+/// Refuses a handle without an agent, then a number that isn't a form's, with `Status::BadAttribute`, and then a time
+/// after 9999-12-30 22:00:00. It may also run out of memory.
+#[unsafe(no_mangle)]
+pub extern "C" fn cookie_agent_save(
+    alloc: Global,
+    agent: &mut Agent,
+    form: u32,
+    now: u64,
+    out: &mut [u8],
+) -> AgentSaving
+    ensures kept { store_of agent.new ≡ store_of agent.old }
+    ensures saved { SavesAt form now (store_of agent.old) result out.old out.new }
+{
+    let Some(held) = agent.handle.take(alloc) else {
+        return AgentSaving::none(Status::NoAgent);
+    };
+    let answer = save_in(alloc, held.as_ref(), form, now, out);
+    agent.handle.put(held);
+    answer
+}
+
+fn save_in(alloc: Global, content: &Content, form: u32, now: u64, out: &mut [u8]) -> AgentSaving
+    ensures { SavesAt form now (store_in (Some content.now)) result out.old out.new }
+{
+    let Content::Store(store) = content else {
+        return AgentSaving::none(Status::NoAgent);
+    };
+    save(alloc, store, form, now, out)
+}
+
+fn save(alloc: Global, store: &Store, form: u32, now: u64, out: &mut [u8]) -> AgentSaving
+    ensures { Saves form now store.now result out.old out.new }
+{
+    match SavedForm::of(form) {
+        Some(form) => save_as(alloc, store, form, now, out),
+        None => AgentSaving::none(Status::BadAttribute),
+    }
+}
+
+fn save_as(alloc: Global, store: &Store, form: SavedForm, now: u64, out: &mut [u8]) -> AgentSaving
+    ensures { AtSecond now
+        (λ time. GivesSaved form time store.now result out.old out.new
+        ⊎ IsUnsaved status.OutOfMemory result out.old out.new)
+        (λ why. IsUnsaved why result out.old out.new) }
+{
+    match time_at(now) {
+        Some(now) => save_at(alloc, store, form, now, out),
+        None => AgentSaving::none(Status::NoDate),
+    }
+}
+
+fn save_at(
+    alloc: Global,
+    store: &Store,
+    form: SavedForm,
+    now: DateTime,
+    out: &mut [u8],
+) -> AgentSaving
+    ensures { GivesSaved form now store.now result out.old out.new
+        ⊎ IsUnsaved status.OutOfMemory result out.old out.new }
+{
+    match form.write(alloc, store, now) {
+        Ok(saved) => AgentSaving::give(&saved, out),
+        Err(_) => AgentSaving::none(Status::OutOfMemory),
+    }
+}
+
+// The first of the numbers, and 0 if there is none.
+pub(super) fn first_of(numbers: &[usize]) -> usize
+    ensures { result ≡ first_of numbers.now }
+{
+    match numbers {
+        [first, ..] => *first,
+        [] => 0,
+    }
+}
+
+impl AgentSaving {
+    // What a refused call returns: nothing is saved.
+    fn none(why: Status) -> AgentSaving
+        ensures { result ≡ unsaved why }
+    {
+        AgentSaving {
+            status: why.code(),
+            length: 0,
+            left_out: 0,
+            first_left_out: 0,
+        }
+    }
+
+    // The text, for the buffer, and which cookies it lacks.
+    fn give(saved: &SavedCookies, out: &mut [u8]) -> AgentSaving
+        ensures given { IsGiven saved.now.text.items (answer_of result) out.old out.new }
+        ensures left_out { result.left_out ≡ length saved.now.left_out.items }
+        ensures first { result.first_left_out ≡ first_of saved.now.left_out.items }
+    {
+        let answer = Answer::give(saved.text.as_slice(), out);
+        AgentSaving {
+            status: answer.status,
+            length: answer.length,
+            left_out: saved.left_out.len(),
+            first_left_out: first_of(&saved.left_out),
+        }
+    }
+}
