@@ -164,6 +164,11 @@ InStore Makes answer old new =
 abbrev pub Leaves : CookieStore → Status → CookieStore → CookieStore → Type 0
 Leaves left answer old new = (answer ≡ status.Done) × (new ≡ left)
 
+-- so it is, or memory ran out and all is as before
+abbrev pub LeavesInMemory : CookieStore → Status → CookieStore → CookieStore → Type 0
+LeavesInMemory left answer old new =
+    Leaves left answer old new ⊎ IsKept status.OutOfMemory answer old new
+
 -- what is expired in that second is dropped
 abbrev pub Evicts : ℕ → Status → CookieStore → CookieStore → Type 0
 Evicts second answer old new =
@@ -173,8 +178,7 @@ Evicts second answer old new =
 -- what is expired in that second is dropped, and then what is above the limits; or memory ran out
 abbrev pub Trims : Limits → ℕ → Status → CookieStore → CookieStore → Type 0
 Trims limits second answer old new =
-    AtSecond second
-    (λ now. Leaves (trimmed limits now old) answer old new ⊎ IsKept status.OutOfMemory answer old new)
+    AtSecond second (λ now. LeavesInMemory (trimmed limits now old) answer old new)
     (λ why. IsKept why answer old new)
 
 -- the cookie of this name and scope is gone; `NotFound` if there was none; or memory ran out
@@ -221,12 +225,17 @@ TellsIn index second store answer before after =
 -- the same of what a handle has
 abbrev pub TellsAt : ℕ → ℕ → Option CookieStore → Explanation → List ℕ → List ℕ → Type 0
 TellsAt index second None answer before after = IsUnexplained status.NoAgent answer before after
-TellsAt index second (Some store) answer before after = TellsIn index second store answer before after
+TellsAt index second (Some store) answer before after =
+    TellsIn index second store answer before after
 
 -- ---- refusals
+
+-- no refusal has the number
+abbrev pub IsNoRefusal : ℕ → Type 0
+IsNoRefusal number = (why : Refusal) → refusal_code why ≢ number
 
 -- a text of the refusal of this number is given, or there is no such refusal
 abbrev pub GivesRefusal : (Refusal → List ℕ) → ℕ → Answer → List ℕ → List ℕ → Type 0
 GivesRefusal text number answer before after =
     ((why : Refusal) × (refusal_code why ≡ number) × IsGiven (text why) answer before after)
-    ⊎ (((why : Refusal) → refusal_code why ≢ number) × IsRefused status.NotFound answer before after)
+    ⊎ (IsNoRefusal number × IsRefused status.NotFound answer before after)

@@ -1,8 +1,7 @@
 //! What is told of the step that refuses a cookie, for C.
-ghost use Rattle.std.specs.Prelude.{◌≡◌, ◌≢◌, MatchOption};
+ghost use Rattle.std.specs.Prelude.{◌≡◌, MatchOption};
 ghost use Rattle.cookie_browser.specs.Refusal.{refusal_section, refusal_text};
-ghost use Rattle.cookie_browser.specs.declared.refusal.Refusal.{Refusal as RefusalValue};
-ghost use Rattle.cookie_c.specs.Agents.{GivesRefusal};
+ghost use Rattle.cookie_c.specs.Agents.{GivesRefusal, IsNoRefusal};
 ghost use Rattle.cookie_c.specs.Explanations.{refusal_code};
 
 use crate::answer::Answer;
@@ -38,8 +37,7 @@ pub extern "C" fn cookie_refusal_section(refusal: u32, out: &mut [u8]) -> Answer
 
 // The refusal of this number, if there is one.
 fn refusal_at(number: u32) -> Option<Refusal>
-    ensures { MatchOption result ((why : RefusalValue) → refusal_code why ≢ number)
-        (λ why. refusal_code why ≡ number) }
+    ensures { MatchOption result (IsNoRefusal number) (λ why. refusal_code why ≡ number) }
 {
     match number {
         1 => Some(Refusal::ControlCharacter),

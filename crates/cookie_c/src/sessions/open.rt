@@ -105,8 +105,8 @@ fn put_found(
     time: DateTime,
     session: &mut Session,
 ) -> Status
-    ensures { IsOpening (Contains revoked.entry.ids.now) sessions.now (field_cookies header.now) time
-        result (session_of session.old) (session_of session.new) }
+    ensures { IsOpening (Contains revoked.entry.ids.now) sessions.now
+        (field_cookies header.now) time result (session_of session.old) (session_of session.new) }
 {
     match find(alloc, sessions, header, revoked, time) {
         Ok(Some(opened)) => put_opened(alloc, opened, session),
