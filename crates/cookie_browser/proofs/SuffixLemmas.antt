@@ -1,8 +1,9 @@
 -- Rules that are kept as three sets of texts.
-use Rattle.std.proofs.Common.{◌≡◌, ℕ, not, ◌&&◌, ◌||◌, Bool, true, false, List, [], ◌∷◌, ◌++◌, map, Option, Some, None, option_map, bytes_eq, true≢false, refl, sym, ap, codes, eqb, drop, ◌∙◌, inl, inr, ◌⊎◌, IsPermutation, MatchBool}
+use Rattle.std.proofs.Common.{◌≡◌, ℕ, not, ◌&&◌, ◌||◌, Bool, true, false, List, [], ◌∷◌, ◌++◌, map, Option, Some, None, option_map, String, bytes_eq, true≢false, refl, sym, ap, codes, eqb, drop, ◌∙◌, inl, inr, ◌⊎◌, IsPermutation, IsUtf8, MatchBool, subst}
 use Rattle.std.proofs.lemmas.Slice.Eq.{bytes_eq-Decides}
-use Rattle.std.specs.Global.{Vec}
+use Rattle.std.proofs.lemmas.Str.{IsUtf8-string_bytes}
 use Rattle.std.specs.List.{cons_option, filter_map, list_any, starts_with}
+use Rattle.std.specs.String.{string_bytes}
 use Rattle.std.proofs.lemmas.Bool.{cond-true, cond-false, not-false, or_cases}
 use Rattle.std.proofs.lemmas.List.Folds.{list_any-append}
 use Rattle.std.proofs.lemmas.List.Sorted.{list_any-IsPermutation}
@@ -63,6 +64,18 @@ pub is_public_suffix-same : (left right : List Rule) (domain : List ℕ) → Has
 unfolding is_public_suffix
 is_public_suffix-same left right domain same = fills_rule-same left right (without_last_dot domain) same
 
+bytes_same : (xs ys : List ℕ) → bytes_eq xs ys ≡ true → xs ≡ ys
+bytes_same xs ys e = (bytes_eq-Decides xs ys).0 e
+
+-- a text that isn't UTF-8 is no key
+pub none-invalid : {Y : Type 0} (text : List ℕ) (keys : List (String Y)) → ¬ (IsUtf8 text) → list_any (bytes_eq text) (texts_of keys) ≡ false
+none-invalid text [] invalid = refl
+none-invalid text (key ∷ keys) invalid = by (bytes_eq text (string_bytes key)) refl (none-invalid text keys invalid)
+  where
+    by : (b : Bool) → bytes_eq text (string_bytes key) ≡ b → list_any (bytes_eq text) (texts_of keys) ≡ false → (bytes_eq text (string_bytes key) || list_any (bytes_eq text) (texts_of keys)) ≡ false
+    by true same none = absurd (invalid (subst IsUtf8 (sym (bytes_same text (string_bytes key) same)) (IsUtf8-string_bytes key)))
+    by false other none = ap (λ b. b || list_any (bytes_eq text) (texts_of keys)) other ∙ none
+
 -- ---- a text is added
 
 or_twice : (a b : Bool) → (a || b) ≡ (a || (a || b))
@@ -73,9 +86,6 @@ or_later : (a b c : Bool) → c ≡ (a || c) → (b || c) ≡ (a || (b || c))
 or_later true true c e = refl
 or_later true false c e = e
 or_later false b c e = refl
-
-bytes_same : (xs ys : List ℕ) → bytes_eq xs ys ≡ true → xs ≡ ys
-bytes_same xs ys e = (bytes_eq-Decides xs ys).0 e
 
 -- one more copy of an element changes no test
 any-again : (test : List ℕ → Bool) (text : List ℕ) (texts : List (List ℕ)) → list_any (bytes_eq text) texts ≡ true → list_any test texts ≡ (test text || list_any test texts)
@@ -89,14 +99,14 @@ any-again test text (first ∷ texts) found = by (or_cases (bytes_eq text first)
     by (inr later) again = or_later (test text) (test first) (list_any test texts) (again later)
 
 -- a key that is put into a set
-pub put-same : (key : Vec ℕ) (olds news : List (Vec ℕ)) (added : Bool) → added ≡ not (list_any (λ k. bytes_eq key.items k.items) olds) → MatchBool added (IsPermutation (key ∷ olds) news) (news ≡ olds) → HasSameElements (texts_of news) (key.items ∷ texts_of olds)
+pub put-same : {Y : Type 0} (key : String Y) (olds news : List (String Y)) (added : Bool) → added ≡ not (list_any (λ k. bytes_eq (string_bytes key) (string_bytes k)) olds) → MatchBool added (IsPermutation (key ∷ olds) news) (news ≡ olds) → HasSameElements (texts_of news) (string_bytes key ∷ texts_of olds)
 put-same key olds news true new put test =
-    any-map test (λ k. k.items) news ∙ sym (list_any-IsPermutation (λ k. test k.items) (key ∷ olds) news put)
-    ∙ ap (λ b. test key.items || b) (sym (any-map test (λ k. k.items) olds))
+    any-map test string_bytes news ∙ sym (list_any-IsPermutation (λ k. test (string_bytes k)) (key ∷ olds) news put)
+    ∙ ap (λ b. test (string_bytes key) || b) (sym (any-map test string_bytes olds))
 put-same key olds news false new put test =
-    let found : list_any (bytes_eq key.items) (texts_of olds) ≡ true =
-    any-map (bytes_eq key.items) (λ k. k.items) olds ∙ not-false (list_any (λ k. bytes_eq key.items k.items) olds) (sym new) in
-    ap (λ ks. list_any test (texts_of ks)) put ∙ any-again test key.items (texts_of olds) found
+    let found : list_any (bytes_eq (string_bytes key)) (texts_of olds) ≡ true =
+    any-map (bytes_eq (string_bytes key)) string_bytes olds ∙ not-false (list_any (λ k. bytes_eq (string_bytes key) (string_bytes k)) olds) (sym new) in
+    ap (λ ks. list_any test (texts_of ks)) put ∙ any-again test (string_bytes key) (texts_of olds) found
 
 -- ---- a rule is added
 

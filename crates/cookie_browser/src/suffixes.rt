@@ -3,6 +3,7 @@ ghost use Rattle.std.specs.Prelude.{◌≡◌, ◌||◌, [], codes, eqb, false, 
 ghost use Rattle.std.specs.Char.{is_ascii_whitespace};
 ghost use Rattle.std.specs.List.{before_first, cons_option, list_any, starts_with};
 ghost use Rattle.std.specs.Str.{bytes_eq};
+ghost use Rattle.std.specs.String.{string_bytes};
 ghost use Rattle.cookie_browser.specs.Bytes.{cut};
 ghost use Rattle.cookie_browser.specs.Request.{is_in_domain};
 ghost use Rattle.cookie_browser.specs.Suffixes as spec;
@@ -15,8 +16,9 @@ use idna::{AsciiDenyList, Errors, domain_to_ascii_cow};
 use std::alloc::{AllocError, Global};
 use std::collections::HashSet;
 use std::marker::Model;
+use std::str;
 
-type Texts = HashSet<Vec<u8>>;
+type Texts = HashSet<String>;
 
 /// The rules of a list of public suffixes (publicsuffix.org). Contracts see the list of the rules.
 ///
@@ -103,10 +105,10 @@ impl Suffixes {
     fn fills_rule(&self, domain: &[u8]) -> bool
         ensures { result ≡ spec.fills_rule self.now domain.now }
     {
-        if self.is_excepted(domain) {
-            return false;
+        if is_one_label(domain) || self.is_covered(domain) {
+            return !self.is_excepted(domain);
         }
-        is_one_label(domain) || self.is_covered(domain)
+        false
     }
 
     // Whether the domain matches an exception.
@@ -141,11 +143,11 @@ fn is_no_rule(text: &[u8]) -> bool
 }
 
 // The labels in lower case and in Punycode, without a last dot, if they are valid.
-fn canonical(alloc: Global, labels: &[u8]) -> Result<Option<Vec<u8>>, AllocError>
-    ensures { IfOk result (λ text. option_map (λ v. v.items) text ≡ canonical labels.now) }
+fn canonical(alloc: Global, labels: &[u8]) -> Result<Option<String>, AllocError>
+    ensures { IfOk result (λ text. option_map string_bytes text ≡ canonical labels.now) }
 {
     match domain_to_ascii_cow(alloc, without_last_dot(labels), AsciiDenyList::EMPTY) {
-        Ok(text) => Ok(Some(text.into_owned(alloc)?.into_bytes())),
+        Ok(text) => Ok(Some(text.into_owned(alloc)?)),
         Err(Errors::Invalid) => Ok(None),
         Err(Errors::OutOfMemory) => Err(AllocError),
     }
@@ -165,7 +167,10 @@ fn add(alloc: Global, texts: &mut Texts, labels: &[u8]) -> Result<(), AllocError
 fn has(texts: &Texts, text: &[u8]) -> bool
     ensures { result ≡ list_any (bytes_eq text.now) (texts_of texts.now.keys) }
 {
-    texts.contains(text)
+    match str::from_utf8(text) {
+        Ok(text) => texts.contains(text),
+        Err(_) => false,
+    }
 }
 
 // Whether the domain without its first label is one of the texts.
