@@ -39,6 +39,7 @@ AGENT_RETRIEVE = declare("agent_retrieve", HANDLE + REQUEST + SECOND + TEXT, Ans
 AGENT_TRIM = declare("agent_trim", HANDLE + COUNT * 2 + SECOND, ctypes.c_uint32)
 AGENT_EVICT = declare("agent_evict", HANDLE + SECOND, ctypes.c_uint32)
 AGENT_REMOVE = declare("agent_remove", HANDLE + TEXT * 2 + [ctypes.c_bool] + TEXT, ctypes.c_uint32)
+AGENT_CLEAR = declare("agent_clear", HANDLE + TEXT, ctypes.c_uint32)
 AGENT_COOKIE = declare("agent_cookie", HANDLE + COUNT + SECOND + TEXT, Explanation)
 REFUSAL_SENTENCE = declare("refusal_sentence", [ctypes.c_uint32] + TEXT, Answer)
 REFUSAL_SECTION = declare("refusal_section", [ctypes.c_uint32] + TEXT, Answer)
@@ -146,9 +147,12 @@ class Core:
             raise error_of(status)
         return bool(status == DONE)
 
-    def clear(self) -> None:
-        """Removes all cookies."""
-        done(AGENT_NEW, self.handle)
+    def clear(self, domain: bytes | None) -> None:
+        """Removes all cookies, or those of the domain, in lower case, and of the domains below it."""
+        if domain is None:
+            done(AGENT_NEW, self.handle)
+        else:
+            done(AGENT_CLEAR, self.handle, domain)
 
     def save(self, form: str, now: int) -> bytes:
         """The text of the cookies that have an expiry and aren't expired, in that form."""

@@ -180,10 +180,16 @@ class Agent(Uncopied):
         with self.lock:
             return self.core.remove(cookie)
 
-    def clear(self) -> None:
-        """Removes all cookies."""
+    def clear(self, domain: str | None = None) -> None:
+        """Removes all cookies, or those of a domain, in lower case, and of the domains below it.
+
+        >>> agent = Agent()
+        >>> agent.read("https://www.shop.example/", "lang=en")
+        >>> agent.clear("shop.example"), len(agent)
+        (None, 0)
+        """
         with self.lock:
-            self.core.clear()
+            self.core.clear(None if domain is None else header_bytes(domain))
 
     def save(self, path: str | os.PathLike[str], form: str = JSON) -> None:
         """Writes the cookies that have an expiry and aren't expired to a file that only its owner may read. If that fails,

@@ -76,7 +76,7 @@ static const char *const NAMES[] = {
     "DONE",      "BUFFER_TOO_SHORT", "OUT_OF_MEMORY", "NOT_UTF8", "KEY_TOO_SHORT", "MASTER_TOO_SHORT", "BAD_NONCE",
     "NOT_SIGNED", "NOT_SEALED", "TOO_LONG", "NO_DATE", "BAD_MOMENT", "BAD_LINE", "MISSING_PAIR", "EMPTY_NAME", "BAD_ESCAPE",
     "NO_PAIR", "NO_JAR", "NOT_FOUND", "BAD_ATTRIBUTE", "NO_SESSION", "BAD_PREFIX", "OVER", "TOO_LARGE",
-    "INVALID_VALUE", "BAD_IDS", "NO_SESSIONS", "NO_SUFFIXES",
+    "INVALID_VALUE", "BAD_IDS", "NO_SESSIONS", "NO_SUFFIXES", "NO_AGENT",
 };
 
 static uint32_t status_named(const char *name) {
@@ -349,6 +349,80 @@ static cookie_answer explain(const text *in, uint8_t *out, size_t length) {
     return (cookie_answer){why.status, why.section.start + why.section.length + it.path.start + it.path.length};
 }
 
+/* The request of a step, whose lines are its numbers, the host and the path. No pointer of it is null. */
+static cookie_request request_of(const text *in, long long numbers[6]) {
+    static const uint8_t nothing = 0;
+    numbers_in(in[0], 6, numbers);
+    const uint8_t *path = in[2].length > 0 ? in[2].bytes : &nothing;
+    return (cookie_request){in[1].bytes,     in[1].length,    path,            in[2].length,   numbers[0] == 1,
+                            numbers[1] == 1, numbers[2] == 1, numbers[3] == 1, numbers[4] == 1};
+}
+
+/* A step with a request: a text that is read, or a header. */
+static cookie_answer request_step(cookie_agent *agent, cookie_suffixes *suffixes, text step, uint8_t *out, size_t length) {
+    text rest, in[4];
+    long long n[6];
+    int is_read = is_step("read", step, &rest), is_made = !is_read && is_step("retrieve", step, &rest);
+    if (!is_read && !is_made && !is_step("header", step, &rest)) {
+        fprintf(stderr, "no step %.*s\n", (int)step.length, (char *)step.bytes);
+        exit(2);
+    }
+    cut_lines(rest, in, is_read ? 4 : 3);
+    cookie_request request = request_of(in, n);
+    if (is_made)
+        return cookie_agent_retrieve(agent, &request, (uint64_t)n[5], out, length);
+    if (!is_read)
+        return cookie_agent_header(agent, &request, (uint64_t)n[5], out, length);
+    cookie_agent_reading reading = cookie_agent_read(agent, suffixes, &request, IN(3), (uint64_t)n[5]);
+    return (cookie_answer){reading.status, reading.refusal};
+}
+
+static cookie_answer agent_step(cookie_agent *agent, cookie_suffixes *suffixes, text step, uint8_t *out, size_t length) {
+    text rest, in[4];
+    long long n[3];
+    if (is_step("new", step, &rest))
+        return of_status(cookie_agent_new(agent));
+    if (is_step("clear", step, &rest))
+        return of_status(cookie_agent_clear(agent, rest.bytes, rest.length));
+    if (is_step("remove", step, &rest)) {
+        cut_lines(rest, in, 4);
+        numbers_in(in[0], 1, n);
+        return of_status(cookie_agent_remove(agent, IN(1), IN(2), n[0] == 1, IN(3)));
+    }
+    if (is_step("evict", step, &rest)) {
+        numbers_in(rest, 1, n);
+        return of_status(cookie_agent_evict(agent, (uint64_t)n[0]));
+    }
+    if (is_step("trim", step, &rest)) {
+        numbers_in(rest, 3, n);
+        return of_status(cookie_agent_trim(agent, (size_t)n[0], (size_t)n[1], (uint64_t)n[2]));
+    }
+    if (!is_step("cookie", step, &rest))
+        return request_step(agent, suffixes, step, out, length);
+    numbers_in(rest, 3, n);
+    cookie_explanation told = cookie_agent_cookie(agent, (size_t)n[0], (uint64_t)n[1], out, length);
+    if (told.refusal != 0 || told.stored.is_host_only != (n[2] == 1))
+        fault("another scope");
+    return (cookie_answer){told.status, told.stored.path.start + told.stored.path.length};
+}
+
+/* The steps of an agent's row on a handle: each but the last is done, and the last one returns what the row has. */
+static cookie_answer play_agent(const text *in, uint8_t *out, size_t length) {
+    cookie_suffixes suffixes = {0};
+    cookie_agent agent = {0};
+    cookie_answer answer = of_status(cookie_suffixes_new(IN(0), &suffixes));
+    for (size_t i = 1; in[i].length > 0; i++) {
+        /* The header of a step before the last goes nowhere. */
+        int is_last = in[i + 1].length == 0;
+        if (answer.status > COOKIE_BUFFER_TOO_SHORT)
+            fault("a step before the last is refused");
+        answer = agent_step(&agent, &suffixes, in[i], is_last ? out : NULL, is_last ? length : 0);
+    }
+    cookie_agent_free(&agent);
+    cookie_suffixes_free(&suffixes);
+    return answer;
+}
+
 static cookie_answer call(const char *name, const text *in, uint8_t *out, size_t length) {
     if (strcmp(name, "derive_key") == 0)
         return cookie_derive_key(IN(0), out, length);
@@ -364,6 +438,8 @@ static cookie_answer call(const char *name, const text *in, uint8_t *out, size_t
         return cookie_run(1, 2, IN(0), IN(1), out, length);
     if (strcmp(name, "jar") == 0)
         return play_jar(in, out, length);
+    if (strcmp(name, "agent") == 0)
+        return play_agent(in, out, length);
     if (strcmp(name, "print") == 0)
         return print_cookie(in, out, length);
     if (strcmp(name, "explain") == 0)

@@ -11,7 +11,8 @@ import subprocess
 import sys
 
 import deomigal
-from deomigal import _library as library, cookies, dates, errors, explain, jars, secrets, sessions
+from deomigal import _agent, _library as library, agents, cookies, dates, errors, explain, jars, secrets, sessions
+from deomigal.addresses import Address
 
 CALLS = {"derive_key": library.DERIVE_KEY, "sign": library.SIGN, "verify": library.VERIFY, "seal": library.SEAL,
          "open": library.OPEN, "print": library.PRINT, "print_date": library.PRINT_DATE, "run": library.RUN}
@@ -133,6 +134,50 @@ def play_explain(inputs, out, length):
     return library.Answer(why.status, ends[-1])
 
 
+def agent_step(agent, step):
+    """Plays a step of an agent's row. Returns the status, the number and the text."""
+    word, _, rest = step.partition(b" ")
+    if word == b"clear":
+        agent.clear(rest.decode())
+        return "DONE", 0, b""
+    numbers, *texts = rest.split(b"\n", 3)
+    numbers = [int(number) for number in numbers.split()]
+    if word in (b"evict", b"trim"):
+        (agent.core.evict if word == b"evict" else agent.core.trim)(*numbers)
+    elif word == b"remove":
+        name, domain, path = (text.decode() for text in texts)
+        is_found = agent.remove(_agent.KeptCookie(name, "", domain, path, None, None, numbers[0] == 1, False, False))
+        return "DONE" if is_found else "NOT_FOUND", 0, b""
+    elif word == b"cookie":
+        kept = list(agent.core.cookies(numbers[1]))[numbers[0]]
+        if kept.is_host_only != (numbers[2] == 1):
+            fault("another scope")
+        text = "".join((kept.name, kept.value, kept.domain, kept.path)).encode()
+        return "DONE", len(text), text
+    elif texts:
+        host, path, *text = texts
+        *flags, is_safe, now = numbers
+        address = Address(host.decode(), path.decode(), *(flag == 1 for flag in flags))
+        if word == b"read":
+            refusal = agent.read_at(address, *text, now)
+            return "DONE", explain.STEPS.index(refusal.step) + 1 if refusal else 0, b""
+        find = agent.header_at if word == b"retrieve" else agent.core.header
+        header = find(address, is_safe == 1, now)
+        return "DONE", len(header), header
+    return "DONE", 0, b""
+
+
+def play_agent(inputs, wanted):
+    """Plays the steps on an agent: each but the last is done, and the last one returns what the row has."""
+    suffixes, _, *steps = inputs
+    with agents.Agent(suffixes) as agent:
+        for step in steps[:-1]:
+            if agent_step(agent, step)[0] != "DONE":
+                fault("a step before the last is refused")
+        if agent_step(agent, steps[-1]) != wanted:
+            fault("the agent answers something else")
+
+
 def make_session(rest, now, is_new, handle, session):
     """Starts a session with another id, or opens the request's, and gives it the row's texts. The one that started is
     renewed, so that it has the row's id. A text is put into it and dropped again."""
@@ -231,6 +276,8 @@ def play(line):
             fault("another cookie")
     elif call in ("read_decoded", "next_pair_decoded"):
         play_decoded(call, inputs, status, text)
+    elif call == "agent":
+        play_agent(inputs, (status, count, text))
     elif status != "DONE":
         for length in (0, 100):
             check(call, inputs, length, status, count, b"")
@@ -441,7 +488,7 @@ def use():
         except deomigal.CookieError as error:
             if type(error) is not refusal:
                 faults.append(f"a use is refused by {error!r}")
-    for module in (deomigal, secrets, dates, cookies, jars, sessions, explain):
+    for module in (deomigal, secrets, dates, cookies, jars, sessions, explain, agents):
         failed = doctest.testmod(module).failed
         if failed:
             faults.append(f"{failed} examples of {module.__name__} answer something else")

@@ -68,7 +68,7 @@ struct Held {
     at: *mut (),
 }
 
-/// A handle of a jar, of a site's sessions, of a session, or of a list of public suffixes.
+/// A handle of a jar, of a site's sessions, of a session, of a list of public suffixes, or of a user agent.
 #[repr(C)]
 struct Handle {
     is_open: bool,
@@ -129,6 +129,12 @@ struct Stored {
 }
 
 #[repr(C)]
+struct AgentReading {
+    status: u32,
+    refusal: u32,
+}
+
+#[repr(C)]
 struct Explanation {
     status: u32,
     refusal: u32,
@@ -180,14 +186,24 @@ unsafe extern "C" {
     fn cookie_suffixes_new(list: Text, list_length: usize, suffixes: &mut Handle) -> u32;
     fn cookie_suffixes_free(suffixes: &mut Handle);
     fn cookie_explain(suffixes: &mut Handle, request: &Request, text: Text, text_length: usize, now: u64, out: *mut u8, out_length: usize) -> Explanation;
+    fn cookie_agent_new(agent: &mut Handle) -> u32;
+    fn cookie_agent_read(agent: &mut Handle, suffixes: &mut Handle, request: &Request, text: Text, text_length: usize, now: u64) -> AgentReading;
+    fn cookie_agent_header(agent: &mut Handle, request: &Request, now: u64, out: *mut u8, out_length: usize) -> Answer;
+    fn cookie_agent_retrieve(agent: &mut Handle, request: &Request, now: u64, out: *mut u8, out_length: usize) -> Answer;
+    fn cookie_agent_evict(agent: &mut Handle, now: u64) -> u32;
+    fn cookie_agent_trim(agent: &mut Handle, per_domain: usize, total: usize, now: u64) -> u32;
+    fn cookie_agent_remove(agent: &mut Handle, name: Text, name_length: usize, domain: Text, domain_length: usize, is_host_only: bool, path: Text, path_length: usize) -> u32;
+    fn cookie_agent_clear(agent: &mut Handle, domain: Text, domain_length: usize) -> u32;
+    fn cookie_agent_cookie(agent: &mut Handle, index: usize, now: u64, out: *mut u8, out_length: usize) -> Explanation;
+    fn cookie_agent_free(agent: &mut Handle);
     fn cookie_version() -> u32;
 }
 
-const STATUSES: [&str; 28] = [
+const STATUSES: [&str; 29] = [
     "DONE", "BUFFER_TOO_SHORT", "OUT_OF_MEMORY", "NOT_UTF8", "KEY_TOO_SHORT", "MASTER_TOO_SHORT", "BAD_NONCE",
     "NOT_SIGNED", "NOT_SEALED", "TOO_LONG", "NO_DATE", "BAD_MOMENT", "BAD_LINE", "MISSING_PAIR", "EMPTY_NAME", "BAD_ESCAPE",
     "NO_PAIR", "NO_JAR", "NOT_FOUND", "BAD_ATTRIBUTE", "NO_SESSION", "BAD_PREFIX", "OVER", "TOO_LARGE",
-    "INVALID_VALUE", "BAD_IDS", "NO_SESSIONS", "NO_SUFFIXES",
+    "INVALID_VALUE", "BAD_IDS", "NO_SESSIONS", "NO_SUFFIXES", "NO_AGENT",
 ];
 
 fn number_of(status: &str) -> u32 {
@@ -395,9 +411,81 @@ fn explain(inputs: &[Vec<u8>], out: *mut u8, length: usize) -> Answer {
     Answer { status: why.status, length }
 }
 
+/// Plays a step of an agent's row: a word, a blank and numbers, and then texts, each after a line feed.
+fn agent_step(agent: &mut Handle, suffixes: &mut Handle, step: &[u8], out: *mut u8, length: usize) -> Answer {
+    let end = step.iter().position(|byte| *byte == b' ').unwrap_or(step.len());
+    let (word, rest) = (&step[..end], &step[step.len().min(end + 1)..]);
+    let of_status = |status| Answer { status, length: 0 };
+    unsafe {
+        if word == b"new" {
+            return of_status(cookie_agent_new(agent));
+        }
+        if word == b"clear" {
+            return of_status(cookie_agent_clear(agent, place(rest), rest.len()));
+        }
+        let parts: Vec<&[u8]> = rest.splitn(4, |byte| *byte == b'\n').collect();
+        let n = numbers_in(parts[0], 6);
+        match (word, &parts[1..]) {
+            (b"evict", _) => of_status(cookie_agent_evict(agent, n[0] as u64)),
+            (b"trim", _) => of_status(cookie_agent_trim(agent, n[0] as usize, n[1] as usize, n[2] as u64)),
+            (b"remove", [name, domain, path]) => {
+                let is_host_only = n[0] == 1;
+                of_status(cookie_agent_remove(agent, place(name), name.len(), place(domain), domain.len(), is_host_only, place(path), path.len()))
+            }
+            (b"cookie", _) => {
+                let told = cookie_agent_cookie(agent, n[0] as usize, n[1] as u64, out, length);
+                assert_eq!((told.refusal, told.stored.is_host_only), (0, n[2] == 1), "another scope");
+                Answer { status: told.status, length: told.stored.path.start + told.stored.path.length }
+            }
+            (_, [host, path, text @ ..]) => {
+                let request = Request {
+                    host: host.as_ptr(),
+                    host_length: host.len(),
+                    path: path.as_ptr(),
+                    path_length: path.len(),
+                    is_address: n[0] == 1,
+                    is_secure: n[1] == 1,
+                    is_same_site: n[2] == 1,
+                    is_top_level: n[3] == 1,
+                    is_safe: n[4] == 1,
+                };
+                match (word, text) {
+                    (b"read", [text]) => {
+                        let reading = cookie_agent_read(agent, suffixes, &request, place(text), text.len(), n[5] as u64);
+                        Answer { status: reading.status, length: reading.refusal as usize }
+                    }
+                    (b"header", _) => cookie_agent_header(agent, &request, n[5] as u64, out, length),
+                    (b"retrieve", _) => cookie_agent_retrieve(agent, &request, n[5] as u64, out, length),
+                    _ => panic!("no step {step:?}"),
+                }
+            }
+            _ => panic!("no step {step:?}"),
+        }
+    }
+}
+
+/// Plays the steps of an agent's row on a handle: each but the last is done. The header of such a one goes nowhere.
+fn play_agent(inputs: &[Vec<u8>], out: *mut u8, length: usize) -> Answer {
+    let (mut suffixes, mut agent) = (Handle::empty(), Handle::empty());
+    let [list, before @ .., last] = inputs else { panic!("no list and step") };
+    unsafe {
+        assert_eq!(cookie_suffixes_new(place(list), list.len(), &mut suffixes), 0, "the list isn't read");
+        for step in before {
+            assert!(agent_step(&mut agent, &mut suffixes, step, ptr::null_mut(), 0).status <= 1, "a step before the last is refused");
+        }
+        let answer = agent_step(&mut agent, &mut suffixes, last, out, length);
+        cookie_agent_free(&mut agent);
+        cookie_suffixes_free(&mut suffixes);
+        answer
+    }
+}
+
 fn call(name: &str, inputs: &[Vec<u8>], out: *mut u8, length: usize) -> Answer {
     if name == "jar" {
         return play_jar(inputs, out, length);
+    }
+    if name == "agent" {
+        return play_agent(inputs, out, length);
     }
     if name == "explain" {
         return explain(inputs, out, length);
@@ -542,10 +630,11 @@ fn is_row_right(name: &str, status: u32, length: usize, wanted: &[u8], inputs: &
                 && (length == 0 || is_decoded(name, inputs, 0, 1, b""))
         }
         (_, 0) => {
-            is_right(name, inputs, length, answer, wanted)
-                && is_right(name, inputs, length + 7, answer, wanted)
-                && (length == 0 || is_right(name, inputs, length - 1, short, wanted))
-                && (length == 0 || is_right(name, inputs, 0, short, wanted))
+            let fit = wanted.len();
+            is_right(name, inputs, fit, answer, wanted)
+                && is_right(name, inputs, fit + 7, answer, wanted)
+                && (fit == 0 || is_right(name, inputs, fit - 1, short, wanted))
+                && (fit == 0 || is_right(name, inputs, 0, short, wanted))
         }
         _ => is_right(name, inputs, 0, answer, wanted) && is_right(name, inputs, 100, answer, wanted),
     }

@@ -11,6 +11,7 @@ an error, and so is a row without a call. So each row says for which players it 
 import pathlib
 import sys
 
+import agents
 import browser
 import cookies
 import dates
@@ -34,9 +35,10 @@ def secrets(row, player):
     return each(signing.Secrets(player), row)
 
 
-SUBJECTS = {"browser.tsv": browser.browser, "cookie_fields.tsv": one_cookie, "cookies.tsv": one_cookie,
-            "cut_cookies.tsv": one_cookie, "dates.tsv": dates.dates, "headers.tsv": jar, "jars.tsv": jar,
-            "prefixes.tsv": jar, "runs.tsv": runs.runs, "secrets.tsv": secrets, "sessions.tsv": sessions.sessions}
+SUBJECTS = {"agent.tsv": agents.agents, "browser.tsv": browser.browser, "cookie_fields.tsv": one_cookie,
+            "cookies.tsv": one_cookie, "cut_cookies.tsv": one_cookie, "dates.tsv": dates.dates, "headers.tsv": jar,
+            "jars.tsv": jar, "prefixes.tsv": jar, "runs.tsv": runs.runs, "secrets.tsv": secrets,
+            "sessions.tsv": sessions.sessions}
 # What the original crate has a call for. It takes any path.
 OF_ORIGINAL = cookies.OF_ORIGINAL | set("""read read_decoded next_pair next_pair_decoded print jar open derive_key
 read_date print_date raw signing encryption""".split())
