@@ -5,7 +5,7 @@ import ctypes
 import functools
 import json
 import re
-from typing import Any, Iterator, NamedTuple
+from typing import Any, Callable, Iterator, NamedTuple
 
 from ._library import DONE, HANDLE, SECOND, TEXT, Answer, bytes_of, declare, done, given, handle_of
 from .addresses import Address, address_at
@@ -94,6 +94,8 @@ class Core:
 
     def __init__(self, suffixes: bytes) -> None:
         self.rules, self.handle = rules_of(suffixes), handle_of(self, AGENT_FREE)
+        # Where headers are written to.
+        self.room = ctypes.create_string_buffer(HEADER_ROOM)
         done(AGENT_NEW, self.handle)
 
     def read(self, address: Address, text: bytes, now: int) -> Refusal | None:
@@ -106,11 +108,22 @@ class Core:
 
     def header(self, address: Address, is_safe: bool, now: int) -> bytes:
         """The value of the `Cookie` header of a request to the address."""
-        return given(AGENT_HEADER, self.handle, request_of(address, is_safe), now, room=HEADER_ROOM)
+        return self.sent(AGENT_HEADER, request_of(address, is_safe), now)
 
     def retrieve(self, address: Address, is_safe: bool, now: int) -> bytes:
         """The same, for a request that is made: `now` is the last access of what it sends."""
-        return given(AGENT_RETRIEVE, self.handle, request_of(address, is_safe), now, room=HEADER_ROOM)
+        return self.sent(AGENT_RETRIEVE, request_of(address, is_safe), now)
+
+    def sent(self, call: Callable[..., Any], request: Request, now: int) -> bytes:
+        """The header that the call returns. If there is too little room for it, the call is made again."""
+        while True:
+            answer = call(self.handle, request, now, self.room, len(self.room))
+            if answer.status == BufferTooShort.status:
+                self.room = ctypes.create_string_buffer(answer.length)
+            elif answer.status != DONE:
+                raise error_of(answer.status)
+            else:
+                return ctypes.string_at(self.room, answer.length)
 
     def evict(self, now: int) -> None:
         """Drops what is expired."""
@@ -119,6 +132,20 @@ class Core:
     def trim(self, per_domain: int, total: int, now: int) -> None:
         """Drops what is expired, and then what is above the limits."""
         done(AGENT_TRIM, self.handle, per_domain, total, now)
+
+    def count(self, now: int) -> int:
+        """How many cookies are stored. It looks for a few of them."""
+        least, most = 0, 1
+        while self.has(most - 1, now):
+            least, most = most, 2 * most
+        while least + 1 < most:
+            middle = (least + most) // 2
+            least, most = (middle, most) if self.has(middle - 1, now) else (least, middle)
+        return least
+
+    def has(self, index: int, now: int) -> bool:
+        """Whether a cookie is stored at this index."""
+        return bool(AGENT_COOKIE(self.handle, index, now, None, 0).status != NotFound.status)
 
     def cookies(self, now: int) -> Iterator[KeptCookie]:
         """The stored cookies. Some may be expired at that second: such a one has it as its expiry."""

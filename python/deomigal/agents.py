@@ -48,8 +48,8 @@ class Agent(Uncopied):
 
     A connection is secure if the scheme is https, and to `localhost` or a loopback address too, as in browsers, unless
     `is_localhost_secure` is false. `per_domain` limits the cookies of one domain, and `total` those in all: the agent drops
-    what is above after each `per_domain` cookies that it has stored, and when it loads a file. `clock` returns the time, in
-    seconds since 1970.
+    what is above after each `per_domain` cookies that it has stored, or a quarter of those that it has if these are more,
+    and when it loads a file. `clock` returns the time, in seconds since 1970.
 
     >>> with Agent() as agent:
     ...     agent.read("https://shop.example/cart/view", "session=abc; Path=/; Secure")
@@ -76,8 +76,8 @@ class Agent(Uncopied):
             raise OverflowError("a limit is 1 at least, and has at most 32 bits")
         self.suffixes = bytes_of(suffixes)
         self.is_localhost_secure, self.limits, self.clock = is_localhost_secure, (per_domain, total), clock
-        # How many cookies were stored since the limits were looked at.
-        self.stored = 0
+        # How many cookies were stored since the limits were looked at, and at how many it looks again.
+        self.stored, self.enough = 0, min(self.limits)
         # Only one call at a time may use the handle.
         self.lock = threading.Lock()
         self.core = Core(self.suffixes)
@@ -114,7 +114,7 @@ class Agent(Uncopied):
         with self.lock:
             refusal = self.core.read(address, text, second)
             self.stored += refusal is None
-            if self.stored >= min(self.limits):
+            if self.stored >= self.enough:
                 self.trim(second)
         return refusal
 
@@ -127,7 +127,7 @@ class Agent(Uncopied):
     def trim(self, second: int) -> None:
         """Drops what is expired, and the cookies above the limits (RFC 6265bis, Storage Model)."""
         self.core.trim(*self.limits, second)
-        self.stored = 0
+        self.stored, self.enough = 0, max(min(self.limits), self.core.count(second) // 4)
 
     def header(self, url: str, now: datetime.datetime | None = None, context: Context = SAME_SITE) -> bytes:
         """The value of the `Cookie` header that a request to the URL sends, at the time `now` or the clock's. It is
@@ -235,6 +235,8 @@ class Agent(Uncopied):
     def address_of(self, url: str, context: Context) -> Address:
         """The address of the URL, for a request in this context."""
         address = address_of(url, is_localhost_secure=self.is_localhost_secure)
+        if context.is_same_site and context.is_top_level:
+            return address
         return address._replace(is_same_site=context.is_same_site, is_top_level=context.is_top_level)
 
     def second(self, now: datetime.datetime | None) -> int:
