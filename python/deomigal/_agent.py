@@ -1,26 +1,24 @@
-"""The agent of the library, in a handle, and the files of its cookies."""
+"""The agent of the library, in a handle."""
 from __future__ import annotations
 
 import ctypes
 import functools
-import json
-import re
 from typing import Any, Callable, Iterator, NamedTuple
 
-from ._library import DONE, HANDLE, SECOND, TEXT, Answer, bytes_of, declare, done, given, handle_of
-from .addresses import Address, address_at
+from ._library import DONE, HANDLE, SECOND, TEXT, Answer, bytes_of, declare, done, given, handle_of, told
+from .addresses import Address
 from .cookies import RULES
 from .errors import BufferTooShort, NotFound, error_of
-from .explain import LONGEST, ROOM, STEPS, Explanation, Refusal, Request, StoredCookie, rules_of
+from .explain import EXPLAIN, ROOM, STEPS, Explanation, Refusal, Request, StoredCookie, rules_of
 
 # The rules of `SameSite` that a navigation from another site passes.
 LAX = (None, "Lax")
-# The forms of a file: a line of JSON for each cookie, and cookies.txt, as Netscape, curl and wget have it.
+# The forms of a file: a line of JSON for each cookie, and cookies.txt, as Netscape, curl and wget have it. FORMS has their
+# numbers in cookie.h.
 JSON, NETSCAPE = "json", "netscape"
-# The first line of a cookies.txt, and what is before the fields of an http-only cookie.
-HEAD, HTTP_ONLY = b"# Netscape HTTP Cookie File\n", b"#HttpOnly_"
-# A longer value of an attribute doesn't count (RFC 6265bis, The Set-Cookie Header Field).
-LONGEST_VALUE = 1024
+FORMS = {NETSCAPE: 0, JSON: 1}
+# The step that refuses a public suffix.
+SUFFIX = STEPS.index("PublicSuffix") + 1
 # More than most headers have, and than most cookies.
 HEADER_ROOM = 4096
 
@@ -29,8 +27,19 @@ class AgentReading(ctypes.Structure):
     _fields_ = [("status", ctypes.c_uint32), ("refusal", ctypes.c_uint32)]
 
 
+class AgentSaving(ctypes.Structure):
+    _fields_ = [("status", ctypes.c_uint32)] + [
+        (name, ctypes.c_size_t) for name in ("length", "left_out", "first_left_out")
+    ]
+
+
+class AgentLoading(ctypes.Structure):
+    _fields_ = [("status", ctypes.c_uint32)] + [(name, ctypes.c_size_t) for name in ("bad_lines", "first_bad_line")]
+
+
 REQUEST: list[Any] = [ctypes.POINTER(Request)]
 COUNT: list[Any] = [ctypes.c_size_t]
+FORM: list[Any] = [ctypes.c_uint32]
 AGENT_NEW = declare("agent_new", HANDLE, ctypes.c_uint32)
 AGENT_FREE = declare("agent_free", HANDLE, None)
 AGENT_READ = declare("agent_read", HANDLE * 2 + REQUEST + TEXT + SECOND, AgentReading)
@@ -41,6 +50,8 @@ AGENT_EVICT = declare("agent_evict", HANDLE + SECOND, ctypes.c_uint32)
 AGENT_REMOVE = declare("agent_remove", HANDLE + TEXT * 2 + [ctypes.c_bool] + TEXT, ctypes.c_uint32)
 AGENT_CLEAR = declare("agent_clear", HANDLE + TEXT, ctypes.c_uint32)
 AGENT_COOKIE = declare("agent_cookie", HANDLE + COUNT + SECOND + TEXT, Explanation)
+AGENT_SAVE = declare("agent_save", HANDLE + FORM + SECOND + TEXT, AgentSaving)
+AGENT_LOAD = declare("agent_load", HANDLE + FORM + TEXT + SECOND, AgentLoading)
 REFUSAL_SENTENCE = declare("refusal_sentence", [ctypes.c_uint32] + TEXT, Answer)
 REFUSAL_SECTION = declare("refusal_section", [ctypes.c_uint32] + TEXT, Answer)
 
@@ -181,30 +192,36 @@ class Core:
         else:
             done(AGENT_CLEAR, self.handle, domain)
 
-    def save(self, form: str, now: int) -> bytes:
-        """The text of the cookies that have an expiry and aren't expired, in that form."""
-        saved = [cookie for cookie in self.cookies(now) if cookie.expiry is not None and cookie.lasts(now)]
-        if form == JSON:
-            return b"".join(json.dumps(cookie._asdict()).encode() + b"\n" for cookie in saved)
-        # A nameless cookie, and a tab, have no place in a line.
-        fit = (cookie for cookie in saved if cookie.name and "\t" not in cookie.name + cookie.value + cookie.path)
-        return HEAD + b"".join(map(line_of, fit))
+    def save(self, form: str, now: int) -> tuple[bytes, int]:
+        """The text of the cookies that have an expiry and aren't expired, in that form, and how many of them the form
+        can't carry."""
+        saving, text = told(AGENT_SAVE, self.handle, FORMS[form], now, room=HEADER_ROOM)
+        if saving.status != DONE:
+            raise error_of(saving.status)
+        return text, saving.left_out
 
     def load(self, form: str, text: bytes, now: int) -> list[int]:
-        """Reads the cookies of a text in that form, each as if a secure response of its domain had set it. Returns the
+        """Adds the cookies of a text in that form, but none that is for a public suffix and the hosts below it. Returns the
         numbers of the lines that hold none."""
-        bad = []
-        for number, line in enumerate(text.split(b"\n"), 1):
-            line = line[:-1] if line.endswith(b"\r") else line
-            try:
-                cookie = cookie_of_json(line) if form == JSON else cookie_of_line(line)
-                made = as_set(cookie, now) if cookie is not None and cookie.lasts(now) else None
-            except ValueError:
-                bad.append(number)
-                continue
-            if made is not None and self.read(*made, now) is not None:
-                bad.append(number)
-        return bad
+        loading = AGENT_LOAD(self.handle, FORMS[form], text, len(text), now)
+        if loading.status != DONE:
+            raise error_of(loading.status)
+        for cookie in list(self.cookies(now)):
+            if not cookie.is_host_only and self.is_suffix(cookie.domain, now):
+                self.remove(cookie)
+        if loading.bad_lines < 2:
+            return [loading.first_bad_line] * loading.bad_lines
+        # The library says which line is the first: each after it is looked at by itself.
+        lines, other = text.split(b"\n"), Core(b"")
+        later = range(loading.first_bad_line + 1, len(lines) + 1)
+        return [loading.first_bad_line] + [number for number in later if other.load(form, lines[number - 1], now)]
+
+    def is_suffix(self, domain: str, now: int) -> bool:
+        """Whether the domain is a public suffix: a host below it can't set a cookie for it then."""
+        request, text = request_of(Address("a." + domain, "/", False, True)), b"a=1; Domain=" + header_bytes(domain)
+        with self.rules.lock:
+            why = EXPLAIN(self.rules.handle, request, text, len(text), now, None, 0)
+        return bool(why.refusal == SUFFIX)
 
 
 @functools.lru_cache(maxsize=1024)
@@ -232,71 +249,6 @@ def kept_of(stored: StoredCookie, texts: bytes, now: int) -> KeptCookie:
         name, value, domain, path, expiry, RULES[stored.same_site], stored.is_host_only, stored.is_secure,
         stored.is_http_only,
     )
-
-
-def line_of(cookie: KeptCookie) -> bytes:
-    """The cookie's line in a cookies.txt."""
-    fields = (
-        cookie.domain if cookie.is_host_only else "." + cookie.domain, str(not cookie.is_host_only).upper(), cookie.path,
-        str(cookie.is_secure).upper(), str(cookie.expiry), cookie.name, cookie.value,
-    )
-    return HTTP_ONLY * cookie.is_http_only + header_bytes("\t".join(fields)) + b"\n"
-
-
-def cookie_of_line(line: bytes) -> KeptCookie | None:
-    """The cookie in a line of a cookies.txt. None if the line is empty or a comment, or its cookie had no expiry. Raises
-    `ValueError` if it isn't such a line."""
-    is_http_only = line.startswith(HTTP_ONLY)
-    line = line[len(HTTP_ONLY) :] if is_http_only else line
-    if not line or line.startswith(b"#"):
-        return None
-    # Without the last field the value is empty.
-    domain, is_wide, path, is_secure, expiry, name, value, *more = (*text_of(line).split("\t"), "", "")
-    if len(more) not in (1, 2) or not re.fullmatch(r"[0-9]{1,18}", expiry) or not name:
-        raise ValueError("this is no line of a cookies.txt")
-    if int(expiry) == 0:
-        return None
-    return KeptCookie(
-        name, value, domain[1:] if domain.startswith(".") else domain, path, int(expiry), None, not flag_of(is_wide),
-        flag_of(is_secure), is_http_only,
-    )
-
-
-def flag_of(text: str) -> bool:
-    """The flag in a field of a cookies.txt, or `ValueError`."""
-    if text.upper() not in ("TRUE", "FALSE"):
-        raise ValueError("this is no flag of a cookies.txt")
-    return text.upper() == "TRUE"
-
-
-def cookie_of_json(line: bytes) -> KeptCookie | None:
-    """The cookie in a line of JSON. None if the line is empty. Raises `ValueError` if it isn't such a line."""
-    if not line:
-        return None
-    try:
-        cookie = KeptCookie(**json.loads(line))
-    except (TypeError, RecursionError) as error:
-        raise ValueError("this is no cookie in JSON") from error
-    kinds: tuple[Any, ...] = (str, str, str, str, int, (str, type(None)), bool, bool, bool)
-    if isinstance(cookie.expiry, bool) or not all(isinstance(part, kind) for part, kind in zip(cookie, kinds)):
-        raise ValueError("this is no cookie in JSON")
-    return cookie
-
-
-def as_set(cookie: KeptCookie, now: int) -> tuple[Address, bytes]:
-    """The address and the text of a secure response that sets the cookie. Raises `ValueError` if a text isn't one that a
-    cookie has."""
-    texts = cookie.name, cookie.value, cookie.domain, cookie.path
-    is_bad = any(re.search(r"[\x00-\x08\x0a-\x1f\x7f;]", text) for text in texts) or "=" in cookie.name
-    if is_bad or not cookie.path.startswith("/") or max(map(len, map(header_bytes, texts[2:]))) > LONGEST_VALUE:
-        raise ValueError("a name, a value, a domain or a path holds what none has")
-    pieces = [f"{cookie.name}={cookie.value}", f"Path={cookie.path}"]
-    pieces += [f"Domain={cookie.domain}"] * (not cookie.is_host_only)
-    if cookie.expiry is not None:
-        pieces.append(f"Max-Age={min(max(cookie.expiry - now, 0), LONGEST)}")
-    pieces += [f"SameSite={cookie.same_site}"] * (cookie.same_site in RULES[1:])
-    pieces += ["Secure"] * cookie.is_secure + ["HttpOnly"] * cookie.is_http_only
-    return address_at("https", cookie.domain, "/"), header_bytes("; ".join(pieces))
 
 
 def is_in_domain(host: str, is_address: bool, domain: str) -> bool:

@@ -191,18 +191,21 @@ class Agent(Uncopied):
         with self.lock:
             self.core.clear(None if domain is None else header_bytes(domain))
 
-    def save(self, path: str | os.PathLike[str], form: str = JSON) -> None:
+    def save(self, path: str | os.PathLike[str], form: str = JSON) -> int:
         """Writes the cookies that have an expiry and aren't expired to a file that only its owner may read. If that fails,
-        or the machine stops, the file is as before. A cookie without an expiry ends with the session.
+        or the machine stops, the file is as before. A cookie without an expiry ends with the session. Returns how many of
+        the cookies the form can't carry.
 
-        With the form "json" each cookie is a line of JSON. With "netscape" the file is a cookies.txt, as curl and wget
-        read it. That has no `SameSite`, no cookie without a name, and none with a tab.
+        With the form "json" each cookie is a line of JSON, with every field. With "netscape" the file is a cookies.txt, as
+        curl and wget read it. That has no `SameSite`, no cookie without a name, and none with a tab. The library writes
+        and reads both, so that programs in C and Rust have the same files.
 
         >>> import tempfile
         >>> folder = tempfile.TemporaryDirectory()
         >>> agent, other = Agent(), Agent()
         >>> agent.read("https://shop.example/", "lang=en; Max-Age=60")
         >>> agent.save(folder.name + "/cookies")
+        0
         >>> other.load(folder.name + "/cookies")
         []
         >>> other.header("https://shop.example/")
@@ -210,16 +213,16 @@ class Agent(Uncopied):
         >>> folder.cleanup()
         """
         with self.lock:
-            text = self.core.save(form_of(form), self.second(None))
+            text, left_out = self.core.save(form_of(form), self.second(None))
         replace(os.path.realpath(path), text)
+        return left_out
 
     def load(self, path: str | os.PathLike[str], form: str | None = None) -> list[int]:
         """Reads the cookies of a file that `save`, curl or wget wrote. Returns the numbers, from 1, of the lines that hold
-        no cookie, or one that RFC 6265bis refuses.
+        no cookie, or one that no user agent could have stored. A cookie for a public suffix and the hosts below it isn't kept.
 
-        They join those that are stored, each as if a secure response of its domain had set it. What is expired is left
-        out. Without `form` the file's first byte says which form it has. Raises `ValueError` if the file has more than 64
-        MiB.
+        They join those that are stored, in the order of their lines. What is expired is left out. Without `form` the
+        file's first byte says which form it has. Raises `ValueError` if the file has more than 64 MiB.
         """
         with open(path, "rb") as file:
             text = file.read(MOST + 1)
