@@ -98,6 +98,8 @@ typedef struct drawing {
     X(agent_remove, S(NO_AGENT) | S(NOT_FOUND)) \
     X(agent_clear, S(NO_AGENT)) \
     X(agent_cookie, S(BUFFER_TOO_SHORT) | S(NO_AGENT) | S(NO_DATE) | S(NOT_FOUND)) \
+    X(agent_save, S(BUFFER_TOO_SHORT) | S(NO_AGENT) | S(BAD_ATTRIBUTE) | S(NO_DATE)) \
+    X(agent_load, S(NO_AGENT) | S(BAD_ATTRIBUTE) | S(NO_DATE)) \
     X(agent_free, 0) \
     X(version, 0)
 
@@ -221,9 +223,25 @@ static const char *const LISTS[] = {"com\nco.uk\n*.ck\n!www.ck\n", "", "// a com
 static const char *const LINES[] = {"add a=1; Path=/", "remove a",        "force b",   "reset", "", "add",
                                     "nonsense",        "remove \xc3\xa9", "add n=\xff"};
 
+static const char *const SAVED[] = {
+    "# Netscape HTTP Cookie File",
+    "example.com\tFALSE\t/\tFALSE\t1445412600\ta\t1",
+    "#HttpOnly_.example.com\tTRUE\t/a\tTRUE\t1445419999\t__Secure-b\tx\r",
+    "www.example.com\tTRUE\t/\tFALSE\t0\ta",
+    "10.0.0.1\tFALSE\tx\tMAYBE\t\xff\t=\t;",
+    "{\"domain\":\"example.com\",\"expiry\":1445412600000000000,\"host_only\":true,\"http_only\":true,"
+    "\"last_access\":1445412480000000000,\"name\":\"id\",\"path\":\"/"
+    "\",\"same_site\":\"lax\",\"secure\":true,\"value\":\"1\"}",
+    "{\"domain\":\"a.co.uk\",\"expiry\":1445412600000000000,\"host_only\":false,\"http_only\":false,"
+    "\"last_access\":1445412480000000000,\"name\":\"\",\"path\":\"/a\",\"same_site\":\"default\",\"secure\":false,"
+    "\"value\":\"\\u00e9\"}",
+    "{\"domain\":[[[[{",
+    "",
+};
+
 #define ONE_OF(d, list) list[below(d, sizeof list / sizeof *list)]
 
-typedef enum kind { A_NAME, A_VALUE, A_PATH, A_COOKIE, A_HEADER, A_FORM, A_DATE, A_HOST, A_LIST, A_RUN } kind;
+typedef enum kind { A_NAME, A_VALUE, A_PATH, A_COOKIE, A_HEADER, A_FORM, A_DATE, A_HOST, A_LIST, A_RUN, A_FILE } kind;
 
 static void append(char *made, const char *piece) { strncat(made, piece, LONGEST - 1 - strlen(made)); }
 
@@ -267,6 +285,12 @@ static text draw_text(drawing *d, kind it) {
         for (size_t left = below(d, 5); left > 0; left--) {
             append(made, one_in(d, 9) ? ";" : "; ");
             append(made, ONE_OF(d, ATTRIBUTES));
+        }
+        break;
+    case A_FILE:
+        for (size_t left = below(d, 6); left > 0; left--) {
+            append(made, ONE_OF(d, SAVED));
+            append(made, one_in(d, 9) ? "" : "\n");
         }
         break;
     case A_RUN:
@@ -694,6 +718,26 @@ static void play_session(drawing *d, int call) {
     look_at_handle(d, call, status, *has, COOKIE_NO_SESSION, first);
 }
 
+/* How an agent is saved: which cookies are left out is one of the cookies that it has. */
+static cookie_answer save(drawing *d, cookie_agent *agent, uint32_t form, uint64_t now) {
+    cookie_agent_saving saving = cookie_agent_save(agent, form, now, d->out, d->length);
+    if (saving.left_out == 0 && saving.first_left_out != 0)
+        fault(d, agent_save_call, "none is left out, and one is named");
+    return (cookie_answer){saving.status, saving.length};
+}
+
+/* How a text is loaded. The first bad line is one that it has. */
+static uint32_t load(drawing *d, cookie_agent *agent, uint32_t form, text from, uint64_t now) {
+    cookie_agent_loading loading = cookie_agent_load(agent, form, IN(from), now);
+    size_t lines = 1;
+    for (size_t i = 0; i < from.length; i++)
+        lines += from.bytes[i] == '\n';
+    if (loading.bad_lines > lines || loading.first_bad_line > lines
+        || (loading.bad_lines == 0) != (loading.first_bad_line == 0))
+        fault(d, agent_load_call, "a bad line that there isn't");
+    return loading.status;
+}
+
 static void play_agent(drawing *d, int call) {
     size_t i = below(d, PAIR), j = below(d, PAIR);
     cookie_agent *agent = &d->agents[i];
@@ -758,6 +802,17 @@ static void play_agent(drawing *d, int call) {
     case agent_remove_call:
         STATUS(agent_remove, cookie_agent_remove(agent, IN(name), IN(host), one_in(d, 2), IN(path)));
         break;
+    case agent_save_call: {
+        uint32_t form = (uint32_t)below(d, one_in(d, 20) ? 9 : 2);
+        WRITES(agent_save, save(d, agent, form, now));
+        break;
+    }
+    case agent_load_call: {
+        uint32_t form = (uint32_t)below(d, one_in(d, 20) ? 9 : 2);
+        text file = draw_text(d, A_FILE);
+        STATUS(agent_load, load(d, agent, form, file, now));
+        break;
+    }
     case agent_clear_call:
         STATUS(agent_clear, cookie_agent_clear(agent, IN(host)));
         break;

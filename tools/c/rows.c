@@ -389,6 +389,16 @@ static cookie_answer agent_step(cookie_agent *agent, cookie_suffixes *suffixes, 
         numbers_in(in[0], 1, n);
         return of_status(cookie_agent_remove(agent, IN(1), IN(2), n[0] == 1, IN(3)));
     }
+    if (is_step("load", step, &rest)) {
+        cut_lines(rest, in, 2);
+        numbers_in(in[0], 2, n);
+        return of_status(cookie_agent_load(agent, (uint32_t)n[0], IN(1), (uint64_t)n[1]).status);
+    }
+    if (is_step("save", step, &rest)) {
+        numbers_in(rest, 2, n);
+        cookie_agent_saving saving = cookie_agent_save(agent, (uint32_t)n[0], (uint64_t)n[1], out, length);
+        return (cookie_answer){saving.status, saving.length};
+    }
     if (is_step("evict", step, &rest)) {
         numbers_in(rest, 1, n);
         return of_status(cookie_agent_evict(agent, (uint64_t)n[0]));

@@ -140,9 +140,14 @@ def agent_step(agent, step):
     if word == b"clear":
         agent.clear(rest.decode())
         return "DONE", 0, b""
-    numbers, *texts = rest.split(b"\n", 3)
+    numbers, *texts = rest.split(b"\n", 1 if word == b"load" else 3)
     numbers = [int(number) for number in numbers.split()]
-    if word in (b"evict", b"trim"):
+    if word == b"load":
+        agent.core.load(_agent.NETSCAPE, *texts, numbers[1])
+    elif word == b"save":
+        text, _ = agent.core.save(_agent.NETSCAPE, numbers[1])
+        return "DONE", len(text), text
+    elif word in (b"evict", b"trim"):
         (agent.core.evict if word == b"evict" else agent.core.trim)(*numbers)
     elif word == b"remove":
         name, domain, path = (text.decode() for text in texts)

@@ -129,6 +129,21 @@ struct Stored {
 }
 
 #[repr(C)]
+struct AgentSaving {
+    status: u32,
+    length: usize,
+    left_out: usize,
+    first_left_out: usize,
+}
+
+#[repr(C)]
+struct AgentLoading {
+    status: u32,
+    bad_lines: usize,
+    first_bad_line: usize,
+}
+
+#[repr(C)]
 struct AgentReading {
     status: u32,
     refusal: u32,
@@ -195,6 +210,8 @@ unsafe extern "C" {
     fn cookie_agent_remove(agent: &mut Handle, name: Text, name_length: usize, domain: Text, domain_length: usize, is_host_only: bool, path: Text, path_length: usize) -> u32;
     fn cookie_agent_clear(agent: &mut Handle, domain: Text, domain_length: usize) -> u32;
     fn cookie_agent_cookie(agent: &mut Handle, index: usize, now: u64, out: *mut u8, out_length: usize) -> Explanation;
+    fn cookie_agent_save(agent: &mut Handle, form: u32, now: u64, out: *mut u8, out_length: usize) -> AgentSaving;
+    fn cookie_agent_load(agent: &mut Handle, form: u32, text: Text, text_length: usize, now: u64) -> AgentLoading;
     fn cookie_agent_free(agent: &mut Handle);
     fn cookie_version() -> u32;
 }
@@ -423,9 +440,14 @@ fn agent_step(agent: &mut Handle, suffixes: &mut Handle, step: &[u8], out: *mut 
         if word == b"clear" {
             return of_status(cookie_agent_clear(agent, place(rest), rest.len()));
         }
-        let parts: Vec<&[u8]> = rest.splitn(4, |byte| *byte == b'\n').collect();
+        let parts: Vec<&[u8]> = rest.splitn(if word == b"load" { 2 } else { 4 }, |byte| *byte == b'\n').collect();
         let n = numbers_in(parts[0], 6);
         match (word, &parts[1..]) {
+            (b"load", [text]) => of_status(cookie_agent_load(agent, n[0] as u32, place(text), text.len(), n[1] as u64).status),
+            (b"save", _) => {
+                let saving = cookie_agent_save(agent, n[0] as u32, n[1] as u64, out, length);
+                Answer { status: saving.status, length: saving.length }
+            }
             (b"evict", _) => of_status(cookie_agent_evict(agent, n[0] as u64)),
             (b"trim", _) => of_status(cookie_agent_trim(agent, n[0] as usize, n[1] as usize, n[2] as u64)),
             (b"remove", [name, domain, path]) => {

@@ -2,7 +2,8 @@
 but the last is done, and the last one returns the text. A step is a word and numbers, and then texts, each after a line
 feed: the host and the path of a request, whose numbers are its five flags and the second, and the text of a cookie; or
 the name, the domain and the path of a cookie, whose number says whether it is host-only. Of a text that is read the number
-of what it returns is the step that refuses it. `cookie` has an index, the second, and whether the cookie is host-only."""
+of what it returns is the step that refuses it. `cookie` has an index, the second, and whether the cookie is host-only.
+`load` and `save` have the number of a form, and the second."""
 import re
 
 import rowfile
@@ -13,6 +14,8 @@ from sessions import FIRST
 
 # How a request came about: whether it is same-site, a top-level navigation, and safe.
 HOWS = {**{how: [*flags, 1] for how, flags in CONTEXTS.items()}, "post": [0, 1, 0]}
+# The first line of a cookies.txt, and the number of that form.
+HEAD, COOKIES_TXT = b"# Netscape HTTP Cookie File\n", 0
 # Questions that no call answers.
 QUESTIONS = {"secure", "host"}
 
@@ -90,8 +93,17 @@ class Agents:
         read, _ = self.read(at, text, "done", [b"new"])
         return done("agent", pair, LIST, b"new", read, self.request(b"header", url))
 
+    def loaded(self, step):
+        """A cookies.txt is loaded by a new agent, and saved again."""
+        form = [COOKIES_TXT, self.now]
+        text = b"" if step.wanted == "-" else unescaped(step.wanted)
+        loaded = step_of(b"load", form, unescaped(step.words))
+        return done("agent", HEAD + text, LIST, b"new", loaded, step_of(b"save", form))
+
     def ask(self, step):
         """A question on a cookie that a new agent stores."""
+        if step.call == "loaded":
+            return self.loaded(step)
         asked, _, held = (part.encode() for part in step.words.partition(" | "))
         if step.call == "scope":
             return self.scope(self.url, unescaped(step.words), step.wanted)
