@@ -246,7 +246,7 @@ class Sessions(Uncopied):
         """The value of the `Set-Cookie` header that saves the session, encrypted under the newest key.
 
         Save at each request, so that the idle time counts from it. Raises `TooLarge` if a browser wouldn't store the
-        cookie: there is room for about 2,850 bytes of texts in UTF-8.
+        cookie: there is room for about 2,950 bytes of texts in UTF-8.
 
         >>> from deomigal import derive_key
         >>> from deomigal.errors import TooLarge

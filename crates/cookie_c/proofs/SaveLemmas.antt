@@ -5,11 +5,11 @@ use Rattle.jiff.specs.Types.{DateTime}
 use Rattle.cookie.proofs.AnswerLemmas.{view-stored}
 use Rattle.cookie.specs.Jar.{Add, JarState, after, view}
 use Rattle.cookie.specs.Record.{Record}
-use Rattle.cookie.specs.Sealing.{CanSeal, IsNonce}
+use Rattle.cookie.specs.Sealing.{IsNonce}
 use Rattle.cookie.specs.Text.{cookie_text}
 use Rattle.cookie_session.specs.Seconds.{second_of}
 use Rattle.cookie_session.specs.Session.{SessionState, seen_at}
-use Rattle.cookie_session.specs.Sessions.{CanSave, IsStored, bare_cookie, meets_prefix, saved_cookie}
+use Rattle.cookie_session.specs.Sessions.{CanSave, CanSealSession, IsStored, bare_cookie, meets_prefix, saved_cookie}
 use Rattle.cookie_session.specs.Size.{browser_length, most_bytes}
 use Rattle.cookie_session.specs.declared.session_error.SessionError.{SessionError}
 use Rattle.cookie_session.specs.declared.session_error.SessionError.TheVariants as failure
@@ -106,11 +106,11 @@ module _ (site : Sessions) (nonce : List ℕ) (time : DateTime) (session : Sessi
         → (¬ (meets_prefix site.cookie.now.fields ≡ true)) ↔ (result ≡ Err failure.Prefix)
         → (meets_prefix site.cookie.now.fields ≡ true → (¬ CanSave site time session) ↔ (result ≡ Err failure.Over))
         → (CanSave site time session → ¬ (result ≡ Err failure.Prefix) → ¬ (result ≡ Err failure.OutOfMemory)
-        → (¬ CanSeal (bare_cookie site time session)) ↔ (result ≡ Err failure.TooLong))
+        → (¬ CanSealSession (bare_cookie site time session)) ↔ (result ≡ Err failure.TooLong))
         → ((size : ℕ) → result ≡ Err (failure.TooLarge size) → (most_bytes < size) × (other : List ℕ) × IsNonce other × Drawn other
         × (size ≡ browser_length (saved_cookie site other time session)))
         → ¬ (result ≡ Err failure.Generator)
-        → OnOk result (CanSeal (bare_cookie site time session))
+        → OnOk result (CanSealSession (bare_cookie site time session))
         → OnOk result (IfSome (view new site.cookie.now.fields.name) (λ cookie. browser_length cookie ≤ most_bytes))
         → OnOk result ((other : List ℕ) × IsNonce other × Drawn other × (new ≡ after (Add (saved_cookie site other time session)) old))
         → OnOk result (IsStored site (view new site.cookie.now.fields.name) (seen_at (second_of time) session))

@@ -1,11 +1,10 @@
 -- A session that is saved for C: `old` is the buffer at the call and `new` at the return.
 use Rattle.std.specs.Prelude.{◌≡◌, ℕ, ◌<◌, ◌≤◌, ◌⊎◌, true, false, List, Option, Some}
 use Rattle.jiff.specs.Types.{DateTime}
-use Rattle.cookie.specs.Sealing.{CanSeal}
 use Rattle.cookie.specs.Text.{cookie_text}
 use Rattle.cookie_session.specs.Seconds.{second_of}
 use Rattle.cookie_session.specs.Session.{SessionState, seen_at}
-use Rattle.cookie_session.specs.Sessions.{CanSave, IsStored, bare_cookie, meets_prefix, saved_cookie}
+use Rattle.cookie_session.specs.Sessions.{CanSave, CanSealSession, IsStored, bare_cookie, meets_prefix, saved_cookie}
 use Rattle.cookie_session.specs.Size.{browser_length, most_bytes}
 use Rattle.cookie_session.specs.declared.session_error.SessionError.{SessionError}
 use Rattle.cookie_session.specs.declared.session_error.SessionError.TheVariants as failure
@@ -45,16 +44,16 @@ pub record Saves (site : Sessions) (nonce : List ℕ) (time : DateTime) (session
   pub over : meets_prefix site.cookie.now.fields ≡ true → ¬ CanSave site time session
       → Fails failure.Over ⊎ Fails failure.OutOfMemory
   pub too_long : meets_prefix site.cookie.now.fields ≡ true → CanSave site time session
-      → ¬ CanSeal (bare_cookie site time session)
+      → ¬ CanSealSession (bare_cookie site time session)
       → Fails failure.TooLong ⊎ Fails failure.OutOfMemory
   pub too_large : meets_prefix site.cookie.now.fields ≡ true → CanSave site time session
-      → CanSeal (bare_cookie site time session)
+      → CanSealSession (bare_cookie site time session)
       → most_bytes < browser_length (saved_cookie site nonce time session)
       → Fails (failure.TooLarge (browser_length (saved_cookie site nonce time session)))
       ⊎ Fails failure.OutOfMemory
   -- the cookie that is given holds the session, as long as it lives
   pub saved : meets_prefix site.cookie.now.fields ≡ true → CanSave site time session
-      → CanSeal (bare_cookie site time session)
+      → CanSealSession (bare_cookie site time session)
       → browser_length (saved_cookie site nonce time session) ≤ most_bytes
       → (Gives (cookie_text true false (saved_cookie site nonce time session))
       × IsStored site (Some (saved_cookie site nonce time session))

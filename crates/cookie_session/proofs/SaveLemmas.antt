@@ -1,14 +1,15 @@
 -- What a jar shows once a cookie was added under the newest key.
-use Rattle.std.proofs.Common.{◌≡◌, ◌↔◌, ℕ, ◌<◌, Bool, true, false, List, length, Some, IfSome, Result, Err, refl, sym, ap, subst, ◌∙◌}
+use Rattle.std.proofs.Common.{◌≡◌, ◌↔◌, ℕ, ◌<◌, Bool, true, false, List, length, None, Some, IfSome, Result, Err, refl, sym, ap, subst, ◌∙◌}
 use Rattle.cookie.specs.Jar.{Add, JarState, after, view}
 use Rattle.cookie.specs.Keys.{encryption_half}
 use Rattle.cookie.specs.Record.{Record}
+use Rattle.cookie.specs.Purposes.{IsSealedFor}
 use Rattle.cookie.specs.Sealing.{IsSealingOf}
 use Rattle.cookie.proofs.AnswerLemmas.{view-stored}
 use Rattle.cookie_session.specs.KeyRing.{OpensNewest, newest}
 use Rattle.cookie_session.specs.Session.{IsSession, SessionState, session_text}
 use Rattle.cookie_session.specs.SessionError.{IsBareRefusal}
-use Rattle.cookie_session.specs.Sessions.{IsStored}
+use Rattle.cookie_session.specs.Sessions.{IsStored, session_purpose}
 use Rattle.cookie_session.specs.declared.session_error.SessionError.{SessionError}
 use Rattle.cookie_session.specs.declared.session_error.SessionError.TheVariants as refusal
 use Rattle.cookie_session.specs.declared.sessions.Sessions.{Sessions}
@@ -24,16 +25,16 @@ module _ (sealed : Record) (name : List ℕ) (named : sealed.name ≡ name) (old
 
   -- and that holds the session
   pub shown_stored : (site : Sessions) (s : SessionState) → IsSession s → 0 < length site.keys.now
-      → IsSealingOf (encryption_half (newest site.keys.now)) sealed (session_text s) → IsStored site (view new name) s
+      → IsSealedFor (encryption_half (newest site.keys.now)) session_purpose sealed.name sealed.value (session_text s) → IsStored site (view new name) s
   shown_stored site s is some stands =
       subst (λ o. IsStored site o s) (sym shown) (λ cookie same later lives.
-      record { session = is; sealed = opened_newest site.keys.now some sealed cookie (session_text s) same stands; lives = lives })
+      record { session = is; sealed = opened_newest (Some session_purpose) site.keys.now some sealed cookie (session_text s) same stands; lives = lives })
 
   -- and that the newest key opens
   pub shown_opens : (ring : List (List ℕ)) (value : List ℕ) → 0 < length ring → IsSealingOf (encryption_half (newest ring)) sealed value
       → OpensNewest ring (view new name) value
   shown_opens ring value some stands =
-      subst (λ o. OpensNewest ring o value) (sym shown) (λ cookie same. opened_newest ring some sealed cookie value same stands)
+      subst (λ o. OpensNewest ring o value) (sym shown) (λ cookie same. opened_newest None ring some sealed cookie value same stands)
 
 -- Where the cookie is refused before it is sealed, though its session lives and memory and prefix are right, nothing else is told.
 pub refused_bare : {T U : Type 0} (meets : Bool) (Lives Seals : Type 0) (why : SessionError) (result : Result U SessionError) → result ≡ Err why → IsBareRefusal why

@@ -7,7 +7,7 @@ use Rattle.cookie.specs.AnswersExactly.{IsStoredFor}
 use Rattle.cookie.specs.Record.{Record}
 use Rattle.cookie_session.specs.KeyRing.{OpensAt, OpensExactly, opened_at}
 use Rattle.cookie_session.specs.Session.{IsSessionText, SessionState, session_text}
-use Rattle.cookie_session.specs.Sessions.{HoldsOne, IsOpen, LivesAt}
+use Rattle.cookie_session.specs.Sessions.{HoldsOne, IsOpen, LivesAt, session_purpose}
 use Rattle.cookie_session.specs.declared.opening.Opening.{Opening}
 use Rattle.cookie_session.specs.declared.opened.Opened.{Opened}
 use Rattle.cookie_session.specs.declared.sessions.Sessions.{Sessions}
@@ -18,14 +18,14 @@ opened s place = record { session = s; place = place }
 
 module _ (site : Sessions) (stored : Option Record) (now : DateTime) where
   -- the answer where no key opens
-  pub open_none : OpensExactly site.keys.now stored None → (place : ℕ) (s : SessionState)
+  pub open_none : OpensExactly (Some session_purpose) site.keys.now stored None → (place : ℕ) (s : SessionState)
       → (◌≡◌ {A = Option Opened} None (Some (opened s place))) ↔ IsOpen site stored now place s
   open_none answers place s = (
     λ e. absurd (none-some (opened s place) e),
     λ is. absurd (none-some (place, session_text s) ((answers.exact place (session_text s)).1 is.sealed)),
   )
 
-  module _ (opening : Opening) (answers : OpensExactly site.keys.now stored (Some opening)) where
+  module _ (opening : Opening) (answers : OpensExactly (Some session_purpose) site.keys.now stored (Some opening)) where
     -- what was opened is the session's text
     told : (place : ℕ) (s : SessionState) → IsOpen site stored now place s → (opening.place ≡ place) × IsSessionText opening.cookie.fields.value s
     told place s is =
@@ -62,8 +62,8 @@ module _ (site : Sessions) (stored : Option Record) (now : DateTime) where
             let text = (reads s).0 (ap Some same) in
             record {
               session = text.session;
-              sealed = subst (IsStoredFor (OpensAt site.keys.now place) stored) text.written
-                  (subst (λ n. IsStoredFor (OpensAt site.keys.now n) stored opening.cookie.fields.value) there ((answers.exact opening.place opening.cookie.fields.value).0 refl));
+              sealed = subst (IsStoredFor (OpensAt (Some session_purpose) site.keys.now place) stored) text.written
+                  (subst (λ n. IsStoredFor (OpensAt (Some session_purpose) site.keys.now n) stored opening.cookie.fields.value) there ((answers.exact opening.place opening.cookie.fields.value).0 refl));
               lives = subst (LivesAt site now) same (lives.0 living);
             },
         λ is.
@@ -76,11 +76,11 @@ module _ (site : Sessions) (stored : Option Record) (now : DateTime) where
 
 module _ (site : Sessions) (stored : Option Record) where
   -- where no key opens it
-  pub once_unopened : OpensExactly site.keys.now stored None → HoldsOne site stored
+  pub once_unopened : OpensExactly (Some session_purpose) site.keys.now stored None → HoldsOne site stored
   once_unopened answers now later place other_place session other is _ =
       absurd (none-some (place, session_text session) ((answers.exact place (session_text session)).1 is.sealed))
 
-  module _ (opening : Opening) (answers : OpensExactly site.keys.now stored (Some opening)) (found : Option SessionState)
+  module _ (opening : Opening) (answers : OpensExactly (Some session_purpose) site.keys.now stored (Some opening)) (found : Option SessionState)
       (reads : (s : SessionState) → (found ≡ Some s) ↔ IsSessionText opening.cookie.fields.value s) where
     -- what is read of it is the session that it holds
     read_is : (now : DateTime) (place : ℕ) (s : SessionState) → IsOpen site stored now place s → found ≡ Some s

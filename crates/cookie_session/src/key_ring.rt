@@ -1,14 +1,15 @@
 //! The keys of a site.
-ghost use Rattle.std.specs.Prelude.{◌≡◌, ◌≢◌, ◌↔◌, ◌<◌, ◌++◌, [], ◌∷◌, ℕ, List, None, Some, Err, IfNone, IfOk, IfSome, OnErr, OnOk, alloc_error, length, slice_get};
+ghost use Rattle.std.specs.Prelude.{◌≡◌, ◌≢◌, ◌↔◌, ◌<◌, ◌++◌, [], ◌∷◌, ℕ, List, None, Some, Err, IfNone, IfOk, IfSome, OnErr, OnOk, alloc_error, length, option_map, slice_get, string_bytes};
+ghost use Rattle.std.specs.Option.{option_copied};
 ghost use Rattle.cookie.specs.Jar.{Add, after, view};
 ghost use Rattle.cookie.specs.Keys.{encryption_half};
 ghost use Rattle.cookie.specs.Memory.{Gives};
 ghost use Rattle.cookie.specs.Sealing.{CanSeal, IsNonce, sealed_cookie};
 ghost use Rattle.cookie.specs.declared.jar_error.JarError.TheVariants as refusal;
-ghost use Rattle.cookie_session.specs.KeyRing.{KeepsOpening, LeavesOpening, OpensExactly, OpensNewest, newest};
+ghost use Rattle.cookie_session.specs.KeyRing.{IsSealedUnder, KeepsOpening, LeavesOpening, OpensExactly, OpensNewest, newest};
 
 use crate::opening::Opening;
-use cookie::{Cookie, CookieJar, JarError, Key, SealedText};
+use cookie::{Cookie, CookieJar, JarError, Key, Sealer};
 use rand_core::TryRng;
 use std::alloc::{AllocError, Global};
 use std::marker::Model;
@@ -127,24 +128,26 @@ impl KeyRing {
     /// Fails only if out of memory.
     pub fn get(&self, jar: &CookieJar, name: &str) -> Result<Option<Opening>, AllocError>
         ensures { Gives alloc_error result (λ answer.
-            OpensExactly self.now (view jar.now name.now) answer) }
+            OpensExactly None self.now (view jar.now name.now) answer) }
     {
         match jar.get(name) {
-            Some(cookie) => self.open(cookie),
+            Some(cookie) => self.open(None, cookie),
             None => Ok(None),
         }
     }
 
-    // A copy of the cookie, opened by the newest key that opens it. Its value is decoded once for all keys.
-    pub(crate) fn open(&self, cookie: &Cookie<'static>) -> Result<Option<Opening>, AllocError>
+    // A copy of the cookie, opened by the newest key that opens it, for the purpose if there is one.
+    pub(crate) fn open(
+        &self,
+        purpose: Option<&str>,
+        cookie: &Cookie<'static>,
+    ) -> Result<Option<Opening>, AllocError>
         ensures { Gives alloc_error result (λ answer.
-            OpensExactly self.now (Some cookie.now.fields) answer) }
+            OpensExactly (option_copied purpose.entry) self.now (Some cookie.now.fields) answer) }
     {
         let alloc = *self.keys.allocator();
-        let text = SealedText::of(alloc, cookie.value())?;
         for place in 0..self.len() {
-            let sealer = self.at(place).sealer();
-            if let Some(value) = sealer.open_decoded(alloc, cookie.name(), &text)? {
+            if let Some(value) = value_in(alloc, self.at(place).sealer(), purpose, cookie)? {
                 let mut cookie = cookie.clone(alloc)?;
                 cookie.set_value_owned(value);
                 return Ok(Some(Opening { cookie, place }));
@@ -197,5 +200,23 @@ impl KeyRing {
         ensures { slice_get self.now place ≡ Some result.now }
     {
         &self.keys[place]
+    }
+}
+
+// The value that is sealed in the cookie, for the purpose if there is one.
+fn value_in(
+    alloc: Global,
+    sealer: &Sealer,
+    purpose: Option<&str>,
+    cookie: &Cookie<'_>,
+) -> Result<Option<String>, AllocError>
+    ensures { Gives alloc_error result (λ answer. (v : List ℕ)
+        → (option_map string_bytes answer ≡ Some v)
+        ↔ IsSealedUnder (option_copied purpose.entry) sealer.now cookie.now.fields.name
+        cookie.now.fields.value v) }
+{
+    match purpose {
+        Some(purpose) => sealer.open_for(alloc, purpose, cookie.name(), cookie.value()),
+        None => sealer.open(alloc, cookie.name(), cookie.value()),
     }
 }

@@ -2,10 +2,10 @@
 ghost use Rattle.std.specs.Prelude.{◌≡◌, ◌↔◌, ◌+◌, ◌/◌, ◌<◌, ◌≤◌, ℕ, Err, IfOk, IfSome, IsTrue, List, Ok, OnErr, OnOk, false, true};
 ghost use Rattle.cookie.specs.Jar.{Add, after, view};
 ghost use Rattle.cookie.specs.Record.{IsCookie};
-ghost use Rattle.cookie.specs.Sealing.{CanSeal, IsNonce};
+ghost use Rattle.cookie.specs.Sealing.{IsNonce};
 ghost use Rattle.cookie_session.specs.Seconds.{second_of};
 ghost use Rattle.cookie_session.specs.Session.{seen_at};
-ghost use Rattle.cookie_session.specs.Sessions.{CanSave, IsStored, bare_cookie, meets_prefix, saved_cookie};
+ghost use Rattle.cookie_session.specs.Sessions.{CanSave, CanSealSession, IsStored, bare_cookie, meets_prefix, saved_cookie};
 ghost use Rattle.cookie_session.specs.Size.{browser_length, most_bytes};
 ghost use Rattle.cookie_session.specs.Visit.{IsDue, MustSave};
 ghost use Rattle.cookie_session.specs.declared.session_error.SessionError.TheVariants as refusal;
@@ -82,11 +82,11 @@ impl<'a> Sessions<'a> {
         ensures too_long { MustSave self.now now visit.now
             → CanSave self.now now visit.now.session
             → ¬ (result ≡ Err refusal.Prefix) → ¬ (result ≡ Err refusal.OutOfMemory)
-            → (¬ (CanSeal (bare_cookie self.now now visit.now.session)))
+            → (¬ (CanSealSession (bare_cookie self.now now visit.now.session)))
             ↔ (result ≡ Err refusal.TooLong) }
         ensures undrawn { ¬ ((meets_prefix self.now.cookie.now.fields ≡ true)
             × CanSave self.now now visit.now.session
-            × CanSeal (bare_cookie self.now now visit.now.session)) → rng.new ≡ rng.old }
+            × CanSealSession (bare_cookie self.now now visit.now.session)) → rng.new ≡ rng.old }
         ensures too_large { (size : ℕ) → result ≡ Err (refusal.TooLarge size)
             → (most_bytes < size) × (nonce : List ℕ) × IsNonce nonce
             × R.may_fill rng.old nonce rng.new

@@ -1,13 +1,16 @@
 //! The sessions of a site.
-ghost use Rattle.std.specs.Prelude.{◌≡◌, ◌↔◌, ◌<◌, ◌≤◌, ◌-◌, ◌+◌, min, true, ℕ, List, Some, Err, IfErr, IfOk, IfSome, OnOk, OnErr, alloc_error, map, string_bytes};
+ghost use Rattle.std.specs.Prelude.{◌≡◌, ◌↔◌, ◌<◌, ◌≤◌, ◌-◌, ◌+◌, min, true, ℕ, List, Some, Err, IfErr, IfOk, IfSome, OnOk, OnErr, alloc_error, length, map, string_bytes};
 ghost use Rattle.cookie.specs.Jar.{Add, Remove, after, view};
 ghost use Rattle.cookie.specs.Memory.{Gives};
 ghost use Rattle.cookie.specs.Originals.{field_cookies, first_of_name, jar_for};
 ghost use Rattle.cookie.specs.Record.{IsCookie};
-ghost use Rattle.cookie.specs.Sealing.{CanSeal, IsNonce};
+ghost use Rattle.cookie.specs.Keys.{encryption_half};
+ghost use Rattle.cookie.specs.Sealing.{IsNonce};
+ghost use Rattle.cookie.specs.SealingCalls.{IsDrawnCall};
+ghost use Rattle.cookie_session.specs.KeyRing.{newest};
 ghost use Rattle.cookie_session.specs.Seconds.{second_of};
 ghost use Rattle.cookie_session.specs.Session.{IsSession, SessionState, seen_at};
-ghost use Rattle.cookie_session.specs.Sessions.{CanSave, HoldsOne, IsOpen, IsStored, OpensFirst, bare_cookie, meets_prefix, saved_cookie, session_cookie};
+ghost use Rattle.cookie_session.specs.Sessions.{CanSave, CanSealSession, HoldsOne, IsOpen, IsSessionSealed, IsStored, OpensFirst, bare_cookie, meets_prefix, saved_cookie, session_cookie};
 ghost use Rattle.cookie_session.specs.SessionError.{IsBareRefusal};
 ghost use Rattle.cookie_session.specs.Size.{browser_length, most_bytes};
 ghost use Rattle.cookie_session.specs.declared.session_error.SessionError.TheVariants as refusal;
@@ -22,11 +25,14 @@ use crate::session::Session;
 use crate::session_error::SessionError;
 use crate::session_text::read_session;
 use crate::size::browser_length;
-use cookie::{Cookie, CookieJar, MOST_BYTES, field_cookies};
+use cookie::{Cookie, CookieJar, JarError, MOST_BYTES, field_cookies};
 use jiff::SignedDuration;
 use jiff::civil::DateTime;
 use rand_core::TryRng;
 use std::alloc::{AllocError, Global};
+
+// What the values of sessions are sealed for.
+const PURPOSE: &str = "session";
 
 /// How a site keeps its sessions: one encrypted cookie holds a session.
 #[derive(Clone, Copy)]
@@ -160,7 +166,7 @@ impl<'a> Sessions<'a> {
             ↔ IsOpen self.now (Some cookie.now.fields) now place s) }
         ensures once { IfOk result (λ _. HoldsOne self.now (Some cookie.now.fields)) }
     {
-        let Some(opening) = self.keys.open(cookie)? else {
+        let Some(opening) = self.keys.open(Some(PURPOSE), cookie)? else {
             return Ok(None);
         };
         let Some(session) = read_session(alloc, opening.cookie.value())? else {
@@ -220,12 +226,12 @@ impl<'a> Sessions<'a> {
         ensures lives { OnOk result (CanSave self.now now session.now) }
         ensures too_long { CanSave self.now now session.now
             → ¬ (result ≡ Err refusal.Prefix) → ¬ (result ≡ Err refusal.OutOfMemory)
-            → (¬ (CanSeal (bare_cookie self.now now session.now)))
+            → (¬ (CanSealSession (bare_cookie self.now now session.now)))
             ↔ (result ≡ Err refusal.TooLong) }
-        ensures within { OnOk result (CanSeal (bare_cookie self.now now session.now)) }
+        ensures within { OnOk result (CanSealSession (bare_cookie self.now now session.now)) }
         ensures undrawn { ¬ ((meets_prefix self.now.cookie.now.fields ≡ true)
             × CanSave self.now now session.now
-            × CanSeal (bare_cookie self.now now session.now)) → rng.new ≡ rng.old }
+            × CanSealSession (bare_cookie self.now now session.now)) → rng.new ≡ rng.old }
         ensures failed { result ≡ Err refusal.Generator → R.Error }
         ensures too_large { (size : ℕ) → result ≡ Err (refusal.TooLarge size)
             → (most_bytes < size) × (nonce : List ℕ) × IsNonce nonce
@@ -236,7 +242,7 @@ impl<'a> Sessions<'a> {
         ensures err { OnErr result (jar.new ≡ jar.old) }
     {
         let cookie = self.bare_cookie(alloc, session, now)?;
-        let sealed = self.keys.newest().sealer().encrypt(alloc, cookie, rng)?;
+        let sealed = self.sealed(alloc, cookie, rng)?;
         let size = browser_length(alloc, &sealed)?;
         if size > MOST_BYTES {
             return Err(SessionError::TooLarge(size));
@@ -258,6 +264,24 @@ impl<'a> Sessions<'a> {
     {
         let removed = jar.remove(self.cookie.clone(alloc)?, now);
         removed.map_err(|_| AllocError)
+    }
+
+    // The cookie with its value sealed as a session, under the newest key.
+    fn sealed<R: TryRng>(
+        &self,
+        alloc: Global,
+        mut cookie: Cookie<'static>,
+        rng: &mut R,
+    ) -> Result<Cookie<'static>, JarError>
+        ensures outcome { IsDrawnCall (CanSealSession cookie.entry.fields)
+            (IsSessionSealed (encryption_half (newest self.now.keys.now)) cookie.entry.fields)
+            (λ nonce. R.may_fill rng.old nonce rng.new) (rng.new ≡ rng.old) R.Error result }
+        ensures some { 0 < length self.now.keys.now }
+    {
+        let sealer = self.keys.newest().sealer();
+        let value = sealer.seal_for(alloc, PURPOSE, cookie.name(), cookie.value(), rng)?;
+        cookie.set_value_owned(value);
+        Ok(cookie)
     }
 
     // The cookie of a session that is saved at the time `now`, before it is encrypted.

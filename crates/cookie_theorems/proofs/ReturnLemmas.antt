@@ -12,7 +12,7 @@ use Rattle.cookie.specs.DeltaTexts.{AreDeltaTexts}
 use Rattle.cookie.specs.History.{accepted_items, after_all}
 use Rattle.cookie.specs.Jar.{Add, Change, JarState, Name, added_mark, after, view}
 use Rattle.cookie.specs.Record.{IsCookie, Record, plain}
-use Rattle.cookie.specs.Sealing.{CanSeal, IsNonce}
+use Rattle.cookie.specs.Sealing.{IsNonce}
 use Rattle.cookie.proofs.AnswerLemmas.{view-stored}
 use Rattle.cookie.proofs.NameLemmas.{get_inserted}
 use Rattle.cookie_client.specs.Agreement.{Agrees, value_of}
@@ -23,7 +23,7 @@ use Rattle.cookie_client.proofs.AgreementLemmas.{agreement}
 use Rattle.cookie_client.proofs.ChangeLemmas.{fit_changes, known_changes}
 use Rattle.cookie_session.specs.Seconds.{second_of}
 use Rattle.cookie_session.specs.Session.{SessionState, seen_at}
-use Rattle.cookie_session.specs.Sessions.{CanSave, IsOpen, IsStored, bare_cookie, meets_prefix, saved_cookie, time_left}
+use Rattle.cookie_session.specs.Sessions.{CanSave, CanSealSession, IsOpen, IsStored, bare_cookie, meets_prefix, saved_cookie, time_left}
 use Rattle.cookie_session.specs.Size.{browser_length, most_bytes}
 use Rattle.cookie_session.specs.declared.sessions.Sessions.{Sessions}
 use Rattle.cookie_theorems.specs.Returning.{CanReturn, IsHandled}
@@ -55,7 +55,7 @@ some_left started lifetime idle now young used = omega arith
 
 pub handled : (IsDrawn : List ℕ → Type 0) (site : Sessions) (nonce : List ℕ) (now : DateTime) (session : SessionState) (start old new : JarState) (calls : List JarCall)
     (outcomes : List Bool) → AllZip IsOutcome calls outcomes → old ≡ after_all (changes_of outcomes calls) start → IsNonce nonce → IsDrawn nonce
-    → new ≡ after (Add (saved_cookie site nonce now session)) old → meets_prefix site.cookie.now.fields ≡ true → CanSave site now session → CanSeal (bare_cookie site now session)
+    → new ≡ after (Add (saved_cookie site nonce now session)) old → meets_prefix site.cookie.now.fields ≡ true → CanSave site now session → CanSealSession (bare_cookie site now session)
     → IfSome (view new site.cookie.now.fields.name) (λ cookie. browser_length cookie ≤ most_bytes) → IsHandled IsDrawn site calls session now start new
 handled IsDrawn site nonce now session start old new calls outcomes told played is_nonce drawn added meets lives within fits =
     let saved : Record = saved_cookie site nonce now session in

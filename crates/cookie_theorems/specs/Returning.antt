@@ -8,12 +8,12 @@ use Rattle.cookie.specs.History.{after_all}
 use Rattle.cookie.specs.Jar.{Add, JarState, after, view}
 use Rattle.cookie.specs.Normal.{IsUncut}
 use Rattle.cookie.specs.Originals.{jar_for}
-use Rattle.cookie.specs.Sealing.{CanSeal, IsNonce}
+use Rattle.cookie.specs.Sealing.{IsNonce}
 use Rattle.cookie_client.specs.Calls.{IsFitCall, IsOutcome, changes_of}
 use Rattle.cookie_client.specs.Client.{Values, after_texts, header_text}
 use Rattle.cookie_client.specs.declared.call.JarCall.{JarCall}
 use Rattle.cookie_session.specs.Session.{SessionState}
-use Rattle.cookie_session.specs.Sessions.{CanSave, IsOpen, LivesAt, bare_cookie, meets_prefix, saved_cookie}
+use Rattle.cookie_session.specs.Sessions.{CanSave, CanSealSession, IsOpen, LivesAt, bare_cookie, meets_prefix, saved_cookie}
 use Rattle.cookie_session.specs.Size.{browser_length, most_bytes}
 use Rattle.cookie_session.specs.declared.opened.Opened.{Opened}
 use Rattle.cookie_session.specs.declared.sessions.Sessions.{Sessions}
@@ -48,7 +48,7 @@ pub record IsHandled (IsDrawn : List ℕ → Type 0) (site : Sessions) (calls : 
   -- the session is one that can be saved
   pub meets : meets_prefix site.cookie.now.fields ≡ true
   pub lives : CanSave site now session
-  pub within : CanSeal (bare_cookie site now session)
+  pub within : CanSealSession (bare_cookie site now session)
   -- a browser takes the cookie's size (RFC 6265bis 5.7)
   pub fits : browser_length (saved_cookie site nonce now session) ≤ most_bytes
 

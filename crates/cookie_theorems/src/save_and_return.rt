@@ -7,12 +7,12 @@ ghost use Rattle.cookie.specs.History.{after_all};
 ghost use Rattle.cookie.specs.Jar.{Name, view};
 ghost use Rattle.cookie.specs.Originals.{jar_for};
 ghost use Rattle.cookie.specs.Record.{plain};
-ghost use Rattle.cookie.specs.Sealing.{CanSeal, IsNonce};
+ghost use Rattle.cookie.specs.Sealing.{IsNonce};
 ghost use Rattle.cookie_client.specs.Calls.{IsOutcome, changes_of};
 ghost use Rattle.cookie_client.specs.Client.{after_texts, header_text};
 ghost use Rattle.cookie_session.specs.Seconds.{second_of};
 ghost use Rattle.cookie_session.specs.Session.{seen_at};
-ghost use Rattle.cookie_session.specs.Sessions.{CanSave, bare_cookie, meets_prefix, saved_cookie};
+ghost use Rattle.cookie_session.specs.Sessions.{CanSave, CanSealSession, bare_cookie, meets_prefix, saved_cookie};
 ghost use Rattle.cookie_session.specs.Size.{browser_length, most_bytes};
 ghost use Rattle.cookie_session.specs.declared.session_error.SessionError.TheVariants as refusal;
 ghost use Rattle.cookie_theorems.specs.Returning.{CanReturn, IsReturned};
@@ -61,7 +61,7 @@ pub fn save_and_return<R: TryRng>(
     ensures over { meets_prefix sessions.now.cookie.now.fields ≡ true
         → result ≡ Err refusal.Over → ¬ (CanSave sessions.now now session.now) }
     ensures too_long { CanSave sessions.now now session.now → result ≡ Err refusal.TooLong
-        → ¬ (CanSeal (bare_cookie sessions.now now session.now)) }
+        → ¬ (CanSealSession (bare_cookie sessions.now now session.now)) }
     ensures too_large { (size : ℕ) → result ≡ Err (refusal.TooLarge size)
         → (most_bytes < size) × (nonce : List ℕ) × IsNonce nonce
         × R.may_fill rng.old nonce rng.new

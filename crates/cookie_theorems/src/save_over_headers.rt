@@ -1,11 +1,11 @@
 //! A request that saves a session, and the client's next one, over header maps.
 ghost use Rattle.std.specs.Prelude.{◌≡◌, ◌<◌, true, ℕ, List, Some, Err, IfOk, OnOk};
 ghost use Rattle.cookie.specs.AttributeValues.{AllFitFields};
-ghost use Rattle.cookie.specs.Sealing.{CanSeal, IsNonce};
+ghost use Rattle.cookie.specs.Sealing.{IsNonce};
 ghost use Rattle.cookie_http.specs.declared.http_error.HttpError.TheVariants as http_refusal;
 ghost use Rattle.cookie_session.specs.Seconds.{second_of};
 ghost use Rattle.cookie_session.specs.Session.{seen_at};
-ghost use Rattle.cookie_session.specs.Sessions.{CanSave, bare_cookie, meets_prefix, saved_cookie};
+ghost use Rattle.cookie_session.specs.Sessions.{CanSave, CanSealSession, bare_cookie, meets_prefix, saved_cookie};
 ghost use Rattle.cookie_session.specs.Size.{browser_length, most_bytes};
 ghost use Rattle.cookie_session.specs.declared.session_error.SessionError.TheVariants as refusal;
 ghost use Rattle.cookie_theorems.specs.Carrying.{CarriesDelta};
@@ -66,7 +66,7 @@ pub fn save_over_headers<R: TryRng>(
         → ¬ (CanSave sessions.now now session.now) }
     ensures too_long { CanSave sessions.now now session.now
         → result ≡ Err (failure.Session refusal.TooLong)
-        → ¬ (CanSeal (bare_cookie sessions.now now session.now)) }
+        → ¬ (CanSealSession (bare_cookie sessions.now now session.now)) }
     ensures too_large { (size : ℕ) → result ≡ Err (failure.Session (refusal.TooLarge size))
         → (most_bytes < size) × (nonce : List ℕ) × IsNonce nonce
         × R.may_fill rng.old nonce rng.new

@@ -6,11 +6,11 @@ use Rattle.cookie.specs.Jar.{Add, JarState, after, view}
 use Rattle.cookie.specs.Memory.{Gives}
 use Rattle.cookie.specs.Originals.{field_cookies, first_of_name}
 use Rattle.cookie.specs.Record.{IsCookie, Record}
-use Rattle.cookie.specs.Sealing.{CanSeal, IsNonce}
+use Rattle.cookie.specs.Sealing.{IsNonce}
 use Rattle.cookie_session.specs.Revocations.{IsRevokedToo, end_of}
 use Rattle.cookie_session.specs.Seconds.{second_of}
 use Rattle.cookie_session.specs.Session.{SessionState, seen_at}
-use Rattle.cookie_session.specs.Sessions.{CanSave, HoldsOne, IsStored, OpensOne, OpensUnrevoked, bare_cookie, meets_prefix, saved_cookie}
+use Rattle.cookie_session.specs.Sessions.{CanSave, CanSealSession, HoldsOne, IsStored, OpensOne, OpensUnrevoked, bare_cookie, meets_prefix, saved_cookie}
 use Rattle.cookie_session.specs.Size.{browser_length, most_bytes}
 use Rattle.cookie_session.specs.declared.session_error.SessionError.{SessionError}
 use Rattle.cookie_session.specs.declared.session_error.SessionError.TheVariants as failure
@@ -94,7 +94,7 @@ pub record IsSaved (IsDrawn : List ℕ → Type 0) (sessions : Sessions) (now : 
       × (new ≡ after (Add (saved_cookie sessions nonce now session)) old)
   pub meets : meets_prefix sessions.cookie.now.fields ≡ true
   pub lives : CanSave sessions now session
-  pub within : CanSeal (bare_cookie sessions now session)
+  pub within : CanSealSession (bare_cookie sessions now session)
   -- a browser stores it
   pub fits : IfSome (view new sessions.cookie.now.fields.name)
       (λ cookie. browser_length cookie ≤ most_bytes)
@@ -119,7 +119,7 @@ pub record FailsToSave {T : Type 0} (IsDrawn : List ℕ → Type 0) (CanFail : T
   pub over : meets_prefix sessions.cookie.now.fields ≡ true
       → (¬ (CanSave sessions now session)) ↔ (result ≡ Err failure.Over)
   pub too_long : CanSave sessions now session → ¬ (result ≡ Err failure.Prefix)
-      → (¬ (CanSeal (bare_cookie sessions now session))) ↔ (result ≡ Err failure.TooLong)
+      → (¬ (CanSealSession (bare_cookie sessions now session))) ↔ (result ≡ Err failure.TooLong)
   pub generator : result ≡ Err failure.Generator → CanFail
   pub too_large : (size : ℕ) → result ≡ Err (failure.TooLarge size)
       → (most_bytes < size) × (nonce : List ℕ) × IsNonce nonce × IsDrawn nonce
@@ -137,4 +137,4 @@ FailsFor IsDrawn CanFail sessions now (Some session) result =
 abbrev pub Draws : Sessions → DateTime → Option SessionState → Type 0
 Draws sessions now None = ⊥
 Draws sessions now (Some session) =
-    CanSave sessions now session × CanSeal (bare_cookie sessions now session)
+    CanSave sessions now session × CanSealSession (bare_cookie sessions now session)

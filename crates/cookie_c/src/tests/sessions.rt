@@ -18,7 +18,7 @@ const NOW: u64 = 1_445_412_480;
 
 // The session of ann, with the id of bytes 7, under the key of bytes 1.
 const HEADER: &[u8] =
-    b"__Host-session=BwcHBwcHBwcHBwcH+87ZgmbKjONu+Uxy0aMviNDKyZsTCEcbfEF7/5EyIdktW7bnpeCI2ZBoCu2FBUCJvjj9Q/BEVKhC6CoMc+9Tkpk72dHUtmPrWOVksf86cKUykZAOETsDS3w=";
+    b"__Host-session=BwcHBwcHBwcHBwcH-87ZgmbKjONu-Uxy0aMviNDKyZsTCEcbfEF7_5EyIdktW7bnpeCI2ZBoCu2FBUCJvjj9Q_BEVKhC6CoMc-9Tkpk72dHUtmPrWGIJ7XkhCxxk6_aKGWjQ6_0";
 
 fn settings<'a>(keys: &'a [u8], cookie: &'a [u8]) -> SessionSettings<'a> {
     SessionSettings {

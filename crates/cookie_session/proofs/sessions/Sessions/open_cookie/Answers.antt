@@ -1,6 +1,7 @@
 use Rattle.std.proofs.Common.{◌≡◌, ◌↔◌, true, Some, rules, subst}
 use Rattle.std.specs.Prelude.{IsTrue}
 use Rattle.cookie_session.specs.KeyRing.{OpensExactly}
+use Rattle.cookie_session.specs.Sessions.{session_purpose}
 use Rattle.cookie_session.specs.Session.{IsAlive, IsSessionText, SessionState, seen_at}
 use Rattle.cookie_session.proofs.SessionLemmas.{open_right}
 use Rattle.cookie_session.proofs.sessions.Sessions.open_cookie.Goals as goal
@@ -12,7 +13,7 @@ returns-clause-answers c =
     let opening = c.in-Some.opening in
     let session : SessionState = c.in-Some-2.session in
     let alive = c.is_alive.result in
-    let answers = subst (OpensExactly site.keys.now stored) c.in-Some.is c.in_ok-opening.ensures in
+    let answers = subst (OpensExactly (Some session_purpose) site.keys.now stored) c.in-Some.is c.in_ok-opening.ensures in
     let reads = λ (s : SessionState). subst (λ t. (Some session ≡ Some s) ↔ IsSessionText t s) c.value.ensures
     (subst (λ o. (o ≡ Some s) ↔ IsSessionText c.value.result.now s) c.in-Some-2.is (c.in_ok-session.ensures s)) in
     let lives = subst (λ n. IsTrue alive ↔ IsAlive site.lifetime site.idle n session) c.second_of.ensures.value
