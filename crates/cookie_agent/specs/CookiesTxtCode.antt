@@ -1,5 +1,5 @@
 -- Mirrors private code: parts of a `cookies.txt`, as the code writes them.
-use Rattle.std.specs.Prelude.{ℕ, ◌&&◌, not, Bool, List, [], ◌∷◌, ◌++◌, decimal, map, Option, Some, None, if◌then◌else◌}
+use Rattle.std.specs.Prelude.{◌≡◌, ℕ, ◌&&◌, not, Bool, List, [], ◌∷◌, ◌++◌, decimal, map, Option, Some, None, if◌then◌else◌}
 use denote.Ref.{Bor}
 use Rattle.std.specs.List.{concat, join_with_byte}
 use Rattle.std.specs.Str.Lines.{strip_carriage_return}
@@ -7,7 +7,7 @@ use Rattle.jiff.specs.Types.{DateTime}
 use Rattle.jiff.specs.Words.{civil_nanos}
 use Rattle.cookie_core.specs.Attributes.{nanos_of_seconds, seconds_of_digits}
 use Rattle.cookie_browser.specs.Storage.{KeptView, CookieStore}
-use Rattle.cookie_agent.specs.CookiesTxt.{cookie_line, cookie_of, domain_field, expiry_seconds, flag_of, flag_text, has_fields, http_only_mark, is_carried, line_read, read_line}
+use Rattle.cookie_agent.specs.CookiesTxt.{cookie_line, cookie_of, domain_field, expiry_seconds, flag_of, flag_text, has_fields, http_only_mark, is_carried, line_of_fields, line_read, read_line}
 use Rattle.cookie_agent.specs.Saved.{is_persistent, places_of, saved}
 use Rattle.cookie_agent.specs.declared.saved.cookies_txt.Fields.{Fields}
 use Rattle.cookie_agent.specs.declared.saved.cookies_txt.Kind.{Kind}
@@ -56,6 +56,12 @@ line_of_parts now http_only (Some fields) =
     read_line now http_only fields.domain.now (flag_of fields.below.now) fields.path.now
     (flag_of fields.secure.now) (seconds_of_digits fields.expiry.now) fields.name.now
     fields.value.now
+
+-- a line of the texts holds what one of the fields holds
+abbrev pub AreFieldsOf : List (List ℕ) → Option Fields → Type 0
+AreFieldsOf texts fields =
+    (now : DateTime) (http_only : Bool)
+    → line_of_parts now http_only fields ≡ line_of_fields now http_only texts
 
 -- the line of the cookie with an expiry of so many seconds
 abbrev pub line_at : ℕ → KeptView → List ℕ

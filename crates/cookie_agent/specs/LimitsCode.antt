@@ -88,7 +88,10 @@ rank_cmp Whole left right = access_cmp left right
 abbrev pub comes_before : Group → Rank → Rank → Bool
 comes_before group left right = is_lt (rank_cmp group left right)
 
+-- the other one is of its group, and goes later
+abbrev pub is_outlasted : Group → Rank → Rank → Bool
+is_outlasted group rank other = shares group rank other && comes_before group rank other
+
 -- fewer than the limit are of its group and go later
 abbrev pub stays : Group → ℕ → List Rank → Rank → Bool
-stays group limit items rank =
-    nat_lt (count_by (λ other. shares group rank other && comes_before group rank other) items) limit
+stays group limit items rank = nat_lt (count_by (is_outlasted group rank) items) limit

@@ -1,5 +1,5 @@
 //! Netscape's `cookies.txt`.
-ghost use Rattle.std.specs.Prelude.{◌≡◌, ◌++◌, ◌∷◌, ◌==◌, ◌+ℤ◌, ℕ, Bool, [], IfOk, OnOk, Some, map, option_map, pos};
+ghost use Rattle.std.specs.Prelude.{◌≡◌, ◌++◌, ◌∷◌, ◌==◌, ◌+ℤ◌, ℕ, [], IfOk, OnOk, Some, map, option_map, pos};
 ghost use Rattle.jiff.specs.Types.{DateTime};
 ghost use Rattle.jiff.specs.Words.{civil_nanos, signed_nanos};
 ghost use Rattle.cookie_core.specs.Attributes.{seconds_of_digits};
@@ -298,8 +298,7 @@ fn read_fields(
 impl<'t> Fields<'t> {
     // The fields of these texts. Without the seventh the value is empty.
     fn of(texts: &[&'t [u8]]) -> Option<Fields<'t>>
-        ensures { (now : DateTime) (is_http_only : Bool) → code.line_of_parts now is_http_only result
-            ≡ spec.line_of_fields now is_http_only (map (λ t. t.now) texts.entry.now) }
+        ensures { code.AreFieldsOf (map (λ t. t.now) texts.entry.now) result }
     {
         if texts.len() == 7 {
             return Some(Fields {
