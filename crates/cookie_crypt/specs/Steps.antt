@@ -26,10 +26,11 @@ with_products count steps =
 abbrev pub block_count : ℕ → ℕ
 block_count bytes = (bytes + 15) / 16
 
--- the tag of a text under data, by their lengths: two blocks, and a product for each block of data, text and lengths
+-- the tag of a text under data, by their lengths: one block, and a product for each block of data, text and lengths. The
+-- hash subkey and its multiples are made with the key
 abbrev pub tag_steps : ℕ → ℕ → StepCounts
 tag_steps aad text = record {
-  blocks = 2;
+  blocks = 1;
   products = block_count aad + block_count text + 1;
   table_steps = 32 * (block_count aad + block_count text + 1);
 }
@@ -37,7 +38,7 @@ tag_steps aad text = record {
 -- the sealing of a text under data: those, and a block for each block of the text
 abbrev pub sealing_steps : ℕ → ℕ → StepCounts
 sealing_steps aad text = record {
-  blocks = block_count text + 2;
+  blocks = block_count text + 1;
   products = block_count aad + block_count text + 1;
   table_steps = 32 * (block_count aad + block_count text + 1);
 }

@@ -1,7 +1,6 @@
 //! AES-256-GCM with a nonce of twelve bytes (SP 800-38D).
 ghost use Rattle.std.specs.Prelude.{◌≡◌, ◌<◌, ◌≤◌, ◌+◌, ◌-◌, ◌^◌, ◌↔◌, ⊤, ℕ, List, length, IsSome, IfSome, IfNone, OnSome};
 ghost use Rattle.std.specs.Bool.{OnTrue, OnFalse};
-ghost use Rattle.cookie_crypt.specs.Bytes.{IsBytes};
 ghost use Rattle.cookie_crypt.specs.Gcm.{gctr, tag_of, tag_by_steps, hash_subkey, longest_text, IsWithin, IsSealing, SealsToBytes};
 ghost use Rattle.cookie_crypt.specs.Ghash.{HasSum, HasPowersFirst};
 ghost use Rattle.cookie_crypt.specs.Steps.{block_count, with_blocks, no_steps, tag_steps, sealing_steps};
@@ -36,39 +35,51 @@ fn add_key_stream(cipher: &Aes256, nonce: &[u8; 12], text: &mut [u8], steps: &mu
 }
 
 // The tag of an encrypted text (SP 800-38D 7.1, steps 4 to 6).
-fn tag_of(cipher: &Aes256, nonce: &[u8; 12], aad: &[u8], text: &[u8], steps: &mut Steps) -> [u8; 16]
+fn tag_of(
+    cipher: &Aes256,
+    multiples: &Multiples,
+    nonce: &[u8; 12],
+    aad: &[u8],
+    text: &[u8],
+    steps: &mut Steps,
+) -> [u8; 16]
+    requires subkey { multiples.now ≡ hash_subkey cipher.now }
     requires within { IsWithin (length aad.now) (length text.now) }
     requires room { steps.old.blocks < 2 ^ 40 }
     requires no_products { steps.old.products ≡ 0 }
     requires no_table_steps { steps.old.table_steps ≡ 0 }
     ensures made { result ≡ tag_of cipher.now nonce.now aad.now text.now }
     ensures by_steps { result ≡ tag_by_steps cipher.now nonce.now aad.now text.now }
-    ensures powers_first { HasPowersFirst (hash_subkey cipher.now) }
     ensures counted { steps.new
         ≡ with_blocks steps.old.blocks (tag_steps (length aad.now) (length text.now)) }
 {
-    let subkey = number_of(steps.encrypt_block(cipher, [0; 16]));
-    let multiples = Multiples::new(subkey);
-    let hash = hash_from(0, &multiples, aad, steps);
-    let hash = hash_from(hash, &multiples, text, steps);
+    let hash = hash_from(0, multiples, aad, steps);
+    let hash = hash_from(hash, multiples, text, steps);
     let lengths = ((8 * aad.len() as u128) << 64) + 8 * text.len() as u128;
-    let hash = steps.product(&multiples, hash ^ lengths);
+    let hash = steps.product(multiples, hash ^ lengths);
     let mask = number_of(steps.encrypt_block(cipher, counter_block(nonce, 1)));
     bytes_of(hash ^ mask)
 }
 
-/// AES-256-GCM under a key. Contracts see the key.
+/// AES-256-GCM under a key. Contracts see the key. It keeps the multiples of the hash subkey, which each tag looks up.
 #[derive(Drop)]
 pub struct Gcm {
     cipher: Aes256,
+    multiples: Multiples,
 }
 
 impl Model for Gcm {
+    ghost use Rattle.std.specs.Prelude.{◌≡◌, ℕ, List};
+    ghost use Rattle.cookie_crypt.specs.Bytes.{IsBytes};
+    ghost use Rattle.cookie_crypt.specs.Gcm.{hash_subkey};
+    ghost use Rattle.cookie_crypt.specs.Ghash.{HasPowersFirst};
+
     ghost Value = { List ℕ };
 
     ghost view = { λ g. g.cipher };
 
-    ghost invariant = { λ g. IsBytes g.cipher };
+    ghost invariant = { λ g. IsBytes g.cipher × (g.multiples ≡ hash_subkey g.cipher)
+        × HasPowersFirst (hash_subkey g.cipher) };
 }
 
 impl Gcm {
@@ -78,8 +89,11 @@ impl Gcm {
         ensures value { result ≡ key.now }
         ensures bytes { SealsToBytes key.now }
     {
+        let cipher = Aes256::new(key);
+        let subkey = number_of(cipher.encrypt_block([0; 16]));
         Gcm {
-            cipher: Aes256::new(key),
+            cipher,
+            multiples: Multiples::new(subkey),
         }
     }
 
@@ -114,13 +128,13 @@ impl Gcm {
 
         ensures bytes { SealsToBytes self.now }
     {
-        let cipher = &self.cipher;
+        let Gcm { cipher, multiples } = self;
         *steps = Steps::new();
         if text.len() > LONGEST_TEXT || aad.len() > LONGEST_DATA {
             return None;
         }
         add_key_stream(cipher, nonce, text, steps);
-        Some(tag_of(cipher, nonce, aad, text, steps))
+        Some(tag_of(cipher, multiples, nonce, aad, text, steps))
     }
 
     /// Decrypts the text in place and returns true if text and tag are a sealing (SP 800-38D 7.2). Else it returns
@@ -150,12 +164,12 @@ impl Gcm {
         ensures uncounted { ¬ IsWithin (length aad.now) (length text.old) → steps.new ≡ no_steps }
         ensures bytes { SealsToBytes self.now }
     {
-        let cipher = &self.cipher;
+        let Gcm { cipher, multiples } = self;
         *steps = Steps::new();
         if text.len() > LONGEST_TEXT || aad.len() > LONGEST_DATA {
             return false;
         }
-        if !are_equal(&tag_of(cipher, nonce, aad, text, steps), tag) {
+        if !are_equal(&tag_of(cipher, multiples, nonce, aad, text, steps), tag) {
             return false;
         }
         add_key_stream(cipher, nonce, text, steps);
@@ -172,6 +186,7 @@ impl Clone for Gcm {
     fn clone(&self) -> Result<Gcm, AllocError> {
         Ok(Gcm {
             cipher: self.cipher.copy(),
+            multiples: self.multiples.copy(),
         })
     }
 }

@@ -97,6 +97,17 @@ impl Multiples {
         }
     }
 
+    // The same multiples.
+    pub(crate) fn copy(&self) -> Multiples
+        ensures { result ≡ self.now }
+    {
+        Multiples {
+            block: self.block,
+            upper: self.upper,
+            lower: self.lower,
+        }
+    }
+
     /// The product of `block` and the block of these multiples.
     pub fn product(&self, block: u128) -> u128
         ensures { result ≡ field_product block self.now }

@@ -31,10 +31,10 @@ returns-clause-only c = λ plain h.
     ∙ ap (gctr key nonce) h.text_is ∙ gctr-gctr key nonce plain
 
 pub returns-then-text-gt-LONGEST_TEXT-clause-bytes : goal.returns-then-text-gt-LONGEST_TEXT-clause-bytes
-returns-then-text-gt-LONGEST_TEXT-clause-bytes c = seals_to_bytes_as c.args.self.now _ c.self.invariant c.self.view_is
+returns-then-text-gt-LONGEST_TEXT-clause-bytes c = seals_to_bytes_as c.args.self.now _ c.self.invariant.0 c.self.view_is
 
 pub returns-clause-bytes : goal.returns-clause-bytes
-returns-clause-bytes c = seals_to_bytes_as c.args.self.now _ c.self.invariant c.self.view_is
+returns-clause-bytes c = seals_to_bytes_as c.args.self.now _ c.self.invariant.0 c.self.view_is
 
 pub returns-then-not-are_equal-clause-bytes : goal.returns-then-not-are_equal-clause-bytes
-returns-then-not-are_equal-clause-bytes c = seals_to_bytes_as c.args.self.now _ c.self.invariant c.self.view_is
+returns-then-not-are_equal-clause-bytes c = seals_to_bytes_as c.args.self.now _ c.self.invariant.0 c.self.view_is
