@@ -1,9 +1,9 @@
 -- The associated data for a purpose: it is no name's, and no other purpose or name has it.
-use Rattle.std.proofs.Common.{◌≡◌, ℕ, ◌+◌, ◌/◌, ◌<◌, true, ltb, List, [], ◌∷◌, ◌++◌, All, IsUtf8, refl, sym, ap, subst, ◌∙◌, arith, ⊎_elim}
+use Rattle.std.proofs.Common.{◌≡◌, ℕ, ◌+◌, ◌/◌, ◌<◌, true, ltb, List, [], ◌∷◌, ◌++◌, All, IsUtf8, refl, sym, subst, arith, ⊎_elim}
 use Rattle.std.proofs.lemmas.Bool.{and_parts, cond_both, ltb-true}
 use Rattle.std.proofs.lemmas.List.Elements.{All-nil, All-cons, All-head, All-tail, All-append}
 use lib.Utf8.{scalar, scalars, scalar_cases, encode, encodes, next}
-use Rattle.cookie.specs.Purposes.{IsApart, purpose_data}
+use Rattle.cookie.specs.Purposes.{IsApart}
 
 -- a byte below 255
 abbrev IsLow : ℕ → Type 0

@@ -6,13 +6,13 @@ use Rattle.std.proofs.lemmas.Str.{IsUtf8-from_ascii}
 use borrow.Rule.Slice.PartMut.{mid_of, post_of, put_mid}
 use lib.Utf8.{scalar, scalars, scalar_cases, encode, encodes, next}
 use Rattle.base64.specs.Engines.{standard, url_safe_no_pad}
-use Rattle.base64.specs.GeneralPurpose.{encode_of}
+use Rattle.base64.specs.GeneralPurpose.{decode_of, encode_of}
 use Rattle.base64.specs.declared.engine.general_purpose.GeneralPurpose.{GeneralPurpose}
-use Rattle.base64.proofs.EngineFacts.{IsAscii-encode_of, front_bytes}
+use Rattle.base64.proofs.EngineFacts.{IsAscii-encode_of, decode_of-encode_of, front_bytes}
 use Rattle.cookie_crypt.specs.Bytes.{IsBytes}
 use Rattle.cookie_crypt.specs.Gcm.{IsSealing, SealsToBytes, gctr, tag_of}
 use Rattle.cookie_crypt.proofs.BytesLemmas.{bytes_either, bytes_first, bytes_joined, bytes_none}
-use Rattle.cookie_crypt.proofs.GcmLemmas.{length-gctr, length-sealed, length-tag_of, sealing_of}
+use Rattle.cookie_crypt.proofs.GcmLemmas.{gctr-gctr, length-gctr, length-sealed, length-tag_of, sealing_of}
 use Rattle.std.specs.declared.alloc.AllocError.{AllocError}
 use Rattle.cookie_core.specs.Memory.{Gives}
 use Rattle.cookie_core.specs.Record.{Record, IsCookie}
@@ -108,16 +108,6 @@ sealed_text_of bytes_of key name nonce value bytes slice (Ok t) text fits is sam
     record { made = both.0; opens = both.1 }
 sealed_text_of bytes_of key name nonce value bytes slice (Err e) text fits is same are encoded = tt
 
--- and for a purpose
-pub text_for_of : {X E : Type 0} (bytes_of : X → List ℕ) (key purpose name nonce value bound bytes slice : List ℕ) (r : Result X E)
-    → IsUtf8 value → IsSealableFor purpose name value → IsNonce nonce → bound ≡ purpose_data purpose name → slice ≡ bytes → bytes ≡ sealed_bytes key bound nonce value
-    → IfOk r (λ t. bytes_of t ≡ encode_of url_safe_no_pad slice) → IfOk r (λ t. IsTextFor key purpose name value nonce (bytes_of t))
-text_for_of bytes_of key purpose name nonce value bound bytes slice (Ok t) text fits is bound_is same are encoded =
-    let both = sealed_of_nonce url_safe_no_pad key (purpose_data purpose name) nonce value bytes slice (bytes_of t) text fits is same
-    (are ∙ ap (λ b. sealed_bytes key b nonce value) bound_is) encoded in
-    record { made = both.0; opens = both.1 }
-text_for_of bytes_of key purpose name nonce value bound bytes slice (Err e) text fits is bound_is same are encoded = tt
-
 bytes_sealed : (key name nonce value : List ℕ) → SealsToBytes key → IsNonce nonce → IsUtf8 value → IsSealable name value → IsBytes (sealed_bytes key name nonce value)
 unfolding sealed_bytes
 bytes_sealed key name nonce value seals is text within =
@@ -132,6 +122,51 @@ length-sealed_bytes key name nonce value =
     let cipher : List ℕ = gctr key nonce value in
     let tag : List ℕ = tag_of key nonce name cipher in
     omega (arith, length-append (nonce ++ cipher) tag, length-append nonce cipher, length-gctr key nonce value, length-tag_of key nonce name cipher)
+
+-- the bytes are a sealing of one value
+sealed_bytes-one : (key bound nonce other value also : List ℕ) → length nonce ≡ 12 → length other ≡ 12
+    → sealed_bytes key bound nonce value ≡ sealed_bytes key bound other also → value ≡ also
+unfolding sealed_bytes
+sealed_bytes-one key bound nonce other value also long also_long e =
+    let g : List ℕ = gctr key nonce value in
+    let h : List ℕ = gctr key other also in
+    let t : List ℕ = tag_of key nonce bound g in
+    let u : List ℕ = tag_of key other bound h in
+    let whole : nonce ++ (g ++ t) ≡ other ++ (h ++ u) = sym (append_assoc nonce g t) ∙ e ∙ append_assoc other h u in
+    let same_nonce : nonce ≡ other = sym (take_at nonce (g ++ t) 12 long) ∙ ap (take 12) whole ∙ take_at other (h ++ u) 12 also_long in
+    let rest : g ++ t ≡ h ++ u = sym (drop_at nonce (g ++ t) 12 long) ∙ ap (drop 12) whole ∙ drop_at other (h ++ u) 12 also_long in
+    let size : length g ≡ length h =
+    omega (arith, ap length rest, length-append g t, length-append h u, length-tag_of key nonce bound g, length-tag_of key other bound h) in
+    let cipher : g ≡ h = sym (take_at g t (length g) refl) ∙ ap (take (length g)) rest ∙ take_at h u (length g) (sym size) in
+    sym (gctr-gctr key nonce value) ∙ ap (gctr key nonce) cipher ∙ ap (λ n. gctr key n h) same_nonce ∙ gctr-gctr key other also
+
+-- and so is a text
+sealed_one : (key bound text value other : List ℕ) → SealsToBytes key → IsSealedWith url_safe_no_pad key bound text value
+    → IsSealedWith url_safe_no_pad key bound text other → other ≡ value
+unfolding sealed_text
+sealed_one key bound text value other seals is also =
+    let nonce : List ℕ = is.sealed.0 in
+    let also_nonce : List ℕ = also.sealed.0 in
+    let b : List ℕ = sealed_bytes key bound nonce value in
+    let c : List ℕ = sealed_bytes key bound also_nonce other in
+    let read : decode_of url_safe_no_pad text ≡ Ok b =
+    ap (decode_of url_safe_no_pad) is.sealed.2 ∙ decode_of-encode_of url_safe_no_pad b refl (bytes_sealed key bound nonce value seals is.sealed.1 is.is_text is.sealable) in
+    let also_read : decode_of url_safe_no_pad text ≡ Ok c =
+    ap (decode_of url_safe_no_pad) also.sealed.2
+    ∙ decode_of-encode_of url_safe_no_pad c refl (bytes_sealed key bound also_nonce other seals also.sealed.1 also.is_text also.sealable) in
+    let both : Ok c ≡ Ok b = sym also_read ∙ read in
+    let same : c ≡ b = cc in
+    sealed_bytes-one key bound also_nonce nonce other value also.sealed.1.long is.sealed.1.long same
+
+-- what an encoding of these bytes gives for a purpose
+pub text_for_of : {X E : Type 0} (bytes_of : X → List ℕ) (key purpose name nonce value bound bytes slice : List ℕ) (r : Result X E)
+    → SealsToBytes key → IsUtf8 value → IsSealableFor purpose name value → IsNonce nonce → bound ≡ purpose_data purpose name → slice ≡ bytes → bytes ≡ sealed_bytes key bound nonce value
+    → IfOk r (λ t. bytes_of t ≡ encode_of url_safe_no_pad slice) → IfOk r (λ t. IsTextFor key purpose name value nonce (bytes_of t))
+text_for_of bytes_of key purpose name nonce value bound bytes slice (Ok t) seals text fits is bound_is same are encoded =
+    let both = sealed_of_nonce url_safe_no_pad key (purpose_data purpose name) nonce value bytes slice (bytes_of t) text fits is same
+    (are ∙ ap (λ b. sealed_bytes key b nonce value) bound_is) encoded in
+    record { made = both.0; opens = both.1; only = λ other also. sealed_one key (purpose_data purpose name) (bytes_of t) value other seals both.1 also }
+text_for_of bytes_of key purpose name nonce value bound bytes slice (Err e) seals text fits is bound_is same are encoded = tt
 
 -- ---- the parts of a sealing
 

@@ -28,7 +28,8 @@ abbrev pub IsSealedFor : List ℕ → List ℕ → List ℕ → List ℕ → Lis
 IsSealedFor key purpose name text value =
     IsSealedWith url_safe_no_pad key (purpose_data purpose name) text value
 
--- the text is the sealing of the value under this nonce, and so it is opened to it
+-- the text is the sealing of the value under this nonce, and so it is opened to it, and to nothing else
 pub record IsTextFor (key purpose name value nonce text : List ℕ) : Type 0 where
   pub made : text ≡ sealing_for key purpose name nonce value
   pub opens : IsSealedFor key purpose name text value
+  pub only : (other : List ℕ) → IsSealedFor key purpose name text other → other ≡ value

@@ -33,7 +33,8 @@ pub use iter::{Delta, Iter};
 pub use jar::CookieJar;
 pub use jar_error::JarError;
 pub use secure::{
-    Key, KeyError, PrivateJar, PrivateJarMut, SealedText, Sealer, SignedJar, SignedJarMut, Signer,
+    Key, KeyError, PrivateJar, PrivateJarMut, SealedText, SealedUrlText, Sealer, SignedJar,
+    SignedJarMut, Signer,
 };
 pub use text_map::{Pairs, TextMap};
 pub use texts_error::TextsError;

@@ -1,16 +1,14 @@
 //! What seals texts for a purpose, and opens them (SP 800-38D 7, RFC 4648 5).
 ghost use Rattle.std.specs.Prelude.{◌≡◌, ◌↔◌, ℕ, List, Some, IfOk, IsTrue, alloc_error, option_map, string_bytes};
-ghost use Rattle.base64.specs.Engines.{url_safe_no_pad};
 ghost use Rattle.cookie_core.specs.Memory.{Gives};
-ghost use Rattle.cookie.specs.Opening.{DecodesTo};
 ghost use Rattle.cookie.specs.Purposes.{IsApart, IsSealableFor, IsSealedFor, IsTextFor, purpose_data};
 ghost use Rattle.cookie.specs.SealingCalls.{IsDrawnCall};
 
 use crate::jar_error::JarError;
 use crate::secure::nonce::draw_nonce;
+use crate::secure::sealed_url_text::SealedUrlText;
 use crate::secure::sealer::Sealer;
 use crate::secure::sealing::{open_text, sealed_bytes};
-use base64::DecodeAllocError;
 use base64::engine::general_purpose::URL_SAFE_NO_PAD;
 use cookie_crypt::{LONGEST_DATA, LONGEST_TEXT};
 use rand_core::TryRng;
@@ -71,12 +69,40 @@ impl Sealer {
         // No name is its associated data, and no other purpose or name has it.
         ensures apart { IsApart purpose.now name.now }
     {
+        let sealed = SealedUrlText::of(alloc, text)?;
+        self.open_decoded_for(alloc, purpose, name, &sealed)
+    }
+
+    /// Opens a text, as `open_for` does, that was decoded already: to try several keys, purposes or names.
+    ///
+    /// ```
+    /// let sealed = SealedUrlText::of(alloc, link)?;
+    /// for key in keys {
+    ///     if let Some(guest) = key.sealer().open_decoded_for(alloc, "invitation", "", &sealed)? {
+    ///         return Ok(Some(guest));
+    ///     }
+    /// }
+    /// ```
+    pub fn open_decoded_for(
+        &self,
+        alloc: Global,
+        purpose: &str,
+        name: &str,
+        text: &SealedUrlText<'_>,
+    ) -> Result<Option<String>, AllocError>
+        ensures answers { Gives alloc_error result (λ answer. (v : List ℕ)
+            → (option_map string_bytes answer ≡ Some v)
+            ↔ IsSealedFor self.now purpose.now name.now text.now v) }
+
+        // No name is its associated data, and no other purpose or name has it.
+        ensures apart { IsApart purpose.now name.now }
+    {
         let cipher = &self.cipher;
-        let Some(bytes) = decode(alloc, text)? else {
+        let Some(bytes) = text.bytes() else {
             return Ok(None);
         };
         let bound = purpose_data(alloc, purpose, name)?;
-        open_text(alloc, cipher, bound.as_slice(), bytes.as_slice())
+        open_text(alloc, cipher, bound.as_slice(), bytes)
     }
 
     // The base64url of the nonce, the encrypted value and the tag.
@@ -117,16 +143,4 @@ fn purpose_data(alloc: Global, purpose: &str, name: &str) -> Result<Vec<u8>, All
     bound.push(MARK)?;
     bound.extend_from_slice(name.as_bytes())?;
     Ok(bound)
-}
-
-// The bytes whose base64url without padding is the text, or `None` if there are none.
-fn decode(alloc: Global, text: &str) -> Result<Option<Vec<u8>>, AllocError>
-    ensures { IfOk result (λ bytes.
-        DecodesTo url_safe_no_pad text.now (option_map (λ b. b.items) bytes)) }
-{
-    match URL_SAFE_NO_PAD.decode(alloc, text.as_bytes()) {
-        Ok(bytes) => Ok(Some(bytes)),
-        Err(DecodeAllocError::DecodeError(_)) => Ok(None),
-        Err(DecodeAllocError::OutOfMemory) => Err(AllocError),
-    }
 }

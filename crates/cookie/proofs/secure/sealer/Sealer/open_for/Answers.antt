@@ -1,38 +1,15 @@
-use Rattle.std.proofs.Common.{◌≡◌, ◌↔◌, ℕ, List, Some, ap, subst, ◌∙◌}
+use Rattle.std.proofs.Common.{◌≡◌, ◌↔◌, ℕ, List, Some, alloc_error, subst}
 use Rattle.std.specs.Option.{option_map}
-use Rattle.std.specs.Prelude.{IfOk, IfSome}
 use Rattle.std.specs.String.{string_bytes}
-use Rattle.base64.specs.Engines.{url_safe_no_pad}
-use Rattle.cookie_crypt.specs.Bytes.{IsBytes}
-use Rattle.cookie_crypt.specs.Gcm.{SealsToBytes}
-use Rattle.cookie.specs.Opening.{IsSealedTextBytes}
-use Rattle.cookie.specs.Purposes.{purpose_data}
+use Rattle.cookie_core.specs.Memory.{Gives}
+use Rattle.cookie.specs.Purposes.{IsSealedFor}
 use Rattle.cookie.proofs.PurposeLemmas.{apart}
-use Rattle.cookie.proofs.SealingLemmas.{answered_as_bytes, unsealed_undecoded}
 use Rattle.cookie.proofs.secure.sealer.Sealer.open_for.Goals as goal
-
-pub returns-in_default-clause-answers : goal.returns-in_default-clause-answers
-returns-in_default-clause-answers c =
-    unsealed_undecoded url_safe_no_pad c.args.self.now (purpose_data c.args.purpose.now c.args.name.now) c.args.text.now (subst SealsToBytes c.self.view_is c.self.invariant) _
-    c.in_ok-bytes.ensures.exact (ap (option_map (λ b. b.items)) c.in_default.is)
 
 pub returns-clause-answers : goal.returns-clause-answers
 returns-clause-answers c =
-    answered_as_bytes url_safe_no_pad c.args.self.now (purpose_data c.args.purpose.now c.args.name.now) c.args.text.now (subst SealsToBytes c.self.view_is c.self.invariant) _
-    c.in_ok-bytes.ensures.exact c.in-Some.bytes.items (ap (option_map (λ b. b.items)) c.in-Some.is)
-    (subst (λ o. IfSome o IsBytes) (ap (option_map (λ b. b.items)) c.in-Some.is) c.in_ok-bytes.ensures.bytes)
-    string_bytes _ _ c.self.view_is (c.as_slice.ensures.value ∙ c.in_ok-bound.ensures) c.open_text.result
-    (subst (λ b. IfOk c.open_text.result (λ opened. (v : List ℕ) → (option_map string_bytes opened ≡ Some v) ↔ IsSealedTextBytes c.self.inside.cipher c.as_slice.result.now b v))
-    c.as_slice-2.ensures.value c.open_text.ensures)
+    subst (λ text. Gives alloc_error c.open_decoded_for.result (λ answer. (v : List ℕ)
+    → (option_map string_bytes answer ≡ Some v) ↔ IsSealedFor c.args.self.now c.args.purpose.now c.args.name.now text v)) c.in_ok-sealed.ensures c.open_decoded_for.ensures.answers
 
-pub returns-in_err-bytes-clause-apart : goal.returns-in_err-bytes-clause-apart
-returns-in_err-bytes-clause-apart c = apart c.args.purpose.now c.args.name.now c.utf8.purpose
-
-pub returns-in_default-clause-apart : goal.returns-in_default-clause-apart
-returns-in_default-clause-apart c = apart c.args.purpose.now c.args.name.now c.utf8.purpose
-
-pub returns-in_err-bound-clause-apart : goal.returns-in_err-bound-clause-apart
-returns-in_err-bound-clause-apart c = apart c.args.purpose.now c.args.name.now c.utf8.purpose
-
-pub returns-clause-apart : goal.returns-clause-apart
-returns-clause-apart c = apart c.args.purpose.now c.args.name.now c.utf8.purpose
+pub returns-in_err-sealed-clause-apart : goal.returns-in_err-sealed-clause-apart
+returns-in_err-sealed-clause-apart c = apart c.args.purpose.now c.args.name.now c.utf8.purpose
