@@ -5,19 +5,19 @@ use Rattle.std.proofs.lemmas.Option.{slice_get_past}
 use Rattle.std.specs.Option.{option_to_list}
 use Rattle.std.specs.Prelude.{IfSome, MatchOption, slice_get}
 use Rattle.cookie.specs.Keys.{encryption_half}
-use Rattle.cookie_session.specs.KeyRing.{IsSealedUnder, KeepsOpening, KeyOpens, LeavesOpening, OpensAt}
+use Rattle.cookie_session.specs.KeyRing.{IsSealedUnder, KeepsOpening, KeyOpensText, LeavesOpening, OpensTextAt}
 
 -- what opened opens one place further back, where the new key doesn't open it
 pub kept_rotated : (key : List ℕ) (ring new : List (List ℕ)) → new ≡ key ∷ ring → KeepsOpening ring new
-kept_rotated key ring new is purpose place cookie v opens none =
-    subst (λ r. OpensAt purpose r (place + 1) cookie v) (sym is)
-    (subst (λ n. OpensAt purpose (key ∷ ring) n cookie v) (sym (add-one place)) (record {
+kept_rotated key ring new is purpose place name text v opens none =
+    subst (λ r. OpensTextAt purpose r (place + 1) name text v) (sym is)
+    (subst (λ n. OpensTextAt purpose (key ∷ ring) n name text v) (sym (add-one place)) (record {
       opens = opens.opens;
       first = first;
     }))
   where
-    first : (newer : ℕ) (w : List ℕ) → newer < suc place → ¬ (KeyOpens purpose (key ∷ ring) newer cookie w)
-    first zero w below h = none w (subst (λ r. KeyOpens purpose r 0 cookie w) (sym is) h)
+    first : (newer : ℕ) (w : List ℕ) → newer < suc place → ¬ (KeyOpensText purpose (key ∷ ring) newer name text w)
+    first zero w below h = none w (subst (λ r. KeyOpensText purpose r 0 name text w) (sym is) h)
     first (suc n) w below h = opens.first n w (omega arith) h
 
 get_front : (xs ys : List (List ℕ)) (i : ℕ) → i < length xs → slice_get (xs ++ ys) i ≡ slice_get xs i
@@ -27,17 +27,17 @@ get_front (x ∷ xs) ys (suc i) below = get_front xs ys i (omega arith)
 
 -- what another key opened is opened still, and nothing else
 pub left_retired : (key : List ℕ) (old ring : List (List ℕ)) → old ≡ ring ++ key ∷ [] → LeavesOpening old ring
-left_retired key old ring is purpose place cookie v = (
+left_retired key old ring is purpose place name text v = (
   λ opens.
       let inside : place < length ring = ⊎_elim (λ (lt : place < length ring). lt) (λ (ge : length ring ≤ place). absurd (past place ge opens.opens)) (cases_lt place (length ring)) in (
-        subst (λ r. OpensAt purpose r place cookie v) (sym is) (record {
+        subst (λ r. OpensTextAt purpose r place name text v) (sym is) (record {
           opens = there place v inside opens.opens;
           first = λ newer w below h. opens.first newer w below (back newer w (omega arith) h);
         }),
         inside,
       ),
   λ both.
-      let opens : OpensAt purpose (ring ++ key ∷ []) place cookie v = subst (λ r. OpensAt purpose r place cookie v) is both.0 in
+      let opens : OpensTextAt purpose (ring ++ key ∷ []) place name text v = subst (λ r. OpensTextAt purpose r place name text v) is both.0 in
       let inside : place < length ring = both.1 in
       record {
         opens = back place v inside opens.opens;
@@ -45,14 +45,14 @@ left_retired key old ring is purpose place cookie v = (
       },
 )
   where
-    past : (p : ℕ) → length ring ≤ p → ¬ (KeyOpens purpose ring p cookie v)
-    past p ge h = subst (λ o. MatchOption o ⊥ (λ k. IsSealedUnder purpose (encryption_half k) cookie.name cookie.value v)) (slice_get_past ring p ge) h
+    past : (p : ℕ) → length ring ≤ p → ¬ (KeyOpensText purpose ring p name text v)
+    past p ge h = subst (λ o. MatchOption o ⊥ (λ k. IsSealedUnder purpose (encryption_half k) name text v)) (slice_get_past ring p ge) h
 
-    there : (p : ℕ) (w : List ℕ) → p < length ring → KeyOpens purpose ring p cookie w → KeyOpens purpose (ring ++ key ∷ []) p cookie w
-    there p w below h = subst (λ o. MatchOption o ⊥ (λ k. IsSealedUnder purpose (encryption_half k) cookie.name cookie.value w)) (sym (get_front ring (key ∷ []) p below)) h
+    there : (p : ℕ) (w : List ℕ) → p < length ring → KeyOpensText purpose ring p name text w → KeyOpensText purpose (ring ++ key ∷ []) p name text w
+    there p w below h = subst (λ o. MatchOption o ⊥ (λ k. IsSealedUnder purpose (encryption_half k) name text w)) (sym (get_front ring (key ∷ []) p below)) h
 
-    back : (p : ℕ) (w : List ℕ) → p < length ring → KeyOpens purpose (ring ++ key ∷ []) p cookie w → KeyOpens purpose ring p cookie w
-    back p w below h = subst (λ o. MatchOption o ⊥ (λ k. IsSealedUnder purpose (encryption_half k) cookie.name cookie.value w)) (get_front ring (key ∷ []) p below) h
+    back : (p : ℕ) (w : List ℕ) → p < length ring → KeyOpensText purpose (ring ++ key ∷ []) p name text w → KeyOpensText purpose ring p name text w
+    back p w below h = subst (λ o. MatchOption o ⊥ (λ k. IsSealedUnder purpose (encryption_half k) name text w)) (get_front ring (key ∷ []) p below) h
 
 -- so it is once the last key, if any, was taken
 pub retired : (old ring : List (List ℕ)) (popped : Option (List ℕ)) → old ≡ ring ++ option_to_list popped → IfSome popped (λ key. LeavesOpening old ring)

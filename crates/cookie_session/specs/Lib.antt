@@ -4,6 +4,7 @@ pub mod Generation
 pub mod Id
 pub mod KeyRing
 pub mod KeyText
+pub mod OpenedText
 pub mod Reading
 pub mod Revocations
 pub mod Seconds

@@ -6,10 +6,13 @@ ghost use Rattle.cookie.specs.Keys.{encryption_half};
 ghost use Rattle.cookie.specs.Memory.{Gives};
 ghost use Rattle.cookie.specs.Sealing.{CanSeal, IsNonce, sealed_cookie};
 ghost use Rattle.cookie.specs.declared.jar_error.JarError.TheVariants as refusal;
-ghost use Rattle.cookie_session.specs.KeyRing.{IsSealedUnder, KeepsOpening, LeavesOpening, OpensExactly, OpensNewest, newest};
+ghost use Rattle.cookie_session.specs.KeyRing.{KeepsOpening, LeavesOpening, OpensExactly, OpensNewest, OpensTextAt, newest};
+ghost use Rattle.cookie_session.specs.OpenedText.{purpose_of, text_of, text_opened_at};
 
+use crate::decoded_text::DecodedText;
+use crate::opened_text::OpenedText;
 use crate::opening::Opening;
-use cookie::{Cookie, CookieJar, JarError, Key, Sealer};
+use cookie::{Cookie, CookieJar, JarError, Key};
 use rand_core::TryRng;
 use std::alloc::{AllocError, Global};
 use std::marker::Model;
@@ -146,11 +149,46 @@ impl KeyRing {
             OpensExactly (option_copied purpose.entry) self.now (Some cookie.now.fields) answer) }
     {
         let alloc = *self.keys.allocator();
+        let Some(opened) = self.open_text(purpose, cookie.name(), cookie.value())? else {
+            return Ok(None);
+        };
+        let mut cookie = cookie.clone(alloc)?;
+        cookie.set_value_owned(opened.value);
+        Ok(Some(Opening {
+            cookie,
+            place: opened.place,
+        }))
+    }
+
+    // The value that is sealed in the text, by the newest key that opens it, for the purpose if there is one.
+    pub(crate) fn open_text(
+        &self,
+        purpose: Option<&str>,
+        name: &str,
+        text: &str,
+    ) -> Result<Option<OpenedText>, AllocError>
+        ensures { Gives alloc_error result (λ answer. (place : ℕ) (value : List ℕ)
+            → (option_map text_opened_at answer ≡ Some (place, value))
+            ↔ OpensTextAt (option_copied purpose.entry) self.now place name.now text.now value) }
+    {
+        let sealed = DecodedText::of(*self.keys.allocator(), purpose, text)?;
+        self.open_decoded(&sealed, name)
+    }
+
+    // The same of a text that was decoded.
+    fn open_decoded(
+        &self,
+        sealed: &DecodedText<'_>,
+        name: &str,
+    ) -> Result<Option<OpenedText>, AllocError>
+        ensures { Gives alloc_error result (λ answer. (place : ℕ) (value : List ℕ)
+            → (option_map text_opened_at answer ≡ Some (place, value))
+            ↔ OpensTextAt (purpose_of sealed.now) self.now place name.now (text_of sealed.now) value) }
+    {
+        let alloc = *self.keys.allocator();
         for place in 0..self.len() {
-            if let Some(value) = value_in(alloc, self.at(place).sealer(), purpose, cookie)? {
-                let mut cookie = cookie.clone(alloc)?;
-                cookie.set_value_owned(value);
-                return Ok(Some(Opening { cookie, place }));
+            if let Some(value) = sealed.open(alloc, self.at(place).sealer(), name)? {
+                return Ok(Some(OpenedText { value, place }));
             }
         }
         Ok(None)
@@ -200,23 +238,5 @@ impl KeyRing {
         ensures { slice_get self.now place ≡ Some result.now }
     {
         &self.keys[place]
-    }
-}
-
-// The value that is sealed in the cookie, for the purpose if there is one.
-fn value_in(
-    alloc: Global,
-    sealer: &Sealer,
-    purpose: Option<&str>,
-    cookie: &Cookie<'_>,
-) -> Result<Option<String>, AllocError>
-    ensures { Gives alloc_error result (λ answer. (v : List ℕ)
-        → (option_map string_bytes answer ≡ Some v)
-        ↔ IsSealedUnder (option_copied purpose.entry) sealer.now cookie.now.fields.name
-        cookie.now.fields.value v) }
-{
-    match purpose {
-        Some(purpose) => sealer.open_for(alloc, purpose, cookie.name(), cookie.value()),
-        None => sealer.open(alloc, cookie.name(), cookie.value()),
     }
 }

@@ -1,6 +1,7 @@
 //! Sessions in one encrypted cookie: keys that rotate, limits that the server checks, and a size that browsers take.
 #![tactic(auto)]
 
+mod decoded_text;
 mod flash;
 mod generation;
 mod id;
@@ -11,6 +12,7 @@ mod never_revoked;
 mod open_error;
 mod open_unrevoked;
 mod opened;
+mod opened_text;
 mod opening;
 mod pair_text;
 mod prefix;

@@ -1,35 +1,27 @@
-use Rattle.std.proofs.Common.{◌≡◌, ◌≤◌, Some, length, option_map, ap, refl, subst, sym, ◌∙◌, arith}
+use Rattle.std.proofs.Common.{◌≡◌, Some, option_map, ap, subst, ◌∙◌}
 use Rattle.std.specs.Option.{option_copied}
 use Rattle.std.specs.String.{string_bytes}
-use Rattle.cookie.specs.AnswersExactly.{AnswersExactly, with_value}
-use Rattle.cookie.specs.Keys.{encryption_half}
-use Rattle.cookie.specs.Record.{CookieView, Record}
-use Rattle.cookie_session.proofs.KeyRingLemmas.{StandsFor, answered_under, none_next, opened_here, opened_nowhere}
+use Rattle.cookie.specs.AnswersExactly.{with_value}
+use Rattle.cookie.specs.Record.{CookieView}
+use Rattle.cookie_session.specs.OpenedText.{text_opened_at}
+use Rattle.cookie_session.proofs.KeyRingLemmas.{FindsIn, found_in, opened_cookie, unopened_cookie}
 use Rattle.cookie_session.proofs.key_ring.KeyRing.open.Goals as goal
 
-pub returns-in-Some : goal.returns-in-Some
-returns-in-Some c =
+pub returns-in_default : goal.returns-in_default
+returns-in_default c =
     let cookie = c.args.cookie.now.fields in
     let purpose = option_copied c.args.purpose in
-    let half = encryption_half c.at.result.now in
-    let value = string_bytes c.in-Some.value in
-    let answers = answered_under purpose c.sealer.result.now half cookie (option_map string_bytes c.in_ok-value.field-0) c.sealer.ensures c.in_ok-value.ensures in
-    let found = subst (λ o. AnswersExactly (StandsFor purpose half) (Some cookie) (option_map (λ v. with_value v cookie) (option_map string_bytes o))) c.in-Some.is answers in
-    let made : c.set_value_owned.new.self.fields ≡ with_value value cookie =
-    c.set_value_owned.ensures.fields ∙ ap (λ (k : CookieView). with_value value k.fields) c.in_ok-cookie.ensures.gives in
-    opened_here purpose c.args.self.now c.loop-place.place c.at.result.now c.at.ensures (Some cookie) c.loop-place.invariant _ refl
-    (subst (λ (r : Record). AnswersExactly (StandsFor purpose half) (Some cookie) (Some r)) (sym made) found)
-
-pub loop-place-preserved : goal.loop-place-preserved
-loop-place-preserved c =
-    let cookie = c.args.cookie.now.fields in
-    let purpose = option_copied c.args.purpose in
-    let half = encryption_half c.at.result.now in
-    let answers = answered_under purpose c.sealer.result.now half cookie (option_map string_bytes c.in_ok-value.field-0) c.sealer.ensures c.in_ok-value.ensures in
-    none_next purpose c.args.self.now c.loop-place.place c.at.result.now c.at.ensures (Some cookie) c.loop-place.invariant
-    (subst (λ o. AnswersExactly (StandsFor purpose half) (Some cookie) (option_map (λ v. with_value v cookie) (option_map string_bytes o))) c.in_default.is answers)
+    let ring = c.args.self.now in
+    let finds = found_in purpose ring cookie c.name.result.now c.value.result.now (option_map text_opened_at c.in_ok-opened.field-0) c.name.ensures c.value.ensures c.in_ok-opened.ensures in
+    unopened_cookie purpose ring cookie (subst (λ o. FindsIn purpose ring cookie (option_map text_opened_at o)) c.in_default.is finds)
 
 pub returns : goal.returns
 returns c =
-    let past : length c.args.self.now ≤ c.loop-place.place = omega arith in
-    opened_nowhere (option_copied c.args.purpose) c.args.self.now c.loop-place.place past (Some c.args.cookie.now.fields) c.loop-place.invariant
+    let cookie = c.args.cookie.now.fields in
+    let purpose = option_copied c.args.purpose in
+    let ring = c.args.self.now in
+    let value = string_bytes c.in-Some.opened.value in
+    let finds = found_in purpose ring cookie c.name.result.now c.value.result.now (option_map text_opened_at c.in_ok-opened.field-0) c.name.ensures c.value.ensures c.in_ok-opened.ensures in
+    let made : c.set_value_owned.new.self.fields ≡ with_value value cookie =
+    c.set_value_owned.ensures.fields ∙ ap (λ (k : CookieView). with_value value k.fields) c.in_ok-cookie.ensures.gives in
+    opened_cookie purpose ring cookie value _ made (subst (λ o. FindsIn purpose ring cookie (option_map text_opened_at o)) c.in-Some.is finds)
