@@ -8,4 +8,5 @@ pub mod RotateLemmas
 pub mod SaveLemmas
 pub mod SessionLemmas
 pub mod TextLemmas
+pub mod TokenLemmas
 pub mod UnrevokedLemmas

@@ -11,5 +11,6 @@ pub mod Seconds
 pub mod Session
 pub mod SessionError
 pub mod Sessions
+pub mod Tokens
 pub mod Visit
 pub use Rattle.cookie.specs.Size

@@ -25,6 +25,7 @@ mod session_form;
 mod session_text;
 mod sessions;
 mod size;
+mod tokens;
 mod typed;
 mod visit;
 
@@ -39,4 +40,5 @@ pub use seconds::second_of;
 pub use session::Session;
 pub use session_error::SessionError;
 pub use sessions::Sessions;
+pub use tokens::Tokens;
 pub use visit::Visit;
