@@ -27,6 +27,7 @@ pub use cookie_core::{
     MOST_BYTES, ParseError, SameSite, Span, SplitCookies, begins_in_any_case, days_after, encode,
     is_escaped, is_named_as_sent, read_date, trim_wsp,
 };
+pub use cookie_crypt::are_equal;
 pub use error::Error;
 pub use field::field_cookies;
 pub use iter::{Delta, Iter};
