@@ -3,6 +3,7 @@ pub mod CutOutLemmas
 pub mod GroupLemmas
 pub mod HostJarLemmas
 pub mod HostLemmas
+pub mod IndexLemmas
 pub mod JsonLinesLemmas
 pub mod JsonReadLemmas
 pub mod KeyLemmas

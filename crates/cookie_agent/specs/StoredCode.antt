@@ -1,10 +1,12 @@
 -- Mirrors private code: where a cookie is put among stored ones.
-use Rattle.std.specs.Prelude.{◌≡◌, ◌&&◌, ℕ, Bool, false, pos, [], None}
+use Rattle.std.specs.Prelude.{◌≡◌, ◌&&◌, ◌+◌, ◌*◌, ◌%◌, ◌^◌, ℕ, ℤ, int_lt, Bool, true, false, pos, List, [], All, None, fold, map}
 use Rattle.std.specs.BTreeMap.{BTreeMap, get}
 use Rattle.std.specs.List.{position_from}
 use Rattle.jiff.specs.Types.{DateTime}
+use Rattle.jiff.specs.Words.{civil_nanos}
 use Rattle.cookie_browser.specs.Storage.{KeptView, CookieStore, is_same_cookie, lasts}
 use Rattle.cookie_browser.specs.declared.enforcement.Enforcement.TheVariants as enforcement
+use Rattle.cookie_agent.specs.Stored.{IsApart}
 use Rattle.cookie_agent.specs.declared.key.Key.{Key}
 use Rattle.cookie_agent.specs.contracts.key.KeyOrd.TheImpl as key_ord
 
@@ -33,3 +35,22 @@ abbrev pub ArePlaces : BTreeMap Key ℕ → CookieStore → Type 0
 ArePlaces places store =
     (key : Key) → get (key_ord.ghosts).cmp places key
     ≡ position_from (λ cookie. is_same_cookie cookie (key_view key)) 0 store
+
+-- it isn't expired before the time, in nanoseconds since 1970
+abbrev pub IsFreshUntil : ℤ → KeptView → Type 0
+IsFreshUntil end cookie =
+    (now : DateTime) → int_lt (civil_nanos now) end ≡ true → lasts cookie.expiry now ≡ true
+
+-- a number of the bytes, after the number of others
+unfoldable pub mark_after : ℕ → List ℕ → ℕ
+mark_after mark bytes = fold (λ m byte. (m * 31 % 2 ^ 64 + byte) % 2 ^ 64) mark bytes
+
+-- a number of the name and the domain
+abbrev pub mark_of : KeptView → ℕ
+mark_of cookie = mark_after (mark_after 0 cookie.name) cookie.domain
+
+-- what a store knows of its cookies: no two are the same, these are their marks, and none is expired before the time
+pub record AreIndexed (cookies : CookieStore) (numbers : List ℕ) (fresh_until : ℤ) : Type 0 where
+  pub apart : IsApart cookies
+  pub marks : numbers ≡ map mark_of cookies
+  pub fresh : All (IsFreshUntil fresh_until) cookies

@@ -269,5 +269,5 @@ fn any_overlaid(
     ensures { result ≡ list_any (λ old. lasts old.expiry now
         && is_overlaid (request_view request.now) (kept_view new.now) old) cookies.now }
 {
-    cookies.iter().any(|old| old.lasts(now) && old.as_kept().is_overlaid_by(new, request))
+    cookies.iter().any(|old| old.as_kept().is_overlaid_by(new, request) && old.lasts(now))
 }

@@ -9,6 +9,8 @@ mod header;
 mod in_turn;
 mod key;
 mod limits;
+mod mark;
+mod nanos;
 mod ranked;
 mod saved;
 mod scope;

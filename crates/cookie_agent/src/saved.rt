@@ -1,8 +1,7 @@
 //! Stored cookies, saved in a text of lines.
-ghost use Rattle.std.specs.Prelude.{◌≡◌, ◌==◌, IfOk, map, pos};
+ghost use Rattle.std.specs.Prelude.{◌≡◌, ◌==◌, IfOk, map};
 ghost use Rattle.std.specs.List.{slice_split};
 ghost use Rattle.std.specs.Str.Lines.{strip_carriage_return};
-ghost use Rattle.jiff.specs.Words.{civil_nanos};
 ghost use Rattle.cookie_agent.specs.Saved as spec;
 
 mod cookies_txt;
@@ -14,9 +13,7 @@ mod storable;
 use crate::stored::StoredCookie;
 use cookie_browser::Expiry;
 pub use cookies_txt::{read_cookies_txt, write_cookies_txt};
-use jiff::Timestamp;
 use jiff::civil::DateTime;
-use jiff::tz::Offset;
 pub use json_lines::{read_json_lines, write_json_lines};
 pub use loaded::LoadedCookies;
 use std::alloc::{AllocError, Global};
@@ -38,13 +35,6 @@ fn is_persistent(cookie: &StoredCookie, now: DateTime) -> bool
         Expiry::Session => false,
         _ => cookie.lasts(now),
     }
-}
-
-// 1970-01-01 00:00:00.
-fn start_of_1970() -> DateTime
-    ensures { civil_nanos result ≡ pos 0 }
-{
-    Offset::UTC.to_datetime(Timestamp::UNIX_EPOCH)
 }
 
 // The texts between line feeds.

@@ -1,13 +1,15 @@
 //! A store of cookies (RFC 6265bis, Storage Model).
-ghost use Rattle.std.specs.Prelude.{◌≡◌, ◌++◌, not, [], filter, map, IfOk, OnOk, OnErr};
+ghost use Rattle.std.specs.Prelude.{◌≡◌, ◌≤◌, ◌≤ℤ◌, ◌++◌, ℤ, not, [], All, filter, length, map, IfOk, OnOk, OnErr};
 ghost use Rattle.std.specs.List.{list_any};
 ghost use Rattle.cookie_browser.specs.Storage.{kept_with, lasting};
 ghost use Rattle.cookie_agent.specs.Limits.{IsWithin, trimmed};
 ghost use Rattle.cookie_agent.specs.Sent.{accessed};
 ghost use Rattle.cookie_agent.specs.Stored.{IsApart, is_named_in, is_of_domain, kept_with_each};
+ghost use Rattle.cookie_agent.specs.StoredCode.{AreIndexed, IsFreshUntil, gives_place, mark_of};
 
 use crate::in_turn::stored_in_turn;
 use crate::limits::Limits;
+use crate::nanos::nanos_of;
 use crate::scope::Scope;
 use crate::site::Site;
 use crate::stored::StoredCookie;
@@ -22,17 +24,21 @@ use std::marker::Model;
 pub struct Store {
     alloc: Global,
     cookies: Vec<StoredCookie>,
+    // The mark of each cookie, so that most of those which differ from a new one needn't be looked at.
+    marks: Vec<u64>,
+    // Nanoseconds since 1970 before which no cookie is expired.
+    fresh_until: i128,
 }
 
 impl Model for Store {
     ghost use Rattle.cookie_browser.specs.Storage.{CookieStore};
-    ghost use Rattle.cookie_agent.specs.Stored.{IsApart};
+    ghost use Rattle.cookie_agent.specs.StoredCode.{AreIndexed};
 
     ghost Value = { CookieStore };
 
     ghost view = { λ s. s.cookies.items };
 
-    ghost invariant = { λ s. IsApart s.cookies.items };
+    ghost invariant = { λ s. AreIndexed s.cookies.items s.marks.items s.fresh_until };
 }
 
 impl Store {
@@ -43,6 +49,8 @@ impl Store {
         Store {
             alloc,
             cookies: Vec::new(alloc),
+            marks: Vec::new(alloc),
+            fresh_until: i128::MAX,
         }
     }
 
@@ -53,9 +61,21 @@ impl Store {
         ensures in_turn { IfOk result (λ store. store ≡ kept_with_each cookies.items []) }
         ensures same { IsApart cookies.items → IfOk result (λ store. store ≡ cookies.items) }
     {
+        Store::indexed(alloc, stored_in_turn(alloc, cookies)?)
+    }
+
+    // A store of different cookies.
+    fn indexed(alloc: Global, cookies: Vec<StoredCookie>) -> Result<Store, AllocError>
+        requires { IsApart cookies.items }
+        ensures { IfOk result (λ store. store ≡ cookies.items) }
+    {
+        let marks = marks_of(alloc, &cookies)?;
+        let fresh_until = fresh_until(&cookies);
         Ok(Store {
             alloc,
-            cookies: stored_in_turn(alloc, cookies)?,
+            cookies,
+            marks,
+            fresh_until,
         })
     }
 
@@ -68,7 +88,10 @@ impl Store {
     {
         let mut all = copies(self.alloc, &self.cookies)?;
         push_lasting(&mut all, cookies, now)?;
-        self.cookies = stored_in_turn(self.alloc, all)?;
+        let cookies = stored_in_turn(self.alloc, all)?;
+        self.marks = marks_of(self.alloc, &cookies)?;
+        self.fresh_until = fresh_until(&cookies);
+        self.cookies = cookies;
         Ok(())
     }
 
@@ -92,6 +115,7 @@ impl Store {
             .any(|cookie| cookie.is_named_in(name, scope));
         self.cookies
             .retain(|cookie| !cookie.is_named_in(name, scope));
+        renew(&mut self.marks, &self.cookies);
         found
     }
 
@@ -102,6 +126,7 @@ impl Store {
         ensures { self.new ≡ filter (λ cookie. not (is_of_domain domain.now cookie)) self.old }
     {
         self.cookies.retain(|cookie| !cookie.is_of_domain(domain));
+        renew(&mut self.marks, &self.cookies);
     }
 
     /// Removes all cookies.
@@ -109,13 +134,14 @@ impl Store {
         ensures { self.new ≡ [] }
     {
         self.cookies.clear();
+        self.marks.clear();
     }
 
     /// Drops the cookies that are expired at the time `now` in UTC.
     pub fn evict(&mut self, now: DateTime)
         ensures { self.new ≡ lasting now self.old }
     {
-        drop_expired(&mut self.cookies, now);
+        self.fresh_until = drop_expired(&mut self.cookies, &mut self.marks, self.fresh_until, now);
     }
 
     /// Drops what is expired at the time `now` in UTC, and then the cookies above the limits, as RFC 6265bis orders
@@ -136,6 +162,8 @@ impl Store {
     {
         let places = places_within(self.alloc, &self.cookies, limits, now)?;
         keep(&mut self.cookies, &places);
+        renew(&mut self.marks, &self.cookies);
+        self.fresh_until = fresh_until(&self.cookies);
         Ok(())
     }
 
@@ -143,10 +171,7 @@ impl Store {
     pub fn clone(&self) -> Result<Store, AllocError>
         ensures { IfOk result (λ made. made ≡ self.now) }
     {
-        Ok(Store {
-            alloc: self.alloc,
-            cookies: copies(self.alloc, &self.cookies)?,
-        })
+        Store::indexed(self.alloc, copies(self.alloc, &self.cookies)?)
     }
 
     // Where it allocates.
@@ -160,8 +185,9 @@ impl Store {
             ≡ lasting now (kept_with cookie (lasting now self.old))) }
         ensures err { OnErr result (self.new ≡ self.old) }
     {
-        put_in_place(&mut self.cookies, cookie, now)?;
-        drop_expired(&mut self.cookies, now);
+        let fresh_until = sooner(self.fresh_until, cookie.fresh_until());
+        put_in_place(&mut self.cookies, &mut self.marks, cookie, now)?;
+        self.fresh_until = drop_expired(&mut self.cookies, &mut self.marks, fresh_until, now);
         Ok(())
     }
 
@@ -173,11 +199,66 @@ impl Store {
     }
 }
 
-// Drops the cookies that are expired.
-fn drop_expired(cookies: &mut Vec<StoredCookie>, now: DateTime)
-    ensures { cookies.new.items ≡ lasting now cookies.old.items }
+// The marks of the cookies.
+fn marks_of(alloc: Global, cookies: &[StoredCookie]) -> Result<Vec<u64>, AllocError>
+    ensures { IfOk result (λ marks. marks.items ≡ map mark_of cookies.now) }
 {
+    let mut marks = Vec::new(alloc);
+    for cookie in cookies {
+        marks.push(cookie.mark())?;
+    }
+    Ok(marks)
+}
+
+// Makes these the marks of the cookies that are left.
+fn renew(marks: &mut Vec<u64>, cookies: &[StoredCookie])
+    requires { length cookies.now ≤ length marks.now.items }
+    ensures { marks.new.items ≡ map mark_of cookies.now }
+{
+    marks.truncate(cookies.len());
+    for index in 0..cookies.len() {
+        marks[index] = cookies[index].mark();
+    }
+}
+
+// The lesser of two times.
+fn sooner(time: i128, other: i128) -> i128
+    ensures first { result ≤ℤ time }
+    ensures second { result ≤ℤ other }
+{
+    if time < other { time } else { other }
+}
+
+// Nanoseconds since 1970 before which none of the cookies is expired.
+fn fresh_until(cookies: &[StoredCookie]) -> i128
+    ensures { All (IsFreshUntil result) cookies.now }
+{
+    let mut end = i128::MAX;
+    for cookie in cookies {
+        end = sooner(end, cookie.fresh_until());
+    }
+    end
+}
+
+// Drops the cookies that are expired. None is before the time `fresh_until`, nor are the others before the result.
+fn drop_expired(
+    cookies: &mut Vec<StoredCookie>,
+    marks: &mut Vec<u64>,
+    fresh_until: i128,
+    now: DateTime,
+) -> i128
+    requires marks { marks.now.items ≡ map mark_of cookies.now.items }
+    requires fresh { All (IsFreshUntil fresh_until) cookies.now.items }
+    ensures cookies { cookies.new.items ≡ lasting now cookies.old.items }
+    ensures marks { marks.new.items ≡ map mark_of cookies.new.items }
+    ensures fresh { All (IsFreshUntil result) cookies.new.items }
+{
+    if nanos_of(now) < fresh_until {
+        return fresh_until;
+    }
     cookies.retain(|cookie| cookie.lasts(now));
+    renew(marks, cookies);
+    self::fresh_until(cookies)
 }
 
 // Sets the last access of each cookie that is sent.
@@ -193,22 +274,47 @@ fn access(cookies: &mut Vec<StoredCookie>, site: &Site, now: DateTime)
 // before.
 fn put_in_place(
     cookies: &mut Vec<StoredCookie>,
+    marks: &mut Vec<u64>,
     cookie: StoredCookie,
     now: DateTime,
 ) -> Result<(), AllocError>
-    requires { IsApart cookies.now.items }
+    requires apart { IsApart cookies.now.items }
+    requires marks { marks.now.items ≡ map mark_of cookies.now.items }
     ensures ok { OnOk result (lasting now cookies.new.items
         ≡ lasting now (kept_with cookie (lasting now cookies.old.items))) }
     ensures err { OnErr result (cookies.new.items ≡ cookies.old.items) }
+    ensures marks { marks.new.items ≡ map mark_of cookies.new.items }
+    ensures fresh { (end : ℤ) → All (IsFreshUntil end) cookies.old.items
+        → IsFreshUntil end cookie → All (IsFreshUntil end) cookies.new.items }
 {
+    let mark = cookie.mark();
     for index in 0..cookies.len() {
-        if cookies[index].gives_place(&cookie, now) {
+        if gives_place(&cookies[index], marks[index], &cookie, mark, now) {
             cookies[index] = cookie;
             return Ok(());
         }
     }
     cookies.push(cookie)?;
+    if marks.push(mark).is_err() {
+        let _last = cookies.pop();
+        return Err(AllocError);
+    }
     Ok(())
+}
+
+// Whether the first cookie isn't expired, and the other one replaces it. Each has this mark.
+fn gives_place(
+    cookie: &StoredCookie,
+    mark: u64,
+    other: &StoredCookie,
+    other_mark: u64,
+    now: DateTime,
+) -> bool
+    requires mark { mark ≡ mark_of cookie.now }
+    requires other { other_mark ≡ mark_of other.now }
+    ensures { result ≡ gives_place other.now now cookie.now }
+{
+    mark == other_mark && cookie.gives_place(other, now)
 }
 
 // Copies of the cookies.

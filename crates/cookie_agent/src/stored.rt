@@ -6,10 +6,12 @@ ghost use Rattle.cookie_browser.specs.RefusedCode.{kept_view};
 ghost use Rattle.cookie_browser.specs.Storage.{is_same_cookie, is_sent, lasts};
 ghost use Rattle.cookie_agent.specs.Sent.{accessed, path_length, sent_pair};
 ghost use Rattle.cookie_agent.specs.Stored.{is_named_in, is_of_domain};
-ghost use Rattle.cookie_agent.specs.StoredCode.{gives_place, key_view};
+ghost use Rattle.cookie_agent.specs.StoredCode.{IsFreshUntil, gives_place, key_view, mark_of};
 
 use crate::bytes::copied;
 use crate::key::Key;
+use crate::mark::mark_after;
+use crate::nanos::expiry_nanos;
 use crate::scope::Scope;
 use crate::site::Site;
 use cookie_browser::{Enforcement, Expiry, KeptCookie, is_in_domain};
@@ -126,18 +128,32 @@ impl StoredCookie {
         self.expiry.lasts(now)
     }
 
+    // Nanoseconds since 1970 before which it isn't expired.
+    pub(crate) fn fresh_until(&self) -> i128
+        ensures { IsFreshUntil result self.now }
+    {
+        expiry_nanos(self.expiry).unwrap_or(i128::MAX)
+    }
+
+    // A number that it has in common with those which it can replace.
+    pub(crate) fn mark(&self) -> u64
+        ensures { result ≡ mark_of self.now }
+    {
+        mark_after(mark_after(0, &self.name), &self.domain)
+    }
+
     // Whether it isn't expired at the time `now`, and the other one replaces it.
     pub(crate) fn gives_place(&self, other: &StoredCookie, now: DateTime) -> bool
         ensures { result ≡ gives_place other.now now self.now }
     {
-        self.lasts(now) && self.as_kept().is_same(&other.as_kept())
+        self.as_kept().is_same(&other.as_kept()) && self.lasts(now)
     }
 
     /// Whether it is sent to the site at the time `now` in UTC (RFC 6265bis, Retrieval Algorithm).
     pub fn is_sent(&self, site: &Site, now: DateTime) -> bool
         ensures { result ≡ is_sent site.now now self.now }
     {
-        self.lasts(now) && self.as_kept().suits(&site.request())
+        self.as_kept().suits(&site.request()) && self.lasts(now)
     }
 
     // What it is known by.

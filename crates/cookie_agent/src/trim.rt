@@ -33,7 +33,8 @@ pub(crate) fn places_within(
 // Keeps the cookies at these places only.
 pub(crate) fn keep(cookies: &mut Vec<StoredCookie>, places: &[usize])
     requires { IsInOrder (length cookies.now.items) places.now }
-    ensures { cookies.new.items ≡ picked cookies.old.items places.now }
+    ensures picked { cookies.new.items ≡ picked cookies.old.items places.now }
+    ensures fewer { length cookies.new.items ≤ length cookies.old.items }
 {
     for index in 0..places.len() {
         cookies.swap(index, places[index]);

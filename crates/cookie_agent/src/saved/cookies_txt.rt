@@ -11,10 +11,11 @@ ghost use Rattle.cookie_agent.specs.CookiesTxt as spec;
 ghost use Rattle.cookie_agent.specs.CookiesTxtCode as code;
 ghost use Rattle.cookie_agent.specs.Saved.{bad_lines_of, cookies_of, left_out};
 
+use crate::nanos::start_of_1970;
 use crate::saved::line::Line;
 use crate::saved::loaded::LoadedCookies;
 use crate::saved::storable::is_storable;
-use crate::saved::{SavedCookies, is_persistent, lines_of, start_of_1970, without_return};
+use crate::saved::{SavedCookies, is_persistent, lines_of, without_return};
 use crate::stored::StoredCookie;
 use cookie_browser::{Enforcement, Expiry, KeptCookie};
 use cookie_core::seconds_of_digits;

@@ -13,10 +13,11 @@ ghost use Rattle.cookie_agent.specs.JsonLines as spec;
 ghost use Rattle.cookie_agent.specs.JsonLinesCode as code;
 ghost use Rattle.cookie_agent.specs.Saved.{bad_lines_of, cookies_of, left_out};
 
+use crate::nanos::start_of_1970;
 use crate::saved::line::Line;
 use crate::saved::loaded::LoadedCookies;
 use crate::saved::storable::is_storable;
-use crate::saved::{SavedCookies, is_persistent, lines_of, start_of_1970, without_return};
+use crate::saved::{SavedCookies, is_persistent, lines_of, without_return};
 use crate::stored::StoredCookie;
 use cookie_browser::{Enforcement, Expiry, KeptCookie};
 use jiff::civil::DateTime;

@@ -21,9 +21,12 @@ loop-index-preserved c =
     let long : length new ≡ length now = omega (arith, c.swap.ensures.len) in
     picked-more xs c.args.places.now now new c.loop-index.index c.requires.0 c.loop-index-test.true c.loop-index.invariant long c.swap.ensures.by_index
 
-pub returns : goal.returns
-returns c =
+pub returns-clause-picked : goal.returns-clause-picked
+returns-clause-picked c =
     let xs : CookieStore = c.args.cookies.now.items in
     let fits : 0 + length c.args.places.now ≤ length xs = places-fit 0 (length xs) c.args.places.now (omega arith) c.requires.0 c.requires.1 in
     c.truncate.ensures.items
     ∙ picked-all xs c.args.places.now c.loop-index.cookies.items c.loop-index.index blank (omega (arith, fits)) (omega (arith, c.loop-index-test.false)) c.loop-index.invariant
+
+pub returns-clause-fewer : goal.returns-clause-fewer
+returns-clause-fewer c = omega (arith, c.truncate.ensures.len, c.loop-index.invariant.long)

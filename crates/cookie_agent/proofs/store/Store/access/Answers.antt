@@ -1,8 +1,12 @@
--- An access leaves what is stored apart.
+-- An access leaves what is stored apart, the marks, and until when none is expired.
 use Rattle.std.proofs.Common.{sym, subst}
-use Rattle.cookie_agent.specs.Stored.{IsApart}
-use Rattle.cookie_agent.proofs.PutLemmas.{apart-accessed}
+use Rattle.cookie_browser.specs.Storage.{CookieStore}
+use Rattle.cookie_agent.specs.StoredCode.{AreIndexed}
+use Rattle.cookie_agent.proofs.IndexLemmas.{indexed-accessed}
 use Rattle.cookie_agent.proofs.store.Store.access.Goals as goal
 
 pub invariant_of-self : goal.invariant_of-self
-invariant_of-self c = subst IsApart (sym c.access.ensures) (apart-accessed c.args.site.now c.args.now c.self.inside.cookies.items c.self.invariant)
+invariant_of-self c =
+    let inside = c.self.inside in
+    subst (λ (s : CookieStore). AreIndexed s inside.marks.items inside.fresh_until) (sym c.access.ensures)
+    (indexed-accessed c.args.site.now c.args.now inside.cookies.items inside.marks.items inside.fresh_until c.self.invariant)

@@ -1,9 +1,10 @@
--- What is left is apart, and is what the test doesn't find.
-use Rattle.std.proofs.Common.{◌≡◌, not, filter, rules, ap, sym, subst, ◌∙◌}
+-- What is left is what the test doesn't find, with its marks.
+use Rattle.std.proofs.Common.{◌≡◌, Bool, not, filter, map, rules, ap, ◌∙◌}
 use Rattle.std.proofs.lemmas.Fn.{filter_same}
-use Rattle.cookie_browser.specs.Storage.{CookieStore}
-use Rattle.cookie_agent.specs.Stored.{IsApart, is_of_domain}
-use Rattle.cookie_agent.proofs.PutLemmas.{apart-filter}
+use Rattle.cookie_browser.specs.Storage.{CookieStore, KeptView}
+use Rattle.cookie_agent.specs.Stored.{is_of_domain}
+use Rattle.cookie_agent.specs.StoredCode.{mark_of}
+use Rattle.cookie_agent.proofs.IndexLemmas.{indexed-left}
 use Rattle.cookie_agent.proofs.store.Store.clear_domain.Goals as goal
 
 pub returns : goal.returns
@@ -13,6 +14,8 @@ returns c =
 
 pub invariant_of-self : goal.invariant_of-self
 invariant_of-self c =
-    let left : c.retain.new.self.items ≡ filter (λ d. not (is_of_domain c.args.domain.now d)) c.self.inside.cookies.items
-    = filter_same _ (λ d. not (is_of_domain c.args.domain.now d)) _ (λ x b f h. search rules) _ _ c.retain.ensures.filtered in
-    subst IsApart (sym left) (apart-filter (λ d. not (is_of_domain c.args.domain.now d)) c.self.inside.cookies.items c.self.invariant)
+    let test : KeptView → Bool = λ d. not (is_of_domain c.args.domain.now d) in
+    let left : c.retain.new.self.items ≡ filter test c.self.inside.cookies.items
+    = filter_same _ test _ (λ x b f h. search rules) _ _ c.retain.ensures.filtered in
+    indexed-left test c.self.inside.cookies.items c.retain.new.self.items c.self.inside.marks.items c.renew.new.marks.items c.self.inside.fresh_until left
+    (c.renew.ensures ∙ ap (map mark_of) c.deref.ensures.value) c.self.invariant

@@ -1,9 +1,28 @@
 -- What is stored stays apart.
-use Rattle.std.proofs.Common.{sym, ◌∙◌, subst}
+use Rattle.std.proofs.Common.{◌≤ℤ◌, FitsSigned, rules, sym, ◌∙◌, subst, arith}
+use Rattle.std.proofs.lemmas.Int.{ints, to_z-of_z}
+use mir.Syntax.{w128}
 use Rattle.cookie_agent.specs.Stored.{IsApart}
+use Rattle.cookie_agent.proofs.IndexLemmas.{all_sooner, sooner_fresh}
 use Rattle.cookie_agent.proofs.PutLemmas.{apart-stored}
 use Rattle.cookie_agent.proofs.store.Store.put.Goals as goal
 
+pub drop_expired-self-inside-requires-clause-fresh : goal.drop_expired-self-inside-requires-clause-fresh
+drop_expired-self-inside-requires-clause-fresh c =
+    let inside = c.self.inside in
+    let new = c.sooner-fresh_until.result in
+    let fits : FitsSigned w128 new = search rules in
+    let first : new ≤ℤ inside.fresh_until = omega (arith, ints) in
+    let second : new ≤ℤ c.fresh_until.result = omega (arith, ints) in
+    simp to_z-of_z (c.put_in_place.ensures.fresh new (all_sooner new inside.fresh_until inside.cookies.items first c.self.invariant.fresh)
+    (sooner_fresh new c.fresh_until.result c.args.cookie second c.fresh_until.ensures))
+
 pub invariant_of-self-2 : goal.invariant_of-self-2
 invariant_of-self-2 c =
-    subst IsApart (sym (c.drop_expired.ensures ∙ c.in_ok-put_in_place.ensures.ok)) (apart-stored c.args.now c.args.cookie c.self.inside.cookies.items c.self.invariant)
+    let dropped = c.drop_expired-self-inside.ensures in
+    let fits : FitsSigned w128 c.drop_expired-self-inside.result = search rules in
+    simp to_z-of_z (record {
+      apart = subst IsApart (sym (dropped.cookies ∙ c.in_ok-put_in_place.ensures.ok)) (apart-stored c.args.now c.args.cookie c.self.inside.cookies.items c.self.invariant.apart);
+      marks = dropped.marks;
+      fresh = dropped.fresh;
+    })

@@ -1,0 +1,14 @@
+//! Numbers of texts.
+ghost use Rattle.std.specs.Prelude.{◌≡◌};
+ghost use Rattle.cookie_agent.specs.StoredCode.{mark_after};
+
+// A number of the text, after the number of others. Most texts that differ have different numbers.
+pub(crate) fn mark_after(mark: u64, text: &[u8]) -> u64
+    ensures { result ≡ mark_after mark text.now }
+{
+    let mut mark = mark;
+    for &byte in text {
+        mark = mark.wrapping_mul(31).wrapping_add(u64::from(byte));
+    }
+    mark
+}
