@@ -14,6 +14,7 @@ isn't UTF-8 isn't sent.
 from __future__ import annotations
 
 from http.cookies import Morsel, SimpleCookie
+from types import MappingProxyType
 from typing import Any, Iterator, Mapping, Sequence
 
 import aiohttp
@@ -131,6 +132,31 @@ class CookieJar(AbstractCookieJar):
         for kept in list(self.agent):
             if kept.domain == domain or kept.domain.endswith(f".{domain}"):
                 self.agent.remove(kept)
+
+    @property
+    def unsafe(self) -> bool:
+        """True: a host that is an IP address has cookies too (RFC 6265bis, Domain Matching)."""
+        return True
+
+    @property
+    def quote_cookie(self) -> bool:
+        """True, as by default in aiohttp: of the caller's own `cookies` odd values are sent in quotes."""
+        return True
+
+    @property
+    def cookies(self) -> Mapping[tuple[str, str], SimpleCookie[str]]:
+        """The stored cookies by domain and path. It can't be changed."""
+        found: dict[tuple[str, str], SimpleCookie[str]] = {}
+        for kept in self.agent:
+            named = found.setdefault((kept.domain, kept.path), SimpleCookie())
+            # By itself a name may be one that `http.cookies` refuses.
+            dict.__setitem__(named, kept.name, morsel_with_attributes(kept))
+        return MappingProxyType(found)
+
+    @property
+    def host_only_cookies(self) -> frozenset[tuple[str, str]]:
+        """The domain and the name of each stored cookie that only its host gets."""
+        return frozenset((kept.domain, kept.name) for kept in self.agent if kept.is_host_only)
 
     def __iter__(self) -> Iterator[Morsel[str]]:
         return map(morsel_with_attributes, self.agent)

@@ -96,6 +96,8 @@ class CookieJar(http.cookiejar.CookieJar):
         b'lang=en'
         """
         host = without_local(cookie.domain).lstrip(".")
+        if not host:
+            raise ValueError(f"the cookie {cookie.name!r} has no domain: RFC 6265bis knows no cookie of all hosts")
         refusal = self.agent.read_at(address_at("https", host, "/"), text_of(cookie, self.agent.clock()))
         if refusal is not None:
             raise ValueError(f"the cookie {cookie.name!r} isn't stored: {refusal.sentence}")
@@ -107,7 +109,8 @@ class CookieJar(http.cookiejar.CookieJar):
             self.agent.read_at(address, text_of(cookie, self.agent.clock()))
 
     def clear(self, domain: str | None = None, path: str | None = None, name: str | None = None) -> None:
-        """Removes all cookies, or those of the domain, the path and the name. Raises `KeyError` if there is none."""
+        """Removes all cookies, or those of the domain, the path and the name. Raises `KeyError` if there is none. If a
+        domain has no cookies without a dot before it, it may stand for the one with a dot, as it was set."""
         if name is not None and (domain is None or path is None):
             raise ValueError("domain and path must be given to remove a cookie by name")
         if path is not None and domain is None:
@@ -115,14 +118,36 @@ class CookieJar(http.cookiejar.CookieJar):
         if domain is None:
             self.agent.clear()
             return
-        found = [
-            cookie for cookie in self.agent
-            if domain == domain_of(cookie) and path in (None, cookie.path) and name in (None, cookie.name)
-        ]
+        named = [cookie for cookie in self.agent if path in (None, cookie.path) and name in (None, cookie.name)]
+        found = [cookie for cookie in named if domain_of(cookie) == domain]
+        found = found or [cookie for cookie in named if domain_of(cookie) == f".{domain}"]
         if not found:
             raise KeyError(name or path or domain)
         for cookie in found:
             self.agent.remove(cookie)
+
+    def copy(self) -> CookieJar:
+        """A jar with an agent of its own, which has the same cookies and rules. requests makes one at a redirect.
+
+        >>> jar = CookieJar()
+        >>> jar.agent.read("https://shop.example/", "lang=en")
+        >>> other = jar.copy()
+        >>> jar.clear()
+        >>> len(jar), len(other)
+        (0, 1)
+        """
+        (per_domain, total), clock = self.agent.limits, self.agent.clock
+        is_localhost_secure = self.agent.is_localhost_secure
+        agent = Agent(
+            self.agent.suffixes, is_localhost_secure=is_localhost_secure, per_domain=per_domain, total=total, clock=clock
+        )
+        jar = CookieJar(agent, context=self.context)
+        for cookie in self:
+            jar.set_cookie(cookie)
+        return jar
+
+    # Else both would have one agent.
+    __copy__ = copy
 
     def clear_session_cookies(self) -> None:
         """Removes the cookies without an expiry."""
@@ -195,7 +220,7 @@ def cookie_of(kept: KeptCookie) -> http.cookiejar.Cookie:
 def text_of(cookie: http.cookiejar.Cookie, now: float) -> bytes:
     """The text of the `Set-Cookie` header that sets the cookie. Raises `ValueError` if a part holds what would end it."""
     name, value = ("", cookie.name) if cookie.value is None else (cookie.name, cookie.value)
-    if "=" in name or any(re.search(r"[\x00-\x1f\x7f;]", part) for part in (name, value, cookie.path)):
+    if "=" in name or any(re.search(r"[\x00-\x08\x0a-\x1f\x7f;]", part) for part in (name, value, cookie.path)):
         raise ValueError("a name, a value or a path holds a control character, a `;` or a `=`")
     pieces = [f"{name}={value}", f"Path={cookie.path}"]
     if cookie.domain_specified or cookie.domain.startswith("."):

@@ -39,7 +39,7 @@ class MasterTooShort(CookieError):
 
 
 class BadNonce(CookieError):
-    """The nonce doesn't have twelve bytes, or the random bytes of a session aren't 28."""
+    """The nonce doesn't have twelve bytes, or the id of a session sixteen."""
 
     status = 6
 

@@ -5,38 +5,85 @@
 
     session = session_of(Agent())
 
-It is a `requests.Session` with a `CookieAdapter` for both schemes, and with empty `session.cookies`. The agent decides
-what is stored and sent, also at each redirect and at each answer to a 401. Around it go other adapters that are mounted on
-longer prefixes, and the responses that urllib3 retries by itself (`max_retries`): their cookies aren't read. What a
+It is a `requests.Session` with a `CookieAdapter` for both schemes, and with the agent's cookies as `session.cookies`. The
+agent decides what is stored and sent, also at each redirect and at each answer to a 401. Around it go other adapters that
+are mounted on longer prefixes, and the responses that urllib3 retries by itself (`max_retries`): their cookies aren't read. What a
 request's `cookies=` or a header `Cookie` of the caller says isn't sent: have the agent read such a cookie.
 """
 from __future__ import annotations
 
-from typing import Any
+import http.cookiejar
+from typing import Any, Iterator
 from urllib.parse import urlsplit
 
 from requests import PreparedRequest, Response, Session
 from requests.adapters import HTTPAdapter
+from requests.cookies import RequestsCookieJar
 from urllib3.util import parse_url
 
 from ._library import Uncopied
 from .addresses import Address, address_at
 from .agents import SAFE_METHODS, SAME_SITE, Agent, Context
-from .cookiejar import NoCookies, texts_of
+from .cookiejar import CookieJar, texts_of
 
 
 def session_of(agent: Agent | None = None, *, context: Context = SAME_SITE) -> Session:
     """A session that keeps the cookies of an agent, by default a new one. `context` says how its requests come about, by
     default same-site.
 
-    >>> session_of().cookies
-    <NoCookies[]>
+    >>> session = session_of()
+    >>> session.cookies.set("lang", "en", domain="shop.example").domain_specified
+    True
+    >>> session.cookies["lang"], session.cookies.agent.header("https://www.shop.example/")
+    ('en', b'lang=en')
     """
     session, adapter = Session(), CookieAdapter(agent, context=context)
-    session.cookies = NoCookies()
+    session.cookies = SessionCookies(adapter.agent)
     for prefix in ("https://", "http://"):
         session.mount(prefix, adapter)
     return session
+
+
+class AgentJar(CookieJar, RequestsCookieJar):
+    """An agent's cookies with the calls of a dict that jars of requests have."""
+
+
+class SessionCookies(Uncopied):
+    """An agent's cookies as `session.cookies`, with the calls of requests' jars: `cookies["lang"]`, `get`, `set`, `items`,
+    `get_dict`, `clear`. What is set without a `domain` raises `ValueError`: RFC 6265bis knows no cookie of all hosts.
+
+    It isn't a `http.cookiejar.CookieJar`: what is in one requests sends by other rules, also to hosts of other adapters.
+    """
+
+    def __init__(self, agent: Agent) -> None:
+        self.agent, self.jar = agent, AgentJar(agent)
+
+    def extract_cookies(self, response: Any, request: Any) -> None:
+        """Does nothing: the agent has read the response."""
+
+    def __getattr__(self, name: str) -> Any:
+        return getattr(self.jar, name)
+
+    def __getitem__(self, name: str) -> str | None:
+        return self.jar[name]  # type: ignore[no-any-return]
+
+    def __setitem__(self, name: str, value: str | None) -> None:
+        self.jar[name] = value
+
+    def __delitem__(self, name: str) -> None:
+        del self.jar[name]
+
+    def __contains__(self, name: object) -> bool:
+        return name in self.jar
+
+    def __iter__(self) -> Iterator[http.cookiejar.Cookie]:
+        return iter(self.jar)
+
+    def __len__(self) -> int:
+        return len(self.jar)
+
+    def __repr__(self) -> str:
+        return f"<SessionCookies of {len(self)} cookies>"
 
 
 class CookieAdapter(Uncopied, HTTPAdapter):
