@@ -1,20 +1,37 @@
-"""Plays a file of others' tests with our jar in the place of `http.cookiejar.CookieJar`, and prints in JSON what came of each
-test that makes such a jar: its name, and whether it passed."""
+"""Plays a file of others' tests with our jar in the place of theirs, and prints in JSON what came of each test that makes such
+a jar: its name, whether it passed, and what it said.
+
+    suites.py http.cookiejar|httpx|aiohttp FILE
+
+CPython's tests run by unittest, the others' by pytest. Of the client itself the version that is installed runs, whichever
+version the tests are of. With HOSTLESS=no the cookie that aiohttp's tests set for all hosts is left out of their text.
+"""
+import contextlib
+import http.cookiejar
 import importlib.util
 import json
+import os
+import re
 import sys
+import tempfile
+import time
 import unittest
+from pathlib import Path
 
 from deomigal import Agent, cookiejar
 
 
-class Played(cookiejar.CookieJar):
-    """Our jar with the arguments of `http.cookiejar`'s. It counts itself."""
+class Counted:
+    """How many jars of ours were made."""
 
     made = 0
 
+
+class Played(cookiejar.CookieJar):
+    """Our jar with the arguments of `http.cookiejar`'s."""
+
     def __init__(self, policy=None):
-        Played.made += 1
+        Counted.made += 1
         super().__init__(Agent())
         self.policy = policy
 
@@ -43,24 +60,98 @@ class Results(unittest.TestResult):
 
     def startTest(self, test):
         super().startTest(test)
-        self.before = Played.made
+        self.before = Counted.made
 
     def stopTest(self, test):
         super().stopTest(test)
-        if Played.made > self.before:
+        if Counted.made > self.before:
             wrong = [told for case, told in self.failures + self.errors if case is test]
             self.rows.append({"name": test._testMethodName, "is_right": not wrong, "told": "".join(wrong)})
 
 
-def main():
-    path, = sys.argv[1:]
+class Plugin:
+    """The same for pytest."""
+
+    def __init__(self):
+        self.rows, self.told = [], {}
+
+    def pytest_runtest_setup(self, item):
+        self.before = Counted.made
+
+    def pytest_runtest_logreport(self, report):
+        if report.failed:
+            self.told[report.nodeid] = report.longreprtext
+
+    def pytest_runtest_logfinish(self, nodeid):
+        if Counted.made > self.before:
+            # aiohttp's plugin runs each test of a coroutine in the loop that the name says.
+            name = re.sub(r"\[pyloop\]$", "", nodeid.rpartition("::")[2]).replace("[pyloop-", "[")
+            self.rows.append({"name": name, "is_right": nodeid not in self.told, "told": self.told.get(nodeid, "")})
+
+
+def play_cpython(path):
+    """Plays CPython's tests of http.cookiejar."""
     spec = importlib.util.spec_from_file_location("theirs", path)
     theirs = importlib.util.module_from_spec(spec)
     spec.loader.exec_module(theirs)
     theirs.CookieJar = Played
     results = Results()
     unittest.defaultTestLoader.loadTestsFromModule(theirs).run(results)
-    print(json.dumps(results.rows))
+    return results.rows
+
+
+def play_httpx(path):
+    """Plays a file of httpx's tests. httpx makes each jar, also those that a client makes of its own."""
+    http.cookiejar.CookieJar = Played
+    import httpx
+
+    assert httpx._models.CookieJar is Played
+    return play_pytest(path.read_text())
+
+
+def play_aiohttp(path):
+    """Plays aiohttp's tests of its jar."""
+    import aiohttp
+    import deomigal.aiohttp
+
+    class PlayedAiohttp(deomigal.aiohttp.CookieJar):
+        """Our jar with the arguments of aiohttp's, and its calls that write and read a file."""
+
+        def __init__(self, *, unsafe=False, quote_cookie=True, treat_as_secure_origin=None, loop=None):
+            Counted.made += 1
+            # freezegun has another clock.
+            super().__init__(Agent(clock=lambda: time.time()))
+
+        def save(self, file_path):
+            self.agent.save(file_path)
+
+        def load(self, file_path):
+            self.agent.load(file_path)
+
+    aiohttp.CookieJar = PlayedAiohttp
+    text = path.read_text()
+    if os.environ.get("HOSTLESS") == "no":
+        text = re.sub(r'"shared-cookie",\s*', "", text.replace("shared-cookie=first; ", "").replace('{"shared-cookie"}', "set()"))
+    return play_pytest(text, "-p", "aiohttp.pytest_plugin")
+
+
+def play_pytest(text, *words):
+    """Plays the text of a file of tests."""
+    import pytest
+
+    plugin = Plugin()
+    with tempfile.TemporaryDirectory() as folder, contextlib.redirect_stdout(sys.stderr):
+        path = Path(folder) / "test_theirs.py"
+        path.write_text(text)
+        named = [f"--rootdir={folder}", "-q", "-p", "no:cacheprovider", "-W", "ignore", *words]
+        pytest.main([*named, str(path)], plugins=[plugin])
+    return plugin.rows
+
+
+def main():
+    kind, path = sys.argv[1:]
+    players = {"http.cookiejar": play_cpython, "httpx": play_httpx, "aiohttp": play_aiohttp}
+    print(json.dumps(players[kind](Path(path).resolve())))
 
 
 main()
