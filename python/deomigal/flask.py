@@ -8,11 +8,13 @@
 """
 from __future__ import annotations
 
+import json
 import time
 from typing import Any, Callable, Sequence, cast
 
 import flask
 from flask import Flask, Request, Response
+from flask.json.tag import TaggedJSONSerializer
 from flask.sessions import SecureCookieSession, SecureCookieSessionInterface, SessionMixin
 from flask.sessions import SessionInterface as FlaskSessionInterface
 from flask.sessions import session_json_serializer as tagged
@@ -98,8 +100,13 @@ class FlaskSession(SecureCookieSession):
     def texts(self) -> dict[str, str]:
         """The texts of its values."""
         if self.modified or self.is_old:
-            return {str(name): self.serializer.dumps(value) for name, value in self.items()}
+            return {str(name): self.text(value) for name, value in self.items()}
         return self.kept.texts
+
+    def text(self, value: Any) -> str:
+        """The text of a value. Flask's JSON escapes what is outside ASCII, which has fewer bytes as it is."""
+        text: str = self.serializer.dumps(value)
+        return short(text) if isinstance(self.serializer, TaggedJSONSerializer) else text
 
     def is_refused(self) -> bool:
         """Whether a check raised `TooLarge` for the values that it has."""
@@ -107,6 +114,22 @@ class FlaskSession(SecureCookieSession):
 
     def __repr__(self) -> str:
         return f"<FlaskSession {list(self.keys())!r}>"
+
+
+def short(text: str) -> str:
+    """The text of JSON without escapes by `\\u`. With a lone surrogate, which has no UTF-8, it stays as it is.
+
+    >>> short('{"a":"\\\\u03b1"}'), short('"\\\\ud800"')
+    ('{"a":"\u03b1"}', '"\\\\ud800"')
+    """
+    if "\\u" not in text:
+        return text
+    shorter = json.dumps(json.loads(text), separators=(",", ":"), ensure_ascii=False)
+    try:
+        shorter.encode()
+    except UnicodeEncodeError:
+        return text
+    return shorter
 
 
 # The session of the request, as `flask.session` is, but with the type that it has here.

@@ -70,6 +70,7 @@ def change(session, path):
         "/set": lambda: session.update({"user": "ann"}),
         "/bo": lambda: session.update({"user": "bo"}),
         "/large": lambda: session.update({"text": "x" * 5000}),
+        "/room": lambda: session.update({"text": "x" * 2800}),
         "/flush": session.flush,
         "/cycle": session.cycle_key,
         "/short": lambda: (session.update({"user": "ann"}), session.set_expiry(60)),
@@ -209,6 +210,10 @@ class EngineFacts(SimpleTestCase):
     def test_flush(self):
         """A session that was flushed has its cookie dropped."""
         self.assertEqual(age_of(self.ask("/flush", self.kept())[1]), 0)
+
+    def test_room(self):
+        """2,800 letters have room."""
+        self.reads(self.kept("/room"), {"text": "x" * 2800})
 
     def test_too_large(self):
         """A session that no browser would store raises `TooLarge`."""

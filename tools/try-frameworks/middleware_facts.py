@@ -28,6 +28,8 @@ def change(session, path):
         session.setdefault("cart", []).append(1)
     elif path == "/large":
         session["text"] = "x" * 5000
+    elif path == "/room":
+        session["text"] = "\u03b1" * 1400
     elif path == "/clear":
         session.clear()
     elif path == "/again":
@@ -298,6 +300,10 @@ class Shared:
         self.assertEqual(self.vary, "Cookie")
         self.ask("/plain", self.kept())
         self.assertIsNone(self.vary)
+
+    def test_room(self):
+        """1,400 Greek letters have room."""
+        self.reads(self.kept("/room"), {"text": "\u03b1" * 1400})
 
     def test_too_large(self):
         """A session that no browser would store raises `TooLarge`."""
