@@ -21,6 +21,7 @@ mod responding;
 mod runtime;
 mod sealing;
 mod session;
+mod shop;
 mod show;
 mod team;
 #[cfg(test)]
@@ -42,5 +43,6 @@ fn main(rt: HostRuntime) -> Result<()> {
     show::calls(&rt, now)?;
     show::browser(&rt, now)?;
     show::headers(&rt)?;
+    shop::visits::print_visits(&rt, now)?;
     show::runtime(&rt)
 }

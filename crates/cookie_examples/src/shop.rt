@@ -1,0 +1,83 @@
+//! A shop: a login, a cart, messages that are shown once, a theme, and keys that are rotated. It has no contracts, as
+//! the program of a newcomer. What is proved is that it doesn't panic, doesn't overflow, and ends.
+mod cart;
+mod login;
+mod page;
+mod request;
+mod theme;
+pub mod visits;
+
+use anyhow::Result;
+use cookie::CookieJar;
+use cookie_session::{Sessions, Visit};
+use jiff::civil::DateTime;
+use rand_core::TryRng;
+pub use request::{Request, Response};
+use std::alloc::Global;
+use std::hash::RandomState;
+
+/// Answers a request at the time `now` in UTC. The jar hashes with the keys of `state`.
+pub fn answer<R: TryRng>(
+    alloc: Global,
+    sessions: &Sessions<'_>,
+    state: RandomState,
+    request: &Request<'_>,
+    now: DateTime,
+    rng: &mut R,
+) -> Result<Response> {
+    let jar = CookieJar::with_hasher(alloc, state);
+    let mut jar = jar.with_field(request.cookies)?;
+    visit(alloc, sessions, &mut jar, request, now, rng)
+}
+
+// Answers with the session of the request, or with a new one.
+fn visit<R: TryRng>(
+    alloc: Global,
+    sessions: &Sessions<'_>,
+    jar: &mut CookieJar,
+    request: &Request<'_>,
+    now: DateTime,
+    rng: &mut R,
+) -> Result<Response> {
+    let opened = sessions.open_field(alloc, request.cookies, now)?;
+    let mut visit = Visit::of(alloc, opened, now, rng)?;
+    respond(alloc, sessions, jar, &mut visit, request, now, rng)
+}
+
+fn respond<R: TryRng>(
+    alloc: Global,
+    sessions: &Sessions<'_>,
+    jar: &mut CookieJar,
+    visit: &mut Visit,
+    request: &Request<'_>,
+    now: DateTime,
+    rng: &mut R,
+) -> Result<Response> {
+    let status = change(alloc, jar, visit, request, now, rng)?;
+    let page = page::print(alloc, jar, visit, status)?;
+    sessions.save_if_needed(alloc, jar, visit, now, rng)?;
+    Ok(Response {
+        status,
+        cookies: jar.set_cookie_texts()?,
+        page,
+    })
+}
+
+// Does what the request asks for, and returns the response's status.
+fn change<R: TryRng>(
+    alloc: Global,
+    jar: &mut CookieJar,
+    visit: &mut Visit,
+    request: &Request<'_>,
+    now: DateTime,
+    rng: &mut R,
+) -> Result<u16> {
+    match request.route {
+        "GET /" => Ok(200),
+        "POST /cart" => cart::add(alloc, visit, request.form),
+        "POST /login" => login::log_in(alloc, visit, request.form, now, rng),
+        "POST /logout" => login::log_out(alloc, visit, now, rng),
+        "POST /theme" => theme::choose(alloc, jar, request.form),
+        _ => Ok(404),
+    }
+}
