@@ -11,6 +11,7 @@ pub mod NameLemmas
 pub mod OriginalLemmas
 pub mod PrefixLemmas
 pub mod PurposeLemmas
+pub mod RowLemmas
 pub mod SealingLemmas
 pub mod ShownLemmas
 mod SigningFacts

@@ -6,6 +6,7 @@ use Rattle.std.specs.Str.{bytes_eq}
 use Rattle.cookie_core.specs.Record.{Record}
 use Rattle.cookie.specs.Jar.{Name, name_cmp, JarState, Marked}
 use Rattle.cookie.specs.declared.delta.DeltaCookie.{DeltaCookie}
+use Rattle.cookie.specs.declared.name_hash.NameHash.{NameHash}
 use Rattle.cookie.specs.declared.name_key.NameKey.{NameKey}
 use Rattle.cookie.specs.declared.original.Original.{Original}
 
@@ -16,6 +17,11 @@ key_name key = (arc_value key.cookie).fields.name
 -- both keys have one name
 abbrev pub key_eq : NameKey → NameKey → Bool
 key_eq a b = bytes_eq (key_name a) (key_name b)
+
+-- a table's entries, and how it hashes names
+pub record TableState (X : Type 0) : Type 0 where
+  pub entries : List (NameKey × X)
+  pub hash : NameHash
 
 -- the map from the names of the keys to what the values show
 abbrev pub by_name : {X Z : Type 0} → (X → Z) → List (NameKey × X) → FinMap name_cmp Z

@@ -6,19 +6,16 @@ ghost use Rattle.cookie.specs.Shown.{additions, uncovered};
 ghost use Rattle.cookie.specs.Table.{by_name, delta_mark, original_fields};
 
 use crate::delta::DeltaCookie;
-use crate::entry::find;
-use crate::name_hash::NameHash;
-use crate::name_key::NameKey;
+use crate::entries::Entries;
 use crate::original::Original;
+use crate::table::Table;
 use cookie_core::Cookie;
-use indexmap::IndexMap;
-use indexmap::map::Values;
 use std::marker::Model;
 
 /// The cookies that were changed, seen as the list of the records of those that are left.
 #[derive(Drop)]
 pub struct Delta<'a> {
-    entries: Values<'a, NameKey, DeltaCookie>,
+    entries: Entries<'a, DeltaCookie>,
 }
 
 impl<'a> Model for Delta<'a> {
@@ -32,7 +29,7 @@ impl<'a> Model for Delta<'a> {
 }
 
 impl<'a> Delta<'a> {
-    pub(crate) fn new(entries: Values<'a, NameKey, DeltaCookie>) -> Delta<'a>
+    pub(crate) fn new(entries: Entries<'a, DeltaCookie>) -> Delta<'a>
         ensures { result ≡ map (λ d. (delta_mark d).cookie) entries.entry }
     {
         Delta { entries }
@@ -59,9 +56,9 @@ impl<'a> Iterator for Delta<'a> {
 /// The cookies that a jar shows, seen as the list of the records of those that are left.
 #[derive(Drop)]
 pub struct Iter<'a> {
-    delta: &'a IndexMap<NameKey, DeltaCookie, NameHash>,
-    changes: Values<'a, NameKey, DeltaCookie>,
-    originals: Values<'a, NameKey, Original>,
+    delta: &'a Table<DeltaCookie>,
+    changes: Entries<'a, DeltaCookie>,
+    originals: Entries<'a, Original>,
 }
 
 impl<'a> Model for Iter<'a> {
@@ -78,10 +75,7 @@ impl<'a> Model for Iter<'a> {
 
 impl<'a> Iter<'a> {
     // The cookies that were added, and then the originals under whose names nothing was added or removed.
-    pub(crate) fn new(
-        delta: &'a IndexMap<NameKey, DeltaCookie, NameHash>,
-        originals: &'a IndexMap<NameKey, Original, NameHash>,
-    ) -> Iter<'a>
+    pub(crate) fn new(delta: &'a Table<DeltaCookie>, originals: &'a Table<Original>) -> Iter<'a>
         ensures { result ≡ additions (map delta_mark (values_of delta.now.entries))
             ++ uncovered (by_name delta_mark delta.now.entries)
             (map original_fields (values_of originals.now.entries)) }
@@ -114,7 +108,7 @@ impl<'a> Iterator for Iter<'a> {
 }
 
 // The next cookie that was added.
-fn next_added<'a>(changes: &mut Values<'a, NameKey, DeltaCookie>) -> Option<&'a Cookie<'static>>
+fn next_added<'a>(changes: &mut Entries<'a, DeltaCookie>) -> Option<&'a Cookie<'static>>
     ensures { TakesFirst (λ c. c.now.fields) (additions (map delta_mark changes.old))
         result (additions (map delta_mark changes.new)) }
 {
@@ -128,8 +122,8 @@ fn next_added<'a>(changes: &mut Values<'a, NameKey, DeltaCookie>) -> Option<&'a 
 
 // The next original under whose name the delta has nothing.
 fn next_uncovered<'a>(
-    delta: &IndexMap<NameKey, DeltaCookie, NameHash>,
-    originals: &mut Values<'a, NameKey, Original>,
+    delta: &Table<DeltaCookie>,
+    originals: &mut Entries<'a, Original>,
 ) -> Option<&'a Cookie<'static>>
     ensures { TakesFirst (λ c. c.now.fields)
         (uncovered (by_name delta_mark delta.now.entries) (map original_fields originals.old))
@@ -137,7 +131,7 @@ fn next_uncovered<'a>(
         (uncovered (by_name delta_mark delta.now.entries) (map original_fields originals.new)) }
 {
     while let Some(original) = originals.next() {
-        if find(delta, original.cookie.name()).is_none() {
+        if delta.find(original.cookie.name()).is_none() {
             return Some(&*original.cookie);
         }
     }

@@ -10,14 +10,12 @@ ghost use Rattle.cookie.specs.Walk.{Walks};
 ghost use Rattle.cookie.specs.declared.jar_error.JarError.TheVariants as refusal;
 
 use crate::delta::DeltaCookie;
-use crate::entry::{copy, discard, find, put};
 use crate::iter::{Delta, Iter};
 use crate::jar_error::JarError;
 use crate::name_hash::NameHash;
-use crate::name_key::NameKey;
 use crate::original::Original;
+use crate::table::Table;
 use cookie_core::Cookie;
-use indexmap::IndexMap;
 use jiff::civil::DateTime;
 use std::alloc::{AllocError, Global};
 use std::fmt;
@@ -27,14 +25,13 @@ use std::marker::Model;
 /// Cookies by their names, and which of them were changed since they came (RFC 6265 5.3).
 #[derive(Drop)]
 pub struct CookieJar {
-    originals: IndexMap<NameKey, Original, NameHash>,
-    delta: IndexMap<NameKey, DeltaCookie, NameHash>,
+    originals: Table<Original>,
+    delta: Table<DeltaCookie>,
 }
 
 // Contracts see the jar as two finite maps from names to the records of cookies.
 impl Model for CookieJar {
     ghost use Rattle.std.specs.Prelude.{◌≡◌};
-    ghost use Rattle.indexmap.specs.IndexMap.{hasher_of};
     ghost use Rattle.cookie.specs.Jar.{JarState, jar_code};
     ghost use Rattle.cookie.specs.Table.{AreNamed, by_name, delta_mark, original_fields};
 
@@ -51,7 +48,7 @@ impl Model for CookieJar {
     ghost invariant = { λ a. AreNamed (record {
       originals = by_name original_fields a.originals.entries;
       delta = by_name delta_mark a.delta.entries;
-    }) × (hasher_of a.originals ≡ hasher_of a.delta) };
+    }) × (a.originals.hash ≡ a.delta.hash) };
 }
 
 impl CookieJar {
@@ -88,8 +85,8 @@ impl CookieJar {
             → LooksBack (reverse changes) (after_all changes result) }
     {
         CookieJar {
-            originals: IndexMap::with_hasher(alloc, hash),
-            delta: IndexMap::with_hasher(alloc, hash),
+            originals: Table::hashing(alloc, hash),
+            delta: Table::hashing(alloc, hash),
         }
     }
 
@@ -99,7 +96,7 @@ impl CookieJar {
     pub fn get(&self, name: &str) -> Option<&Cookie<'static>>
         ensures { option_map (λ c. c.now.fields) result ≡ view self.now name.now }
     {
-        match find(&self.delta, name) {
+        match self.delta.find(name) {
             Some(entry) if entry.removed => None,
             Some(entry) => Some(&*entry.cookie),
             None => self.original(name),
@@ -110,7 +107,7 @@ impl CookieJar {
     pub fn original(&self, name: &str) -> Option<&Cookie<'static>>
         ensures { option_map (λ c. c.now.fields) result ≡ get self.now.originals name.now }
     {
-        let entry = find(&self.originals, name)?;
+        let entry = self.originals.find(name)?;
         Some(&*entry.cookie)
     }
 
@@ -143,7 +140,7 @@ impl CookieJar {
         ensures err { OnErr result (self.new ≡ self.old) }
     {
         let original = Original::new(self.allocator(), cookie)?;
-        put(&mut self.originals, original)
+        self.originals.put(original)
     }
 
     /// Adds a cookie, in place of the one that the jar shows under its name.
@@ -156,7 +153,7 @@ impl CookieJar {
         ensures err { OnErr result (self.new ≡ self.old) }
     {
         let addition = DeltaCookie::addition(self.allocator(), cookie)?;
-        put(&mut self.delta, addition)?;
+        self.delta.put(addition)?;
         Ok(())
     }
 
@@ -172,11 +169,11 @@ impl CookieJar {
         ensures err { OnErr result (self.new ≡ self.old) }
         ensures certain { get self.old.originals cookie.entry.fields.name ≡ None → IsOk result }
     {
-        if find(&self.originals, cookie.name()).is_some() {
+        if self.originals.find(cookie.name()).is_some() {
             let removal = DeltaCookie::removal(self.allocator(), cookie, now)?;
-            put(&mut self.delta, removal)?;
+            self.delta.put(removal)?;
         } else {
-            discard(&mut self.delta, cookie.name());
+            self.delta.discard(cookie.name());
         }
         Ok(())
     }
@@ -186,8 +183,8 @@ impl CookieJar {
     pub fn force_remove(&mut self, name: &str)
         ensures { self.new ≡ after (ForceRemove name.now) self.old }
     {
-        discard(&mut self.originals, name);
-        discard(&mut self.delta, name);
+        self.originals.discard(name);
+        self.delta.discard(name);
     }
 
     /// Forgets all changes: the delta is empty, and the jar shows its originals again. It doesn't allocate.
@@ -195,12 +192,12 @@ impl CookieJar {
         ensures change { self.new ≡ after ResetDelta self.old }
         ensures originals { (name : Name) → view self.new name ≡ get self.old.originals name }
     {
-        self.delta.truncate(0);
+        self.delta.clear();
     }
 
     // The allocator of the jar and of its child jars.
     pub(crate) fn allocator(&self) -> Global {
-        *self.delta.allocator()
+        self.delta.allocator()
     }
 
     /// Copies the jar, with its originals and changes.
@@ -211,8 +208,8 @@ impl CookieJar {
     {
         let alloc = self.allocator();
         let made = CookieJar {
-            originals: copy(&self.originals, alloc)?,
-            delta: copy(&self.delta, alloc)?,
+            originals: self.originals.copy(alloc)?,
+            delta: self.delta.copy(alloc)?,
         };
         Ok(made)
     }

@@ -5,6 +5,7 @@ mod attribute_value;
 mod child;
 mod delta;
 mod delta_texts;
+mod entries;
 mod entry;
 mod error;
 mod field;
@@ -17,6 +18,7 @@ mod name_key;
 mod original;
 pub mod prefix;
 mod secure;
+mod table;
 mod text_map;
 mod texts_error;
 

@@ -6,11 +6,11 @@ use Rattle.cookie.proofs.jar.CookieJar.hashing.Goals as goal
 pub invariant_of-result : goal.invariant_of-result
 invariant_of-result c = (
   record {
-    originals = rw c.with_hasher.ensures.empty (IsKeyedByName-empty _);
-    delta = rw c.with_hasher-2.ensures.empty (IsKeyedByName-empty _);
+    originals = rw c.hashing.ensures.entries (IsKeyedByName-empty _);
+    delta = rw c.hashing-2.ensures.entries (IsKeyedByName-empty _);
   },
-  c.with_hasher.ensures.hasher ∙ sym c.with_hasher-2.ensures.hasher,
+  c.hashing.ensures.hash ∙ sym c.hashing-2.ensures.hash,
 )
 
 pub returns-clause-history : goal.returns-clause-history
-returns-clause-history c = λ changes. rw (c.with_hasher.ensures.empty, c.with_hasher-2.ensures.empty) (looks_back changes)
+returns-clause-history c = λ changes. rw (c.hashing.ensures.entries, c.hashing-2.ensures.entries) (looks_back changes)

@@ -9,14 +9,14 @@ pub invariant_of-self : goal.invariant_of-self
 invariant_of-self c = (
   record {
     originals = c.self.invariant.0.originals;
-    delta = rw c.truncate.ensures.entries (IsKeyedByName-empty _);
+    delta = rw c.clear.ensures.entries (IsKeyedByName-empty _);
   },
-  c.self.invariant.1 ∙ sym c.truncate.ensures.room.1,
+  c.self.invariant.1 ∙ sym c.clear.ensures.hash,
 )
 
 pub returns-clause-originals : goal.returns-clause-originals
 returns-clause-originals c = λ name.
     let original = get (by_name original_fields c.self.inside.originals.entries) name in
-    ap (λ es. overlay (get (by_name delta_mark es) name) original) c.truncate.ensures.entries
+    ap (λ es. overlay (get (by_name delta_mark es) name) original) c.clear.ensures.entries
     ∙ ap (λ entry. overlay entry original) (get-by_name delta_mark [] name)
     ∙ ap (λ (jar : JarState). get jar.originals name) c.self.view_is

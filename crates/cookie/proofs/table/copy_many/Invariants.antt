@@ -3,7 +3,7 @@ use Rattle.std.specs.FinMap.{get}
 use Rattle.indexmap.specs.IndexMap.{hasher_of}
 use Rattle.cookie.specs.Table.{by_name}
 use Rattle.cookie.proofs.TableCopyLemmas.{shown_at, first_of}
-use Rattle.cookie.proofs.entry.copy.Given as goal
+use Rattle.cookie.proofs.table.copy_many.Given as goal
 
 -- what the copy or what is left shows at a name is what the table shows there, and both hash names alike
 abbrev pub invariant-loop-key : goal.invariant-loop-key
