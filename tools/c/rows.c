@@ -315,6 +315,22 @@ static cookie_answer end_session(const text *in, uint8_t *out, size_t length) {
     return answer;
 }
 
+/* A token that is made, of a row with a nonce, or read. The row's numbers are the lifetime and the second. */
+static cookie_answer play_token(const char *name, const text *in, uint8_t *out, size_t length) {
+    static const uint8_t nothing = 0;
+    long long n[2];
+    numbers_in(in[2], 2, n);
+    cookie_token_settings settings = {
+        .keys = in[0].length > 0 ? in[0].bytes : &nothing,
+        .keys_length = in[0].length,
+        .purpose = in[1].length > 0 ? in[1].bytes : &nothing,
+        .purpose_length = in[1].length,
+        .lifetime = (uint32_t)n[0],
+    };
+    return strcmp(name, "token_make") == 0 ? cookie_token_make(&settings, IN(3), IN(4), (uint64_t)n[1], out, length)
+                                           : cookie_token_read(&settings, IN(3), (uint64_t)n[1], out, length);
+}
+
 /* Whether the places have these lengths, and are one right after the other; or all are 0. */
 static int are_joined(const cookie_place *places, int count, const long long *lengths, int are_there) {
     size_t end = 0;
@@ -460,6 +476,8 @@ static cookie_answer call(const char *name, const text *in, uint8_t *out, size_t
         return save_session(in, out, length);
     if (strcmp(name, "session_end") == 0)
         return end_session(in, out, length);
+    if (strcmp(name, "token_make") == 0 || strcmp(name, "token_read") == 0)
+        return play_token(name, in, out, length);
     if (strcmp(name, "print_date") == 0) {
         int n[6];
         numbers_of(in[0], n);

@@ -92,6 +92,15 @@ struct SessionSettings {
 }
 
 #[repr(C)]
+struct TokenSettings {
+    keys: Text,
+    keys_length: usize,
+    purpose: Text,
+    purpose_length: usize,
+    lifetime: u32,
+}
+
+#[repr(C)]
 struct SessionFacts {
     status: u32,
     is_opened: bool,
@@ -198,6 +207,8 @@ unsafe extern "C" {
     fn cookie_session_save(sessions: &mut Handle, session: &mut Handle, nonce: Text, nonce_length: usize, now: u64, out: *mut u8, out_length: usize) -> Answer;
     fn cookie_session_end(sessions: &mut Handle, now: u64, out: *mut u8, out_length: usize) -> Answer;
     fn cookie_session_free(session: &mut Handle);
+    fn cookie_token_make(settings: &TokenSettings, value: Text, value_length: usize, nonce: Text, nonce_length: usize, now: u64, out: *mut u8, out_length: usize) -> Answer;
+    fn cookie_token_read(settings: &TokenSettings, token: Text, token_length: usize, now: u64, out: *mut u8, out_length: usize) -> Answer;
     fn cookie_suffixes_new(list: Text, list_length: usize, suffixes: &mut Handle) -> u32;
     fn cookie_suffixes_free(suffixes: &mut Handle);
     fn cookie_explain(suffixes: &mut Handle, request: &Request, text: Text, text_length: usize, now: u64, out: *mut u8, out_length: usize) -> Explanation;
@@ -385,6 +396,23 @@ fn play_session(name: &str, inputs: &[Vec<u8>], out: *mut u8, length: usize) -> 
     answer
 }
 
+/// A token that is made, of a row with a nonce, or read. The row's numbers are the lifetime and the second.
+fn play_token(name: &str, inputs: &[Vec<u8>], out: *mut u8, length: usize) -> Answer {
+    let (keys, purpose, n, text) = (&inputs[0], &inputs[1], numbers_in(&inputs[2], 2), &inputs[3]);
+    let settings = TokenSettings {
+        keys: keys.as_ptr(),
+        keys_length: keys.len(),
+        purpose: purpose.as_ptr(),
+        purpose_length: purpose.len(),
+        lifetime: n[0] as u32,
+    };
+    let now = n[1] as u64;
+    match (name, inputs.get(4)) {
+        ("token_make", Some(nonce)) => unsafe { cookie_token_make(&settings, place(text), text.len(), place(nonce), nonce.len(), now, out, length) },
+        _ => unsafe { cookie_token_read(&settings, place(text), text.len(), now, out, length) },
+    }
+}
+
 /// The lengths of texts whose places are one right after the other; or else all are 0.
 fn lengths_of(places: &[Place], are_there: bool) -> Vec<i64> {
     let mut end = 0;
@@ -514,6 +542,9 @@ fn call(name: &str, inputs: &[Vec<u8>], out: *mut u8, length: usize) -> Answer {
     }
     if name.starts_with("session_") {
         return play_session(name, inputs, out, length);
+    }
+    if name.starts_with("token_") {
+        return play_token(name, inputs, out, length);
     }
     let at = |i: usize| place(&inputs[i]);
     let size = |i: usize| inputs[i].len();

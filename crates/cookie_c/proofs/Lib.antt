@@ -14,3 +14,4 @@ mod ReadLemmas
 mod ReadingLemmas
 mod SaveLemmas
 mod SiteLemmas
+mod TokenLemmas

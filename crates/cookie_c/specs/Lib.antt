@@ -23,3 +23,4 @@ pub mod SavedAgents
 pub mod SavedSessions
 pub mod SessionCalls
 pub mod Sites
+pub mod Tokens

@@ -24,4 +24,5 @@ mod status;
 mod suffixes;
 #[cfg(test)]
 mod tests;
+mod tokens;
 mod version;

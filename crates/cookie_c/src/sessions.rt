@@ -6,7 +6,7 @@ ghost use Rattle.cookie_c.specs.Sites.{MakesSite, site_of};
 pub(crate) mod ending;
 pub(crate) mod facts;
 pub(crate) mod given;
-mod keys;
+pub(crate) mod keys;
 mod listed;
 pub(crate) mod open;
 pub(crate) mod open_session;

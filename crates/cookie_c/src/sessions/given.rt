@@ -6,8 +6,8 @@ use std::convert::Infallible;
 
 /// An RNG: a draw of as many bytes as these returns these. Other draws aren't specified.
 #[derive(Clone, Copy)]
-pub(super) struct Given<'a> {
-    pub(super) bytes: &'a [u8],
+pub(crate) struct Given<'a> {
+    pub(crate) bytes: &'a [u8],
 }
 
 impl TryRng for Given<'_> {

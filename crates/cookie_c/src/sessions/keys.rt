@@ -10,14 +10,14 @@ use std::alloc::{AllocError, Global};
 const KEY_LENGTH: usize = 64;
 
 // Whether the bytes are one key or more.
-pub(super) fn has_keys(bytes: &[u8]) -> bool
+pub(crate) fn has_keys(bytes: &[u8]) -> bool
     ensures { IsTrue result ↔ HasKeys bytes.now }
 {
     !bytes.is_empty() && bytes.len() % KEY_LENGTH == 0
 }
 
 // The ring of these keys, the first one the newest.
-pub(super) fn ring_of(alloc: Global, bytes: &[u8]) -> Result<KeyRing, AllocError>
+pub(crate) fn ring_of(alloc: Global, bytes: &[u8]) -> Result<KeyRing, AllocError>
     requires { HasKeys bytes.now }
     ensures { IfOk result (λ ring. AreKeys bytes.now ring) }
 {

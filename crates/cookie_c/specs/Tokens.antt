@@ -1,0 +1,86 @@
+-- Tokens for C: `old` is the buffer at the call and `new` at the return.
+use Rattle.std.specs.Prelude.{◌≡◌, ℕ, ◌<◌, ◌≤◌, ◌⊎◌, ◌↔◌, List, IsUtf8, Result, Err, OnOk, IfOk}
+use Rattle.jiff.specs.Types.{DateTime}
+use Rattle.cookie.specs.declared.jar_error.JarError.{JarError}
+use Rattle.cookie.specs.declared.jar_error.JarError.TheVariants as failure
+use Rattle.cookie_session.specs.Tokens.{CanMakeToken, IsReadUntil, made_token, token_end}
+use Rattle.cookie_session.specs.declared.tokens.Tokens.{Tokens}
+use Rattle.cookie_c.specs.Answers.{IsGiven, IsRefused}
+use Rattle.cookie_c.specs.Sites.{AreKeys, HasKeys, IsAtSecond, last_second}
+use Rattle.cookie_c.specs.declared.answer.Answer.{Answer}
+use Rattle.cookie_c.specs.declared.status.Status.{Status}
+use Rattle.cookie_c.specs.declared.status.Status.TheVariants as status
+use Rattle.cookie_c.specs.declared.tokens.TokenSettings.{TokenSettings}
+use Rattle.cookie_c.specs.declared.tokens.call.TokenCall.{TokenCall}
+
+-- the settings' purpose and the text that is passed in are UTF-8
+abbrev pub AreUtf8 : TokenSettings → List ℕ → Type 0
+AreUtf8 settings text = IsUtf8 settings.purpose.now × IsUtf8 text
+
+-- the tokens have the settings' keys, purpose and lifetime, and the text and the second can be used
+pub record IsTokenCall (settings : TokenSettings) (text : List ℕ) (now : ℕ) (site : Tokens)
+    (time : DateTime) : Type 0 where
+  pub keys : AreKeys settings.keys.now site.keys.now
+  pub purpose : site.purpose.now ≡ settings.purpose.now
+  pub lifetime : site.lifetime ≡ settings.lifetime
+  pub texts : AreUtf8 settings text
+  pub dated : (now ≤ last_second) × IsAtSecond now time
+
+-- why the settings, the text or the second are refused: the keys come first, then the purpose and the text, and then
+-- the second; or memory ran out
+abbrev pub IsTokenRefusal : TokenSettings → List ℕ → ℕ → Status → Type 0
+IsTokenRefusal settings text now why =
+    ((why ≡ status.KeyTooShort) × ¬ HasKeys settings.keys.now)
+    ⊎ (((why ≡ status.NotUtf8) × HasKeys settings.keys.now × ¬ AreUtf8 settings text)
+    ⊎ (((why ≡ status.NoDate) × HasKeys settings.keys.now × AreUtf8 settings text
+    × (last_second < now))
+    ⊎ ((why ≡ status.OutOfMemory) × HasKeys settings.keys.now × AreUtf8 settings text
+    × (now ≤ last_second))))
+
+-- this holds of the settings' tokens and the time, or the call is refused
+abbrev pub CallsTokens : TokenSettings → List ℕ → ℕ → (Tokens → DateTime → Type 0)
+    → (Status → Type 0) → Type 0
+CallsTokens settings text now Holds Refuses =
+    ((site : Tokens) × (time : DateTime) × IsTokenCall settings text now site time
+    × Holds site time)
+    ⊎ ((why : Status) × IsTokenRefusal settings text now why × Refuses why)
+
+-- How a token is made under this nonce: it is too long, or the token is given, and is read until its lifetime ends.
+-- Memory may run out in any case.
+pub record MakesToken (site : Tokens) (nonce : List ℕ) (time : DateTime) (value : List ℕ)
+    (answer : Answer) (old new : List ℕ) : Type 0 where
+  pub too_long : ¬ CanMakeToken site time value
+      → IsRefused status.TooLong answer old new ⊎ IsRefused status.OutOfMemory answer old new
+  pub made : CanMakeToken site time value
+      → (IsGiven (made_token site nonce time value) answer old new
+      × IsReadUntil site (token_end site time) (made_token site nonce time value) value)
+      ⊎ IsRefused status.OutOfMemory answer old new
+
+-- ---- Mirrors private code (src/tokens.rt, src/tokens/call.rt)
+
+-- the call has these parts
+pub record IsCallOf (settings : TokenSettings) (bytes : List ℕ) (now : ℕ) (call : TokenCall)
+    : Type 0 where
+  pub keys : AreKeys settings.keys.now call.keys
+  pub purpose : call.purpose.now ≡ settings.purpose.now
+  pub lifetime : call.lifetime ≡ settings.lifetime
+  pub text : call.text.now ≡ bytes
+  pub texts : AreUtf8 settings bytes
+  pub dated : (now ≤ last_second) × IsAtSecond now call.time
+
+-- the library's tokens have the parts of the call
+pub record AreTokensOf (call : TokenCall) (site : Tokens) : Type 0 where
+  pub keys : site.keys.now ≡ call.keys
+  pub purpose : site.purpose.now ≡ call.purpose.now
+  pub lifetime : site.lifetime ≡ call.lifetime
+
+-- the clauses of the library's call under a nonce that is known
+pub record IsMade {T : Type 0} (site : Tokens) (nonce : List ℕ) (time : DateTime)
+    (value : List ℕ) (bytes_of : T → List ℕ) (result : Result T JarError) : Type 0 where
+  pub too_long : ¬ (result ≡ Err failure.OutOfMemory)
+      → (¬ CanMakeToken site time value) ↔ (result ≡ Err failure.TooLong)
+  pub within : OnOk result (CanMakeToken site time value)
+  pub drawn : ¬ (result ≡ Err failure.Generator)
+  pub made : IfOk result (λ token. bytes_of token ≡ made_token site nonce time value)
+  pub reads : IfOk result (λ token.
+      IsReadUntil site (token_end site time) (bytes_of token) value)

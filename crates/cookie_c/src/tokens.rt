@@ -1,0 +1,140 @@
+//! Tokens for C, such as the link of an email that resets a password.
+ghost use Rattle.std.specs.Prelude.{◌≡◌, ◌≢◌, length, string_bytes};
+ghost use Rattle.cookie_session.specs.Tokens.{IsToken};
+ghost use Rattle.cookie_c.specs.Answers.{IsReadInMemory, IsRefused};
+ghost use Rattle.cookie_c.specs.Tokens.{CallsTokens, IsMade, MakesToken};
+ghost use Rattle.cookie_c.specs.declared.status.Status.TheVariants as status;
+
+pub(crate) mod call;
+
+use crate::answer::Answer;
+use crate::sessions::given::Given;
+use crate::status::Status;
+use call::TokenCall;
+use cookie::JarError;
+use cookie_session::Tokens;
+use jiff::civil::DateTime;
+use std::alloc::Global;
+
+const NONCE_LENGTH: usize = 12;
+
+/// How a site makes tokens for one purpose.
+#[repr(C)]
+#[derive(Clone, Copy)]
+pub struct TokenSettings<'a> {
+    /// The keys of 64 random bytes each, one after the other, the newest first. The newest encrypts, and each of them
+    /// decrypts.
+    pub keys: &'a [u8],
+    /// What the tokens are for, such as `password reset`: a token for another purpose isn't read.
+    pub purpose: &'a [u8],
+    /// The seconds that a token lives.
+    pub lifetime: u32,
+}
+
+/// Makes a token of the value, for the buffer: letters, digits, `-` and `_`, which a URL can have as they are. The nonce
+/// has twelve random bytes: under one key no nonce may be used twice, and at most 2^32 may be drawn (SP 800-38D 8.3).
+/// `now` is the time in seconds since 1970 in UTC.
+///
+/// Refuses a nonce of another length, then keys that aren't 64 bytes each, or none, then a purpose or a value that isn't
+/// UTF-8, then a time after 9999-12-30 22:00:00, and then what is too long to be sealed. It may also run out of memory.
+#[unsafe(no_mangle)]
+pub extern "C" fn cookie_token_make(
+    alloc: Global,
+    settings: &TokenSettings<'_>,
+    value: &[u8],
+    nonce: &[u8],
+    now: u64,
+    out: &mut [u8],
+) -> Answer
+    ensures bad_nonce { length nonce.now ≢ 12
+        → IsRefused status.BadNonce result out.old out.new }
+    ensures made { length nonce.now ≡ 12 → CallsTokens settings.now value.now now
+        (λ site time. MakesToken site nonce.now time value.now result out.old out.new)
+        (λ why. IsRefused why result out.old out.new) }
+{
+    if nonce.len() != NONCE_LENGTH {
+        return Answer::refusal(Status::BadNonce);
+    }
+    let nonce = Given { bytes: nonce };
+    match TokenCall::of(alloc, settings, value, now) {
+        Ok(call) => give_made(alloc, &call.tokens(), call.text, nonce, call.time, out),
+        Err(why) => Answer::refusal(why),
+    }
+}
+
+/// Reads a token that `cookie_token_make` made for the same purpose under one of the keys. Its value is for the buffer.
+/// `now` is the time in seconds since 1970 in UTC.
+///
+/// Refuses keys that aren't 64 bytes each, or none, then a purpose or a token that isn't UTF-8, then a time after
+/// 9999-12-30 22:00:00, and then with `NotSealed` what isn't such a token, or is over. It may also run out of memory.
+#[unsafe(no_mangle)]
+pub extern "C" fn cookie_token_read(
+    alloc: Global,
+    settings: &TokenSettings<'_>,
+    token: &[u8],
+    now: u64,
+    out: &mut [u8],
+) -> Answer
+    ensures { CallsTokens settings.now token.now now
+        (λ site time. IsReadInMemory (IsToken site time token.now) status.NotSealed
+        result out.old out.new)
+        (λ why. IsRefused why result out.old out.new) }
+{
+    match TokenCall::of(alloc, settings, token, now) {
+        Ok(call) => give_read(alloc, &call.tokens(), call.text, call.time, out),
+        Err(why) => Answer::refusal(why),
+    }
+}
+
+// The token, for the buffer.
+fn give_made(
+    alloc: Global,
+    tokens: &Tokens<'_>,
+    value: &str,
+    nonce: Given<'_>,
+    time: DateTime,
+    out: &mut [u8],
+) -> Answer
+    requires { length nonce.bytes.now ≡ 12 }
+    ensures { MakesToken tokens.now nonce.entry.bytes.now time value.now result out.old out.new }
+{
+    match made(alloc, tokens, value, nonce, time) {
+        Ok(token) => Answer::give(token.as_bytes(), out),
+        Err(JarError::TooLong) => Answer::refusal(Status::TooLong),
+        Err(JarError::OutOfMemory) => Answer::refusal(Status::OutOfMemory),
+        Err(JarError::Generator) => unreachable!(),
+    }
+}
+
+// The token under this nonce.
+fn made(
+    alloc: Global,
+    tokens: &Tokens<'_>,
+    value: &str,
+    nonce: Given<'_>,
+    time: DateTime,
+) -> Result<String, JarError>
+    requires { length nonce.bytes.now ≡ 12 }
+    ensures { IsMade tokens.now nonce.entry.bytes.now time value.now string_bytes result }
+{
+    let mut nonce = nonce;
+    tokens.make(alloc, value, time, &mut nonce)
+}
+
+// The token's value, for the buffer.
+fn give_read(
+    alloc: Global,
+    tokens: &Tokens<'_>,
+    token: &str,
+    time: DateTime,
+    out: &mut [u8],
+) -> Answer
+    ensures { IsReadInMemory (IsToken tokens.now time token.now) status.NotSealed
+        result out.old out.new }
+{
+    match tokens.read(alloc, token, time) {
+        Ok(Some(value)) => Answer::give(value.as_bytes(), out),
+        Ok(None) => Answer::refusal(Status::NotSealed),
+        Err(_) => Answer::refusal(Status::OutOfMemory),
+    }
+}
