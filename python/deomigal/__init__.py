@@ -1,5 +1,5 @@
-"""Cookies for Python, over the proved library cookie_c: signed and sealed values, dates, reading, printing, jars, and
-sessions.
+"""Cookies for Python, over the proved library cookie_c: signed and sealed values, dates, reading, printing, jars,
+sessions and tokens.
 
 Texts are `str` and keys are `bytes`. A call that is refused raises an exception of `deomigal.errors`, such as
 `KeyTooShort`; all of them are a `CookieError`. A value that isn't signed or sealed under the key and the name is `None`.
@@ -18,10 +18,11 @@ from .errors import CookieError
 from .jars import Jar, run
 from .secrets import derive_key, keys_of, open_sealed, seal, sign, verify
 from .sessions import Session, Sessions
+from .tokens import Tokens
 
 __version__ = "0.2.0"
 __all__ = [
-    "Agent", "CookieError", "Jar", "Session", "Sessions", "decoded_pairs", "derive_key", "errors", "explain", "keys_of",
-    "open_sealed", "pairs", "print_cookie", "print_date", "read_cookie", "read_date", "read_decoded_cookie",
+    "Agent", "CookieError", "Jar", "Session", "Sessions", "Tokens", "decoded_pairs", "derive_key", "errors", "explain",
+    "keys_of", "open_sealed", "pairs", "print_cookie", "print_date", "read_cookie", "read_date", "read_decoded_cookie",
     "revocations", "run", "seal", "sign", "verify",
 ]

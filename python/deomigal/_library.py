@@ -5,9 +5,9 @@ import ctypes
 import os
 import pathlib
 import weakref
-from typing import Any, Callable, NoReturn
+from typing import Any, Callable, NoReturn, Sequence
 
-from .errors import BufferTooShort, CookieError, error_of
+from .errors import BufferTooShort, CookieError, KeyTooShort, error_of
 
 DONE = 0
 # COOKIE_VERSION of the header that this file follows.
@@ -62,6 +62,13 @@ class Settings(ctypes.Structure):
         ("keys", ctypes.c_char_p), ("keys_length", ctypes.c_size_t),
         ("cookie", ctypes.c_char_p), ("cookie_length", ctypes.c_size_t),
         ("lifetime", ctypes.c_uint32), ("idle", ctypes.c_uint32),
+    ]
+
+
+class TokenSettings(ctypes.Structure):
+    _fields_ = [
+        ("keys", ctypes.c_char_p), ("keys_length", ctypes.c_size_t),
+        ("purpose", ctypes.c_char_p), ("purpose_length", ctypes.c_size_t), ("lifetime", ctypes.c_uint32),
     ]
 
 
@@ -136,6 +143,8 @@ SESSION_RENEW = declare("session_renew", HANDLE + TEXT + SECOND, ctypes.c_uint32
 SESSION_SAVE = declare("session_save", HANDLE * 2 + TEXT + SECOND + TEXT, Answer)
 SESSION_END = declare("session_end", HANDLE + SECOND + TEXT, Answer)
 SESSION_FREE = declare("session_free", HANDLE, None)
+TOKEN_MAKE = declare("token_make", [ctypes.POINTER(TokenSettings)] + TEXT * 2 + SECOND + TEXT, Answer)
+TOKEN_READ = declare("token_read", [ctypes.POINTER(TokenSettings)] + TEXT + SECOND + TEXT, Answer)
 SUFFIXES_NEW = declare("suffixes_new", TEXT + HANDLE, ctypes.c_uint32)
 SUFFIXES_FREE = declare("suffixes_free", HANDLE, None)
 
@@ -166,6 +175,15 @@ def key_of(key: bytes, rule: str = "a key is bytes") -> bytes:
     if not isinstance(key, (bytes, bytearray, memoryview)):
         raise TypeError(f"{rule}, and not of the type {type(key).__name__}")
     return bytes(key)
+
+
+def ring_of(keys: Sequence[bytes]) -> bytes:
+    """A site's keys, one after the other. The first 64 bytes of a key count."""
+    if isinstance(keys, (str, bytes)):
+        raise TypeError("the keys are a list")
+    if not keys or any(len(key_of(key)) < 64 for key in keys):
+        raise error_of(KeyTooShort.status)
+    return b"".join(bytes(key[:64]) for key in keys)
 
 
 def header_of(header: str | bytes | None) -> bytes:

@@ -12,10 +12,10 @@ from urllib.parse import parse_qsl, urlencode
 from ._library import (
     DONE, SESSION_DESCRIBE, SESSION_END, SESSION_FREE, SESSION_OPEN, SESSION_RENEW, SESSION_SAVE, SESSION_SET_TEXTS,
     SESSION_START, SESSION_TEXTS, SESSIONS_FREE, SESSIONS_NEW, Settings, Uncopied, arguments_of, done, given, handle_of,
-    header_of, key_of,
+    header_of, ring_of,
 )
 from .cookies import print_cookie
-from .errors import KeyTooShort, NoDate, NoSession, RevocationsError, error_of
+from .errors import NoDate, NoSession, RevocationsError, error_of
 from .revocations import ID_LENGTH, Revocations
 
 # Room for a cookie that a browser stores, and for the texts in it.
@@ -141,17 +141,12 @@ class Sessions(Uncopied):
         partitioned: bool = False,
         revocations: Revocations | None = None,
     ) -> None:
-        if isinstance(keys, (str, bytes)):
-            raise TypeError("the keys are a list")
-        if any(len(key_of(key)) < 64 for key in keys):
-            raise error_of(KeyTooShort.status)
+        ring = ring_of(keys)
         if not all(0 <= limit < 2**32 for limit in (lifetime, idle)):
             raise OverflowError("a limit has at most 32 bits")
         if revocations is not None and not (hasattr(revocations, "is_revoked") and hasattr(revocations, "revoke")):
             raise TypeError("revocations have calls is_revoked and revoke")
         self.revocations, self.lifetime = revocations, lifetime
-        # The first 64 bytes of a key count.
-        ring = b"".join(key[:64] for key in keys)
         cookie = print_cookie(
             name, "", path=path, domain=domain, secure=secure, http_only=http_only, same_site=same_site,
             partitioned=partitioned or None,

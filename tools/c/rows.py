@@ -103,6 +103,9 @@ def played(call, inputs, length):
     if call.startswith("session_"):
         answer = play_session(call, inputs, out, length)
         return answer.status, answer.length, buffer.raw
+    if call.startswith("token_"):
+        answer = play_token(call, inputs, out, length)
+        return answer.status, answer.length, buffer.raw
     arguments = [1, 2] if call == "run" else []
     if call == "print_date":
         arguments = [int(number) for number in inputs[0].split()]
@@ -230,6 +233,15 @@ def play_session(call, inputs, out, length):
     library.SESSION_FREE(session)
     library.SESSIONS_FREE(handle)
     return answer
+
+
+def play_token(call, inputs, out, length):
+    """A token that is made, of a row with a nonce, or read. The row's numbers are the lifetime and the second."""
+    keys, purpose, numbers, *rest = inputs
+    lifetime, now = map(int, numbers.split())
+    settings = library.TokenSettings(keys, len(keys), purpose, len(purpose), lifetime)
+    texts = [part for value in rest for part in (value or None, len(value))]
+    return (library.TOKEN_MAKE if call == "token_make" else library.TOKEN_READ)(settings, *texts, now, out, length)
 
 
 def check(call, inputs, length, status, count, text):
