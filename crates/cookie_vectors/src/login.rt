@@ -71,7 +71,7 @@ impl Logins {
         form: &str,
     ) -> Result<Response, AnswerError> {
         let (state, now, mut rng) = (self.state, moment(), Sevens { left: self.left });
-        let site = login_site(&self.site, &self.users);
+        let (site, never) = (login_site(&self.site, &self.users), &mut NeverRevoked);
         let request = Request {
             method,
             path,
@@ -80,15 +80,7 @@ impl Logins {
         };
         match &mut self.revoked {
             Some(revoked) => answer(alloc, state, &site, &request, now, &mut rng, revoked),
-            None => answer(
-                alloc,
-                state,
-                &site,
-                &request,
-                now,
-                &mut rng,
-                &mut NeverRevoked,
-            ),
+            None => answer(alloc, state, &site, &request, now, &mut rng, never),
         }
     }
 

@@ -12,7 +12,7 @@ use cookie::{Cookie, CookieJar};
 use cookie_agent::Agent;
 use cookie_browser::Suffixes;
 use cookie_client::{Client, JarCall};
-use cookie_session::{Opened, Revocations, Session, second_of};
+use cookie_session::{Opened, Revocations, Session, Tokens, second_of};
 use cookie_theorems::open_for_agent::open_for_agent;
 use cookie_theorems::save_and_return::save_and_return;
 use cookie_theorems::save_over_headers::save_over_headers;
@@ -179,6 +179,25 @@ impl<'s> Visitors<'s> {
         format!(in step.alloc; "{} {cookie}", opening.place).ok()
     }
 
+    // Makes a token for a purpose, or reads one, as `invitation | ann`.
+    fn token(&self, step: Step<'_>) -> Answer {
+        let (alloc, now, site) = (step.alloc, self.now, self.site.sessions());
+        let (purpose, text) = step.halves();
+        let (purpose, text) = (purpose.text()?, text.text()?);
+        let tokens = Tokens {
+            keys: site.keys,
+            purpose: &purpose,
+            lifetime: site.lifetime,
+        };
+        if step.call == "make_token" {
+            return step.printed(tokens.make(alloc, &text, now, &mut self.rng()).ok()?);
+        }
+        match tokens.read(alloc, &text, now).ok()? {
+            Some(value) => step.pair(&purpose, &value),
+            None => step.said("-"),
+        }
+    }
+
     // Has the user agent read a `Set-Cookie` text of a response, as `https://a.example/ | a=1; Path=/`.
     fn read(&mut self, step: Step<'_>) -> Answer {
         let (url, text) = step.halves();
@@ -228,7 +247,9 @@ impl<'s> Visitors<'s> {
         let (front, calls) = step.halves();
         let (seconds, pick) = front.words.split_once(' ').unwrap_or((front.words, ""));
         let (key, later) = (test_key(), after(seconds)?);
-        let (calls, pick) = (calls_of(&key, calls)?, numbers(step.with_words(pick))?);
+        let numbers = pick.split(' ').filter_map(|word| word.parse().ok());
+        let pick: Vec<usize> = numbers.collect(step.alloc).ok()?;
+        let calls = calls_of(&key, calls)?;
         let opened = self.returned(step, &calls, &pick, later)?;
         self.take(step, opened)
     }
@@ -260,15 +281,9 @@ impl<'s> Visitors<'s> {
 impl Player for Visitors<'_> {
     fn answer(&mut self, step: Step<'_>) -> Answer {
         match step.call {
-            "at"
-            | "generator"
-            | "start"
-            | "renew"
-            | "set"
-            | "unset"
-            | "generation"
-            | "revoked"
-            | "back" => self.change(step),
+            "at" | "generator" | "revoked" | "back" => self.change(step),
+            "start" | "renew" | "set" | "unset" | "generation" => self.change(step),
+            "make_token" | "read_token" => self.token(step),
             "text" | "session" | "times" | "id" | "since" | "kept" | "held" => self.looked(step),
             "revoke" | "forget" => self.revoke(step),
             "open_field" => self.open_field(step),
@@ -283,12 +298,4 @@ impl Player for Visitors<'_> {
             _ => self.jars.answer(step),
         }
     }
-}
-
-fn numbers(step: Step<'_>) -> Option<Vec<usize>> {
-    let mut numbers = Vec::new(step.alloc);
-    for word in step.words.split(' ').filter(|word| !word.is_empty()) {
-        numbers.push(word.parse().ok()?).ok()?;
-    }
-    Some(numbers)
 }

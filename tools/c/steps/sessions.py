@@ -1,7 +1,8 @@
 """Sessions. The inputs are the keys, the site's cookie, and numbers: lifetime, idle time, and now in seconds.
 `session_open` has the header and the revoked ids then, and last the place of the key with both times, and the session's
 id. `session_save` has one number more, 1 if the session is renewed, and then the header, the revoked ids, the form of the
-texts, and the random bytes: the nonce and the id of a session that starts."""
+texts, and the random bytes: the nonce and the id of a session that starts. `token_make` and `token_read` have the keys,
+the purpose, the lifetime with now, the value or the token, and the first a nonce."""
 from urllib.parse import urlencode
 
 import rowfile
@@ -135,7 +136,19 @@ class Sessions:
         self.saved = "session_save", inputs
         return []
 
+    def token(self, step):
+        """A token that is made for a purpose, or read."""
+        purpose, _, text = map(unescaped, step.words.partition(" | "))
+        inputs = [b"".join(self.keys), purpose, lists([self.limits[0], self.now]), text]
+        if step.call == "make_token":
+            return [done("token_make", unescaped(step.wanted), *inputs, self.nonce)]
+        if step.wanted == "-":
+            return [refused("token_read", "NOT_SEALED", *inputs)]
+        return [done("token_read", unescaped(step.wanted.partition("=")[2]), *inputs)]
+
     def plays(self, step):
+        if step.call in ("make_token", "read_token"):
+            return self.token(step)
         if step.call in ("id", "session", "times"):
             return self.look(step)
         if step.call == "texts" and self.saved:
