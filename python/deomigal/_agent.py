@@ -9,7 +9,7 @@ from ._library import DONE, HANDLE, SECOND, TEXT, Answer, bytes_of, declare, don
 from .addresses import Address
 from .cookies import RULES
 from .errors import BufferTooShort, NotFound, error_of
-from .explain import EXPLAIN, ROOM, STEPS, Explanation, Refusal, Request, StoredCookie, rules_of
+from .explain import ROOM, STEPS, Explanation, Refusal, Request, StoredCookie, rules_of
 
 # The rules of `SameSite` that a navigation from another site passes.
 LAX = (None, "Lax")
@@ -17,8 +17,6 @@ LAX = (None, "Lax")
 # numbers in cookie.h.
 JSON, NETSCAPE = "json", "netscape"
 FORMS = {NETSCAPE: 0, JSON: 1}
-# The step that refuses a public suffix.
-SUFFIX = STEPS.index("PublicSuffix") + 1
 # More than most headers have, and than most cookies.
 HEADER_ROOM = 4096
 
@@ -51,7 +49,7 @@ AGENT_REMOVE = declare("agent_remove", HANDLE + TEXT * 2 + [ctypes.c_bool] + TEX
 AGENT_CLEAR = declare("agent_clear", HANDLE + TEXT, ctypes.c_uint32)
 AGENT_COOKIE = declare("agent_cookie", HANDLE + COUNT + SECOND + TEXT, Explanation)
 AGENT_SAVE = declare("agent_save", HANDLE + FORM + SECOND + TEXT, AgentSaving)
-AGENT_LOAD = declare("agent_load", HANDLE + FORM + TEXT + SECOND, AgentLoading)
+AGENT_LOAD = declare("agent_load", HANDLE * 2 + FORM + TEXT + SECOND, AgentLoading)
 REFUSAL_SENTENCE = declare("refusal_sentence", [ctypes.c_uint32] + TEXT, Answer)
 REFUSAL_SECTION = declare("refusal_section", [ctypes.c_uint32] + TEXT, Answer)
 
@@ -104,7 +102,7 @@ class Core:
     """The library's agent: the stored cookies, in the order of their creation. Only one call at a time may use it."""
 
     def __init__(self, suffixes: bytes) -> None:
-        self.rules, self.handle = rules_of(suffixes), handle_of(self, AGENT_FREE)
+        self.suffixes, self.rules, self.handle = suffixes, rules_of(suffixes), handle_of(self, AGENT_FREE)
         # Where headers are written to.
         self.room = ctypes.create_string_buffer(HEADER_ROOM)
         done(AGENT_NEW, self.handle)
@@ -201,27 +199,17 @@ class Core:
         return text, saving.left_out
 
     def load(self, form: str, text: bytes, now: int) -> list[int]:
-        """Adds the cookies of a text in that form, but none that is for a public suffix and the hosts below it. Returns the
-        numbers of the lines that hold none."""
-        loading = AGENT_LOAD(self.handle, FORMS[form], text, len(text), now)
+        """Adds the cookies of a text in that form. Returns the numbers of its bad lines."""
+        with self.rules.lock:
+            loading = AGENT_LOAD(self.handle, self.rules.handle, FORMS[form], text, len(text), now)
         if loading.status != DONE:
             raise error_of(loading.status)
-        for cookie in list(self.cookies(now)):
-            if not cookie.is_host_only and self.is_suffix(cookie.domain, now):
-                self.remove(cookie)
         if loading.bad_lines < 2:
             return [loading.first_bad_line] * loading.bad_lines
         # The library says which line is the first: each after it is looked at by itself.
-        lines, other = text.split(b"\n"), Core(b"")
+        lines, other = text.split(b"\n"), Core(self.suffixes)
         later = range(loading.first_bad_line + 1, len(lines) + 1)
         return [loading.first_bad_line] + [number for number in later if other.load(form, lines[number - 1], now)]
-
-    def is_suffix(self, domain: str, now: int) -> bool:
-        """Whether the domain is a public suffix: a host below it can't set a cookie for it then."""
-        request, text = request_of(Address("a." + domain, "/", False, True)), b"a=1; Domain=" + header_bytes(domain)
-        with self.rules.lock:
-            why = EXPLAIN(self.rules.handle, request, text, len(text), now, None, 0)
-        return bool(why.refusal == SUFFIX)
 
 
 @functools.lru_cache(maxsize=1024)

@@ -219,7 +219,7 @@ class Agent(Uncopied):
 
     def load(self, path: str | os.PathLike[str], form: str | None = None) -> list[int]:
         """Reads the cookies of a file that `save`, curl or wget wrote. Returns the numbers, from 1, of the lines that hold
-        no cookie, or one that no user agent could have stored. A cookie for a public suffix and the hosts below it isn't kept.
+        no cookie, or one that no user agent could have stored, as one for a public suffix and the hosts below it.
 
         They join those that are stored, in the order of their lines. What is expired is left out. Without `form` the
         file's first byte says which form it has. Raises `ValueError` if the file has more than 64 MiB.

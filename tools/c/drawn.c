@@ -99,7 +99,7 @@ typedef struct drawing {
     X(agent_clear, S(NO_AGENT)) \
     X(agent_cookie, S(BUFFER_TOO_SHORT) | S(NO_AGENT) | S(NO_DATE) | S(NOT_FOUND)) \
     X(agent_save, S(BUFFER_TOO_SHORT) | S(NO_AGENT) | S(BAD_ATTRIBUTE) | S(NO_DATE)) \
-    X(agent_load, S(NO_AGENT) | S(BAD_ATTRIBUTE) | S(NO_DATE)) \
+    X(agent_load, S(NO_SUFFIXES) | S(NO_AGENT) | S(BAD_ATTRIBUTE) | S(NO_DATE)) \
     X(agent_free, 0) \
     X(version, 0)
 
@@ -727,8 +727,8 @@ static cookie_answer save(drawing *d, cookie_agent *agent, uint32_t form, uint64
 }
 
 /* How a text is loaded. The first bad line is one that it has. */
-static uint32_t load(drawing *d, cookie_agent *agent, uint32_t form, text from, uint64_t now) {
-    cookie_agent_loading loading = cookie_agent_load(agent, form, IN(from), now);
+static uint32_t load(drawing *d, cookie_agent *agent, cookie_suffixes *list, uint32_t form, text from, uint64_t now) {
+    cookie_agent_loading loading = cookie_agent_load(agent, list, form, IN(from), now);
     size_t lines = 1;
     for (size_t i = 0; i < from.length; i++)
         lines += from.bytes[i] == '\n';
@@ -810,7 +810,9 @@ static void play_agent(drawing *d, int call) {
     case agent_load_call: {
         uint32_t form = (uint32_t)below(d, one_in(d, 20) ? 9 : 2);
         text file = draw_text(d, A_FILE);
-        STATUS(agent_load, load(d, agent, form, file, now));
+        STATUS(agent_load, load(d, agent, list, form, file, now));
+        look_at_handle(d, call, status, d->has_list[j], COOKIE_NO_SUFFIXES, 0);
+        first = S(NO_SUFFIXES);
         break;
     }
     case agent_clear_call:

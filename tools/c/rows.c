@@ -408,7 +408,7 @@ static cookie_answer agent_step(cookie_agent *agent, cookie_suffixes *suffixes, 
     if (is_step("load", step, &rest)) {
         cut_lines(rest, in, 2);
         numbers_in(in[0], 2, n);
-        return of_status(cookie_agent_load(agent, (uint32_t)n[0], IN(1), (uint64_t)n[1]).status);
+        return of_status(cookie_agent_load(agent, suffixes, (uint32_t)n[0], IN(1), (uint64_t)n[1]).status);
     }
     if (is_step("save", step, &rest)) {
         numbers_in(rest, 2, n);

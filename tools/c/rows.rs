@@ -222,7 +222,7 @@ unsafe extern "C" {
     fn cookie_agent_clear(agent: &mut Handle, domain: Text, domain_length: usize) -> u32;
     fn cookie_agent_cookie(agent: &mut Handle, index: usize, now: u64, out: *mut u8, out_length: usize) -> Explanation;
     fn cookie_agent_save(agent: &mut Handle, form: u32, now: u64, out: *mut u8, out_length: usize) -> AgentSaving;
-    fn cookie_agent_load(agent: &mut Handle, form: u32, text: Text, text_length: usize, now: u64) -> AgentLoading;
+    fn cookie_agent_load(agent: &mut Handle, suffixes: &mut Handle, form: u32, text: Text, text_length: usize, now: u64) -> AgentLoading;
     fn cookie_agent_free(agent: &mut Handle);
     fn cookie_version() -> u32;
 }
@@ -471,7 +471,7 @@ fn agent_step(agent: &mut Handle, suffixes: &mut Handle, step: &[u8], out: *mut 
         let parts: Vec<&[u8]> = rest.splitn(if word == b"load" { 2 } else { 4 }, |byte| *byte == b'\n').collect();
         let n = numbers_in(parts[0], 6);
         match (word, &parts[1..]) {
-            (b"load", [text]) => of_status(cookie_agent_load(agent, n[0] as u32, place(text), text.len(), n[1] as u64).status),
+            (b"load", [text]) => of_status(cookie_agent_load(agent, suffixes, n[0] as u32, place(text), text.len(), n[1] as u64).status),
             (b"save", _) => {
                 let saving = cookie_agent_save(agent, n[0] as u32, n[1] as u64, out, length);
                 Answer { status: saving.status, length: saving.length }

@@ -22,14 +22,15 @@ use Rattle.cookie_core.proofs.AgeTextLemmas.{decimal_is_digits}
 use Rattle.cookie_core.proofs.ByteLemmas.{all-append, all-weaker}
 use Rattle.cookie_browser.specs.Storage.{KeptView, CookieStore}
 use Rattle.cookie_browser.specs.declared.enforcement.Enforcement.TheVariants as enforcement
-use Rattle.cookie_agent.specs.CookiesTxt.{IsTxtReadAgain, cookie_line, cookie_of, cookies_txt, domain_field, expiry_seconds, fields_of, flag_of, flag_text, has_fields, head_line, http_only_mark, is_carried, is_field_byte, is_one_field, line_of, line_of_fields, line_read, read_line, read_lines, seconds_from_1970, split_fields, txt_cookie}
-use Rattle.cookie_agent.specs.CookiesTxtCode.{carried_seconds, cookie_as, line_at, lines_read}
-use Rattle.cookie_agent.specs.Saved.{bad_lines_of, cookies_of, is_bad, is_persistent, places_of, saved}
+use Rattle.cookie_agent.specs.CookiesTxt.{cookie_line, cookie_of, domain_field, expiry_seconds, fields_of, flag_of, flag_text, has_fields, head_line, http_only_mark, is_carried, is_field_byte, is_one_field, line_of, line_of_fields, line_read, read_line, seconds_from_1970, split_fields, txt_cookie}
+use Rattle.cookie_agent.specs.CookiesTxtCode.{carried_seconds, cookie_as, line_at}
+use Rattle.cookie_agent.specs.Saved.{is_persistent, lines_of, saved}
 use Rattle.cookie_agent.specs.Storable.{is_domain, is_domain_byte, is_received_pair, is_storable, meets_prefixes, meets_same_site}
 use Rattle.cookie_agent.specs.declared.saved.cookies_txt.Fields.{Fields}
 use Rattle.cookie_agent.specs.declared.saved.cookies_txt.Kind.{Kind}
 use Rattle.cookie_agent.specs.declared.saved.line.Line.{Line}
 use Rattle.cookie_agent.specs.declared.saved.line.Line.TheVariants as line
+use Rattle.cookie_agent.proofs.SavedLemmas.{lines_for}
 
 -- ---- bytes
 
@@ -296,10 +297,9 @@ read_body now cookie h =
 
 -- ---- the text
 
--- all lines of the cookies, and the empty one after them
-abbrev lines_for : DateTime → CookieStore → List Line
-lines_for now [] = line.Other ∷ []
-lines_for now (cookie ∷ store) = line.Cookie (txt_cookie now cookie) ∷ lines_for now store
+-- what the lines of a text hold
+abbrev pub read_lines : DateTime → List ℕ → List Line
+read_lines now text = map (line_read now) (lines_of text)
 
 one_line : (cookie : KeptView) (rest : List ℕ) → cookie_line cookie ++ rest ≡ body_of cookie ++ 10 ∷ rest
 one_line cookie rest =
@@ -311,7 +311,7 @@ abbrev AreCarried : CookieStore → Type 0
 AreCarried [] = Unit {0}
 AreCarried (cookie ∷ store) = Carried cookie × AreCarried store
 
-read_cookies : (now : DateTime) (store : CookieStore) → AreCarried store → read_lines now (concat (map cookie_line store)) ≡ lines_for now store
+read_cookies : (now : DateTime) (store : CookieStore) → AreCarried store → read_lines now (concat (map cookie_line store)) ≡ lines_for (txt_cookie now) store
 read_cookies now [] h = refl
 read_cookies now (cookie ∷ store) h =
     let rest = concat (map cookie_line store) in
@@ -321,14 +321,6 @@ read_cookies now (cookie ∷ store) h =
     ∙ ap (λ t. line_read now t ∷ read_lines now rest) (strip_quiet (body_of cookie) quiet)
     ∙ ap (λ l. l ∷ read_lines now rest) (read_body now cookie h.0)
     ∙ ap (λ ls. line.Cookie (txt_cookie now cookie) ∷ ls) (read_cookies now store h.1)
-
-cookies_for : (now : DateTime) (store : CookieStore) → cookies_of (lines_for now store) ≡ map (txt_cookie now) store
-cookies_for now [] = refl
-cookies_for now (cookie ∷ store) = ap (λ cs. txt_cookie now cookie ∷ cs) (cookies_for now store)
-
-none_bad : (now : DateTime) (place : ℕ) (store : CookieStore) → places_of is_bad place (lines_for now store) ≡ []
-none_bad now place [] = refl
-none_bad now place (cookie ∷ store) = none_bad now (place + 1) store
 
 saved_are_carried : (moment : DateTime) (store : CookieStore) → AreCarried (saved moment is_carried store)
 saved_are_carried moment [] = tt
@@ -344,15 +336,11 @@ read_head now rest =
     ap (λ ts. map (line_read now) (map strip_carriage_return ts))
     (slice_split_at (λ b. b == 10) (codes "# Netscape HTTP Cookie File") 10 rest (quiet_lacks_feed (codes "# Netscape HTTP Cookie File") refl) refl)
 
-pub is_read_again : (moment now : DateTime) (store : CookieStore) → IsTxtReadAgain moment now store
-is_read_again moment now store =
+pub read_text : (moment now : DateTime) (store : CookieStore)
+    → read_lines now (head_line ++ concat (map cookie_line (saved moment is_carried store))) ≡ line.Other ∷ lines_for (txt_cookie now) (saved moment is_carried store)
+read_text moment now store =
     let kept = saved moment is_carried store in
-    let lines : read_lines now (cookies_txt moment store) ≡ line.Other ∷ lines_for now kept =
-    read_head now (concat (map cookie_line kept)) ∙ ap (λ ls. line.Other ∷ ls) (read_cookies now kept (saved_are_carried moment store)) in
-    record {
-      cookies = ap cookies_of lines ∙ cookies_for now kept;
-      bad_lines = ap bad_lines_of lines ∙ none_bad now 2 kept;
-    }
+    read_head now (concat (map cookie_line kept)) ∙ ap (λ ls. line.Other ∷ ls) (read_cookies now kept (saved_are_carried moment store))
 
 -- ---- what the code does
 
@@ -413,14 +401,6 @@ other_texts (a ∷ b ∷ c ∷ d ∷ e ∷ []) h k now o = refl
 other_texts (a ∷ b ∷ c ∷ d ∷ e ∷ f ∷ []) h k now o = absurd (k refl)
 other_texts (a ∷ b ∷ c ∷ d ∷ e ∷ f ∷ g ∷ []) h k now o = absurd (h refl)
 other_texts (a ∷ b ∷ c ∷ d ∷ e ∷ f ∷ g ∷ x ∷ xs) h k now o = refl
-
-pub lines_read-is : (now : DateTime) (lines : List (Bor (List ℕ))) → lines_read now lines ≡ map (line_read now) (map strip_carriage_return (map (λ l. l.now) lines))
-lines_read-is now [] = refl
-lines_read-is now (l ∷ ls) = ap (λ xs. line_read now (strip_carriage_return l.now) ∷ xs) (lines_read-is now ls)
-
-pub lines_of_text : (now : DateTime) (lines : List (Bor (List ℕ))) (text : List ℕ) → map (λ l. l.now) lines ≡ slice_split (λ b. b == 10) text
-    → lines_read now lines ≡ read_lines now text
-lines_of_text now lines text h = lines_read-is now lines ∙ ap (λ ts. map (line_read now) (map strip_carriage_return ts)) h
 
 -- ---- a cookie that is saved or left out
 

@@ -14,8 +14,8 @@ use Rattle.serde_json.specs.Find.{of_integer}
 use Rattle.serde_json.specs.Read.{read}
 use Rattle.serde_json.specs.Written.{has_float}
 use Rattle.cookie_browser.specs.Storage.{KeptView}
-use Rattle.cookie_agent.specs.JsonLines.{cookie_data, is_json_carried, is_json_expiry, is_json_time, json_line, json_line_at, json_line_read, line_of_data, read_json_lines, times_with}
-use Rattle.cookie_agent.specs.JsonLinesCode.{carried_times, json_time, line_at, lines_read}
+use Rattle.cookie_agent.specs.JsonLines.{cookie_data, is_json_carried, is_json_expiry, is_json_time, json_line, json_line_at, json_line_read, line_of_data, times_with}
+use Rattle.cookie_agent.specs.JsonLinesCode.{carried_times, json_time, line_at}
 use Rattle.cookie_agent.specs.Storable.{is_storable}
 use Rattle.cookie_agent.specs.declared.saved.json_lines.Times.{Times}
 use Rattle.cookie_agent.specs.declared.saved.line.Line.{Line}
@@ -93,16 +93,6 @@ of_integer-no_float (negsuc n) = refl
 
 pub cookie_data-no_float : (cookie : KeptView) (expiry : ℤ) → has_float (cookie_data cookie expiry) ≡ false
 cookie_data-no_float cookie expiry = rw (of_integer-no_float expiry, of_integer-no_float cookie.last_access) refl
-
--- ---- lines
-
-lines_read-is : (lines : List (Bor (List ℕ))) → lines_read lines ≡ map json_line_read (map strip_carriage_return (map (λ l. l.now) lines))
-lines_read-is [] = refl
-lines_read-is (l ∷ ls) = ap (λ xs. json_line_read (strip_carriage_return l.now) ∷ xs) (lines_read-is ls)
-
-pub lines_of_text : (lines : List (Bor (List ℕ))) (text : List ℕ) → map (λ l. l.now) lines ≡ slice_split (λ b. b == 10) text
-    → lines_read lines ≡ read_json_lines text
-lines_of_text lines text h = lines_read-is lines ∙ ap (λ ts. map json_line_read (map strip_carriage_return ts)) h
 
 -- ---- bytes and letters
 

@@ -33,11 +33,12 @@ use Rattle.cookie_core.proofs.ByteLemmas.{all-append, all-weaker}
 use Rattle.cookie_browser.specs.Storage.{KeptView, CookieStore}
 use Rattle.cookie_browser.specs.declared.enforcement.Enforcement.{Enforcement}
 use Rattle.cookie_browser.specs.declared.enforcement.Enforcement.TheVariants as enforcement
-use Rattle.cookie_agent.specs.JsonLines.{IsJsonReadAgain, bytes_of, cookie_data, cookie_of_data, cookie_with, enforcement_of_word, enforcement_word, flags_with, has_bytes, is_byte, is_json_carried, is_json_expiry, is_json_time, json_line, json_line_at, json_line_read, line_of_cookie, line_of_data, read_json_lines, texts_with, times_with}
-use Rattle.cookie_agent.specs.Saved.{bad_lines_of, cookies_of, is_bad, is_persistent, places_of, saved}
+use Rattle.cookie_agent.specs.JsonLines.{bytes_of, cookie_data, cookie_of_data, cookie_with, enforcement_of_word, enforcement_word, flags_with, has_bytes, is_byte, is_json_carried, is_json_expiry, is_json_time, json_line, json_line_at, json_line_read, line_of_cookie, line_of_data, texts_with, times_with}
+use Rattle.cookie_agent.specs.Saved.{is_persistent, lines_of, saved}
 use Rattle.cookie_agent.specs.Storable.{is_storable}
 use Rattle.cookie_agent.specs.declared.saved.line.Line.{Line}
 use Rattle.cookie_agent.specs.declared.saved.line.Line.TheVariants as line
+use Rattle.cookie_agent.proofs.SavedLemmas.{lines_for}
 use Rattle.cookie_agent.proofs.CookiesTxtLemmas.{digit_is_plain, is_plain, is_quiet, plain_is_quiet, quiet_lacks_feed, strip_quiet}
 
 -- ---- numbers
@@ -414,34 +415,26 @@ read_body cookie h =
 
 -- ---- the text
 
-abbrev lines_for : CookieStore → List Line
-lines_for [] = line.Other ∷ []
-lines_for (cookie ∷ store) = line.Cookie cookie ∷ lines_for store
+-- what the lines of a text hold
+abbrev pub read_lines : List ℕ → List Line
+read_lines text = map json_line_read (lines_of text)
 
 abbrev AreCarried : CookieStore → Type 0
 AreCarried [] = Unit {0}
 AreCarried (cookie ∷ store) = Carried cookie × AreCarried store
 
-read_cookies : (store : CookieStore) → AreCarried store → read_json_lines (concat (map json_line store)) ≡ lines_for store
+read_cookies : (store : CookieStore) → AreCarried store → read_lines (concat (map json_line store)) ≡ lines_for (λ c. c) store
 read_cookies [] h = refl
 read_cookies (cookie ∷ store) h =
     let rest = concat (map json_line store) in
     let body = compact_text (cookie_data cookie h.0.expiry) in
     let quiet = body_is_quiet cookie h.0 in
-    ap (λ e. read_json_lines (json_line_at cookie e ++ rest)) h.0.expires
-    ∙ ap read_json_lines (append_assoc body (10 ∷ []) rest)
+    ap (λ e. read_lines (json_line_at cookie e ++ rest)) h.0.expires
+    ∙ ap read_lines (append_assoc body (10 ∷ []) rest)
     ∙ ap (λ ts. map json_line_read (map strip_carriage_return ts)) (slice_split_at (λ b. b == 10) body 10 rest (quiet_lacks_feed body quiet) refl)
-    ∙ ap (λ t. json_line_read t ∷ read_json_lines rest) (strip_quiet body quiet)
-    ∙ ap (λ l. l ∷ read_json_lines rest) (read_body cookie h.0)
+    ∙ ap (λ t. json_line_read t ∷ read_lines rest) (strip_quiet body quiet)
+    ∙ ap (λ l. l ∷ read_lines rest) (read_body cookie h.0)
     ∙ ap (λ ls. line.Cookie cookie ∷ ls) (read_cookies store h.1)
-
-cookies_for : (store : CookieStore) → cookies_of (lines_for store) ≡ store
-cookies_for [] = refl
-cookies_for (cookie ∷ store) = ap (λ cs. cookie ∷ cs) (cookies_for store)
-
-none_bad : (place : ℕ) (store : CookieStore) → places_of is_bad place (lines_for store) ≡ []
-none_bad place [] = refl
-none_bad place (cookie ∷ store) = none_bad (place + 1) store
 
 saved_are_carried : (moment : DateTime) (store : CookieStore) → list_all has_bytes store ≡ true → AreCarried (saved moment is_json_carried store)
 saved_are_carried moment [] h = tt
@@ -454,11 +447,6 @@ saved_are_carried moment (cookie ∷ store) h =
     by true h bytes others = (carried cookie (and_parts (is_persistent moment cookie) (is_json_carried cookie) h).1 bytes, others)
     by false h bytes others = others
 
-pub is_json_read_again : (moment : DateTime) (store : CookieStore) → list_all has_bytes store ≡ true → IsJsonReadAgain moment store
-is_json_read_again moment store h =
-    let kept = saved moment is_json_carried store in
-    let lines = read_cookies kept (saved_are_carried moment store h) in
-    record {
-      cookies = ap cookies_of lines ∙ cookies_for kept;
-      bad_lines = ap bad_lines_of lines ∙ none_bad 1 kept;
-    }
+pub read_text : (moment : DateTime) (store : CookieStore) → list_all has_bytes store ≡ true
+    → read_lines (concat (map json_line (saved moment is_json_carried store))) ≡ lines_for (λ c. c) (saved moment is_json_carried store)
+read_text moment store h = read_cookies (saved moment is_json_carried store) (saved_are_carried moment store h)

@@ -20,6 +20,7 @@ pub mod RankLemmas
 pub mod RefusalLemmas
 pub mod RemovalLemmas
 pub mod RowFacts
+pub mod SavedFormLemmas
 pub mod SavedLemmas
 pub mod SentFieldLemmas
 pub mod SiteLemmas

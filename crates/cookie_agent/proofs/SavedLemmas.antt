@@ -1,13 +1,15 @@
 -- Stored cookies in a text of lines: a walk over cookies or lines, one after the other.
 use Rattle.std.proofs.Common.{◌≡◌, ℕ, ◌+◌, ◌<◌, ◌≤◌, ◌&&◌, Bool, true, false, not, cond, List, [], ◌∷◌, ◌++◌, length, get_or, drop, map, refl, sym, ap, ◌∙◌, append_assoc}
-use Rattle.std.proofs.lemmas.Bool.{and_from, and_right}
+use Rattle.std.proofs.lemmas.Bool.{and_from, and_right, or_parts}
 use Rattle.std.proofs.lemmas.List.{append-nil, at_drop_all, drop_more, map-append}
 use Rattle.std.proofs.lemmas.List.Elements.{filter-append}
 use Rattle.std.proofs.lemmas.List.Folds.{concat-append}
-use Rattle.std.specs.List.{concat}
+use Rattle.std.specs.List.{concat, filter, list_any}
 use Rattle.jiff.specs.Types.{DateTime}
-use Rattle.cookie_browser.specs.Storage.{KeptView}
-use Rattle.cookie_agent.specs.Saved.{cookies_of, is_persistent, places_of, saved}
+use Rattle.cookie_browser.specs.Storage.{CookieStore, KeptView}
+use Rattle.cookie_browser.specs.Suffixes.{Rule}
+use Rattle.cookie_agent.specs.Saved.{cookies_of, is_bad, is_for_suffix, is_persistent, places_of, saved, taken}
+use Rattle.cookie_agent.specs.declared.saved.line.Line.{Line}
 use Rattle.cookie_agent.specs.declared.saved.line.Line.TheVariants as line
 
 -- ---- a list that is the parts of its elements, each with its place
@@ -83,3 +85,34 @@ passes_over now is_carried text place cookie lasts missed =
       line = ap (λ b. concat (map text (cond b (cookie ∷ []) []))) (and_right (is_persistent now cookie) (is_carried cookie) missed);
       places = ap (λ b. cond b (place ∷ []) []) (and_from (is_persistent now cookie) (not (is_carried cookie)) lasts (ap not missed));
     }
+
+-- ---- the lines of saved cookies, as a form carries them, and the empty one after them
+
+abbrev pub lines_for : (KeptView → KeptView) → CookieStore → List Line
+lines_for carried [] = line.Other ∷ []
+lines_for carried (cookie ∷ store) = line.Cookie (carried cookie) ∷ lines_for carried store
+
+module _ (rules : List Rule) (carried : KeptView → KeptView) (same : (cookie : KeptView) → is_for_suffix rules (carried cookie) ≡ is_for_suffix rules cookie) where
+  abbrev at : Bool → KeptView → Line
+  at wide cookie = cond wide line.Bad (line.Cookie (carried cookie))
+
+  abbrev fit : CookieStore → CookieStore
+  fit store = filter (λ cookie. not (is_for_suffix rules cookie)) store
+
+  pub taken_cookies : (store : CookieStore) → cookies_of (map (taken rules) (lines_for carried store)) ≡ map carried (fit store)
+  taken_cookies [] = refl
+  taken_cookies (cookie ∷ store) =
+      let rest = map (taken rules) (lines_for carried store) in
+      ap (λ b. cookies_of (at b cookie ∷ rest)) (same cookie) ∙ by (is_for_suffix rules cookie) (taken_cookies store)
+    where
+      by : (b : Bool) → cookies_of (map (taken rules) (lines_for carried store)) ≡ map carried (fit store)
+          → cookies_of (at b cookie ∷ map (taken rules) (lines_for carried store)) ≡ map carried (cond (not b) (cookie ∷ fit store) (fit store))
+      by true others = others
+      by false others = ap (λ cookies. carried cookie ∷ cookies) others
+
+  pub none_bad : (place : ℕ) (store : CookieStore) → list_any (is_for_suffix rules) store ≡ false → places_of is_bad place (map (taken rules) (lines_for carried store)) ≡ []
+  none_bad place [] none = refl
+  none_bad place (cookie ∷ store) none =
+      let both = or_parts (is_for_suffix rules cookie) (list_any (is_for_suffix rules) store) none in
+      ap (λ b. places_of is_bad place (at b cookie ∷ map (taken rules) (lines_for carried store))) (same cookie ∙ both.0)
+      ∙ none_bad (place + 1) store both.1

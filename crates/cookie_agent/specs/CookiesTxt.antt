@@ -12,7 +12,6 @@ use Rattle.cookie_core.specs.Record.{without_leading_dot}
 use Rattle.cookie_browser.specs.Received.{spells}
 use Rattle.cookie_browser.specs.Storage.{KeptView, CookieStore}
 use Rattle.cookie_browser.specs.declared.enforcement.Enforcement.TheVariants as enforcement
-use Rattle.cookie_agent.specs.Saved.{bad_lines_of, cookies_of, lines_of, saved}
 use Rattle.cookie_agent.specs.Storable.{is_storable}
 use Rattle.cookie_agent.specs.declared.saved.line.Line.{Line}
 use Rattle.cookie_agent.specs.declared.saved.line.Line.TheVariants as line
@@ -84,10 +83,6 @@ cookie_line cookie =
 abbrev pub head_line : List ℕ
 head_line = codes "# Netscape HTTP Cookie File\n"
 
--- the text of the persistent cookies that the form can carry
-abbrev pub cookies_txt : DateTime → CookieStore → List ℕ
-cookies_txt now store = head_line ++ concat (map cookie_line (saved now is_carried store))
-
 -- ---- what is read
 
 -- `TRUE` or `FALSE`, in any ASCII case
@@ -151,18 +146,6 @@ line_read now (byte ∷ bytes) =
     else if byte == 35 then line.Other
     else line_of_fields now false (split_fields (byte ∷ bytes))
 
-abbrev pub read_lines : DateTime → List ℕ → List Line
-read_lines now text = map (line_read now) (lines_of text)
-
--- the cookies of the text, and the numbers of its bad lines
-abbrev pub txt_cookies : DateTime → List ℕ → CookieStore
-txt_cookies now text = cookies_of (read_lines now text)
-
-abbrev pub txt_bad_lines : DateTime → List ℕ → List ℕ
-txt_bad_lines now text = bad_lines_of (read_lines now text)
-
--- ---- what was written is read again
-
 -- a cookie as the form carries it
 abbrev pub txt_cookie : DateTime → KeptView → KeptView
 txt_cookie now cookie =
@@ -171,9 +154,3 @@ txt_cookie now cookie =
       expiry = option_map nanos_of_seconds (expiry_seconds cookie.expiry);
       last_access = civil_nanos now;
     }
-
--- The text of a store is read as its persistent cookies that the form can carry, in their order, with no bad line.
-pub record IsTxtReadAgain (moment now : DateTime) (store : CookieStore) : Type 0 where
-  pub cookies : txt_cookies now (cookies_txt moment store)
-      ≡ map (txt_cookie now) (saved moment is_carried store)
-  pub bad_lines : txt_bad_lines now (cookies_txt moment store) ≡ []

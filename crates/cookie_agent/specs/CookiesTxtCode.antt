@@ -14,15 +14,6 @@ use Rattle.cookie_agent.specs.declared.saved.cookies_txt.Kind.{Kind}
 use Rattle.cookie_agent.specs.declared.saved.line.Line.{Line}
 use Rattle.cookie_agent.specs.declared.saved.line.Line.TheVariants as line
 
--- the lines of the persistent cookies that the form can carry
-abbrev pub saved_text : DateTime → CookieStore → List ℕ
-saved_text now store = concat (map cookie_line (saved now is_carried store))
-
--- the places, from the given one, of those that it can't carry
-abbrev pub left_out_from : ℕ → DateTime → CookieStore → List ℕ
-left_out_from place now store =
-    places_of (λ cookie. is_persistent now cookie && not (is_carried cookie)) place store
-
 -- the seconds of the cookie's expiry, if the form can carry the cookie
 abbrev pub carried_seconds : KeptView → Option ℕ
 carried_seconds cookie =
@@ -34,7 +25,7 @@ domain_text cookie =
     (if cookie.is_http_only then http_only_mark else [])
     ++ (domain_field cookie ++ 9 ∷ (flag_text (not cookie.is_host_only) ++ 9 ∷ []))
 
--- the cookie with an expiry of so many seconds, as it is loaded at the time
+-- the cookie with an expiry of these seconds, as it is loaded at the time
 abbrev pub dated : ℕ → DateTime → KeptView → KeptView
 dated seconds now cookie =
     record cookie { expiry = Some (nanos_of_seconds seconds); last_access = civil_nanos now }
@@ -44,10 +35,6 @@ abbrev pub cookie_as : DateTime → Kind → ℕ → Fields → KeptView
 cookie_as now kind seconds fields =
     cookie_of now kind.is_http_only fields.domain.now kind.below fields.path.now kind.is_secure_only
     seconds fields.name.now fields.value.now
-
--- what the lines hold
-abbrev pub lines_read : DateTime → List (Bor (List ℕ)) → List Line
-lines_read now lines = map (λ l. line_read now (strip_carriage_return l.now)) lines
 
 -- what a line of the fields holds
 abbrev pub line_of_parts : DateTime → Bool → Option Fields → Line
@@ -63,7 +50,7 @@ AreFieldsOf texts fields =
     (now : DateTime) (http_only : Bool)
     → line_of_parts now http_only fields ≡ line_of_fields now http_only texts
 
--- the line of the cookie with an expiry of so many seconds
+-- the line of the cookie with an expiry of these seconds
 abbrev pub line_at : ℕ → KeptView → List ℕ
 line_at seconds cookie =
     (if cookie.is_http_only then http_only_mark else [])

@@ -10,7 +10,6 @@ use Rattle.serde_json.specs.Written.{compact_text}
 use Rattle.cookie_browser.specs.Storage.{KeptView, CookieStore}
 use Rattle.cookie_browser.specs.declared.enforcement.Enforcement.{Enforcement}
 use Rattle.cookie_browser.specs.declared.enforcement.Enforcement.TheVariants as enforcement
-use Rattle.cookie_agent.specs.Saved.{bad_lines_of, cookies_of, lines_of, saved}
 use Rattle.cookie_agent.specs.Storable.{is_storable}
 use Rattle.cookie_agent.specs.declared.saved.json_lines.Flags.{Flags}
 use Rattle.cookie_agent.specs.declared.saved.json_lines.Times.{Times}
@@ -70,10 +69,6 @@ is_json_expiry (Some time) = is_json_time time
 abbrev pub is_json_carried : KeptView → Bool
 is_json_carried cookie =
     is_storable cookie && (is_json_expiry cookie.expiry && is_json_time cookie.last_access)
-
--- the text of the persistent cookies that the form can carry
-abbrev pub json_lines : DateTime → CookieStore → List ℕ
-json_lines now store = concat (map json_line (saved now is_json_carried store))
 
 -- ---- what is read
 
@@ -185,26 +180,9 @@ json_line_read [] = line.Other
 json_line_read (byte ∷ bytes) =
     if is_utf8 (byte ∷ bytes) then line_of_data (read (byte ∷ bytes)) else line.Bad
 
-abbrev pub read_json_lines : List ℕ → List Line
-read_json_lines text = map json_line_read (lines_of text)
-
--- the cookies of the text, and the numbers of its bad lines
-abbrev pub json_cookies : List ℕ → CookieStore
-json_cookies text = cookies_of (read_json_lines text)
-
-abbrev pub json_bad_lines : List ℕ → List ℕ
-json_bad_lines text = bad_lines_of (read_json_lines text)
-
--- ---- what was written is read again
-
 -- the texts of the cookie are bytes, as they always are in the code
 abbrev pub has_bytes : KeptView → Bool
 has_bytes cookie =
     list_all is_byte cookie.name
     && (list_all is_byte cookie.value
     && (list_all is_byte cookie.domain && list_all is_byte cookie.path))
-
--- The text of a store is read as its persistent cookies that the form can carry, in their order, with no bad line.
-pub record IsJsonReadAgain (moment : DateTime) (store : CookieStore) : Type 0 where
-  pub cookies : json_cookies (json_lines moment store) ≡ saved moment is_json_carried store
-  pub bad_lines : json_bad_lines (json_lines moment store) ≡ []

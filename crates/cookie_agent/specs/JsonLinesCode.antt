@@ -14,15 +14,6 @@ use Rattle.cookie_agent.specs.declared.saved.json_lines.Texts.{Texts as StoredTe
 use Rattle.cookie_agent.specs.declared.saved.json_lines.Times.{Times}
 use Rattle.cookie_agent.specs.declared.saved.line.Line.{Line}
 
--- the lines of the persistent cookies that the form can carry
-abbrev pub saved_text : DateTime → CookieStore → List ℕ
-saved_text now store = concat (map json_line (saved now is_json_carried store))
-
--- the places, from the given one, of those that it can't carry
-abbrev pub left_out_from : ℕ → DateTime → CookieStore → List ℕ
-left_out_from place now store =
-    places_of (λ cookie. is_persistent now cookie && not (is_json_carried cookie)) place store
-
 -- the time, if the form can carry it
 abbrev pub json_time : ℤ → Option ℤ
 json_time time = if is_json_time time then Some time else None
@@ -41,10 +32,6 @@ timed times cookie = record cookie { last_access = times.last_access }
 -- the line of the cookie with these times
 abbrev pub line_at : Times → KeptView → List ℕ
 line_at times cookie = compact_text (cookie_data (timed times cookie) times.expiry) ++ 10 ∷ []
-
--- what the lines hold
-abbrev pub lines_read : List (Bor (List ℕ)) → List Line
-lines_read lines = map (λ l. json_line_read (strip_carriage_return l.now)) lines
 
 -- the texts, as lists
 abbrev pub texts_view : StoredTexts → Texts

@@ -9,6 +9,8 @@ pub mod LimitsCode
 pub mod Prefixes
 pub mod Removals
 pub mod Saved
+pub mod SavedForms
+pub mod SavedFormsCode
 pub mod Scopes
 pub mod Sent
 pub mod SentCode

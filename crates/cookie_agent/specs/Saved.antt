@@ -1,9 +1,10 @@
--- Stored cookies in a text of lines: which are saved, and what is loaded.
+-- Stored cookies in a text of lines: which are saved, and which are loaded.
 use Rattle.std.specs.Prelude.{ℕ, ◌+◌, ◌==◌, ◌&&◌, not, Bool, true, false, List, [], ◌∷◌, filter, is_some, map, if◌then◌else◌}
-use Rattle.std.specs.List.{slice_split}
+use Rattle.std.specs.List.{list_all, slice_split}
 use Rattle.std.specs.Str.Lines.{strip_carriage_return}
 use Rattle.jiff.specs.Types.{DateTime}
 use Rattle.cookie_browser.specs.Storage.{KeptView, CookieStore, lasts}
+use Rattle.cookie_browser.specs.Suffixes.{Rule, is_public_suffix}
 use Rattle.cookie_agent.specs.declared.saved.line.Line.{Line}
 use Rattle.cookie_agent.specs.declared.saved.line.Line.TheVariants as line
 
@@ -30,6 +31,23 @@ left_out now is_carried store =
 -- the lines: the texts between line feeds, each without one carriage return at its end
 abbrev pub lines_of : List ℕ → List (List ℕ)
 lines_of text = map strip_carriage_return (slice_split (λ byte. byte == 10) text)
+
+-- no IPv6 address, which alone of hosts has a `:`
+abbrev pub is_name : List ℕ → Bool
+is_name domain = list_all (λ byte. not (byte == 58)) domain
+
+-- The cookie is for a public suffix and the hosts below it. No user agent stores such a one: it refuses it, or it stores
+-- it for the host alone (RFC 6265bis, Storage Model, the step on public suffixes).
+abbrev pub is_for_suffix : List Rule → KeptView → Bool
+is_for_suffix rules cookie =
+    not cookie.is_host_only && (is_name cookie.domain && is_public_suffix rules cookie.domain)
+
+-- what is taken of a line: a cookie for a public suffix makes it bad
+abbrev pub taken : List Rule → Line → Line
+taken rules (line.Cookie cookie) =
+    if is_for_suffix rules cookie then line.Bad else line.Cookie cookie
+taken rules line.Other = line.Other
+taken rules line.Bad = line.Bad
 
 -- the cookies of the lines that hold one, in their order
 abbrev pub cookies_of : List Line → CookieStore

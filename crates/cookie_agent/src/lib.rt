@@ -23,10 +23,7 @@ mod verdict;
 pub use agent::Agent;
 pub use context::RequestContext;
 pub use limits::Limits;
-pub use saved::{
-    LoadedCookies, SavedCookies, read_cookies_txt, read_json_lines, write_cookies_txt,
-    write_json_lines,
-};
+pub use saved::{LoadedCookies, SavedCookies, SavedForm};
 pub use scope::Scope;
 pub use site::Site;
 pub use store::Store;

@@ -5,6 +5,7 @@ ghost use Rattle.std.specs.Str.Lines.{strip_carriage_return};
 ghost use Rattle.cookie_agent.specs.Saved as spec;
 
 mod cookies_txt;
+mod form;
 mod json_lines;
 mod line;
 mod loaded;
@@ -12,9 +13,8 @@ mod storable;
 
 use crate::stored::StoredCookie;
 use cookie_browser::Expiry;
-pub use cookies_txt::{read_cookies_txt, write_cookies_txt};
+pub use form::SavedForm;
 use jiff::civil::DateTime;
-pub use json_lines::{read_json_lines, write_json_lines};
 pub use loaded::LoadedCookies;
 use std::alloc::{AllocError, Global};
 

@@ -1,18 +1,18 @@
 -- A user agent's cookies in a saved text, for C: `old` is what its handle has at the call and `new` at the return. Of a
 -- call that gives a text `before` and `after` are the buffer.
-use Rattle.std.specs.Prelude.{◌≡◌, ◌==◌, ◌⊎◌, ℕ, Bool, List, [], ◌∷◌, length, Option, Some, None, if◌then◌else◌}
+use Rattle.std.specs.Prelude.{◌≡◌, ◌==◌, ◌⊎◌, ℕ, List, [], ◌∷◌, length, Option, Some, None, if◌then◌else◌}
 use Rattle.jiff.specs.Types.{DateTime}
-use Rattle.cookie_browser.specs.Storage.{CookieStore, KeptView, lasting}
-use Rattle.cookie_agent.specs.CookiesTxt.{cookies_txt, is_carried, txt_bad_lines, txt_cookies}
-use Rattle.cookie_agent.specs.JsonLines.{is_json_carried, json_bad_lines, json_cookies, json_lines}
+use Rattle.cookie_browser.specs.Storage.{CookieStore, lasting}
+use Rattle.cookie_browser.specs.Suffixes.{Rule}
 use Rattle.cookie_agent.specs.Saved.{left_out}
+use Rattle.cookie_agent.specs.SavedForms.{bad_lines, carries, loaded_cookies, saved_text}
 use Rattle.cookie_agent.specs.Stored.{kept_with_each}
+use Rattle.cookie_agent.specs.declared.saved.form.SavedForm.{SavedForm}
+use Rattle.cookie_agent.specs.declared.saved.form.SavedForm.TheVariants as forms
 use Rattle.cookie_c.specs.Agents.{AtStore}
 use Rattle.cookie_c.specs.Answers.{IsGiven}
 use Rattle.cookie_c.specs.Codes.{code_of}
 use Rattle.cookie_c.specs.Sites.{AtSecond}
-use Rattle.cookie_c.specs.declared.agent.form.SavedForm.{SavedForm}
-use Rattle.cookie_c.specs.declared.agent.form.SavedForm.TheVariants as forms
 use Rattle.cookie_c.specs.declared.agent.load.AgentLoading.{AgentLoading}
 use Rattle.cookie_c.specs.declared.agent.save.AgentSaving.{AgentSaving}
 use Rattle.cookie_c.specs.declared.answer.Answer.{Answer}
@@ -26,26 +26,6 @@ abbrev pub form_of : ℕ → Option SavedForm
 form_of number =
     if number == 0 then Some forms.CookiesTxt
     else if number == 1 then Some forms.JsonLines else None
-
--- the text of the persistent cookies that the form can carry
-abbrev pub saved_text : SavedForm → DateTime → CookieStore → List ℕ
-saved_text forms.CookiesTxt now store = cookies_txt now store
-saved_text forms.JsonLines now store = json_lines now store
-
--- the form can carry the cookie
-abbrev pub carries : SavedForm → KeptView → Bool
-carries forms.CookiesTxt cookie = is_carried cookie
-carries forms.JsonLines cookie = is_json_carried cookie
-
--- the cookies of a text
-abbrev pub loaded_cookies : SavedForm → DateTime → List ℕ → CookieStore
-loaded_cookies forms.CookiesTxt now text = txt_cookies now text
-loaded_cookies forms.JsonLines now text = json_cookies text
-
--- the numbers, from 1, of its bad lines
-abbrev pub bad_lines : SavedForm → DateTime → List ℕ → List ℕ
-bad_lines forms.CookiesTxt now text = txt_bad_lines now text
-bad_lines forms.JsonLines now text = json_bad_lines text
 
 -- this holds of the form, or there is none and the call is refused
 abbrev pub InForm : Option SavedForm → (SavedForm → Type 0) → (Status → Type 0) → Type 0
@@ -76,7 +56,7 @@ unsaved why = record { status = code_of why; length = 0; left_out = 0; first_lef
 abbrev pub IsUnsaved : Status → AgentSaving → List ℕ → List ℕ → Type 0
 IsUnsaved why answer before after = (answer ≡ unsaved why) × (after ≡ before)
 
--- the text of the cookies is given, and it is told which persistent ones it lacks
+-- the text of the cookies is given, with the number of the persistent ones that it lacks, and the first of these
 pub record GivesSaved (form : SavedForm) (now : DateTime) (store : CookieStore)
     (answer : AgentSaving) (before after : List ℕ) : Type 0 where
   pub given : IsGiven (saved_text form now store) (answer_of answer) before after
@@ -112,23 +92,31 @@ loaded_with lines =
       first_bad_line = first_of lines;
     }
 
--- Each cookie of the text that isn't expired is stored, in turn, and it is told which lines are bad.
-pub record LoadsText (form : SavedForm) (now : DateTime) (text : List ℕ) (answer : AgentLoading)
-    (old new : CookieStore) : Type 0 where
-  pub left : new ≡ kept_with_each (lasting now (loaded_cookies form now text)) old
-  pub told : answer ≡ loaded_with (bad_lines form now text)
+-- Each cookie of the text that isn't expired is stored, in turn, and the answer has the bad lines.
+pub record LoadsText (rules : List Rule) (form : SavedForm) (now : DateTime) (text : List ℕ)
+    (answer : AgentLoading) (old new : CookieStore) : Type 0 where
+  pub left : new ≡ kept_with_each (lasting now (loaded_cookies form rules now text)) old
+  pub told : answer ≡ loaded_with (bad_lines form rules now text)
 
 -- the same in the form of this number in that second; or nothing is loaded
-abbrev pub Loads : ℕ → ℕ → List ℕ → AgentLoading → CookieStore → CookieStore → Type 0
-Loads number second text answer old new =
+abbrev pub Loads : List Rule → ℕ → ℕ → List ℕ → AgentLoading → CookieStore → CookieStore → Type 0
+Loads rules number second text answer old new =
     ForForm number second
-    (λ form now. LoadsText form now text answer old new
+    (λ form now. LoadsText rules form now text answer old new
     ⊎ ((answer ≡ unloaded status.OutOfMemory) × (new ≡ old)))
     (λ why. (answer ≡ unloaded why) × (new ≡ old))
 
 -- the same of what a handle has
-abbrev pub LoadsAt : ℕ → ℕ → List ℕ → AgentLoading → Option CookieStore → Option CookieStore
-    → Type 0
-LoadsAt number second text answer old new =
-    AtStore (λ had made. Loads number second text answer had made) (λ why. answer ≡ unloaded why)
-    old new
+abbrev pub LoadsAt : List Rule → ℕ → ℕ → List ℕ → AgentLoading → Option CookieStore
+    → Option CookieStore → Type 0
+LoadsAt rules number second text answer old new =
+    AtStore (λ had made. Loads rules number second text answer had made)
+    (λ why. answer ≡ unloaded why) old new
+
+-- the same by the rules that a handle has, which a handle without them refuses first
+abbrev pub LoadsBy : Option (List Rule) → ℕ → ℕ → List ℕ → AgentLoading → Option CookieStore
+    → Option CookieStore → Type 0
+LoadsBy None number second text answer old new =
+    (answer ≡ unloaded status.NoSuffixes) × (new ≡ old)
+LoadsBy (Some rules) number second text answer old new =
+    LoadsAt rules number second text answer old new

@@ -5,7 +5,7 @@ use crate::jars::looks;
 use crate::step::{Answer, Player, Step};
 use cookie::CookieJar;
 use cookie_agent::{
-    Agent, Limits, Scope, Site, StoredCookie, Verdict, read_cookies_txt, write_cookies_txt,
+    Agent, Limits, SavedForm, Scope, Site, StoredCookie, Verdict,
 };
 use cookie_browser::Suffixes;
 use cookie_theorems::visits::visit;
@@ -137,8 +137,9 @@ impl Player for Agents<'_> {
             "get" => looks::answer(&self.jar, step),
             "plan" => self.plan(step),
             "loaded" => {
-                let loaded = read_cookies_txt(step.alloc, &step.bytes()?, self.now).ok()?;
-                let saved = write_cookies_txt(step.alloc, &loaded.cookies, self.now).ok()?;
+                let (form, bytes) = (SavedForm::CookiesTxt, step.bytes()?);
+                let loaded = form.read(step.alloc, self.suffixes, &bytes, self.now).ok()?;
+                let saved = form.write(step.alloc, &loaded.cookies, self.now).ok()?;
                 step.shown(saved.text.get(28..)?)
             }
             _ => self.ask(step),

@@ -1,21 +1,18 @@
 //! Netscape's `cookies.txt`.
-ghost use Rattle.std.specs.Prelude.{◌≡◌, ◌++◌, ◌∷◌, ◌==◌, ◌+ℤ◌, ℕ, [], IfOk, OnOk, Some, map, option_map, pos};
-ghost use Rattle.jiff.specs.Types.{DateTime};
+ghost use Rattle.std.specs.Prelude.{◌≡◌, ◌++◌, ◌∷◌, ◌+ℤ◌, ℕ, [], IfOk, OnOk, Some, map, option_map, pos};
 ghost use Rattle.jiff.specs.Words.{civil_nanos, signed_nanos};
 ghost use Rattle.cookie_core.specs.Attributes.{seconds_of_digits};
 ghost use Rattle.cookie_core.specs.Record.{without_leading_dot};
 ghost use Rattle.cookie_browser.specs.ExpiryCode.{expiry_time};
 ghost use Rattle.cookie_browser.specs.RefusedCode.{kept_view};
-ghost use Rattle.cookie_browser.specs.Storage.{CookieStore};
 ghost use Rattle.cookie_agent.specs.CookiesTxt as spec;
 ghost use Rattle.cookie_agent.specs.CookiesTxtCode as code;
-ghost use Rattle.cookie_agent.specs.Saved.{bad_lines_of, cookies_of, left_out};
+ghost use Rattle.cookie_agent.specs.SavedFormsCode.{carried_text};
+ghost use Rattle.cookie_agent.specs.declared.saved.form.SavedForm.TheVariants as form;
 
 use crate::nanos::start_of_1970;
 use crate::saved::line::Line;
-use crate::saved::loaded::LoadedCookies;
 use crate::saved::storable::is_storable;
-use crate::saved::{SavedCookies, is_persistent, lines_of, without_return};
 use crate::stored::StoredCookie;
 use cookie_browser::{Enforcement, Expiry, KeptCookie};
 use cookie_core::seconds_of_digits;
@@ -24,7 +21,8 @@ use jiff::SignedDuration;
 use jiff::civil::DateTime;
 use std::alloc::{AllocError, Global};
 
-const HEAD_LINE: &[u8] = b"# Netscape HTTP Cookie File\n";
+// The first line, as curl writes it.
+pub(super) const HEAD_LINE: &[u8] = b"# Netscape HTTP Cookie File\n";
 
 const HTTP_ONLY_MARK: &[u8] = b"#HttpOnly_";
 
@@ -48,58 +46,17 @@ struct Kind {
     is_secure_only: bool,
 }
 
-/// Writes the persistent cookies that aren't expired at the time `now` in UTC, as curl and wget read them: a line for
-/// each, in their order, after the line `# Netscape HTTP Cookie File`.
-///
-/// A cookie is left out if a text of it has a control character or a tab, if it has no name or its path doesn't begin
-/// with `/`, or if no user agent could have stored it. So each line is one cookie, whoever chose its texts. The form
-/// doesn't carry `SameSite`, the last access, and parts of a second. Fails only if out of memory.
-///
-/// A caller writes the text to a new file beside the old one, and renames it: then a crash leaves one of the two. Only
-/// the owner should be able to read it, since cookies are credentials.
-/// Example: `answer` in crates/cookie_vectors/src/agent.rt.
-pub fn write_cookies_txt(
-    alloc: Global,
-    cookies: &[StoredCookie],
-    now: DateTime,
-) -> Result<SavedCookies, AllocError>
-    ensures text { IfOk result (λ saved.
-        saved.text.items ≡ spec.cookies_txt now cookies.now) }
-    ensures left_out { IfOk result (λ saved.
-        saved.left_out.items ≡ left_out now spec.is_carried cookies.now) }
+// Writes the line of the cookie, if the form can carry it. Returns whether it can.
+pub(super) fn push_carried(text: &mut Vec<u8>, cookie: &StoredCookie) -> Result<bool, AllocError>
+    ensures carried { IfOk result (λ carried. carried ≡ spec.is_carried cookie.now) }
+    ensures text { OnOk result (text.new.items
+        ≡ text.old.items ++ carried_text form.CookiesTxt cookie.now) }
 {
-    let mut saved = SavedCookies {
-        text: Vec::from_slice(alloc, HEAD_LINE)?,
-        left_out: Vec::new(alloc),
+    let Some(seconds) = carried_seconds(cookie) else {
+        return Ok(false);
     };
-    for place in 0..cookies.len() {
-        save(&mut saved, &cookies[place], place, now)?;
-    }
-    Ok(saved)
-}
-
-// Writes the line of the cookie at the place, or notes that it is left out, if it is persistent and not expired.
-fn save(
-    saved: &mut SavedCookies,
-    cookie: &StoredCookie,
-    place: usize,
-    now: DateTime,
-) -> Result<(), AllocError>
-    ensures text { OnOk result (saved.new.text.items
-        ≡ saved.old.text.items ++ code.saved_text now (cookie.now ∷ [])) }
-    ensures left_out { OnOk result (saved.new.left_out.items
-        ≡ saved.old.left_out.items ++ code.left_out_from place now (cookie.now ∷ [])) }
-{
-    if !is_persistent(cookie, now) {
-        return Ok(());
-    }
-    match carried_seconds(cookie) {
-        Some(seconds) => push_line(&mut saved.text, &cookie.as_kept(), seconds),
-        None => {
-            saved.left_out.push(place)?;
-            Ok(())
-        }
-    }
+    push_line(text, &cookie.as_kept(), seconds)?;
+    Ok(true)
 }
 
 // The seconds of the cookie's expiry, if the form can carry the cookie.
@@ -148,7 +105,7 @@ fn seconds_of_age(age: SignedDuration) -> Option<u64>
     }
 }
 
-// The whole seconds from 1970 to so long after the time, if they are at least 1, and an `i64` has them.
+// The whole seconds from 1970 to the end of this age after the time, if they are at least 1, and an `i64` has them.
 fn seconds_after(time: DateTime, age: SignedDuration) -> Option<u64>
     ensures { result ≡ spec.expiry_seconds (Some (civil_nanos time +ℤ signed_nanos age)) }
 {
@@ -199,7 +156,7 @@ fn push_domain(text: &mut Vec<u8>, cookie: &KeptCookie<'_>) -> Result<(), AllocE
     push_field(text, flag_text(!cookie.is_host_only))
 }
 
-// Writes the line of a cookie with an expiry of so many seconds.
+// Writes the line of a cookie with an expiry of these seconds.
 fn push_line(text: &mut Vec<u8>, cookie: &KeptCookie<'_>, seconds: u64) -> Result<(), AllocError>
     ensures { OnOk result (text.new.items
         ≡ text.old.items ++ code.line_at seconds (kept_view cookie.now)) }
@@ -214,35 +171,6 @@ fn push_line(text: &mut Vec<u8>, cookie: &KeptCookie<'_>, seconds: u64) -> Resul
     Ok(())
 }
 
-/// Reads a `cookies.txt`, as [`write_cookies_txt`], curl and wget write it. Returns the cookies of the good lines, in
-/// their order, and the numbers of the bad ones. Any bytes can be read. Fails only if out of memory.
-///
-/// Seven fields with tabs between them are a cookie: the domain, `TRUE` if the hosts below it get the cookie too, the
-/// path, `TRUE` if it is secure-only, its expiry in seconds since 1970, its name and its value. `#HttpOnly_` before them
-/// says that it is http-only. Other lines that begin with `#`, and empty lines, say nothing. A line may end in CR LF.
-///
-/// A line is bad if it has other fields, or if no user agent could have stored the cookie. A cookie with the expiry 0
-/// ended with the browser that wrote it, so it is skipped. `SameSite` counts as not set, and `now`, in UTC, is the last
-/// access. Public suffixes aren't looked at, and lifetimes aren't limited to 400 days.
-/// Example: `answer` in crates/cookie_vectors/src/agent.rt.
-pub fn read_cookies_txt(
-    alloc: Global,
-    text: &[u8],
-    now: DateTime,
-) -> Result<LoadedCookies, AllocError>
-    ensures cookies { IfOk result (λ loaded.
-        loaded.cookies.items ≡ spec.txt_cookies now text.now) }
-    ensures bad_lines { IfOk result (λ loaded.
-        loaded.bad_lines.items ≡ spec.txt_bad_lines now text.now) }
-
-    // What `write_cookies_txt` wrote of a store is read as its persistent cookies, in their order.
-    ensures read_again { (moment : DateTime) (store : CookieStore)
-        → spec.IsTxtReadAgain moment now store }
-{
-    let lines = lines_of(alloc, text)?;
-    read_all(alloc, &lines, now)
-}
-
 // The texts between tabs.
 fn fields_of(alloc: Global, line: &[u8]) -> Result<Vec<&[u8]>, AllocError>
     ensures { IfOk result (λ fields.
@@ -251,23 +179,8 @@ fn fields_of(alloc: Global, line: &[u8]) -> Result<Vec<&[u8]>, AllocError>
     line.split(|byte| *byte == 9).collect(alloc)
 }
 
-// The cookies of the lines, and the numbers of the bad ones.
-fn read_all(alloc: Global, lines: &[&[u8]], now: DateTime) -> Result<LoadedCookies, AllocError>
-    ensures cookies { IfOk result (λ loaded.
-        loaded.cookies.items ≡ cookies_of (code.lines_read now lines.now)) }
-    ensures bad_lines { IfOk result (λ loaded.
-        loaded.bad_lines.items ≡ bad_lines_of (code.lines_read now lines.now)) }
-{
-    let mut loaded = LoadedCookies::new(alloc);
-    for place in 0..lines.len() {
-        let line = read_line(alloc, without_return(lines[place]), now)?;
-        loaded.take(line, place + 1)?;
-    }
-    Ok(loaded)
-}
-
 // What a line holds.
-fn read_line(alloc: Global, line: &[u8], now: DateTime) -> Result<Line, AllocError>
+pub(super) fn read_line(alloc: Global, line: &[u8], now: DateTime) -> Result<Line, AllocError>
     ensures { IfOk result (λ read. read ≡ spec.line_read now line.now) }
 {
     if line.starts_with(HTTP_ONLY_MARK) {
@@ -374,7 +287,7 @@ impl<'t> Fields<'t> {
     }
 }
 
-// The line of a cookie with an expiry of so many seconds. With 0 it ended with the browser that wrote it.
+// The line of a cookie with an expiry of these seconds. With 0 it ended with the browser that wrote it.
 fn line_of(
     alloc: Global,
     cookie: &KeptCookie<'_>,

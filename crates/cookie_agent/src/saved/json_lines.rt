@@ -1,23 +1,20 @@
 //! Stored cookies as JSON lines.
-ghost use Rattle.std.specs.Prelude.{◌≡◌, ◌++◌, ◌∷◌, ◌+ℤ◌, [], true, Some, IfOk, OnOk, nat_lt, option_and_then, option_map, string_bytes};
+ghost use Rattle.std.specs.Prelude.{◌≡◌, ◌++◌, ◌+ℤ◌, true, Some, IfOk, OnOk, nat_lt, option_and_then, option_map, string_bytes};
 ghost use Rattle.std.specs.List.{list_all};
 ghost use Rattle.std.specs.Str.{chars, encode_utf8_all};
-ghost use Rattle.jiff.specs.Types.{DateTime};
 ghost use Rattle.jiff.specs.Words.{civil_nanos, signed_nanos};
 ghost use Rattle.serde_json.specs.Data.{put as put_member};
 ghost use Rattle.serde_json.specs.View.{members_view, view};
 ghost use Rattle.cookie_browser.specs.ExpiryCode.{expiry_time};
 ghost use Rattle.cookie_browser.specs.RefusedCode.{kept_view};
-ghost use Rattle.cookie_browser.specs.Storage.{CookieStore};
 ghost use Rattle.cookie_agent.specs.JsonLines as spec;
 ghost use Rattle.cookie_agent.specs.JsonLinesCode as code;
-ghost use Rattle.cookie_agent.specs.Saved.{bad_lines_of, cookies_of, left_out};
+ghost use Rattle.cookie_agent.specs.SavedFormsCode.{carried_text};
+ghost use Rattle.cookie_agent.specs.declared.saved.form.SavedForm.TheVariants as form;
 
 use crate::nanos::start_of_1970;
 use crate::saved::line::Line;
-use crate::saved::loaded::LoadedCookies;
 use crate::saved::storable::is_storable;
-use crate::saved::{SavedCookies, is_persistent, lines_of, without_return};
 use crate::stored::StoredCookie;
 use cookie_browser::{Enforcement, Expiry, KeptCookie};
 use jiff::civil::DateTime;
@@ -26,58 +23,21 @@ use jiff::{SignedDuration, Timestamp};
 use serde_json::{Map, Value, put};
 use std::alloc::{AllocError, Global};
 
-/// Writes the persistent cookies that aren't expired at the time `now` in UTC as JSON lines: an object (RFC 8259) for
-/// each, in their order, with every field.
-///
-/// The texts `name`, `value`, `domain` and `path` are strings in which each byte is the character of its number, so
-/// ASCII stays as it is. `host_only`, `secure` and `http_only` are `true` or `false`, and `same_site` is `default`,
-/// `strict`, `lax` or `none`. `expiry` and `last_access` are nanoseconds since 1970 in UTC.
-///
-/// A cookie is left out if no user agent could have stored it, or if a time of it is before the year 1678 or after 2261.
-/// Fails only if out of memory.
-pub fn write_json_lines(
-    alloc: Global,
-    cookies: &[StoredCookie],
-    now: DateTime,
-) -> Result<SavedCookies, AllocError>
-    ensures text { IfOk result (λ saved.
-        saved.text.items ≡ spec.json_lines now cookies.now) }
-    ensures left_out { IfOk result (λ saved.
-        saved.left_out.items ≡ left_out now spec.is_json_carried cookies.now) }
-{
-    let mut saved = SavedCookies {
-        text: Vec::new(alloc),
-        left_out: Vec::new(alloc),
-    };
-    for place in 0..cookies.len() {
-        save(&mut saved, alloc, &cookies[place], place, now)?;
-    }
-    Ok(saved)
-}
-
-// Writes the line of the cookie at the place, or notes that it is left out, if it is persistent and not expired.
-fn save(
-    saved: &mut SavedCookies,
+// Writes the line of the cookie, if the form can carry it. Returns whether it can.
+pub(super) fn push_carried(
+    text: &mut Vec<u8>,
     alloc: Global,
     cookie: &StoredCookie,
-    place: usize,
-    now: DateTime,
-) -> Result<(), AllocError>
-    ensures text { OnOk result (saved.new.text.items
-        ≡ saved.old.text.items ++ code.saved_text now (cookie.now ∷ [])) }
-    ensures left_out { OnOk result (saved.new.left_out.items
-        ≡ saved.old.left_out.items ++ code.left_out_from place now (cookie.now ∷ [])) }
+) -> Result<bool, AllocError>
+    ensures carried { IfOk result (λ carried. carried ≡ spec.is_json_carried cookie.now) }
+    ensures text { OnOk result (text.new.items
+        ≡ text.old.items ++ carried_text form.JsonLines cookie.now) }
 {
-    if !is_persistent(cookie, now) {
-        return Ok(());
-    }
-    match carried_times(cookie) {
-        Some(times) => push_line(&mut saved.text, alloc, &cookie.as_kept(), times),
-        None => {
-            saved.left_out.push(place)?;
-            Ok(())
-        }
-    }
+    let Some(times) = carried_times(cookie) else {
+        return Ok(false);
+    };
+    push_line(text, alloc, &cookie.as_kept(), times)?;
+    Ok(true)
 }
 
 // When a cookie expires and when it was last sent, in nanoseconds since 1970.
@@ -97,7 +57,7 @@ fn nanos_of(age: SignedDuration) -> Option<i64>
     }
 }
 
-// The nanoseconds from 1970 to so long after the time.
+// The nanoseconds from 1970 to the end of this age after the time, if an `i64` has them.
 fn nanos_after(time: DateTime, age: SignedDuration) -> Option<i64>
     ensures { result ≡ code.json_time (civil_nanos time +ℤ signed_nanos age) }
 {
@@ -244,43 +204,8 @@ fn push_line(
     Ok(())
 }
 
-/// Reads JSON lines, as [`write_json_lines`] writes them. Returns the cookies of the good lines, in their order, and the
-/// numbers of the bad ones. Any bytes can be read. Fails only if out of memory.
-///
-/// A line is bad if it isn't an object with all these members of their types, or if no user agent could have stored the
-/// cookie. Other members are passed over, and of two with one name the last counts. Empty lines say nothing, and a line
-/// may end in CR LF.
-pub fn read_json_lines(alloc: Global, text: &[u8]) -> Result<LoadedCookies, AllocError>
-    ensures cookies { IfOk result (λ loaded.
-        loaded.cookies.items ≡ spec.json_cookies text.now) }
-    ensures bad_lines { IfOk result (λ loaded.
-        loaded.bad_lines.items ≡ spec.json_bad_lines text.now) }
-
-    // What `write_json_lines` wrote of a store is read as its persistent cookies, in their order.
-    ensures read_again { (moment : DateTime) (store : CookieStore)
-        → list_all spec.has_bytes store ≡ true → spec.IsJsonReadAgain moment store }
-{
-    let lines = lines_of(alloc, text)?;
-    read_all(alloc, &lines)
-}
-
-// The cookies of the lines, and the numbers of the bad ones.
-fn read_all(alloc: Global, lines: &[&[u8]]) -> Result<LoadedCookies, AllocError>
-    ensures cookies { IfOk result (λ loaded.
-        loaded.cookies.items ≡ cookies_of (code.lines_read lines.now)) }
-    ensures bad_lines { IfOk result (λ loaded.
-        loaded.bad_lines.items ≡ bad_lines_of (code.lines_read lines.now)) }
-{
-    let mut loaded = LoadedCookies::new(alloc);
-    for place in 0..lines.len() {
-        let line = read_line(alloc, without_return(lines[place]))?;
-        loaded.take(line, place + 1)?;
-    }
-    Ok(loaded)
-}
-
 // What a line holds.
-fn read_line(alloc: Global, line: &[u8]) -> Result<Line, AllocError>
+pub(super) fn read_line(alloc: Global, line: &[u8]) -> Result<Line, AllocError>
     ensures { IfOk result (λ read. read ≡ spec.json_line_read line.now) }
 {
     if line.is_empty() {
@@ -363,14 +288,14 @@ fn line_at(alloc: Global, cookie: &KeptCookie<'_>, times: Times) -> Result<Line,
     Ok(Line::Cookie(StoredCookie::of(alloc, cookie, expiry, last_access)?))
 }
 
-// The expiry so many nanoseconds after 1970.
+// The expiry at this number of nanoseconds after 1970.
 fn expiry_at(nanos: i64) -> Expiry
     ensures { expiry_time result ≡ Some nanos }
 {
     Expiry::At(time_at(nanos))
 }
 
-// The time so many nanoseconds after 1970. The calendar has each of an `i64`.
+// The time at this number of nanoseconds after 1970. The calendar has each of an `i64`.
 fn time_at(nanos: i64) -> DateTime
     ensures { civil_nanos result ≡ nanos }
 {

@@ -8,12 +8,12 @@ ghost use Rattle.cookie_c.specs.Sites.{AtSecond};
 ghost use Rattle.cookie_c.specs.declared.status.Status.TheVariants as status;
 
 use super::Agent;
-use super::form::SavedForm;
+use super::form::form_of;
 use crate::answer::Answer;
 use crate::handle::content::Content;
 use crate::sessions::time::time_at;
 use crate::status::Status;
-use cookie_agent::{SavedCookies, Store};
+use cookie_agent::{SavedCookies, SavedForm, Store};
 use jiff::civil::DateTime;
 use std::alloc::Global;
 
@@ -31,9 +31,10 @@ pub struct AgentSaving {
     pub first_left_out: usize,
 }
 
-/// The text of the persistent cookies that aren't expired, for the buffer: in the form of this number, of `SavedForm`.
-/// `now` is the time in seconds since 1970 in UTC. The agent is as before. `write_cookies_txt` and `write_json_lines` of
-/// `cookie_agent` say which cookies a form can't carry: a `cookies.txt` none with a tab or another control character.
+/// The text of the persistent cookies that aren't expired, for the buffer: in the form of this number.
+/// 0 is Netscape's `cookies.txt`, and 1 a JSON object a line. `now` is the time in seconds since 1970 in UTC. The agent
+/// is as before. `SavedForm` of `cookie_agent` says which cookies a form can't carry: a `cookies.txt` none with a tab or
+/// another control character.
 ///
 /// A caller writes the text to a new file beside the old one, and renames it: then a crash leaves one of the two. Only
 /// the owner should be able to read it, since cookies are credentials.
@@ -71,7 +72,7 @@ fn save_in(alloc: Global, content: &Content, form: u32, now: u64, out: &mut [u8]
 fn save(alloc: Global, store: &Store, form: u32, now: u64, out: &mut [u8]) -> AgentSaving
     ensures { Saves form now store.now result out.old out.new }
 {
-    match SavedForm::of(form) {
+    match form_of(form) {
         Some(form) => save_as(alloc, store, form, now, out),
         None => AgentSaving::none(Status::BadAttribute),
     }
@@ -99,7 +100,7 @@ fn save_at(
     ensures { GivesSaved form now store.now result out.old out.new
         ⊎ IsUnsaved status.OutOfMemory result out.old out.new }
 {
-    match form.write(alloc, store, now) {
+    match form.write(alloc, store.cookies(), now) {
         Ok(saved) => AgentSaving::give(&saved, out),
         Err(_) => AgentSaving::none(Status::OutOfMemory),
     }
