@@ -18,7 +18,7 @@ use std::fmt;
 use std::marker::Model;
 
 // A table keeps up to this many entries in a row, and compares each name. That costs less than to hash one with drawn keys.
-const FEW: usize = 8;
+const FEW: usize = 16;
 
 // For how many entries a table that hashes has room at first.
 const FIRST_ROOM: usize = 36;
