@@ -63,7 +63,7 @@ fn respond<R: TryRng>(
     })
 }
 
-// Does what the request asks for, and returns the response's status.
+// Makes the change that the request is for, and returns the response's status.
 fn change<R: TryRng>(
     alloc: Global,
     jar: &mut CookieJar,

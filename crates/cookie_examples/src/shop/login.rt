@@ -1,6 +1,7 @@
 //! Who is logged in.
 use crate::shop::request::form_value;
 use anyhow::Result;
+use cookie::are_equal;
 use cookie_session::Visit;
 use jiff::civil::DateTime;
 use rand_core::TryRng;
@@ -40,5 +41,5 @@ pub fn log_out<R: TryRng>(
 
 // A shop keeps slow hashes of passwords.
 fn is_known(user: &str, password: &str) -> bool {
-    user == "ann" && password == "secret"
+    user == "ann" && are_equal(password.as_bytes(), b"secret")
 }
