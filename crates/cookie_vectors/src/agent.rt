@@ -4,9 +4,7 @@ use crate::jar_calls::{after, calls_of, moment, test_key};
 use crate::jars::looks;
 use crate::step::{Answer, Player, Step};
 use cookie::CookieJar;
-use cookie_agent::{
-    Agent, Limits, SavedForm, Scope, Site, StoredCookie, Verdict,
-};
+use cookie_agent::{Agent, Limits, SavedForm, Scope, Site, StoredCookie, Verdict};
 use cookie_browser::Suffixes;
 use cookie_theorems::visits::visit;
 use cookie_theorems::{AgentRequest, Plan};
