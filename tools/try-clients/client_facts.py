@@ -319,7 +319,7 @@ class Files(unittest.TestCase):
                     agent.save(self.path, form)
 
     def test_forged(self):
-        """A line whose texts no cookie has is a bad line. A cookie for the hosts below a public suffix isn't kept."""
+        """A line whose texts no cookie has is a bad line, and so is one for the hosts below a public suffix."""
         lines = [
             ".shop.example\tTRUE\t/\tFALSE\t{far}\tgood\t1", "shop.example\tFALSE\t/\tFALSE\t{far}\ta=b\t1",
             "shop.example\tFALSE\t/\tFALSE\t{far}\ta\t1; admin=1", "shop.example\tFALSE\t/; x\tFALSE\t{far}\ta\t1",
@@ -331,7 +331,7 @@ class Files(unittest.TestCase):
         ]
         self.path.write_text("\n".join(lines).format(far=2**33))
         with Agent() as agent:
-            self.assertEqual(agent.load(self.path, "netscape"), [2, 3, *range(7, 13)])
+            self.assertEqual(agent.load(self.path, "netscape"), [2, 3, 5, *range(7, 13)])
             self.assertEqual(agent.header("https://www.shop.example/"), b"good=1")
             self.assertEqual(agent.header("https://www.bank.co.uk/"), b"")
 
