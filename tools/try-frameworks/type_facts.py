@@ -10,7 +10,7 @@ import unittest
 from inspect import isclass
 
 import deomigal
-from deomigal import Agent, Jar, Session, Sessions, errors, explain
+from deomigal import Agent, Jar, Session, Sessions, Tokens, errors, explain
 from deomigal.errors import TooLarge
 from deomigal.werkzeug import dump_cookie, parse_cookie
 
@@ -20,6 +20,7 @@ MANY = 2**32
 WRONG = (MANY, 1.5, object())
 NOW = datetime.datetime(2015, 10, 21, 7, 28)
 SITE = Sessions([KEY], "session", 60, 60)
+RESETS = Tokens([KEY], "password reset", 60)
 AGENT = Agent(b"")
 
 
@@ -65,6 +66,9 @@ CALLS = [
     (Sessions, [[KEY], "session", 60, 60], "01"),
     (SITE.open, ["a=1", 1], "0"),
     (SITE.save, [SITE.start()], "0"),
+    (Tokens, [[KEY], "password reset", 60], "01"),
+    (RESETS.make, ["ann", 1], "0"),
+    (RESETS.read, ["", 1], "0"),
     (Agent, [b""], "0"),
     (AGENT.read, ["https://a.example/", "a=1", NOW], "012"),
     (AGENT.header, ["https://a.example/", NOW], "01"),
@@ -87,6 +91,9 @@ OTHERS = [
     lambda: SITE.open("", []),
     lambda: SITE.start("1"),
     lambda: SITE.end("1"),
+    lambda: Tokens([KEY], "password reset", "60"),
+    lambda: RESETS.make("ann", "1"),
+    lambda: RESETS.read("", "1"),
     lambda: Session("1"),
     lambda: Session(1.5),
     lambda: deomigal.print_cookie("a", "1", max_age="1"),
