@@ -3,7 +3,7 @@ use Rattle.std.proofs.Common.{◌≡◌, ℕ, ℤ, ◌+◌, ◌-◌, ◌<◌, �
 use denote.Ref.{Bor}
 use Rattle.std.specs.Prelude.{◌≢◌, codes, decimal, is_some, nat_le, nat_lt, option_map, pos, unwrap_or}
 use Rattle.std.specs.Char.{is_ascii_digit, to_ascii_lowercase}
-use Rattle.std.specs.List.{All, concat, join_with_byte, list_all, slice_split, starts_with}
+use Rattle.std.specs.List.{All, concat, join_with_byte, list_all, starts_with}
 use Rattle.std.specs.Str.{str_to_ascii_lowercase}
 use Rattle.std.specs.Str.Lines.{strip_carriage_return}
 use Rattle.std.specs.Str.Parse.{digits_value}

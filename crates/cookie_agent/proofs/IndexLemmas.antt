@@ -1,5 +1,5 @@
 -- What a store knows of its cookies: their marks, and until when none is expired.
-use Rattle.std.proofs.Common.{◌≡◌, ℕ, ℤ, suc, ◌<◌, ◌≤◌, ◌≤ℤ◌, ◌+◌, ◌&&◌, not, Bool, true, false, cond, [], ◌∷◌, ◌++◌, length, get_or, map, refl, sym, ap, ◌∙◌, All, arith, subst}
+use Rattle.std.proofs.Common.{◌≡◌, ℕ, ℤ, ◌<◌, ◌≤◌, ◌≤ℤ◌, ◌+◌, Bool, true, false, cond, [], ◌∷◌, ◌++◌, length, get_or, map, refl, sym, ap, ◌∙◌, All, arith, subst}
 use Rattle.std.proofs.Math.ListN.{set}
 use Rattle.std.proofs.lemmas.Bool.{and_right}
 use Rattle.std.proofs.lemmas.Int.{ints}

@@ -1,9 +1,7 @@
 -- Which cookies JSON lines carry, and what is written of them.
-use Rattle.std.proofs.Common.{◌≡◌, ◌<◌, length, get_or, arith, ℕ, ℤ, ◌==◌, ◌&&◌, Bool, true, false, cond, List, [], ◌∷◌, map, Option, Some, None, refl, sym, ap, ◌∙◌, pos, negsuc}
-use denote.Ref.{Bor}
+use Rattle.std.proofs.Common.{◌≡◌, ◌<◌, length, get_or, arith, ℕ, ℤ, ◌==◌, ◌&&◌, Bool, true, false, cond, List, [], ◌∷◌, Option, Some, None, refl, sym, ap, ◌∙◌, pos, negsuc}
 use Rattle.std.specs.Prelude.{is_some, nat_lt, option_and_then, option_map, unwrap_or}
-use Rattle.std.specs.List.{list_all, slice_split}
-use Rattle.std.specs.Str.Lines.{strip_carriage_return}
+use Rattle.std.specs.List.{list_all}
 use Rattle.std.specs.Str.{IsUtf8, is_utf8}
 use Rattle.std.proofs.lemmas.Bool.{cond-false, cond-true, false≢true}
 use Rattle.std.proofs.lemmas.Str.{IsUtf8-from_is_utf8, is_utf8-from_IsUtf8}

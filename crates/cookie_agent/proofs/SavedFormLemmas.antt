@@ -1,6 +1,6 @@
 -- What a form wrote is read again, and its lines are those of the text.
-use Rattle.std.proofs.Common.{◌≡◌, ◌==◌, ℕ, Bor, true, List, [], ◌∷◌, ◌++◌, map, refl, ap, ◌∙◌}
-use Rattle.std.specs.List.{concat, list_all, slice_split}
+use Rattle.std.proofs.Common.{◌≡◌, ◌==◌, ℕ, Bor, true, List, [], ◌∷◌, map, refl, ap, ◌∙◌}
+use Rattle.std.specs.List.{list_all, slice_split}
 use Rattle.std.specs.Str.Lines.{strip_carriage_return}
 use Rattle.jiff.specs.Types.{DateTime}
 use Rattle.cookie_browser.specs.Storage.{CookieStore}
@@ -12,7 +12,6 @@ use Rattle.cookie_agent.specs.SavedForms.{IsReadAgain, carries, line_read, lines
 use Rattle.cookie_agent.specs.SavedFormsCode.{lines_taken_of}
 use Rattle.cookie_agent.specs.declared.saved.form.SavedForm.{SavedForm}
 use Rattle.cookie_agent.specs.declared.saved.form.SavedForm.TheVariants as form
-use Rattle.cookie_agent.specs.declared.saved.line.Line.{Line}
 use Rattle.cookie_agent.specs.declared.saved.line.Line.TheVariants as line
 use Rattle.cookie_agent.proofs.CookiesTxtLemmas as txt
 use Rattle.cookie_agent.proofs.JsonReadLemmas as json

@@ -2,15 +2,15 @@
 -- them: the domain, with a dot before it if the hosts below it get the cookie too; whether they do; the path; whether
 -- the cookie is secure-only; when it expires, in whole seconds since 1970 in UTC; the name; the value. `#HttpOnly_`
 -- before them says that it is http-only. Other lines that begin with `#`, and empty ones, say nothing.
-use Rattle.std.specs.Prelude.{◌≡◌, ℕ, ℤ, pos, negsuc, ◌/◌, ◌^◌, ◌==◌, ◌&&◌, not, nat_le, nat_lt, Bool, true, false, List, [], ◌∷◌, ◌++◌, codes, decimal, drop, eqb, is_some, length, map, Option, Some, None, option_map, unwrap_or, if◌then◌else◌}
-use Rattle.std.specs.List.{concat, join_with_byte, list_all, slice_split, starts_with}
+use Rattle.std.specs.Prelude.{ℕ, ℤ, pos, negsuc, ◌/◌, ◌^◌, ◌==◌, ◌&&◌, not, nat_le, nat_lt, Bool, true, false, List, [], ◌∷◌, ◌++◌, codes, decimal, drop, eqb, is_some, length, Option, Some, None, option_map, unwrap_or, if◌then◌else◌}
+use Rattle.std.specs.List.{join_with_byte, list_all, slice_split, starts_with}
 use Rattle.std.specs.Str.{str_to_ascii_lowercase}
 use Rattle.jiff.specs.Types.{DateTime}
 use Rattle.jiff.specs.Words.{civil_nanos}
 use Rattle.cookie_core.specs.Attributes.{nanos_of_seconds, seconds_of_digits}
 use Rattle.cookie_core.specs.Record.{without_leading_dot}
 use Rattle.cookie_browser.specs.Received.{spells}
-use Rattle.cookie_browser.specs.Storage.{KeptView, CookieStore}
+use Rattle.cookie_browser.specs.Storage.{KeptView}
 use Rattle.cookie_browser.specs.declared.enforcement.Enforcement.TheVariants as enforcement
 use Rattle.cookie_agent.specs.Storable.{is_storable}
 use Rattle.cookie_agent.specs.declared.saved.line.Line.{Line}

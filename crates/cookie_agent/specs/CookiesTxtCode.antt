@@ -1,14 +1,11 @@
 -- Mirrors private code: parts of a `cookies.txt`, as the code writes them.
-use Rattle.std.specs.Prelude.{◌≡◌, ℕ, ◌&&◌, not, Bool, List, [], ◌∷◌, ◌++◌, decimal, map, Option, Some, None, if◌then◌else◌}
-use denote.Ref.{Bor}
-use Rattle.std.specs.List.{concat, join_with_byte}
-use Rattle.std.specs.Str.Lines.{strip_carriage_return}
+use Rattle.std.specs.Prelude.{◌≡◌, ℕ, not, Bool, List, [], ◌∷◌, ◌++◌, decimal, Option, Some, None, if◌then◌else◌}
+use Rattle.std.specs.List.{join_with_byte}
 use Rattle.jiff.specs.Types.{DateTime}
 use Rattle.jiff.specs.Words.{civil_nanos}
 use Rattle.cookie_core.specs.Attributes.{nanos_of_seconds, seconds_of_digits}
-use Rattle.cookie_browser.specs.Storage.{KeptView, CookieStore}
-use Rattle.cookie_agent.specs.CookiesTxt.{cookie_line, cookie_of, domain_field, expiry_seconds, flag_of, flag_text, has_fields, http_only_mark, is_carried, line_of_fields, line_read, read_line}
-use Rattle.cookie_agent.specs.Saved.{is_persistent, places_of, saved}
+use Rattle.cookie_browser.specs.Storage.{KeptView}
+use Rattle.cookie_agent.specs.CookiesTxt.{cookie_of, domain_field, expiry_seconds, flag_of, flag_text, has_fields, http_only_mark, line_of_fields, read_line}
 use Rattle.cookie_agent.specs.declared.saved.cookies_txt.Fields.{Fields}
 use Rattle.cookie_agent.specs.declared.saved.cookies_txt.Kind.{Kind}
 use Rattle.cookie_agent.specs.declared.saved.line.Line.{Line}

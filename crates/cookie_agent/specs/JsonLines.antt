@@ -1,13 +1,12 @@
 -- Stored cookies as JSON lines: a cookie is an object (RFC 8259) on a line of its own, with every field of it.
-use Rattle.std.specs.Prelude.{◌≡◌, ℕ, ℤ, ◌^◌, ◌&&◌, pos, neg_ℤ, int_le, int_lt, nat_lt, Bool, false, List, [], ◌∷◌, ◌++◌, codes, map, Option, Some, None, option_and_then, if◌then◌else◌}
-use Rattle.std.specs.List.{concat, list_all}
+use Rattle.std.specs.Prelude.{ℕ, ℤ, ◌^◌, ◌&&◌, pos, neg_ℤ, int_le, int_lt, nat_lt, Bool, false, List, [], ◌∷◌, ◌++◌, codes, Option, Some, None, option_and_then, if◌then◌else◌}
+use Rattle.std.specs.List.{list_all}
 use Rattle.std.specs.Str.{bytes_eq, chars, encode_utf8_all, is_utf8}
-use Rattle.jiff.specs.Types.{DateTime}
 use Rattle.serde_json.specs.Data.{Data, boolean, member, no_members, number, object, string}
 use Rattle.serde_json.specs.Find.{as_bool, as_i64, as_number, as_str, get, of_integer}
 use Rattle.serde_json.specs.Read.{read}
 use Rattle.serde_json.specs.Written.{compact_text}
-use Rattle.cookie_browser.specs.Storage.{KeptView, CookieStore}
+use Rattle.cookie_browser.specs.Storage.{KeptView}
 use Rattle.cookie_browser.specs.declared.enforcement.Enforcement.{Enforcement}
 use Rattle.cookie_browser.specs.declared.enforcement.Enforcement.TheVariants as enforcement
 use Rattle.cookie_agent.specs.Storable.{is_storable}

@@ -1,18 +1,12 @@
 -- Mirrors private code: parts of JSON lines, as the code writes and reads them.
-use Rattle.std.specs.Prelude.{ℕ, ℤ, ◌&&◌, not, List, [], ◌∷◌, ◌++◌, codes, map, Option, Some, None, option_and_then, if◌then◌else◌}
-use denote.Ref.{Bor}
-use Rattle.std.specs.List.{concat}
-use Rattle.std.specs.Str.Lines.{strip_carriage_return}
-use Rattle.jiff.specs.Types.{DateTime}
+use Rattle.std.specs.Prelude.{ℕ, ℤ, List, [], ◌∷◌, ◌++◌, codes, Option, Some, None, option_and_then, if◌then◌else◌}
 use Rattle.serde_json.specs.Data.{Members, boolean, put, string}
 use Rattle.serde_json.specs.Written.{compact_text}
-use Rattle.cookie_browser.specs.Storage.{KeptView, CookieStore}
-use Rattle.cookie_agent.specs.JsonLines.{Texts, cookie_data, enforcement_word, is_json_carried, is_json_time, json_line, json_line_read, text_data, time_data, times_with}
-use Rattle.cookie_agent.specs.Saved.{is_persistent, places_of, saved}
+use Rattle.cookie_browser.specs.Storage.{KeptView}
+use Rattle.cookie_agent.specs.JsonLines.{Texts, cookie_data, enforcement_word, is_json_time, text_data, time_data, times_with}
 use Rattle.cookie_agent.specs.Storable.{is_storable}
 use Rattle.cookie_agent.specs.declared.saved.json_lines.Texts.{Texts as StoredTexts}
 use Rattle.cookie_agent.specs.declared.saved.json_lines.Times.{Times}
-use Rattle.cookie_agent.specs.declared.saved.line.Line.{Line}
 
 -- the time, if the form can carry it
 abbrev pub json_time : ℤ → Option ℤ

@@ -46,7 +46,7 @@ fn attribute<'t>(piece: Part<'t>) -> (&'t str, Option<Part<'t>>)
         (option_map part_text result.1) }
     ensures place { IsOptionalPartOf piece.entry.whole.now result.1 }
 {
-    match piece.cut('=') {
+    match piece.cut(b'=') {
         (key, Some(value)) => (key.trim().text(), Some(value.trim())),
         (key, None) => (key.trim().text(), None),
     }
@@ -290,7 +290,7 @@ impl Attributes {
         let mut attributes = Attributes::unset();
         let mut rest = later;
         while let Some(span) = rest {
-            let (piece, after) = Part::at(text, span).cut(';');
+            let (piece, after) = Part::at(text, span).cut(b';');
             attributes.update(Attributes::of(piece));
             rest = Part::span_of(after);
         }

@@ -32,7 +32,7 @@ impl Layout {
         ensures value { result_ok (laid_out text.now result) ≡ cookie_of false text.now }
         ensures place { IfOk result (IsLayoutIn text.now) }
     {
-        let (first, later) = Part::all(text).cut(';');
+        let (first, later) = Part::all(text).cut(b';');
         Layout::of_pieces(first, later)
     }
 
@@ -58,7 +58,7 @@ impl Layout {
             → Reads false t (laid_out first.entry.whole.now result) }
         ensures place { IfOk result (IsLayoutIn first.entry.whole.now) }
     {
-        let (name, value) = first.cut('=');
+        let (name, value) = first.cut(b'=');
         let Some(value) = value else {
             return Err(ParseError::MissingPair);
         };

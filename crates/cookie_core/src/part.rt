@@ -6,6 +6,7 @@ ghost use Rattle.cookie_core.specs.Spans.{StandsIn, span_text};
 ghost use Rattle.cookie_core.specs.Trim.{IsTrimmed};
 
 use crate::span::Span;
+use memchr::memchr;
 
 /// A part of a text. A ghost field says that the span is in the text.
 #[derive(Clone, Copy)]
@@ -72,8 +73,8 @@ impl<'t> Part<'t> {
         }
     }
 
-    // The parts before and after the first `mark`.
-    pub(crate) fn cut(self, mark: char) -> (Part<'t>, Option<Part<'t>>)
+    // The parts before and after the first `mark`, which is an ASCII character.
+    pub(crate) fn cut(self, mark: u8) -> (Part<'t>, Option<Part<'t>>)
         requires { mark < 128 }
         ensures cut { MatchOption result.1 (part_text result.0 ≡ part_text self.entry)
             (λ after. part_text self.entry ≡ part_text result.0 ++ mark ∷ part_text after) }
@@ -83,7 +84,7 @@ impl<'t> Part<'t> {
         ensures after_place { IsOptionalPartOf self.entry.whole.now result.1 }
     {
         let text = self.text();
-        let Some(at) = text.find(mark) else {
+        let Some(at) = memchr(mark, text.as_bytes()) else {
             return (self, None);
         };
         let before = Span { start: 0, end: at };

@@ -1,8 +1,8 @@
 -- The rows as a set of revoked ids.
-use Rattle.std.proofs.Common.{◌≡◌, ◌↔◌, ℕ, zero, suc, ◌+◌, ◌&&◌, Bool, true, false, pos, List, Result, Ok, Err, OnOk, refl, sym, subst, ◌∙◌, arith}
+use Rattle.std.proofs.Common.{◌≡◌, ◌↔◌, ℕ, zero, suc, ◌+◌, ◌&&◌, true, pos, List, Result, Ok, Err, OnOk, refl, sym, subst, ◌∙◌, arith}
 use Rattle.sqlite.specs.Order.{Row}
 use Rattle.session_revocations.specs.Held.{Forgets, lasts_until}
-use Rattle.session_revocations.specs.Revoked.{is_among, is_among_until}
+use Rattle.session_revocations.specs.Revoked.{is_among_until}
 use Rattle.session_revocations.proofs.RowLemmas.{both_first, both_second, both, until_is_revoked}
 
 -- what stays once the past ones are forgotten

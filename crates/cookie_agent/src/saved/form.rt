@@ -92,7 +92,7 @@ impl SavedForm {
         ensures bad_lines { IfOk result (λ loaded. loaded.bad_lines.items
             ≡ spec.bad_lines self suffixes.now now text.now) }
 
-        // What `write` wrote of a store is read as its persistent cookies, in their order.
+        // What `write` wrote of a store is read as its persistent cookies, in their order, but those for a public suffix.
         ensures txt_again { (moment : DateTime) (store : CookieStore)
             → spec.IsReadAgain form.CookiesTxt suffixes.now moment now store }
         ensures json_again { (moment : DateTime) (store : CookieStore)

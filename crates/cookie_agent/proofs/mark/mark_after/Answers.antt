@@ -1,5 +1,5 @@
 -- One more byte is one more step.
-use Rattle.std.proofs.Common.{ℕ, ◌+◌, ◌*◌, ◌%◌, ◌^◌, ◌<◌, ◌∙◌, length, get_or, refl, sym, ap, arith}
+use Rattle.std.proofs.Common.{ℕ, ◌+◌, ◌*◌, ◌%◌, ◌^◌, ◌<◌, ◌∙◌, length, get_or, refl, sym, ap}
 use Rattle.std.proofs.lemmas.List.{take_all}
 use Rattle.std.proofs.lemmas.List.Sums.{fold_more}
 use Rattle.cookie_agent.specs.StoredCode.{mark_after}

@@ -3,7 +3,7 @@ use Rattle.std.proofs.Common.{◌≡◌, ◌<◌, ◌++◌, ◌∷◌, [], lengt
 use Rattle.std.proofs.lemmas.Bool.{and_parts}
 use Rattle.std.proofs.lemmas.List.Elements.{All-push, All-set}
 use Rattle.cookie_browser.specs.Storage.{CookieStore, is_same_cookie, lasting, lasts}
-use Rattle.cookie_agent.specs.StoredCode.{IsFreshUntil, gives_place, mark_of}
+use Rattle.cookie_agent.specs.StoredCode.{IsFreshUntil, gives_place}
 use Rattle.cookie_agent.proofs.IndexLemmas.{front_fresh, marks_stay, same_mark}
 use Rattle.cookie_agent.proofs.PutLemmas.{put_at, put_last, told_at}
 use Rattle.cookie_agent.proofs.store.put_in_place.Goals as goal
