@@ -6,12 +6,13 @@ use Rattle.std.proofs.lemmas.Slice.Eq.{bytes_eq-Decides}
 use Rattle.std.specs.List.{before_first, list_all}
 use Rattle.std.specs.Str.{trim}
 use mathlib.Core.Logic.{◌≢◌}
+use Rattle.cookie_core.specs.Graphic.{is_graphic}
 use Rattle.cookie_core.specs.BareNames.{IsSettledName, is_bare_byte}
 use Rattle.cookie_core.specs.CookieOf.{key_text}
 use Rattle.cookie_core.specs.SentNames.{has_printed_escapes, is_named_as_sent, sent_name}
 use Rattle.cookie_core.specs.Wsp.{trim_wsp}
 use Rattle.cookie_core.proofs.ByteLemmas.{all-weaker}
-use Rattle.cookie_core.proofs.GraphicLemmas.{is_graphic, trim-graphic, trim-space_graphic}
+use Rattle.cookie_core.proofs.GraphicLemmas.{trim-graphic, trim-space_graphic}
 use Rattle.cookie_core.proofs.SentNameLemmas.{printed-past}
 use Rattle.cookie_core.proofs.WspLemmas.{trim_wsp-graphic, trim_wsp-space}
 

@@ -1,11 +1,15 @@
 -- Texts of graphic ASCII are trimmed already.
-use Rattle.std.proofs.Common.{◌≡◌, Bool, true, false, not, ◌&&◌, ◌||◌, ◌==◌, ℕ, ◌<◌, List, [], ◌∷◌, ◌++◌, length, refl, ⊎_elim, nat_lt, arith, length-append}
-use Rattle.std.specs.Char.{is_whitespace}
+use Rattle.std.proofs.Common.{◌≡◌, true, false, not, ◌||◌, ◌==◌, ℕ, ◌+◌, ◌-◌, ◌<◌, List, [], ◌∷◌, ◌++◌, length, get_or, take, drop, All, refl, sym, ap, subst, ◌∙◌, ⊎_elim, arith, length-append}
+use Rattle.std.specs.Char.{encode_utf8, is_whitespace}
 use Rattle.std.specs.List.{list_all}
-use Rattle.std.specs.Str.{IsAscii, trim, trim_start, trim_end, skip_leading_whitespace, drop_trailing_whitespace}
+use Rattle.std.specs.Str.{IsAscii, IsCharBoundary, IsUtf8, chars, trim, trim_start, trim_end, skip_leading_whitespace, drop_trailing_whitespace, encode_utf8_all}
 use Rattle.std.proofs.lemmas.Bool.{and_parts, agree_below_at, cases_Bool, cond-false}
 use Rattle.std.proofs.lemmas.Bool.Decides.{nat_tests}
-use Rattle.std.proofs.lemmas.Str.{chars-IsAscii, encodes-IsAscii}
+use Rattle.std.proofs.Math.Seq.{get_or-append_seam}
+use Rattle.std.proofs.lemmas.List.{append-nil, drop_all, drop_more, take-append-drop}
+use Rattle.std.proofs.lemmas.Str.{IsCharBoundary-before_ascii, IsUtf8-nil, IsUtf8-take, chars-nil, chars-IsAscii, chars-append, encodes-IsAscii, encodes-chars, char_from_byte}
+use Rattle.cookie_core.specs.Graphic.{HasGraphicEnds, is_graphic}
+use Rattle.cookie_core.specs.Trim.{IsTrimmed, IsWhite}
 use Rattle.cookie_core.proofs.ByteLemmas.{is_low, false_from_not, all-weaker, IsAscii-from_test}
 use Rattle.cookie_core.proofs.EscapeTextLemmas.{is_token}
 
@@ -28,9 +32,6 @@ drop_trailing-append (x ∷ a) b some e =
     rw ih (⊎_elim (λ (h : is_whitespace x ≡ true). rw (h, n) refl) (λ (h : is_whitespace x ≡ false). rw h refl) (cases_Bool (is_whitespace x)))
 
 -- ---- graphic ASCII, and tokens
-
-abbrev pub is_graphic : ℕ → Bool
-is_graphic b = nat_lt 32 b && nat_lt b 127
 
 graphic_is_low : (b : ℕ) → is_graphic b ≡ true → is_low b ≡ true
 graphic_is_low b h = grind (arith, nat_tests)
@@ -74,3 +75,51 @@ trim-tokens t h = trim-graphic t (tokens_are_graphic t h)
 
 pub trim-space_tokens : (t : List ℕ) → list_all is_token t ≡ true → trim (32 ∷ t) ≡ t
 trim-space_tokens t h = trim-space_graphic t (tokens_are_graphic t h)
+
+-- ---- a text that begins and ends with graphic ASCII
+
+graphic_has_boundary : (t : List ℕ) (i : ℕ) → i < length t → is_graphic (get_or t i 0) ≡ true → IsCharBoundary t i
+graphic_has_boundary t i below graphic = IsCharBoundary-before_ascii t i below (grind (arith, nat_tests, graphic))
+
+one_char : (b : ℕ) → is_graphic b ≡ true → chars (b ∷ []) ≡ b ∷ []
+one_char b graphic = chars-IsAscii (b ∷ []) (graphic_are_ascii (b ∷ []) (rw graphic refl))
+
+abbrev last_of : List ℕ → ℕ
+last_of cs = get_or cs (length cs - 1) 0
+
+last_is : (front : List ℕ) (c : ℕ) → last_of (front ++ c ∷ []) ≡ c
+last_is front c =
+    let at : length (front ++ c ∷ []) - 1 ≡ length front = omega (arith, length-append front (c ∷ [])) in
+    ap (λ n. get_or (front ++ c ∷ []) n 0) at ∙ get_or-append_seam front c [] 0
+
+pub trimmed-graphic_ends : (t : List ℕ) → IsUtf8 t → HasGraphicEnds t → IsTrimmed t t
+trimmed-graphic_ends t utf8 ends =
+    let end = length t - 1 in
+    let last = get_or t end 0 in
+    let below : end < length t = omega (arith, ends.some) in
+    let front = take end t in
+    let rest : drop end t ≡ last ∷ [] = drop_more t end 0 below ∙ ap (λ l. last ∷ l) (drop_all (end + 1) t (omega (arith, ends.some))) in
+    let whole : t ≡ front ++ last ∷ [] = sym (take-append-drop end t) ∙ ap (λ l. front ++ l) rest in
+    let front_utf8 : IsUtf8 front = IsUtf8-take t end utf8 (graphic_has_boundary t end below ends.last) in
+    let all : chars t ≡ chars front ++ last ∷ [] =
+    ap chars whole ∙ chars-append front (last ∷ []) front_utf8 ∙ ap (λ l. chars front ++ l) (one_char last ends.last) in
+    record {
+      before = [];
+      after = [];
+      whole = sym (append-nil t);
+      texts = (IsUtf8-nil, utf8, IsUtf8-nil);
+      white = (none_white, none_white);
+      begins = λ char more same.
+          let text : t ≡ encode_utf8 char ++ encode_utf8_all more = sym (encodes-chars t utf8) ∙ ap encode_utf8_all same in
+          let is : char ≡ get_or t 0 0 = char_from_byte t (encode_utf8_all more) char text (low ends.first) ends.some in
+          ap is_whitespace is ∙ graphic_is_dark (get_or t 0 0) ends.first;
+      ends = λ before char same.
+          let is : char ≡ last = sym (last_is before char) ∙ ap last_of (sym same ∙ all) ∙ last_is (chars front) last in
+          ap is_whitespace is ∙ graphic_is_dark last ends.last;
+    }
+  where
+    low : {b : ℕ} → is_graphic b ≡ true → b < 128
+    low {b} h = grind (arith, nat_tests, h)
+
+    none_white : IsWhite []
+    none_white = subst (All (λ char. is_whitespace char ≡ true)) (sym chars-nil) (λ i d none. absurd (omega (arith, none)))

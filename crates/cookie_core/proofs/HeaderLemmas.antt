@@ -5,6 +5,7 @@ use Rattle.std.proofs.lemmas.List.{append-nil}
 use Rattle.std.proofs.lemmas.List.Elements.{All-nil, All-cons, All-head, All-tail}
 use Rattle.std.specs.List.{list_all, All, filter_map}
 use Rattle.std.specs.Str.{trim}
+use Rattle.cookie_core.specs.Graphic.{is_graphic}
 use Rattle.cookie_core.specs.CookieOf.{cookie_of, header_cookies}
 use Rattle.cookie_core.specs.Escapes.{escape}
 use Rattle.cookie_core.specs.Header.{kept_texts, IsHeaderTexts, header_texts, more_joined, joined_texts}
@@ -16,7 +17,7 @@ use Rattle.cookie_core.specs.Walk.{before_rest}
 use Rattle.cookie_core.proofs.ByteLemmas.{all-append, Lacks-nil}
 use Rattle.cookie_core.proofs.CookieOfLemmas.{header_cookies-texts}
 use Rattle.cookie_core.proofs.EscapeTextLemmas.{escape_is_tokens}
-use Rattle.cookie_core.proofs.GraphicLemmas.{is_graphic, tokens_are_graphic, trim-graphic, trim-space_graphic}
+use Rattle.cookie_core.proofs.GraphicLemmas.{tokens_are_graphic, trim-graphic, trim-space_graphic}
 use Rattle.cookie_core.proofs.NormalFormLemmas.{escaped_pair, escaped_pair-apart, cookie_of-stripped}
 use Rattle.cookie_core.proofs.PieceLemmas.{IsPieces-pieces}
 use Rattle.cookie_core.proofs.ReadingLemmas.{Lacks-more, first_piece}

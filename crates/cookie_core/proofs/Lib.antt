@@ -23,6 +23,7 @@ pub mod OutcomeLemmas
 pub mod PartLemmas
 pub mod PieceLemmas
 pub mod PieceWalkLemmas
+pub mod PlainNameLemmas
 pub mod PrefixLemmas
 pub mod ReadingLemmas
 pub mod SentHeaderLemmas

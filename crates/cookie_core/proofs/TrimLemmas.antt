@@ -8,13 +8,13 @@ use Rattle.std.specs.List.{AllByRecursion}
 use Rattle.std.specs.Str.{chars, trim, trim_start, trim_end, skip_leading_whitespace, drop_trailing_whitespace, encode_utf8_all, all_scalars}
 use Rattle.cookie_core.specs.Trim.{IsTrimmed, IsBarePart, IsWhite}
 
-abbrev AreWhite : List ℕ → Type 0
+abbrev pub AreWhite : List ℕ → Type 0
 AreWhite cs = AllByRecursion (λ c. is_whitespace c ≡ true) cs
 
 abbrev BeginsDark : List ℕ → Type 0
 BeginsDark cs = (c : ℕ) (rest : List ℕ) → cs ≡ c ∷ rest → is_whitespace c ≡ false
 
-abbrev EndsDark : List ℕ → Type 0
+abbrev pub EndsDark : List ℕ → Type 0
 EndsDark cs = (front : List ℕ) (c : ℕ) → cs ≡ front ++ c ∷ [] → is_whitespace c ≡ false
 
 abbrev head_or : ℕ → List ℕ → ℕ
@@ -65,11 +65,11 @@ skipped (c ∷ cs) = by (is_whitespace c) refl (skipped cs)
         }
 
 -- what was dropped is white
-record Dropped (cs : List ℕ) : Type 0 where
-  white : List ℕ
-  are : AreWhite white
-  whole : cs ≡ drop_trailing_whitespace cs ++ white
-  dark : EndsDark (drop_trailing_whitespace cs)
+pub record Dropped (cs : List ℕ) : Type 0 where
+  pub white : List ℕ
+  pub are : AreWhite white
+  pub whole : cs ≡ drop_trailing_whitespace cs ++ white
+  pub dark : EndsDark (drop_trailing_whitespace cs)
 
 no_end : (front : List ℕ) (c : ℕ) → [] ≡ front ++ c ∷ [] → ⊥
 no_end [] c e = cons_not_nil c [] (sym e)
@@ -79,7 +79,7 @@ ends_more : (x : ℕ) (xs : List ℕ) → (xs ≡ [] → is_whitespace x ≡ fal
 ends_more x xs alone dark [] c e = ap is_whitespace (sym (ap (head_or 0) e)) ∙ alone (ap tail_of e)
 ends_more x xs alone dark (f ∷ front) c e = dark front c (ap tail_of e)
 
-dropped : (cs : List ℕ) → Dropped cs
+pub dropped : (cs : List ℕ) → Dropped cs
 dropped [] = record { white = []; are = tt; whole = refl; dark = λ front c e. absurd (no_end front c e) }
 dropped (c ∷ cs) = by (is_whitespace c) refl (length (drop_trailing_whitespace cs) == 0) refl (dropped cs)
   where

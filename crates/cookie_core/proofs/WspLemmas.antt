@@ -4,9 +4,10 @@ use Rattle.std.proofs.lemmas.Bool.{and_parts}
 use Rattle.std.proofs.lemmas.Bool.Decides.{nat_tests}
 use Rattle.std.proofs.lemmas.List.Sums.{prefix_len-drop_no, suffix_len-take_no}
 use Rattle.std.specs.List.{list_all, prefix_len, suffix_len}
+use Rattle.cookie_core.specs.Graphic.{is_graphic}
 use Rattle.cookie_core.specs.Wsp.{is_wsp, trim_wsp, trim_wsp_end}
 use Rattle.cookie_core.proofs.EscapeTextLemmas.{is_token}
-use Rattle.cookie_core.proofs.GraphicLemmas.{is_graphic, tokens_are_graphic}
+use Rattle.cookie_core.proofs.GraphicLemmas.{tokens_are_graphic}
 
 pub trim_wsp-dark : (t : List ℕ) → 0 < length t → is_wsp (get_or t 0 0) ≡ false → is_wsp (get_or t (length t - 1) 0) ≡ false → trim_wsp t ≡ t
 unfolding trim_wsp
@@ -35,7 +36,7 @@ trim_wsp-graphic (b ∷ t) h =
 pub trim_wsp-tokens : (t : List ℕ) → list_all is_token t ≡ true → trim_wsp t ≡ t
 trim_wsp-tokens t h = trim_wsp-graphic t (tokens_are_graphic t h)
 
-drop_next : (n x : ℕ) (t : List ℕ) → drop (1 + n) (x ∷ t) ≡ drop n t
+pub drop_next : (n x : ℕ) (t : List ℕ) → drop (1 + n) (x ∷ t) ≡ drop n t
 drop_next n x t = let next : 1 + n ≡ suc n = omega arith in ap (λ k. drop k (x ∷ t)) next
 
 -- a space in front is trimmed

@@ -9,6 +9,7 @@ pub mod Display
 pub mod EscapeTest
 pub mod Escapes
 pub mod Expiration
+pub mod Graphic
 pub mod Header
 pub mod Laws
 pub mod Layout

@@ -1,8 +1,9 @@
 //! Where a part of a text is.
-ghost use Rattle.std.specs.Prelude.{◌≡◌, ◌≤◌, List, ℕ, length, take};
+ghost use Rattle.std.specs.Prelude.{◌≡◌, ◌≤◌, true, List, ℕ, length, take};
 ghost use Rattle.std.specs.Char.{is_not_whitespace};
 ghost use Rattle.std.specs.Str.{NoCharPasses, trim};
 ghost use Rattle.cookie_core.specs.Spans.{StandsIn, span_text};
+ghost use Rattle.cookie_core.specs.Graphic.{HasGraphicEnds};
 ghost use Rattle.cookie_core.specs.Trim.{IsTrimmed, IsBarePart};
 
 /// Where a part of a text begins and ends, in bytes.
@@ -26,11 +27,27 @@ impl Span {
         ensures longest { (part : List ℕ) → IsBarePart text.now part
             → length part ≤ length (span_text text.now result) }
     {
+        if is_trimmed(text.as_bytes()) {
+            return Span {
+                start: 0,
+                end: text.len(),
+            };
+        }
         let kept = text.trim_start();
         let start = text.len() - kept.len();
         Span {
             start,
             end: start + kept.trim_end().len(),
         }
+    }
+}
+
+// Whether the text begins and ends with graphic ASCII, as most do. Then there is nothing to trim.
+fn is_trimmed(text: &[u8]) -> bool
+    ensures { result ≡ true → HasGraphicEnds text.now }
+{
+    match text {
+        [first, .., last] => first.is_ascii_graphic() && last.is_ascii_graphic(),
+        _ => false,
     }
 }
