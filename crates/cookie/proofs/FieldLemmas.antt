@@ -6,6 +6,7 @@ use Rattle.std.proofs.lemmas.Bool.{and_parts, false_from_ne_true, ltb-true}
 use Rattle.std.proofs.lemmas.Bool.Decides.{nat_tests}
 use Rattle.std.proofs.lemmas.List.{append-nil, append_assoc, length-append, nil_from_length}
 use Rattle.std.proofs.lemmas.List.Elements.{All-cons, All-filter, All-head, All-tail, filter-append, filter_map-append}
+use Rattle.std.proofs.lemmas.List.Folds.{list_all-append}
 use Rattle.std.proofs.lemmas.List.Splits.{slice_split_first, slice_split_none, join_with_byte-slice_split}
 use Rattle.std.proofs.lemmas.List.Sums.{fails_before_first}
 use Rattle.std.proofs.lemmas.Option.{none-some, same_Some}
@@ -13,6 +14,7 @@ use Rattle.std.proofs.lemmas.Str.{IsCharBoundary-after_ascii, IsCharBoundary-bef
 use Rattle.std.specs.List.{cons_option, filter, filter_map, flat_map, join_with_byte, list_all, position, position_or_len}
 use Rattle.std.specs.Option.{option_to_list}
 use Rattle.std.specs.Str.{IsUtf8, is_utf8, trim}
+use Rattle.cookie_core.specs.BareNames.{is_plain_byte}
 use Rattle.cookie_core.specs.CookieOf.{cookie_of, header_cookies}
 use Rattle.cookie_core.specs.Header.{joined_texts, kept_texts}
 use Rattle.cookie_core.specs.Normal.{IsNamed}
@@ -23,6 +25,7 @@ use Rattle.cookie_core.specs.Text.{cookie_text}
 use Rattle.cookie_core.proofs.HeaderLemmas.{header_form}
 use Rattle.cookie_core.proofs.JoinLemmas.{header_cookies-joined}
 use Rattle.cookie_core.proofs.PieceLemmas.{IsHeaderTexts-header_texts, IsPieces-pieces, pieces-cut}
+use Rattle.cookie_core.proofs.PlainNameLemmas.{plain_named}
 use Rattle.cookie_core.proofs.SentHeaderLemmas.{joined_named}
 use Rattle.cookie.specs.FieldPieces.{cookies_of_piece}
 use Rattle.cookie.specs.Originals.{field_cookies, is_readable, readable}
@@ -179,6 +182,19 @@ named-last rest lacks = ap (list_all is_named_as_sent) (pieces-cut rest rest Non
     and_true : (b : Bool) → (b && true) ≡ b
     and_true true = refl
     and_true false = refl
+
+-- ---- a header of printable ASCII without `%`
+
+plain_pieces : (ps : List (List ℕ)) → list_all is_plain_byte (join_with_byte 59 ps) ≡ true → list_all is_named_as_sent ps ≡ true
+plain_pieces [] plain = refl
+plain_pieces (p ∷ []) plain = rw (plain_named p plain) refl
+plain_pieces (p ∷ q ∷ ps) plain =
+    let rest = join_with_byte 59 (q ∷ ps) in
+    let parts = and_parts (list_all is_plain_byte p) (list_all is_plain_byte (59 ∷ rest)) (sym (list_all-append is_plain_byte p (59 ∷ rest)) ∙ plain) in
+    rw (plain_named p parts.0) (plain_pieces (q ∷ ps) (and_parts (is_plain_byte 59) (list_all is_plain_byte rest) parts.1).1)
+
+pub plain_header : (header : List ℕ) → list_all is_plain_byte header ≡ true → list_all is_named_as_sent (pieces header) ≡ true
+plain_header header plain = plain_pieces (pieces header) (ap (list_all is_plain_byte) (join_with_byte-slice_split 59 header) ∙ plain)
 
 -- ---- a field that is UTF-8
 

@@ -42,6 +42,7 @@ pub use Rattle.cookie_core.proofs.OffsetLemmas
 pub use Rattle.cookie_core.proofs.OutcomeLemmas
 pub use Rattle.cookie_core.proofs.PartLemmas
 pub use Rattle.cookie_core.proofs.PieceLemmas
+pub use Rattle.cookie_core.proofs.PlainNameLemmas
 pub use Rattle.cookie_core.proofs.PieceWalkLemmas
 pub use Rattle.cookie_core.proofs.ReadingLemmas
 pub use Rattle.cookie_core.proofs.SentHeaderLemmas

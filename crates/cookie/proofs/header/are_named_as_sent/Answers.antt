@@ -2,10 +2,15 @@ use Rattle.std.proofs.Common.{◌≡◌, true, false, ◌&&◌, Some, None, ap, 
 use Rattle.std.specs.List.{list_all}
 use Rattle.std.specs.Str.{IsUtf8}
 use Rattle.std.proofs.lemmas.Str.Pattern.{split_parts}
+use Rattle.cookie_core.specs.BareNames.{is_plain_byte}
 use Rattle.cookie_core.specs.Pieces.{pieces}
 use Rattle.cookie_core.specs.SentNames.{is_named_as_sent}
-use Rattle.cookie.proofs.FieldLemmas.{named-cut, named-last, seam}
+use Rattle.cookie.proofs.FieldLemmas.{named-cut, named-last, plain_header, seam}
 use Rattle.cookie.proofs.header.are_named_as_sent.Goals as goal
+
+pub returns-then-is_plain : goal.returns-then-is_plain
+returns-then-is_plain c =
+    sym (plain_header c.args.header.now (ap (list_all is_plain_byte) (sym c.as_bytes.ensures.value) ∙ sym c.is_plain.ensures ∙ c.if-is_plain.true))
 
 pub returns-then-not-is_named_as_sent : goal.returns-then-not-is_named_as_sent
 returns-then-not-is_named_as_sent c =
