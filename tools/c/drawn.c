@@ -84,6 +84,8 @@ typedef struct drawing {
                         | S(OVER) | S(TOO_LONG) | S(TOO_LARGE)) \
     X(session_end, S(BUFFER_TOO_SHORT) | S(NO_SESSIONS) | S(NO_DATE)) \
     X(session_free, 0) \
+    X(token_make, S(BUFFER_TOO_SHORT) | S(BAD_NONCE) | S(KEY_TOO_SHORT) | S(NOT_UTF8) | S(NO_DATE) | S(TOO_LONG)) \
+    X(token_read, S(BUFFER_TOO_SHORT) | S(KEY_TOO_SHORT) | S(NOT_UTF8) | S(NO_DATE) | S(TOO_LONG) | S(NOT_SEALED)) \
     X(suffixes_new, 0) \
     X(suffixes_free, 0) \
     X(explain, S(BUFFER_TOO_SHORT) | S(NO_SUFFIXES) | S(NO_DATE)) \
@@ -487,6 +489,16 @@ static void play_plain(drawing *d, int call) {
         WRITES(seal, cookie_seal(IN(key), IN(nonce), IN(name), IN(value), d->out, d->length));
         text made = answer.status == COOKIE_DONE && !one_in(d, 4) ? text_of(d, d->out, answer.length) : value;
         WRITES(open, cookie_open(IN(key), IN(name), IN(made), d->out, d->length));
+        break;
+    }
+    case token_make_call:
+    case token_read_call: {
+        text keys = draw_keys(d, true), purpose = text_there(d, IN(name)), nonce = draw_bytes(d, 12);
+        uint64_t now = draw_now(d), later = one_in(d, 4) ? draw_now(d) : now + below(d, 90);
+        cookie_token_settings settings = {IN(keys), IN(purpose), one_in(d, 9) ? (uint32_t)draw(d) : 60};
+        WRITES(token_make, cookie_token_make(&settings, IN(value), IN(nonce), now, d->out, d->length));
+        text made = answer.status == COOKIE_DONE && !one_in(d, 4) ? text_of(d, d->out, answer.length) : value;
+        WRITES(token_read, cookie_token_read(&settings, IN(made), later, d->out, d->length));
         break;
     }
     case read_date_call: {
