@@ -42,15 +42,19 @@ def attributes() -> dict[str, Any]:
 def site() -> Sessions:
     """The sessions of the site, by its settings as they are now. The keys are derived from SECRET_KEY and
     SECRET_KEY_FALLBACKS. A session is over DEOMIGAL_LIFETIME seconds after its start, by default SESSION_COOKIE_AGE.
-    DEOMIGAL_REVOCATIONS keeps which sessions are revoked."""
+    DEOMIGAL_REVOCATIONS keeps which sessions are revoked. With DEOMIGAL_COMPRESS they are saved compressed: see
+    `deomigal.Sessions` for when not to."""
     global made
     secrets = (settings.SECRET_KEY, *(getattr(settings, "SECRET_KEY_FALLBACKS", None) or ()))
     lifetime = getattr(settings, "DEOMIGAL_LIFETIME", None) or settings.SESSION_COOKIE_AGE
     name, revocations = settings.SESSION_COOKIE_NAME, getattr(settings, "DEOMIGAL_REVOCATIONS", None)
-    choice = (secrets, name, lifetime, attributes(), revocations)
+    compress = bool(getattr(settings, "DEOMIGAL_COMPRESS", False))
+    choice = (secrets, name, lifetime, attributes(), revocations, compress)
     found = made
     if found is None or found[0] != choice:
-        sessions = Sessions(keys_of(secrets, SALT), name, lifetime, lifetime, **attributes(), revocations=revocations)
+        sessions = Sessions(
+            keys_of(secrets, SALT), name, lifetime, lifetime, **attributes(), revocations=revocations, compress=compress
+        )
         made = found = (choice, sessions)
     return found[1]
 

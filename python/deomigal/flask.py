@@ -146,7 +146,8 @@ class SessionInterface(FlaskSessionInterface):
     of `idle`. With `migrate` the sessions of Flask's own class are read too, and saved as these. `clock` returns the
     time, in seconds since 1970. `serializer` prints and reads each value. `revocations`, such as `SqliteRevocations`,
     keeps which sessions are revoked, by `session.revoke()`. If it fails, the request is answered with status 503, or by
-    `errorhandler(RevocationsError)`.
+    `errorhandler(RevocationsError)`. With `compress` a session is saved compressed: see `deomigal.Sessions` for when not
+    to.
 
     With Flask-Login each login starts the session anew.
     """
@@ -158,14 +159,14 @@ class SessionInterface(FlaskSessionInterface):
     def __init__(
         self, keys: Sequence[bytes] | None = None, idle: int | None = None, clock: Callable[[], float] = time.time, *,
         refresh: float | None = None, migrate: bool = False, serializer: Any = None, salt: str | bytes | None = None,
-        revocations: Revocations | None = None,
+        revocations: Revocations | None = None, compress: bool = False,
     ) -> None:
         if keys is not None and salt is not None:
             raise ValueError("a salt is for keys that are derived from secrets")
         self.keys, self.idle, self.clock, self.refresh, self.migrate = keys, idle, clock, refresh, migrate
         self.serializer = self.serializer if serializer is None else serializer
         self.salt = self.salt if salt is None else salt
-        self.revocations = revocations
+        self.revocations, self.compress = revocations, compress
         self.made: tuple[Any, Sessions] | None = None
         connect_to_logins(self.renew_at_login)
 
@@ -213,7 +214,10 @@ class SessionInterface(FlaskSessionInterface):
         made = self.made
         if made is None or made[0] != settings:
             keys = self.keys or keys_of(secrets, self.salt)
-            self.made = made = (settings, Sessions(keys, *settings[1:4], **attributes, revocations=self.revocations))
+            sessions = Sessions(
+                keys, *settings[1:4], **attributes, revocations=self.revocations, compress=self.compress
+            )
+            self.made = made = (settings, sessions)
         return made[1]
 
     def open_session(self, app: Flask, request: Request) -> FlaskSession | None:

@@ -14,6 +14,7 @@ from ._library import (
     SESSION_START, SESSION_TEXTS, SESSIONS_FREE, SESSIONS_NEW, Settings, Uncopied, arguments_of, done, given, handle_of,
     header_of, ring_of,
 )
+from .compression import expanded, smaller
 from .cookies import print_cookie
 from .errors import NoDate, NoSession, RevocationsError, error_of
 from .revocations import ID_LENGTH, Revocations
@@ -114,6 +115,11 @@ class Sessions(Uncopied):
 
     With `revocations`, such as `SqliteRevocations`, `revoke` ends a session in each copy of its cookie.
 
+    With `compress` a session is saved compressed, if that is shorter. Then the length of its cookie, which encryption
+    doesn't hide, tells of its texts: whoever chooses one of them and sees many lengths learns a secret beside it, byte
+    by byte. So leave it off if a session has a secret, such as a token against forged requests, beside what strangers
+    choose, such as a search. Reading doesn't depend on it.
+
     >>> from deomigal import derive_key
     >>> keys = [derive_key(b"a master key of at least 32 bytes")]
     >>> sessions = Sessions(keys, "__Host-session", lifetime=12 * 3600, idle=1800)
@@ -140,13 +146,14 @@ class Sessions(Uncopied):
         same_site: str | None = "Lax",
         partitioned: bool = False,
         revocations: Revocations | None = None,
+        compress: bool = False,
     ) -> None:
         ring = ring_of(keys)
         if not all(0 <= limit < 2**32 for limit in (lifetime, idle)):
             raise OverflowError("a limit has at most 32 bits")
         if revocations is not None and not (hasattr(revocations, "is_revoked") and hasattr(revocations, "revoke")):
             raise TypeError("revocations have calls is_revoked and revoke")
-        self.revocations, self.lifetime = revocations, lifetime
+        self.revocations, self.lifetime, self.compress = revocations, lifetime, compress
         cookie = print_cookie(
             name, "", path=path, domain=domain, secure=secure, http_only=http_only, same_site=same_site,
             partitioned=partitioned or None,
@@ -193,7 +200,11 @@ class Sessions(Uncopied):
             session.started, session.seen, session.place = facts.started, facts.seen, facts.place
             session.id, session.starts, session.is_renewed = found, {found: facts.started}, False
             form = given(SESSION_TEXTS, session.handle, room=ROOM).decode()
-            session.texts = dict(parse_qsl(form, keep_blank_values=True))
+            try:
+                session.texts = expanded(dict(parse_qsl(form, keep_blank_values=True)))
+            except ValueError:
+                # Another program saved it, under the same key.
+                return self.start(session.now)
             return session
         if status != NoSession.status:
             raise error_of(status)
@@ -241,7 +252,7 @@ class Sessions(Uncopied):
         """The value of the `Set-Cookie` header that saves the session, encrypted under the newest key.
 
         Save at each request, so that the idle time counts from it. Raises `TooLarge` if a browser wouldn't store the
-        cookie: there is room for about 2,950 bytes of texts in UTF-8.
+        cookie: there is room for about 2,950 bytes of texts in UTF-8, or of what they are when they are compressed.
 
         >>> from deomigal import derive_key
         >>> from deomigal.errors import TooLarge
@@ -263,7 +274,7 @@ class Sessions(Uncopied):
             done(SESSION_RENEW, handle, session.id, now)
         elif not handle.is_open and (status := self.fill(session)) != DONE:
             raise error_of(status)
-        done(SESSION_SET_TEXTS, handle, urlencode(session.texts))
+        done(SESSION_SET_TEXTS, handle, urlencode(smaller(session.texts, self.compress)))
         with self.lock:
             text = given(SESSION_SAVE, self.handle, handle, os.urandom(12), now, room=ROOM).decode()
         session.starts[session.id] = session.started

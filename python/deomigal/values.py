@@ -6,6 +6,7 @@ import json
 import time
 from typing import TYPE_CHECKING, Any, Callable, Dict, Iterable, Iterator, Mapping, MutableMapping
 
+from .compression import MARKS
 from .dates import print_date
 from .explain import date_after
 from .revocations import Revocations
@@ -14,8 +15,6 @@ from .sessions import Session, Sessions
 
 # The names of the one text that a session of values has: as it is, or in base64url.
 PLAIN, ENCODED = "j", "b"
-# The characters of a text that the library escapes in a session's cookie, as three bytes each.
-MARKS = "%&+="
 # The JSON of no values.
 EMPTY = b"{}"
 # What is answered if it can't be looked up whether a session is revoked (RFC 9110 15.6.4).
@@ -151,7 +150,8 @@ class Middleware:
     browser drops the cookie when it closes, and the session is over after 14 days. `refresh` is how many seconds after
     it was saved a session that was only read is saved again, by default a tenth of `idle`. Settings that no session
     could be saved with are refused at once. `revocations` keeps which sessions are revoked, by their `revoke`. If it
-    fails, the request is answered with status 503.
+    fails, the request is answered with status 503. With `compress` a session is saved compressed: see `Sessions` for
+    when not to.
     """
 
     def __init__(
@@ -173,6 +173,7 @@ class Middleware:
         refresh: float | None = None,
         clock: Callable[[], float] = time.time,
         revocations: Revocations | None = None,
+        compress: bool = False,
     ) -> None:
         # Starlette's `Secret` shows its text only by `str`.
         newest: str | bytes = secret_key if isinstance(secret_key, bytes) else str(secret_key)
@@ -183,7 +184,7 @@ class Middleware:
         self.sessions = Sessions(
             keys_of([newest, *fallbacks], salt), session_cookie, lifetime, lifetime if idle is None else idle,
             path=path, domain=domain, secure=https_only, http_only=http_only, same_site=same_site.title(),
-            partitioned=partitioned, revocations=revocations,
+            partitioned=partitioned, revocations=revocations, compress=compress,
         )
 
     def opened(self, header: bytes) -> Values:

@@ -1,0 +1,114 @@
+"""The texts of a session in fewer bytes: by deflate (RFC 1951), and then as digits that its cookie has as they are.
+
+The length tells of what is compressed. `Sessions` says when not to do so.
+"""
+from __future__ import annotations
+
+import zlib
+from typing import Mapping
+from urllib.parse import unquote
+
+# The characters of a text that the library escapes in a session's cookie, as three bytes each.
+MARKS = "%&+="
+# The name of the one text that a compressed session has. An application hardly has it, and may.
+COMPRESSED = "\0"
+# How many bytes the form of a session's texts may have. A longer one isn't compressed, nor expanded.
+MOST_BYTES = 65536
+# ASCII without the marks. Each character is one byte of the sealed text.
+DIGITS = "".join(chr(code) for code in range(128) if chr(code) not in MARKS)
+BASE = len(DIGITS)
+VALUES = {digit: value for value, digit in enumerate(DIGITS)}
+# As many bytes as fit into that number of digits: 256^13 is less than 124^15.
+BYTES, PLACES = 13, 15
+
+
+def smaller(texts: Mapping[str, str], compress: bool) -> Mapping[str, str]:
+    """The texts as a session's cookie is to have them: compressed, if `compress` is set and that is shorter.
+
+    >>> texts = {"notes": "to be, or not to be " * 20}
+    >>> smaller(texts, False) == texts, len(smaller(texts, True)[COMPRESSED]) < 40
+    (True, True)
+    """
+    # What would be read as a compressed session is kept whole in one.
+    is_taken = list(texts) == [COMPRESSED]
+    if not (compress or is_taken):
+        return texts
+    form = form_of(texts)
+    if len(form) > MOST_BYTES:
+        # No browser stores so much.
+        return texts
+    made = {COMPRESSED: digits_of(deflated(form, 9 if compress else 0))}
+    return made if is_taken or len(form_of(made)) < len(form) else texts
+
+
+def expanded(texts: Mapping[str, str]) -> dict[str, str]:
+    """The texts that `smaller` was given, with compression or without. Raises `ValueError` if another program compressed
+    them, and so if they have more than `MOST_BYTES`.
+
+    >>> expanded(smaller({"user": "ann" * 20}, True)) == expanded({"user": "ann" * 20}) == {"user": "ann" * 20}
+    True
+    """
+    if list(texts) != [COMPRESSED]:
+        return dict(texts)
+    pairs = inflated(bytes_of_digits(texts[COMPRESSED])).decode().split("&")
+    return {unquote(name): unquote(text) for name, _, text in (pair.partition("=") for pair in pairs)}
+
+
+def form_of(texts: Mapping[str, str]) -> bytes:
+    """The texts as a session's cookie has them, without its times and its id."""
+    return "&".join(f"{escaped(name)}={escaped(text)}" for name, text in texts.items()).encode()
+
+
+def escaped(text: str) -> str:
+    """The text with escapes of the marks."""
+    for mark in MARKS:
+        text = text.replace(mark, f"%{ord(mark):02X}")
+    return text
+
+
+def deflated(data: bytes, level: int) -> bytes:
+    """The data by deflate, without a header and a checksum: the cipher's tag is one."""
+    compressor = zlib.compressobj(level, wbits=-15)
+    return compressor.compress(data) + compressor.flush()
+
+
+def inflated(data: bytes) -> bytes:
+    """What was deflated. Raises `ValueError` for other data, and for more than `MOST_BYTES` bytes, which aren't made."""
+    decompressor = zlib.decompressobj(wbits=-15)
+    try:
+        found = decompressor.decompress(data, MOST_BYTES + 1)
+    except zlib.error as error:
+        raise ValueError("this isn't deflated") from error
+    if len(found) > MOST_BYTES or not decompressor.eof or decompressor.unused_data:
+        raise ValueError("this isn't deflated, or is too long")
+    return found
+
+
+def digits_of(data: bytes) -> str:
+    """The data in base 124: each 13 bytes are 15 digits, and the last ones as few as they need.
+
+    >>> len(digits_of(bytes(13))), len(digits_of(bytes(14))), bytes_of_digits(digits_of(b"\\xff" * 20)).hex()
+    (15, 17, 'ffffffffffffffffffffffffffffffffffffffff')
+    """
+    digits = ""
+    for start in range(0, len(data), BYTES):
+        block = data[start : start + BYTES]
+        number = int.from_bytes(block, "little")
+        for _ in range(-(-len(block) * PLACES // BYTES)):
+            number, value = divmod(number, BASE)
+            digits += DIGITS[value]
+    return digits
+
+
+def bytes_of_digits(digits: str) -> bytes:
+    """The bytes of these digits. Raises `ValueError` if they are none."""
+    data = b""
+    try:
+        for start in range(0, len(digits), PLACES):
+            block, number = digits[start : start + PLACES], 0
+            for digit in reversed(block):
+                number = number * BASE + VALUES[digit]
+            data += number.to_bytes(len(block) * BYTES // PLACES, "little")
+    except (KeyError, OverflowError) as error:
+        raise ValueError("these aren't digits of base 124") from error
+    return data
