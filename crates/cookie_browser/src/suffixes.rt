@@ -105,10 +105,30 @@ impl Suffixes {
     fn fills_rule(&self, domain: &[u8]) -> bool
         ensures { result ≡ spec.fills_rule self.now domain.now }
     {
-        if is_one_label(domain) || self.is_covered(domain) {
-            return !self.is_excepted(domain);
+        self.is_listed(domain) && !self.is_excepted(domain)
+    }
+
+    // Whether the domain has one label, or matches a rule with all its labels. A domain that isn't UTF-8 is never a
+    // rule's text, but what follows its first dot may be.
+    fn is_listed(&self, domain: &[u8]) -> bool
+        ensures { result
+            ≡ (spec.is_one_label domain.now || list_any (spec.is_covered domain.now) self.now) }
+    {
+        match str::from_utf8(domain) {
+            Ok(text) => self.is_text_listed(text),
+            Err(_) => is_one_label(domain) || has_parent(&self.wild, domain),
         }
-        false
+    }
+
+    // The same of a text, which is cut only once.
+    fn is_text_listed(&self, domain: &str) -> bool
+        ensures { result
+            ≡ (spec.is_one_label domain.now || list_any (spec.is_covered domain.now) self.now) }
+    {
+        match domain.split_once('.') {
+            Some((_, parent)) => self.plain.contains(domain) || self.wild.contains(parent),
+            None => true,
+        }
     }
 
     // Whether the domain matches an exception.
@@ -116,13 +136,6 @@ impl Suffixes {
         ensures { result ≡ list_any (spec.is_excepted domain.now) self.now }
     {
         has_domain_of(&self.except, domain)
-    }
-
-    // Whether the domain matches a rule with all its labels.
-    fn is_covered(&self, domain: &[u8]) -> bool
-        ensures { result ≡ list_any (spec.is_covered domain.now) self.now }
-    {
-        has(&self.plain, domain) || has_parent(&self.wild, domain)
     }
 }
 
