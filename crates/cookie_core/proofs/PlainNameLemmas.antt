@@ -91,13 +91,13 @@ cut t h = by (drop_trailing_whitespace t) d.white d.whole d.are d.dark
         let n = length kept in
         let long : length t ≡ n + length white = ap length whole ∙ length-append kept white in
         let passes : (k : ℕ) → n ≤ k → k < length t → is_wsp (get_or t k 0) ≡ true = λ k low below.
-            let at : n + (k - n) ≡ k = omega (arith, low) in
-            let here : get_or t k 0 ≡ get_or white (k - n) 0 =
-            ap (λ l. get_or l k 0) whole ∙ ap (λ i. get_or (kept ++ white) i 0) (sym at) ∙ get_or-append-add kept white (k - n) 0 in
-            ap is_wsp here ∙ all_white white are plain.1 (k - n) (omega (arith, low, below, long)) in
+        let at : n + (k - n) ≡ k = omega (arith, low) in
+        let here : get_or t k 0 ≡ get_or white (k - n) 0 =
+        ap (λ l. get_or l k 0) whole ∙ ap (λ i. get_or (kept ++ white) i 0) (sym at) ∙ get_or-append-add kept white (k - n) 0 in
+        ap is_wsp here ∙ all_white white are plain.1 (k - n) (omega (arith, low, below, long)) in
         let stops : 0 < n → is_wsp (get_or t (n - 1) 0) ≡ false = λ some.
-            let here : get_or t (n - 1) 0 ≡ get_or kept (n - 1) 0 = ap (λ l. get_or l (n - 1) 0) whole ∙ get_or_append_left kept white 0 (n - 1) (omega (arith, some)) in
-            ap is_wsp here ∙ last_dark kept dark plain.0 some in
+        let here : get_or t (n - 1) 0 ≡ get_or kept (n - 1) 0 = ap (λ l. get_or l (n - 1) 0) whole ∙ get_or_append_left kept white 0 (n - 1) (omega (arith, some)) in
+        ap is_wsp here ∙ last_dark kept dark plain.0 some in
         let cut_off : suffix_len is_wsp t ≡ length t - n = suffix_len_is is_wsp t n 0 (omega (arith, long)) passes stops in
         let left : length t - suffix_len is_wsp t ≡ n = omega (arith, cut_off, long) in
         sym (take-append_seam kept white) ∙ ap (take n) (sym whole) ∙ ap (λ k. take k t) (sym left)
