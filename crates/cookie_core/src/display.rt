@@ -52,8 +52,7 @@ fn write_text<W: fmt::Write>(f: &mut fmt::Formatter<W>, text: &str, is_encoded: 
         (Some (printed_form is_encoded text.now)) f.new }
 {
     if is_encoded {
-        let text = encode(text);
-        write!(f, "{text}")
+        fmt::Display::fmt(&encode(text), f)
     } else {
         f.write_str(text)
     }

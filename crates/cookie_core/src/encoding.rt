@@ -73,7 +73,7 @@ impl<'a> fmt::Display for EncodedText<'a> {
 
     fn fmt<W: fmt::Write>(&self, f: &mut fmt::Formatter<W>) -> fmt::Result {
         let encoded = utf8_percent_encode(self.text, ESCAPED);
-        write!(f, "{encoded}")
+        fmt::Display::fmt(&encoded, f)
     }
 }
 

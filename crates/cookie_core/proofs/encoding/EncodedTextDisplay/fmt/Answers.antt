@@ -7,4 +7,4 @@ use Rattle.cookie_core.proofs.encoding.EncodedTextDisplay.fmt.Goals as goal
 pub returns-clause-writes : goal.returns-clause-writes
 returns-clause-writes g c =
     λ plain ok. has_written_of_eq _ _ _ _ _ (c.utf8_percent_encode-encoded.ensures.text ∙ percent_encode_is _ ∙ ap escape c.self.view_is)
-    (c.write.ensures.writes plain ok)
+    (c.fmt.ensures.writes plain ok)
