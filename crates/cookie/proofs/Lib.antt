@@ -2,6 +2,7 @@ pub mod AnswerLemmas
 pub mod AttributeValueLemmas
 pub mod DeltaTextLemmas
 pub mod FieldLemmas
+pub mod FirstLemmas
 pub mod HistoryLemmas
 pub mod JarLemmas
 pub mod KeyLemmas

@@ -1,18 +1,23 @@
 -- Entries in a row, which are looked up by comparing.
-use Rattle.std.proofs.Common.{◌≡◌, ℕ, zero, suc, ◌+◌, ◌<◌, ◌⊎◌, ⊎_elim, Bool, true, false, cond, ◌||◌, List, [], ◌∷◌, ◌++◌, set, get_or, position, length, Option, None, Some, is_none, arith, refl, sym, ap, subst, ◌∙◌, true≢false}
+use Rattle.std.proofs.Common.{◌≡◌, ℕ, zero, suc, ◌+◌, ◌<◌, ◌⊎◌, ⊎_elim, Bool, true, false, cond, ◌||◌, List, [], ◌∷◌, ◌++◌, set, get_or, position, length, Option, None, Some, is_none, Ok, Result, ◌≤◌, arith, refl, sym, ap, subst, ◌∙◌, true≢false}
 use Rattle.std.proofs.lemmas.Iterator.Adapters.{position_from-zero}
-use Rattle.std.proofs.lemmas.List.{append-nil, nil_from_length}
+use Rattle.std.proofs.lemmas.List.{append-nil, append_assoc, nil_from_length}
 use Rattle.std.proofs.lemmas.Map.Keys.{IsDistinct-push}
 use Rattle.std.proofs.lemmas.Option.{slice_get-get_or}
 use Rattle.std.proofs.lemmas.Slice.Eq.{bytes_eq-Decides}
 use Rattle.std.specs.Cmp.Lexicographic.{nat_list_cmp_total, nat_list_eq_equiv}
 use Rattle.std.specs.FinMap.{get, insert, remove, same_map}
-use Rattle.std.specs.List.{IsDistinct, list_any, position_from, swap_remove}
+use Rattle.std.specs.List.{AllByRecursion, IsDistinct, list_any, position_from, swap_remove}
 use Rattle.std.specs.Map.{keys_of, lookup}
 use Rattle.std.specs.Option.{option_map, unwrap_or}
 use Rattle.std.specs.Str.{bytes_eq}
 use Rattle.indexmap.proofs.RemoveLemmas.{swap_out}
-use Rattle.indexmap.specs.IndexMap.{IndexMap}
+use Rattle.indexmap.proofs.CallerLemmas.{insert_entry-new}
+use Rattle.indexmap.specs.IndexMap.{IndexMap, hasher_of, insert_entry, spare}
+use Rattle.std.proofs.lemmas.Result.{IfOk-at_ok}
+use Rattle.std.specs.Result.{OnOk}
+use Rattle.std.specs.Vec.Iter.{into_iter_items, into_iter_len}
+use Rattle.std.specs.declared.vec.IntoIter.{IntoIter}
 use Rattle.indexmap.specs.Layout.{hash_map}
 use Rattle.cookie.specs.Table.{by_name, key_eq, key_name}
 use Rattle.cookie.proofs.NameLemmas.{get-by_name, get_inserted, get_removed, key_equiv, names_apart, option_map-cond, remove_shows}
@@ -137,6 +142,49 @@ module _ {X : Type 0} where
       → IsDistinct key_eq (keys_of es) → IsDistinct key_eq (keys_of (es ++ (k, x) ∷ []))
   distinct_push es k x none distinct =
       subst (IsDistinct key_eq) (keys_push es k x) (IsDistinct-push key_equiv (keys_of es) k distinct (absent_keys (key_name k) es none))
+
+  fact_at : (P : NameKey → Type 0) (es rest : List (NameKey × X)) (k : NameKey) (x : X) → AllByRecursion P (keys_of (es ++ (k, x) ∷ rest)) → P k
+  fact_at P [] rest k x each = each.0
+  fact_at P (e ∷ es) rest k x each = fact_at P es rest k x each.1
+
+  -- an entry's name isn't among those before it
+  none_before : (es rest : List (NameKey × X)) (k : NameKey) (x : X) → IsDistinct key_eq (keys_of (es ++ (k, x) ∷ rest)) → lookup (key_eq k) es ≡ None
+  unfolding IsDistinct
+  none_before [] rest k x distinct = refl
+  none_before (e ∷ es) rest k x distinct =
+      ap (λ b. cond b (Some e.1) (lookup (key_eq k) es)) (key_equiv.symm k e.0 ∙ fact_at (λ other. key_eq e.0 other ≡ false) es rest k x distinct.0)
+      ∙ none_before es rest k x distinct.1
+
+  -- one more entry goes over to a table that has those before it
+  moved_more : {S : Type 0} (old new : IndexMap NameKey X S) (k : NameKey) (x : X) (all left rest : List (NameKey × X))
+      → IsDistinct key_eq (keys_of all) → old.entries ++ left ≡ all → left ≡ (k, x) ∷ rest → new.entries ≡ insert_entry key_eq old.entries k x
+      → new.entries ++ rest ≡ all
+  moved_more old new k x all left rest distinct whole at put =
+      let here : old.entries ++ (k, x) ∷ rest ≡ all = ap (λ l. old.entries ++ l) (sym at) ∙ whole in
+      let none = none_before old.entries rest k x (subst (λ es. IsDistinct key_eq (keys_of es)) (sym here) distinct) in
+      ap (λ es. es ++ rest) (put ∙ insert_entry-new key_eq old k x none) ∙ append_assoc old.entries ((k, x) ∷ []) rest ∙ here
+
+  -- Of all entries the table has the first, and has room for those that are left. It hashes names as before.
+  pub record IsMoving {S Z : Type 0} (all : List (NameKey × X)) (before table : IndexMap NameKey X S) (left : IntoIter (NameKey × X) Z) : Type 0 where
+    pub whole : table.entries ++ into_iter_items left ≡ all
+    pub counted : into_iter_len left ≡ length (into_iter_items left)
+    pub room : into_iter_len left ≤ spare table
+    pub hash : hasher_of table ≡ hasher_of before
+
+  pub IsMoving-next : {S Z E : Type 0} (all : List (NameKey × X)) (before old new : IndexMap NameKey X S) (left rest : IntoIter (NameKey × X) Z) (k : NameKey) (x : X) (put : Result (Option X) E) (was : Option X)
+      → IsDistinct key_eq (keys_of all) → IsMoving all before old left
+      → (into_iter_items left ≡ (k, x) ∷ into_iter_items rest) × (into_iter_len rest + 1 ≡ into_iter_len left)
+      → put ≡ Ok was → OnOk put (new.entries ≡ insert_entry key_eq old.entries k x) → spare old ≤ spare new + 1 → hasher_of new ≡ hasher_of old
+      → IsMoving all before new rest
+  IsMoving-next all before old new left rest k x put was distinct moving step done entries room hash =
+      let shorter = ap length step.0 in
+      record {
+        whole = moved_more old new k x all (into_iter_items left) (into_iter_items rest) distinct moving.whole step.0
+            (IfOk-at_ok (λ _. new.entries ≡ insert_entry key_eq old.entries k x) done entries);
+        counted = omega (arith, shorter, step.1, moving.counted);
+        room = omega (arith, step.1, moving.room, room);
+        hash = hash ∙ moving.hash;
+      }
 
   -- of the two parts of a table one is empty
   pub all_few : (few many : List (NameKey × X)) → length many ≡ 0 → few ++ many ≡ few

@@ -1,7 +1,7 @@
 -- Mirrors private code: a table of cookies by their names, seen as a finite map from names.
-use Rattle.std.specs.Prelude.{◌≡◌, Bool, List, IfSome, map}
+use Rattle.std.specs.Prelude.{◌≡◌, Bool, List, IfSome, is_some, map, if◌then◌else◌}
 use Rattle.std.specs.Arc.{arc_value}
-use Rattle.std.specs.FinMap.{FinMap, from_entries, get}
+use Rattle.std.specs.FinMap.{FinMap, from_entries, get, insert}
 use Rattle.std.specs.Str.{bytes_eq}
 use Rattle.cookie_core.specs.Record.{Record}
 use Rattle.cookie.specs.Jar.{Name, name_cmp, JarState, Marked}
@@ -26,6 +26,10 @@ pub record TableState (X : Type 0) : Type 0 where
 -- the map from the names of the keys to what the values show
 abbrev pub by_name : {X Z : Type 0} → (X → Z) → List (NameKey × X) → FinMap name_cmp Z
 by_name shows entries = from_entries (map (λ e. (key_name e.0, shows e.1)) entries)
+
+-- the map with this value at the name, if it has none there
+abbrev pub with_first : {Z : Type 0} → FinMap name_cmp Z → Name → Z → FinMap name_cmp Z
+with_first table name z = if is_some (get table name) then table else insert table name z
 
 -- what an original shows
 abbrev pub original_fields : Original → Record

@@ -119,7 +119,8 @@ impl CookieJar {
             self.new ≡ after (AddOriginal cookie.entry.fields) self.old) }
         ensures err { OnErr result (self.new ≡ self.old) }
     {
-        self.put_original(cookie)?;
+        let original = Original::new(self.allocator(), cookie)?;
+        self.originals.put(original)?;
         Ok(())
     }
 
@@ -128,19 +129,8 @@ impl CookieJar {
         ensures ok { OnOk result (self.new ≡ with_original cookie.entry.fields self.old) }
         ensures err { OnErr result (self.new ≡ self.old) }
     {
-        if self.original(cookie.name()).is_some() {
-            return Ok(());
-        }
-        self.put_original(cookie)
-    }
-
-    // Puts a cookie among the originals. On an error the jar stays as it was.
-    pub(crate) fn put_original(&mut self, cookie: Cookie<'static>) -> Result<(), AllocError>
-        ensures ok { OnOk result (self.new ≡ after (AddOriginal cookie.entry.fields) self.old) }
-        ensures err { OnErr result (self.new ≡ self.old) }
-    {
         let original = Original::new(self.allocator(), cookie)?;
-        self.originals.put(original)
+        self.originals.put_first(original)
     }
 
     /// Adds a cookie, in place of the one that the jar shows under its name.

@@ -1,12 +1,12 @@
 //! The tables of a jar.
-ghost use Rattle.std.specs.Prelude.{◌≡◌, ◌<◌, ◌^◌, [], length, position, IfOk, OnOk, OnErr};
+ghost use Rattle.std.specs.Prelude.{◌≡◌, ◌<◌, ◌≤◌, ◌^◌, [], length, position, vec_len, IfOk, OnOk, OnErr};
 ghost use Rattle.std.specs.FinMap as map;
 ghost use Rattle.std.specs.List.{IsDistinct};
 ghost use Rattle.std.specs.Map.{keys_of, values_of};
 ghost use Rattle.std.specs.Option.{option_map};
 ghost use Rattle.std.specs.Str.{bytes_eq};
-ghost use Rattle.indexmap.specs.IndexMap.{hasher_of};
-ghost use Rattle.cookie.specs.Table.{by_name, key_eq, key_name, IsKeyedByName};
+ghost use Rattle.indexmap.specs.IndexMap.{hasher_of, spare};
+ghost use Rattle.cookie.specs.Table.{by_name, key_eq, key_name, with_first, IsKeyedByName};
 
 use crate::entries::Entries;
 use crate::entry::Entry;
@@ -14,8 +14,8 @@ use crate::name_hash::NameHash;
 use crate::name_key::NameKey;
 use indexmap::IndexMap;
 use std::alloc::{AllocError, Global};
-use std::fmt;
 use std::marker::Model;
+use std::{fmt, mem};
 
 // A table keeps up to this many entries in a row, and compares each name. That costs less than to hash one with drawn keys.
 const FEW: usize = 16;
@@ -41,7 +41,10 @@ impl<X: Entry> Model for Table<X> {
 
     ghost Value = { TableState X };
 
-    ghost view = { λ t. record { entries = t.few.items ++ t.many.entries; hash = hasher_of t.many } };
+    ghost view = { λ t. record {
+      entries = t.few.items ++ t.many.entries;
+      hash = hasher_of t.many;
+    } };
 
     ghost invariant = { λ t. IsDistinct key_eq (keys_of t.few.items)
         × ((t.few.items ≡ []) ⊎ (t.many.entries ≡ [])) };
@@ -114,16 +117,33 @@ impl<X: Entry> Table<X> {
         Ok(())
     }
 
+    // Puts an entry at its name, if there is none. On an error the table stays as it was. It hashes names as before, in
+    // both cases.
+    pub(crate) fn put_first(&mut self, entry: X) -> Result<(), AllocError>
+        ensures ok { OnOk result (by_name X.shows self.new.entries
+            ≡ with_first (by_name X.shows self.old.entries)
+            (X.name_of (X.shows entry)) (X.shows entry)) }
+        ensures err { OnErr result (by_name X.shows self.new.entries
+            ≡ by_name X.shows self.old.entries) }
+        ensures named { IsKeyedByName X.name_of (by_name X.shows self.old.entries)
+            → IsKeyedByName X.name_of (by_name X.shows self.new.entries) }
+        ensures hash { self.new.hash ≡ self.old.hash }
+    {
+        let key = entry.key()?;
+        self.spread()?;
+        self.set_first(key, entry)?;
+        Ok(())
+    }
+
     // Moves the entries to where each is hashed, if they are no longer few. On an error the table stays as it was.
     fn spread(&mut self) -> Result<(), AllocError>
-        ensures same { by_name X.shows self.new.entries ≡ by_name X.shows self.old.entries }
+        ensures same { self.new.entries ≡ self.old.entries }
         ensures hash { self.new.hash ≡ self.old.hash }
     {
         if self.few.len() >= FEW {
-            let alloc = self.allocator();
-            let hash = *self.many.hasher();
-            self.many = hashed(&self.few, alloc, hash)?;
-            self.few.clear();
+            self.many.reserve(self.few.len().max(FIRST_ROOM))?;
+            let none = Vec::new(self.allocator());
+            move_all(mem::replace(&mut self.few, none), &mut self.many);
         }
         Ok(())
     }
@@ -140,6 +160,21 @@ impl<X: Entry> Table<X> {
             set_few(&mut self.few, key, entry)
         } else {
             set_many(&mut self.many, key, entry)
+        }
+    }
+
+    // Puts an entry at a key, if there is none. On an error the table stays as it was.
+    fn set_first(&mut self, key: NameKey, entry: X) -> Result<(), AllocError>
+        ensures ok { OnOk result (by_name X.shows self.new.entries
+            ≡ with_first (by_name X.shows self.old.entries) (key_name key) (X.shows entry)) }
+        ensures err { OnErr result (by_name X.shows self.new.entries
+            ≡ by_name X.shows self.old.entries) }
+        ensures hash { self.new.hash ≡ self.old.hash }
+    {
+        if self.many.is_empty() {
+            set_first_few(&mut self.few, key, entry)
+        } else {
+            set_first_many(&mut self.many, key, entry)
         }
     }
 
@@ -219,6 +254,24 @@ fn set_few<X: Entry>(
     Ok(())
 }
 
+// Puts an entry at a key, if there is none. On an error the entries stay as they were.
+fn set_first_few<X: Entry>(
+    pairs: &mut Vec<(NameKey, X)>,
+    key: NameKey,
+    entry: X,
+) -> Result<(), AllocError>
+    ensures ok { OnOk result (by_name X.shows pairs.new.items
+        ≡ with_first (by_name X.shows pairs.old.items) (key_name key) (X.shows entry)) }
+    ensures err { OnErr result (pairs.new.items ≡ pairs.old.items) }
+    ensures unique { IsDistinct key_eq (keys_of pairs.old.items)
+        → IsDistinct key_eq (keys_of pairs.new.items) }
+{
+    if place_of(pairs, key.as_str()).is_none() {
+        pairs.push((key, entry))?;
+    }
+    Ok(())
+}
+
 // Drops the entry at a name.
 fn discard_few<X: Entry>(pairs: &mut Vec<(NameKey, X)>, name: &str)
     requires { IsDistinct key_eq (keys_of pairs.old.items) }
@@ -248,22 +301,17 @@ fn copy_few<X: Entry>(
     Ok(made)
 }
 
-// A table that hashes, and shows the same.
-fn hashed<X: Entry>(
-    pairs: &[(NameKey, X)],
-    alloc: Global,
-    hash: NameHash,
-) -> Result<IndexMap<NameKey, X, NameHash>, AllocError>
-    requires { IsDistinct key_eq (keys_of pairs.now) }
-    ensures shows { IfOk result (λ made.
-        by_name X.shows made.entries ≡ by_name X.shows pairs.now) }
-    ensures hash { IfOk result (λ made. hasher_of made ≡ hash) }
+// Moves the entries into an empty table that has room for them.
+fn move_all<X: Entry>(pairs: Vec<(NameKey, X)>, table: &mut IndexMap<NameKey, X, NameHash>)
+    requires empty { table.old.entries ≡ [] }
+    requires room { vec_len pairs ≤ spare table.old }
+    requires unique { IsDistinct key_eq (keys_of pairs.items) }
+    ensures entries { table.new.entries ≡ pairs.items }
+    ensures hash { hasher_of table.new ≡ hasher_of table.old }
 {
-    let mut made = IndexMap::with_capacity_and_hasher(alloc, FIRST_ROOM, hash)?;
-    for pair in pairs {
-        set_many(&mut made, pair.0.copy()?, pair.1.copy()?)?;
+    for (key, entry) in pairs {
+        table.insert(key, entry).unwrap();
     }
-    Ok(made)
 }
 
 // Puts an entry at a key. On an error the table stays as it was.
@@ -280,6 +328,23 @@ fn set_many<X: Entry>(
 {
     make_room(table)?;
     table.insert(key, entry)?;
+    Ok(())
+}
+
+// Puts an entry at a key, if there is none. On an error the table stays as it was.
+fn set_first_many<X: Entry>(
+    table: &mut IndexMap<NameKey, X, NameHash>,
+    key: NameKey,
+    entry: X,
+) -> Result<(), AllocError>
+    ensures ok { OnOk result (by_name X.shows table.new.entries
+        ≡ with_first (by_name X.shows table.old.entries) (key_name key) (X.shows entry)) }
+    ensures err { OnErr result (by_name X.shows table.new.entries
+        ≡ by_name X.shows table.old.entries) }
+    ensures hash { hasher_of table.new ≡ hasher_of table.old }
+{
+    make_room(table)?;
+    table.entry(key)?.or_insert(entry);
     Ok(())
 }
 

@@ -8,6 +8,6 @@ pub returns-clause-named : goal.returns-clause-named
 returns-clause-named g c = λ named.
     let shown = g.X.Entry.shows c.args.entry in
     let ok = c.in_ok-set.ensures.ok
-    ∙ ap (λ m. insert m (key_name c.in_ok-key.key) shown) c.in_ok-spread.ensures.same
+    ∙ ap (λ es. insert (by_name g.X.Entry.shows es) (key_name c.in_ok-key.key) shown) c.in_ok-spread.ensures.same
     ∙ ap (λ k. insert (by_name g.X.Entry.shows c.args.self.now.entries) k shown) c.in_ok-key.ensures in
     subst (IsKeyedByName g.X.Entry.name_of) (sym ok) (IsKeyedByName-insert g.X.Entry.name_of (by_name g.X.Entry.shows c.args.self.now.entries) shown named)
