@@ -1,43 +1,14 @@
--- Why C's settings of a site are refused, and what a call on a handle of a site comes to.
-use Rattle.std.proofs.Common.{◌≡◌, ℕ, ◌≤◌, ◌⊎◌, Option, None, arith, sym, inl, inr, List, Some, true, IsUtf8, refl, subst}
+-- What a call on a handle of a site comes to.
+use Rattle.std.proofs.Common.{◌≡◌, ℕ, ◌≤◌, Option, None, arith, sym, Some, subst}
 use Rattle.jiff.specs.Types.{DateTime}
-use Rattle.cookie.specs.AttributeValues.{FitsField}
-use Rattle.cookie.specs.CookieOf.{cookie_of}
-use Rattle.cookie.specs.Record.{Record}
-use Rattle.cookie.specs.declared.ParseError.{ParseError}
 use Rattle.cookie_session.specs.declared.sessions.Sessions.{Sessions}
-use Rattle.cookie_c.specs.Codes.{refusal_status}
-use Rattle.cookie_c.specs.Decoded.{IsDecodingRefusal}
 use Rattle.cookie_c.specs.Handles.{site_in}
-use Rattle.cookie_c.specs.Sites.{AreOf, AtSecond, AtSite, CanBeSite, HasKeys, IsAtSecond, IsUnusable, last_second}
+use Rattle.cookie_c.specs.Sites.{AreOf, AtSecond, AtSite, IsAtSecond, last_second}
 use Rattle.cookie_c.specs.declared.handle.content.Content.{Content}
 use Rattle.cookie_c.specs.declared.handle.content.Content.TheVariants as content
-use Rattle.cookie_c.specs.declared.sessions.SessionSettings.{SessionSettings}
 use Rattle.cookie_c.specs.declared.sessions.site.Site.{Site}
 use Rattle.cookie_c.specs.declared.status.Status.{Status}
 use Rattle.cookie_c.specs.declared.status.Status.TheVariants as status
-
-module _ (settings : SessionSettings) where
-  pub unusable_keys : ¬ HasKeys settings.keys.now → IsUnusable settings status.KeyTooShort
-  unusable_keys lacks = inl (refl, lacks)
-
-  pub unusable_text : HasKeys settings.keys.now → ¬ IsUtf8 settings.cookie.now → IsUnusable settings status.NotUtf8
-  unusable_text keys other = inr (inl (refl, keys, other))
-
-  module _ (can : CanBeSite settings) where
-    pub unusable_cookie : (read : List ℕ) (why : Status) → read ≡ settings.cookie.now
-        → ((error : ParseError) × IsDecodingRefusal read error × (why ≡ refusal_status error)) ⊎ (why ≡ status.OutOfMemory)
-        → IsUnusable settings why
-    unusable_cookie read why same (inl is) = inr (inr (inl (can, is.0, subst (λ t. IsDecodingRefusal t is.0) same is.1, is.2)))
-    unusable_cookie read why same (inr is) = inr (inr (inr (inr (can, is))))
-
-    pub unusable_scope : (read : List ℕ) (cookie : Record) → read ≡ settings.cookie.now → cookie_of true read ≡ Some cookie → ¬ FitsField cookie
-        → IsUnusable settings status.InvalidValue
-    unusable_scope read cookie same is unfit =
-        inr (inr (inr (inl (can, cookie, subst (λ t. cookie_of true t ≡ Some cookie) same is, unfit, refl))))
-
-    pub unusable_memory : IsUnusable settings status.OutOfMemory
-    unusable_memory = inr (inr (inr (inr (can, refl))))
 
 -- a second of a date
 pub at_second : (second : ℕ) (Holds : DateTime → Type 0) (Refuses : Status → Type 0) (time : DateTime)
