@@ -1,5 +1,5 @@
 -- Rules that are kept as three sets of texts.
-use Rattle.std.proofs.Common.{◌≡◌, ◌≢◌, ℕ, length, arith, not, ◌&&◌, ◌||◌, Bool, true, false, List, [], ◌∷◌, ◌++◌, map, Option, Some, None, option_map, String, bytes_eq, true≢false, refl, sym, ap, codes, eqb, drop, ◌∙◌, inl, inr, ◌⊎◌, IsPermutation, IsUtf8, MatchBool, subst}
+use Rattle.std.proofs.Common.{◌≡◌, ◌≢◌, ◌<◌, ℕ, length, arith, not, ◌&&◌, ◌||◌, Bool, true, false, List, [], ◌∷◌, ◌++◌, map, Option, Some, None, option_map, String, bytes_eq, true≢false, refl, sym, ap, codes, eqb, drop, ◌∙◌, inl, inr, ◌⊎◌, IsPermutation, IsUtf8, MatchBool, subst}
 use Rattle.std.proofs.lemmas.Slice.Eq.{bytes_eq-Decides}
 use Rattle.std.proofs.lemmas.Str.{IsUtf8-string_bytes}
 use Rattle.std.specs.List.{cons_option, filter_map, list_any, starts_with}
@@ -7,10 +7,8 @@ use Rattle.std.specs.String.{string_bytes}
 use Rattle.std.proofs.lemmas.Bool.{cond-true, cond-false, not-false, or_cases}
 use Rattle.std.specs.Cmp.Lexicographic.{unequal}
 use Rattle.std.proofs.lemmas.Cmp.{nat_list_eq_equiv}
-use Rattle.std.proofs.lemmas.List.{length-append}
 use Rattle.std.proofs.lemmas.List.Folds.{list_any-append}
 use Rattle.std.proofs.lemmas.List.Sorted.{list_any-IsPermutation}
-use Rattle.cookie_core.specs.Pieces.{Lacks}
 use Rattle.cookie_browser.specs.Bytes.{cut}
 use Rattle.cookie_browser.specs.Request.{is_in_domain}
 use Rattle.cookie_browser.specs.Suffixes.{Rule, Plain, Wild, Except, HasSameElements, has_parent, fills_rule, is_covered, is_excepted, is_one_label, is_public_suffix, without_last_dot}
@@ -19,7 +17,6 @@ use Rattle.cookie_browser.specs.SuffixList.{canonical, rule_of, rule_of_line, ru
 use Rattle.cookie_browser.proofs.AnyLemmas.{any-map, any-never, any-same, any-or, holds_in, any-cons_option}
 use Rattle.cookie_browser.proofs.CutLemmas.{pieces_at, slice_split-cut}
 use Rattle.cookie_browser.proofs.DomainLemmas.{rest_in, is_in_domain-cut}
-use Rattle.cookie_browser.proofs.TrimLemmas.{cut-at, cut-none}
 
 -- ---- a look-up
 
@@ -54,17 +51,16 @@ covered-or domain plain wild except known =
     sym (any-covered domain plain wild except ∙ ap (λ b. b || list_any (λ text. has_parent text (cut 46 domain).1) wild) known)
 
 -- a text of more than one label, once it is known whether a plain rule is the text
-pub listed-or : (domain label parent : List ℕ) (plain wild except : List (List ℕ)) {is_plain : Bool} → domain ≡ label ++ 46 ∷ parent → Lacks 46 label → list_any (bytes_eq domain) plain ≡ is_plain → (is_plain || list_any (bytes_eq parent) wild) ≡ (is_one_label domain || list_any (is_covered domain) (rules_view plain wild except))
-listed-or domain label parent plain wild except {is_plain} is lacks known =
-    let at : cut 46 domain ≡ (label, Some parent) = ap (cut 46) is ∙ cut-at 46 label parent lacks in
-    let more : length label ≢ length domain = λ e. omega (arith, ap length is, length-append label (46 ∷ parent)) in
+pub listed-or : (domain label parent : List ℕ) (plain wild except : List (List ℕ)) {is_plain : Bool} → cut 46 domain ≡ (label, Some parent) → length label < length domain → list_any (bytes_eq domain) plain ≡ is_plain → (is_plain || list_any (bytes_eq parent) wild) ≡ (is_one_label domain || list_any (is_covered domain) (rules_view plain wild except))
+listed-or domain label parent plain wild except {is_plain} at shorter known =
+    let differs : length label ≢ length domain = λ e. omega arith in
     ap (λ k. is_plain || list_any (λ text. has_parent text k.1) wild) (sym at)
     ∙ covered-or domain plain wild except known
-    ∙ sym (ap (λ b. b || list_any (is_covered domain) (rules_view plain wild except)) (ap (λ k. bytes_eq k.0 domain) at ∙ unequal eqb label domain more))
+    ∙ sym (ap (λ b. b || list_any (is_covered domain) (rules_view plain wild except)) (ap (λ k. bytes_eq k.0 domain) at ∙ unequal eqb label domain differs))
 
 -- a text of one label
-pub one_label-none : (domain : List ℕ) → Lacks 46 domain → is_one_label domain ≡ true
-one_label-none domain lacks = ap (λ k. bytes_eq k.0 domain) (cut-none 46 domain lacks) ∙ nat_list_eq_equiv.refl domain
+pub one_label-none : (domain : List ℕ) → cut 46 domain ≡ (domain, None) → is_one_label domain ≡ true
+one_label-none domain none = ap (λ k. bytes_eq k.0 domain) none ∙ nat_list_eq_equiv.refl domain
 
 -- one label is taken off
 pub any-cut : (domain : List ℕ) (texts : List (List ℕ)) → list_any (is_in_domain domain false) texts ≡ (list_any (bytes_eq domain) texts || list_any (rest_in (cut 46 domain).1) texts)

@@ -125,8 +125,8 @@ impl Suffixes {
         ensures { result
             ≡ (spec.is_one_label domain.now || list_any (spec.is_covered domain.now) self.now) }
     {
-        match domain.split_once('.') {
-            Some((_, parent)) => self.plain.contains(domain) || self.wild.contains(parent),
+        match domain.as_bytes().iter().position(|&byte| byte == b'.') {
+            Some(dot) => self.plain.contains(domain) || self.wild.contains(&domain[dot + 1..]),
             None => true,
         }
     }
