@@ -1,17 +1,27 @@
 -- A form with no more escapes than its reader needs: the reader gives its pairs back.
-use Rattle.std.proofs.Common.{◌≡◌, ◌≢◌, ℕ, ◌+◌, ◌/◌, ◌<◌, ◌≤◌, true, false, ltb, ⊎_elim, List, [], ◌∷◌, ◌++◌, map, length, All, refl, sym, ap, ◌∙◌, append_assoc, append-nil, arith, length-append, fold}
-use Rattle.std.proofs.lemmas.Bool.{cases_lt, cond-true, cond-false, cond_both, lt-ltb, ltb-true, ne_eqb}
+use Rattle.std.proofs.Common.{◌≡◌, ◌≢◌, ℕ, ◌+◌, ◌*◌, ◌/◌, ◌%◌, ◌^◌, ◌<◌, ◌≤◌, true, false, ltb, ⊎_elim, List, [], ◌∷◌, ◌++◌, map, length, get_or, All, refl, sym, ap, subst, ◌∙◌, append_assoc, append-nil, arith, length-append, fold}
+use Rattle.std.proofs.Math.ListN.{get_or-eq_default}
+use Rattle.std.proofs.lemmas.Bool.{cases_lt, cond-true, cond-false, cond_both, lt-ltb, ltb-true, ne_eqb, or_parts}
 use Rattle.std.proofs.lemmas.Bool.Decides.{nat_tests}
+use Rattle.std.proofs.lemmas.Fmt.{decimal_is_IsNumeral}
 use Rattle.std.proofs.lemmas.Grind.{flat_map-append}
 use Rattle.std.proofs.lemmas.List.{map-append}
-use Rattle.std.proofs.lemmas.List.Elements.{All-nil, All-cons, All-head, All-tail, All-append, All-weaker}
+use Rattle.std.proofs.lemmas.List.Elements.{All-nil, All-cons, All-head, All-tail, All-append, All-get_or, All-from_get_or, All-weaker}
 use Rattle.std.proofs.lemmas.Str.{encode_ascii}
+use Rattle.std.proofs.lemmas.Str.Parse.{digit_at}
+use Rattle.std.specs.Fmt.{decimal}
+use Rattle.std.specs.List.{list_any}
+use Rattle.std.specs.Prelude.{slice_index}
 use lib.Utf8.{encode, next}
+use Rattle.base64.specs.Engines.{url_safe_no_pad}
+use Rattle.base64.specs.GeneralPurpose.{engine_symbols}
+use Rattle.base64.specs.Rfc4648.{encode_group, encode_symbols}
 use Rattle.percent_encoding.specs.Percent.{percent_encode_byte}
 use Rattle.percent_encoding.proofs.PercentLemmas.{IsByte, IsEscapeByte, All-percent_encode_byte, percent_decode-nil, percent_decode_not_percent, percent_decode-percent_encode_byte}
-use Rattle.form_urlencoded.specs.Form.{decode, parse, plus_to_space, separator, split_once, split_pair}
-use Rattle.form_urlencoded.proofs.FormLemmas.{IsBytePair, map-plus_to_space, raw_pairs-nil, raw_pairs_first, split_once_after_at, split_once_after_none, split_once_before_at, split_once_before_none}
+use Rattle.form_urlencoded.specs.Form.{decode, plus_to_space, raw_pairs, separator, split_once, split_pair}
+use Rattle.form_urlencoded.proofs.FormLemmas.{map-plus_to_space, raw_pairs-nil, raw_pairs_first, split_once_after_at, split_once_after_none, split_once_before_at, split_once_before_none}
 use Rattle.cookie_session.specs.Form.{compact_form, compact_pair, escape_mark, escape_marks, is_mark, with_pair}
+use Rattle.cookie_session.specs.Id.{id_text}
 
 -- ---- escapes
 
@@ -34,6 +44,55 @@ escape_marks-plain (b ∷ bs) plain =
     escape_marks-cons b bs
     ∙ ap (λ front. front ++ escape_marks bs) (cond-false _ _ _ (All-head (λ x. is_mark x ≡ false) b bs plain))
     ∙ ap (λ rest. b ∷ rest) (escape_marks-plain bs (All-tail (λ x. is_mark x ≡ false) b bs plain))
+
+unmarked : (bs : List ℕ) → list_any is_mark bs ≡ false → All (λ b. is_mark b ≡ false) bs
+unmarked [] none = All-nil (λ b. is_mark b ≡ false)
+unmarked (b ∷ bs) none =
+    let both = or_parts (is_mark b) (list_any is_mark bs) none in
+    All-cons (λ x. is_mark x ≡ false) b bs both.0 (unmarked bs both.1)
+
+-- so a text without marks stays
+pub escape_marks_unmarked : (bs : List ℕ) → list_any is_mark bs ≡ false → escape_marks bs ≡ bs
+escape_marks_unmarked bs none = escape_marks-plain bs (unmarked bs none)
+
+-- and so does a number's
+pub escape_marks-decimal : (n : ℕ) → n < 2 ^ 64 → escape_marks (decimal n) ≡ decimal n
+escape_marks-decimal n small = escape_marks-plain (decimal n) (All-from_get_or (λ b. is_mark b ≡ false) (decimal n) 0 (λ i inside.
+    let digit = digit_at (decimal n) i (decimal_is_IsNumeral n small).0.1 inside in
+    digit_unmarked (get_or (decimal n) i 0) digit.0 digit.1))
+  where
+    digit_unmarked : (b : ℕ) → 48 ≤ b → b ≤ 57 → is_mark b ≡ false
+    digit_unmarked b low high = grind (arith, nat_tests)
+
+-- ---- the text of an id
+
+-- the symbols of base64url
+abbrev symbols : List ℕ
+symbols = engine_symbols url_safe_no_pad
+
+-- no symbol is a mark, nor is what is read past the symbols
+symbol_unmarked : (i : ℕ) → is_mark (slice_index symbols i) ≡ false
+symbol_unmarked i =
+    let P = λ (b : ℕ). is_mark b ≡ false in
+    ⊎_elim (λ (inside : i < length symbols). All-get_or P symbols i 0 inside (unmarked symbols refl))
+    (λ (past : length symbols ≤ i). subst P (sym (get_or-eq_default symbols 0 past)) refl) (cases_lt i (length symbols))
+
+symbols_at : (places : List ℕ) → All (λ b. is_mark b ≡ false) (map (slice_index symbols) places)
+symbols_at [] = All-nil (λ b. is_mark b ≡ false)
+symbols_at (place ∷ places) = All-cons (λ b. is_mark b ≡ false) (slice_index symbols place) (map (slice_index symbols) places) (symbol_unmarked place) (symbols_at places)
+
+symbols_unmarked : (m : List ℕ) → All (λ b. is_mark b ≡ false) (encode_symbols symbols m)
+unfolding encode_symbols
+symbols_unmarked [] = All-nil (λ b. is_mark b ≡ false)
+symbols_unmarked (a ∷ []) = symbols_at ((a / 4) ∷ (a % 4 * 16) ∷ [])
+symbols_unmarked (a ∷ b ∷ []) = symbols_at ((a / 4) ∷ (a % 4 * 16 + b / 16) ∷ (b % 16 * 4) ∷ [])
+symbols_unmarked (a ∷ b ∷ c ∷ rest) =
+    All-append (λ x. is_mark x ≡ false) (encode_group symbols a b c) (encode_symbols symbols rest)
+    (symbols_at ((a / 4) ∷ (a % 4 * 16 + b / 16) ∷ (b % 16 * 4 + c / 64) ∷ (c % 64) ∷ [])) (symbols_unmarked rest)
+
+-- so an id's text stays
+pub escape_marks-id_text : (id : List ℕ) → escape_marks (id_text id) ≡ id_text id
+escape_marks-id_text id = subst (λ t. escape_marks t ≡ t) (sym (append-nil (encode_symbols symbols id))) (escape_marks-plain (encode_symbols symbols id) (symbols_unmarked id))
 
 -- ---- a character
 
@@ -100,7 +159,7 @@ decode-escape_mark b rest small =
     (λ is. let other = not_mark b is in rw (ne_eqb b 43 other.2) (percent_decode_not_percent b _ other.0))
 
 -- decoding undoes the escapes
-decode-escape_marks : (bs : List ℕ) → All IsByte bs → decode (escape_marks bs) ≡ bs
+pub decode-escape_marks : (bs : List ℕ) → All IsByte bs → decode (escape_marks bs) ≡ bs
 decode-escape_marks [] small = rw escape_marks-nil percent_decode-nil
 decode-escape_marks (b ∷ bs) small =
     rw escape_marks-cons (decode-escape_mark b _ (All-head IsByte b bs small) ∙ ap (λ l. b ∷ l) (decode-escape_marks bs (All-tail IsByte b bs small)))
@@ -144,31 +203,27 @@ compact_nonempty form (pair ∷ pairs) nonempty =
     let joined : separator form ≡ 38 ∷ [] = cond-true _ _ _ (lt-ltb 0 _ nonempty) in
     compact_nonempty (with_pair form pair) pairs longer ∙ simp (joined, append_assoc)
 
-abbrev decode_pair : List ℕ × List ℕ → List ℕ × List ℕ
-decode_pair pair = (decode pair.0, decode pair.1)
+-- a pair as it is written
+abbrev pub written_pair : List ℕ × List ℕ → List ℕ × List ℕ
+written_pair pair = (escape_marks pair.0, escape_marks pair.1)
 
--- a pair at the front of the input is read as that pair
-parse_first : (pair : List ℕ × List ℕ) (input rest : List ℕ) → IsBytePair pair → (split_once 38 input).0 ≡ compact_pair pair → (split_once 38 input).1 ≡ rest → parse input ≡ pair ∷ parse rest
-parse_first pair input rest small first others =
+-- a pair at the front of the input is read as it is written
+raw_first : (pair : List ℕ × List ℕ) (input rest : List ℕ) → (split_once 38 input).0 ≡ compact_pair pair → (split_once 38 input).1 ≡ rest → raw_pairs input ≡ written_pair pair ∷ raw_pairs rest
+raw_first pair input rest first others =
     let nonempty : 0 < length ((split_once 38 input).0) = rw first (compact_pair_nonempty pair) in
-    let decoded : decode_pair (split_pair ((split_once 38 input).0)) ≡ pair = ap (λ x. decode_pair (split_pair x)) first ∙ ap decode_pair (split_pair-compact pair) ∙ (λ i. (decode-escape_marks pair.0 small.0 i, decode-escape_marks pair.1 small.1 i)) in
-    ap (map decode_pair) (raw_pairs_first input nonempty) ∙ (λ i. decoded i ∷ parse (others i))
+    let front : split_pair ((split_once 38 input).0) ≡ written_pair pair = ap split_pair first ∙ split_pair-compact pair in
+    raw_pairs_first input nonempty ∙ (λ i. front i ∷ raw_pairs (others i))
 
-parse-nil : parse [] ≡ []
-parse-nil = ap (map decode_pair) raw_pairs-nil
-
-parse_pairs : (pair : List ℕ × List ℕ) (pairs : List (List ℕ × List ℕ)) → IsBytePair pair → All IsBytePair pairs → parse (compact_pair pair ++ later_pairs pairs) ≡ pair ∷ pairs
-parse_pairs pair [] small others =
+raw_later : (pair : List ℕ × List ℕ) (pairs : List (List ℕ × List ℕ)) → raw_pairs (compact_pair pair ++ later_pairs pairs) ≡ map written_pair (pair ∷ pairs)
+raw_later pair [] =
     let none = no_ampersand pair in
-    ap parse (append-nil (compact_pair pair)) ∙ parse_first pair _ [] small (split_once_before_none 38 _ none) (split_once_after_none 38 _ none) ∙ ap (λ l. pair ∷ l) parse-nil
-parse_pairs pair (following ∷ pairs) small others =
+    ap raw_pairs (append-nil (compact_pair pair)) ∙ raw_first pair _ [] (split_once_before_none 38 _ none) (split_once_after_none 38 _ none) ∙ ap (λ l. written_pair pair ∷ l) raw_pairs-nil
+raw_later pair (following ∷ pairs) =
     let none = no_ampersand pair in
     let rest = compact_pair following ++ later_pairs pairs in
-    let later = parse_pairs following pairs (All-head IsBytePair following pairs others) (All-tail IsBytePair following pairs others) in
-    parse_first pair _ rest small (split_once_before_at 38 _ rest none) (split_once_after_at 38 _ rest none) ∙ ap (λ l. pair ∷ l) later
+    raw_first pair _ rest (split_once_before_at 38 _ rest none) (split_once_after_at 38 _ rest none) ∙ ap (λ l. written_pair pair ∷ l) (raw_later following pairs)
 
--- reading what was written gives the pairs back
-pub parse-compact_form : (pairs : List (List ℕ × List ℕ)) → All IsBytePair pairs → parse (compact_form pairs) ≡ pairs
-parse-compact_form [] small = parse-nil
-parse-compact_form (pair ∷ pairs) small =
-    ap parse (compact_nonempty (compact_pair pair) pairs (compact_pair_nonempty pair)) ∙ parse_pairs pair pairs (All-head IsBytePair pair pairs small) (All-tail IsBytePair pair pairs small)
+-- the pairs are read as they were written
+pub raw_pairs-compact_form : (pairs : List (List ℕ × List ℕ)) → raw_pairs (compact_form pairs) ≡ map written_pair pairs
+raw_pairs-compact_form [] = raw_pairs-nil
+raw_pairs-compact_form (pair ∷ pairs) = ap raw_pairs (compact_nonempty (compact_pair pair) pairs (compact_pair_nonempty pair)) ∙ raw_later pair pairs

@@ -24,11 +24,11 @@ pub(crate) fn draw_id<R: TryRng>(rng: &mut R) -> Result<[u8; 16], SessionError>
 }
 
 // The id that has this text, else zeros.
-pub(crate) fn id_of(alloc: Global, text: &str) -> Result<[u8; 16], AllocError>
+pub(crate) fn id_of(alloc: Global, text: &[u8]) -> Result<[u8; 16], AllocError>
     ensures { IfOk result (λ id. (written : List ℕ) → IsId written → text.now ≡ id_text written
         → id ≡ written) }
 {
-    let bytes = match URL_SAFE_NO_PAD.decode(alloc, text.as_bytes()) {
+    let bytes = match URL_SAFE_NO_PAD.decode(alloc, text) {
         Ok(bytes) => bytes,
         Err(DecodeAllocError::DecodeError(_)) => return Ok([0; ID_LENGTH]),
         Err(DecodeAllocError::OutOfMemory) => return Err(AllocError),

@@ -134,22 +134,18 @@ impl KeyRing {
             OpensExactly None self.now (view jar.now name.now) answer) }
     {
         match jar.get(name) {
-            Some(cookie) => self.open(None, cookie),
+            Some(cookie) => self.open(cookie),
             None => Ok(None),
         }
     }
 
-    // A copy of the cookie, opened by the newest key that opens it, for the purpose if there is one.
-    pub(crate) fn open(
-        &self,
-        purpose: Option<&str>,
-        cookie: &Cookie<'static>,
-    ) -> Result<Option<Opening>, AllocError>
+    // A copy of the cookie, opened by the newest key that opens it.
+    fn open(&self, cookie: &Cookie<'static>) -> Result<Option<Opening>, AllocError>
         ensures { Gives alloc_error result (λ answer.
-            OpensExactly (option_copied purpose.entry) self.now (Some cookie.now.fields) answer) }
+            OpensExactly None self.now (Some cookie.now.fields) answer) }
     {
         let alloc = *self.keys.allocator();
-        let Some(opened) = self.open_text(purpose, cookie.name(), cookie.value())? else {
+        let Some(opened) = self.open_text(None, cookie.name(), cookie.value())? else {
             return Ok(None);
         };
         let mut cookie = cookie.clone(alloc)?;
@@ -183,7 +179,8 @@ impl KeyRing {
     ) -> Result<Option<OpenedText>, AllocError>
         ensures { Gives alloc_error result (λ answer. (place : ℕ) (value : List ℕ)
             → (option_map text_opened_at answer ≡ Some (place, value))
-            ↔ OpensTextAt (purpose_of sealed.now) self.now place name.now (text_of sealed.now) value) }
+            ↔ OpensTextAt (purpose_of sealed.now) self.now place name.now
+            (text_of sealed.now) value) }
     {
         let alloc = *self.keys.allocator();
         for place in 0..self.len() {

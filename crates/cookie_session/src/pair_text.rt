@@ -1,5 +1,6 @@
 //! Pairs, written with no more escapes than the reader of a form needs (URL Standard 5.1).
 ghost use Rattle.std.specs.Prelude.{◌≡◌, ◌++◌, OnOk, encode_utf8, string_bytes};
+ghost use Rattle.std.specs.List.{list_any};
 ghost use Rattle.cookie_session.specs.Form.{escape_marks, is_mark, with_pair};
 
 use percent_encoding::percent_encode_byte;
@@ -22,10 +23,20 @@ pub(crate) fn push_pair(form: &mut String, name: &str, text: &str) -> Result<(),
 fn push_escaped(form: &mut String, text: &str) -> Result<(), AllocError>
     ensures { OnOk result (string_bytes form.new ≡ string_bytes form.old ++ escape_marks text.now) }
 {
+    if !has_mark(text) {
+        return form.push_str(text);
+    }
     for character in text.chars() {
         push_character(form, character)?;
     }
     Ok(())
+}
+
+// Whether a byte of the text is a mark.
+fn has_mark(text: &str) -> bool
+    ensures { result ≡ list_any is_mark text.now }
+{
+    text.as_bytes().iter().any(|byte| is_mark(*byte as char))
 }
 
 // Appends the character, escaped if it is a mark.

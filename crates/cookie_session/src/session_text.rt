@@ -1,11 +1,11 @@
 //! The text of a session, read back.
-ghost use Rattle.std.specs.Prelude.{◌≡◌, ◌↔◌, ◌<◌, ◌^◌, ℕ, Some, IfOk, string_bytes};
+ghost use Rattle.std.specs.Prelude.{◌≡◌, ◌↔◌, ◌<◌, ◌^◌, ℕ, Some, IfOk};
 ghost use Rattle.std.specs.FinMap.{empty};
 ghost use Rattle.std.specs.Fmt.{decimal};
 ghost use Rattle.form_urlencoded.specs.Parse.{raw_pairs_left};
-ghost use Rattle.cookie_session.specs.Form.{decoded_pairs, filled, form_pairs, form_text};
+ghost use Rattle.cookie_session.specs.Form.{decoded_pairs, filled};
 ghost use Rattle.cookie_session.specs.Reading.{ReadsId, ReadsNumber};
-ghost use Rattle.cookie_session.specs.Session.{IsSession, IsSessionText, SessionState, session_pairs};
+ghost use Rattle.cookie_session.specs.Session.{IsSessionText, SessionState};
 
 use crate::id::id_of;
 use crate::session::Session;
@@ -31,35 +31,34 @@ pub(crate) fn read_session(alloc: Global, text: &str) -> Result<Option<Session>,
 
 // The session that has this text, if there is one, else any.
 fn parse_session(alloc: Global, text: &str) -> Result<Session, AllocError>
-    ensures { IfOk result (λ session. (s : SessionState) → IsSession s
-        → form_pairs text.now ≡ session_pairs s → session ≡ s) }
+    ensures { IfOk result (λ session. (s : SessionState) → IsSessionText text.now s → session ≡ s) }
 {
     let mut pairs = raw_pairs(text.as_bytes());
-    let _version = next_number(alloc, &mut pairs)?;
+    let _version = pairs.next();
     let id = next_id(alloc, &mut pairs)?;
-    let started = next_number(alloc, &mut pairs)?;
-    let seen = next_number(alloc, &mut pairs)?;
+    let started = next_number(&mut pairs);
+    let seen = next_number(&mut pairs);
     let texts = texts_of(alloc, pairs)?;
     Ok(Session::of(id, started, seen, texts))
 }
 
-// The id that is the value of the next pair, else zeros.
+// The id that is the value of the next pair, else zeros. The text of an id has no escapes.
 fn next_id(alloc: Global, pairs: &mut RawPairs<'_>) -> Result<[u8; 16], AllocError>
     ensures { IfOk result (λ id. ReadsId pairs.old pairs.new id) }
 {
     match pairs.next() {
-        Some((_, value)) => id_of(alloc, form_text(alloc, value)?.as_str()),
+        Some((_, value)) => id_of(alloc, value),
         None => Ok([0; 16]),
     }
 }
 
-// The number that is the value of the next pair, else 0.
-fn next_number(alloc: Global, pairs: &mut RawPairs<'_>) -> Result<u64, AllocError>
-    ensures { IfOk result (λ number. ReadsNumber pairs.old pairs.new number) }
+// The number that is the value of the next pair, else 0. The text of a number has no escapes.
+fn next_number(pairs: &mut RawPairs<'_>) -> u64
+    ensures { ReadsNumber pairs.old pairs.new result }
 {
     match pairs.next() {
-        Some((_, value)) => Ok(number_of(form_text(alloc, value)?.as_str())),
-        None => Ok(0),
+        Some((_, value)) => number_of(str::from_utf8(value).unwrap_or("")),
+        None => 0,
     }
 }
 
@@ -90,16 +89,9 @@ pub(crate) fn texts_of(alloc: Global, pairs: RawPairs<'_>) -> Result<TextMap, Al
 {
     let mut texts = TextMap::new(alloc);
     for (name, value) in pairs {
-        let name = form_text(alloc, name)?;
-        let value = form_text(alloc, value)?;
-        texts.put(name.as_str(), value)?;
+        let name = decode(alloc, name)?;
+        let value = decode(alloc, value)?;
+        texts.put(&name, value.into_owned(alloc)?)?;
     }
     Ok(texts)
-}
-
-// The text of a name or a value of a form.
-fn form_text(alloc: Global, bytes: &[u8]) -> Result<String, AllocError>
-    ensures { IfOk result (λ text. string_bytes text ≡ form_text bytes.now) }
-{
-    decode(alloc, bytes)?.into_owned(alloc)
 }

@@ -166,10 +166,13 @@ impl<'a> Sessions<'a> {
             ↔ IsOpen self.now (Some cookie.now.fields) now place s) }
         ensures once { IfOk result (λ _. HoldsOne self.now (Some cookie.now.fields)) }
     {
-        let Some(opening) = self.keys.open(Some(PURPOSE), cookie)? else {
+        let Some(opened) = self
+            .keys
+            .open_text(Some(PURPOSE), cookie.name(), cookie.value())?
+        else {
             return Ok(None);
         };
-        let Some(session) = read_session(alloc, opening.cookie.value())? else {
+        let Some(session) = read_session(alloc, opened.value.as_str())? else {
             return Ok(None);
         };
         if !session.is_alive(self.lifetime, self.idle, session.seen(), second_of(now)) {
@@ -177,7 +180,7 @@ impl<'a> Sessions<'a> {
         }
         Ok(Some(Opened {
             session,
-            place: opening.place,
+            place: opened.place,
         }))
     }
 

@@ -4,9 +4,9 @@ use Rattle.cookie_session.proofs.ReadLemmas.{parsed}
 use Rattle.cookie_session.proofs.session_text.parse_session.Goals as goal
 
 pub returns : goal.returns
-returns c s is shown =
+returns c s is =
     c.of.ensures
-    ∙ parsed c.args.text.now c.raw_pairs-pairs.result c.next_number.new.pairs c.next_id.new.pairs c.next_number-2.new.pairs c.next_number-3.new.pairs
-    c.in_ok-_version._version c.in_ok-id.id c.in_ok-started.started c.in_ok-seen.seen c.in_ok-texts.texts
+    ∙ parsed c.args.text.now c.raw_pairs-pairs.result c.next-version.new.self c.next_id.new.pairs c.next_number-started.new.pairs c.next_number-seen.new.pairs
+    c.next-version.result c.in_ok-id.id c.next_number-started.result c.next_number-seen.result c.in_ok-texts.texts
     (c.raw_pairs-pairs.ensures.value ∙ ap raw_pairs c.as_bytes.ensures.value)
-    c.in_ok-_version.ensures c.in_ok-id.ensures c.in_ok-started.ensures c.in_ok-seen.ensures c.in_ok-texts.ensures s is shown
+    c.next-version.ensures.steps c.in_ok-id.ensures c.next_number-started.ensures c.next_number-seen.ensures c.in_ok-texts.ensures s is
