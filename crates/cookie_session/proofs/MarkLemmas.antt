@@ -188,15 +188,15 @@ split_pair-compact pair =
     let none = no_equals pair.0 in
     rw (append_assoc, split_once_before_at 61 _ (escape_marks pair.1) none, split_once_after_at 61 _ (escape_marks pair.1) none)
 
-compact_pair_nonempty : (pair : List ℕ × List ℕ) → 0 < length (compact_pair pair)
+pub compact_pair_nonempty : (pair : List ℕ × List ℕ) → 0 < length (compact_pair pair)
 compact_pair_nonempty pair = simp length-append (omega arith)
 
 -- each further pair, with `&` before it
-abbrev later_pairs : List (List ℕ × List ℕ) → List ℕ
+abbrev pub later_pairs : List (List ℕ × List ℕ) → List ℕ
 later_pairs [] = []
 later_pairs (pair ∷ pairs) = 38 ∷ compact_pair pair ++ later_pairs pairs
 
-compact_nonempty : (form : List ℕ) (pairs : List (List ℕ × List ℕ)) → 0 < length form → fold with_pair form pairs ≡ form ++ later_pairs pairs
+pub compact_nonempty : (form : List ℕ) (pairs : List (List ℕ × List ℕ)) → 0 < length form → fold with_pair form pairs ≡ form ++ later_pairs pairs
 compact_nonempty form [] nonempty = sym (append-nil form)
 compact_nonempty form (pair ∷ pairs) nonempty =
     let longer : 0 < length (with_pair form pair) = simp length-append (omega arith) in

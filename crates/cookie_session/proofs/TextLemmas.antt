@@ -1,5 +1,5 @@
 -- The text of a session: its pairs are read back.
-use Rattle.std.proofs.Common.{◌≡◌, ℕ, zero, suc, ◌^◌, ◌<◌, List, [], ◌∷◌, map, All, IsUtf8, refl, sym, ap, ◌∙◌}
+use Rattle.std.proofs.Common.{◌≡◌, ℕ, zero, suc, ◌^◌, ◌<◌, List, [], ◌∷◌, ◌++◌, map, All, IsUtf8, append_assoc, append-nil, codes, refl, sym, ap, ◌∙◌}
 use Rattle.std.proofs.lemmas.Fmt.{IsAscii-decimal}
 use Rattle.std.proofs.lemmas.List.Elements.{All-nil, All-cons, All-head, All-tail, All-weaker}
 use Rattle.std.proofs.lemmas.Simd.{map-map}
@@ -10,8 +10,9 @@ use Rattle.form_urlencoded.specs.Form.{decode, extend_pairs, raw_pairs}
 use Rattle.form_urlencoded.proofs.FormLemmas.{IsBytePair, round_trip}
 use Rattle.cookie.specs.Bytes.{IsBytes}
 use Rattle.cookie.proofs.SealingLemmas.{bytes_text}
-use Rattle.cookie_session.specs.Form.{decoded_pairs, escape_marks, form_pairs, form_text}
-use Rattle.cookie_session.proofs.MarkLemmas.{decode-escape_marks, written_pair}
+use Rattle.cookie_session.specs.Form.{compact_form, compact_pair, decoded_pairs, escape_marks, form_pairs, form_text}
+use Rattle.cookie_session.specs.Id.{id_text}
+use Rattle.cookie_session.proofs.MarkLemmas.{compact_nonempty, compact_pair_nonempty, decode-escape_marks, escape_marks-decimal, escape_marks-id_text, escape_marks_unmarked, written_pair}
 
 abbrev IsTextPair : List ℕ × List ℕ → Type 0
 IsTextPair e = IsUtf8 e.0 × IsUtf8 e.1
@@ -54,3 +55,32 @@ decoded_pairs-written [] are = refl
 decoded_pairs-written (e ∷ es) are =
     let first = All-head IsTextPair e es are in
     λ i. (form_text-written e.0 first.0 i, form_text-written e.1 first.1 i) ∷ decoded_pairs-written es (All-tail IsTextPair e es are) i
+
+-- what comes before the texts
+abbrev pub head_text : List ℕ → ℕ → ℕ → List ℕ
+head_text id started seen = codes "v=3&id=" ++ id_text id ++ codes "&started=" ++ decimal started ++ codes "&seen=" ++ decimal seen
+
+-- the text so far, as its pieces were appended
+pub head_pieces : (t0 t1 t2 t3 t4 t5 t6 a b id : List ℕ) (started seen : ℕ) → a ≡ decimal started → b ≡ decimal seen → t0 ≡ [] → t1 ≡ t0 ++ codes "v=3&id="
+    → t2 ≡ t1 ++ id_text id → t3 ≡ t2 ++ codes "&started=" → t4 ≡ t3 ++ a → t5 ≡ t4 ++ codes "&seen=" → t6 ≡ t5 ++ b → t6 ≡ head_text id started seen
+head_pieces t0 t1 t2 t3 t4 t5 t6 a b id started seen is also e0 e1 e2 e3 e4 e5 e6 = joined (id_text id) (decimal started) (decimal seen) is also e0 e1 e2 e3 e4 e5 e6
+  where
+    joined : (i x y : List ℕ) → a ≡ x → b ≡ y → t0 ≡ [] → t1 ≡ t0 ++ codes "v=3&id=" → t2 ≡ t1 ++ i → t3 ≡ t2 ++ codes "&started=" → t4 ≡ t3 ++ a → t5 ≡ t4 ++ codes "&seen=" → t6 ≡ t5 ++ b
+        → t6 ≡ codes "v=3&id=" ++ i ++ codes "&started=" ++ x ++ codes "&seen=" ++ y
+    joined i x y p q f0 f1 f2 f3 f4 f5 f6 = simp (f6, f5, f4, f3, f2, f1, f0, p, q, append_assoc) refl
+
+-- these are the first pairs, as a form
+pub head_pairs : (id : List ℕ) (started seen : ℕ) → started < 2 ^ 64 → seen < 2 ^ 64
+    → head_text id started seen ≡ compact_form ((codes "v", codes "3") ∷ (codes "id", id_text id) ∷ (codes "started", decimal started) ∷ (codes "seen", decimal seen) ∷ [])
+head_pairs id started seen small also = plain (id_text id) (decimal started) (decimal seen) (escape_marks-id_text id) (escape_marks-decimal started small) (escape_marks-decimal seen also)
+  where
+    plain : (i a b : List ℕ) → escape_marks i ≡ i → escape_marks a ≡ a → escape_marks b ≡ b
+        → codes "v=3&id=" ++ i ++ codes "&started=" ++ a ++ codes "&seen=" ++ b ≡ compact_form ((codes "v", codes "3") ∷ (codes "id", i) ∷ (codes "started", a) ∷ (codes "seen", b) ∷ [])
+    plain i a b stays start last =
+        let version = escape_marks_unmarked (codes "v") refl in
+        let three = escape_marks_unmarked (codes "3") refl in
+        let id_name = escape_marks_unmarked (codes "id") refl in
+        let started_name = escape_marks_unmarked (codes "started") refl in
+        let seen_name = escape_marks_unmarked (codes "seen") refl in
+        sym (compact_nonempty (compact_pair (codes "v", codes "3")) ((codes "id", i) ∷ (codes "started", a) ∷ (codes "seen", b) ∷ []) (compact_pair_nonempty (codes "v", codes "3"))
+        ∙ simp (version, three, id_name, started_name, seen_name, stays, start, last, append_assoc, append-nil) refl)

@@ -6,6 +6,9 @@ ghost use Rattle.cookie_session.specs.Form.{escape_marks, is_mark, with_pair};
 use percent_encoding::percent_encode_byte;
 use std::alloc::AllocError;
 
+// A bit for each mark: what the reader of a form gives a meaning.
+const MARKS: u64 = 1 << b'%' | 1 << b'&' | 1 << b'+' | 1 << b'=';
+
 // Appends `name=text`, after an `&` if it isn't the first pair.
 pub(crate) fn push_pair(form: &mut String, name: &str, text: &str) -> Result<(), AllocError>
     ensures { OnOk result (string_bytes form.new
@@ -51,9 +54,9 @@ fn push_character(form: &mut String, character: char) -> Result<(), AllocError>
     }
 }
 
-// Whether the reader of a form gives the character a meaning.
+// Whether the character is a mark.
 fn is_mark(character: char) -> bool
     ensures { result ≡ is_mark character }
 {
-    matches!(character, '%' | '&' | '+' | '=')
+    character < '@' && MARKS >> (character as u32) & 1 == 1
 }

@@ -15,10 +15,14 @@ use crate::session_error::SessionError;
 use base64::engine::general_purpose::URL_SAFE_NO_PAD;
 use cookie::{Pairs, TextMap};
 use form_urlencoded::Serializer;
+use itoa::Buffer;
 use jiff::civil::DateTime;
 use rand_core::TryRng;
 use std::alloc::{AllocError, Global};
 use std::marker::Model;
+
+// Most texts have at most this many bytes.
+const USUAL_LENGTH: usize = 256;
 
 /// A session: its id, when it started, when it was last saved, and texts by name. Contracts see these as a
 /// `SessionState`.
@@ -204,17 +208,17 @@ impl Session {
             && (now < seen || now - seen < idle as u64)
     }
 
-    // The text of the session, saved in the second `seen`.
+    // The text of the session, saved in the second `seen`. An id and a number have no escapes.
     pub(crate) fn text_at(&self, alloc: Global, seen: u64) -> Result<String, AllocError>
         ensures { IfOk result (λ text. IsSessionText (string_bytes text) (seen_at seen self.now)) }
     {
-        let mut text = String::new(alloc);
-        push_pair(&mut text, "v", "3")?;
-        let id = URL_SAFE_NO_PAD.encode(alloc, &self.id)?;
-        push_pair(&mut text, "id", id.as_str())?;
-        let started = self.started;
-        push_pair(&mut text, "started", started.to_string(alloc)?.as_str())?;
-        push_pair(&mut text, "seen", seen.to_string(alloc)?.as_str())?;
+        let mut text = String::with_capacity(alloc, USUAL_LENGTH)?;
+        text.push_str("v=3&id=")?;
+        URL_SAFE_NO_PAD.encode_string(&self.id, &mut text)?;
+        text.push_str("&started=")?;
+        text.push_str(Buffer::new().format(self.started))?;
+        text.push_str("&seen=")?;
+        text.push_str(Buffer::new().format(seen))?;
         for (name, value) in self.texts.pairs() {
             push_pair(&mut text, name, value)?;
         }

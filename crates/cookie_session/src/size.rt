@@ -1,6 +1,6 @@
 //! The size of a cookie as a browser counts it.
-ghost use Rattle.std.specs.Prelude.{◌≡◌, ◌<◌, ◌^◌, IfOk, length};
-ghost use Rattle.cookie.specs.Escapes.{escape};
+ghost use Rattle.std.specs.Prelude.{◌≡◌, ◌<◌, ◌^◌, IfOk, IsTrue, false, length};
+ghost use Rattle.cookie.specs.Escapes.{escape, is_escaped};
 ghost use Rattle.cookie.specs.Record.{IsCookie};
 ghost use Rattle.cookie.specs.Size.{browser_length};
 
@@ -27,9 +27,30 @@ fn printed_length(alloc: Global, text: &str) -> Result<usize, AllocError>
     if text.len() > MOST_BYTES {
         return Ok(encode(text).to_string(alloc)?.len());
     }
+    if has_plain_bytes(text) {
+        return Ok(text.len());
+    }
     let mut count = 0;
     for byte in text.as_bytes() {
         count += if is_escaped(*byte) { 3 } else { 1 };
     }
     Ok(count)
+}
+
+// Whether each byte is plain. Such a text has no escapes.
+fn has_plain_bytes(text: &str) -> bool
+    ensures { IsTrue result → length (escape text.now) ≡ length text.now }
+{
+    let mut are_plain = true;
+    for byte in text.as_bytes() {
+        are_plain &= is_plain(*byte);
+    }
+    are_plain
+}
+
+// Whether the byte is a letter, a digit, `-` or `_`, as in base64url. None of them is escaped.
+fn is_plain(byte: u8) -> bool
+    ensures { IsTrue result → is_escaped byte ≡ false }
+{
+    byte.is_ascii_alphanumeric() || byte == b'-' || byte == b'_'
 }
