@@ -1,5 +1,7 @@
+pub mod DigitLemmas
 pub mod FillLemmas
 pub mod FirstLemmas
+pub mod IdLemmas
 pub mod KeyRingLemmas
 pub mod KeyTextLemmas
 pub mod MarkLemmas

@@ -96,7 +96,7 @@ escape_marks-id_text id = subst (λ t. escape_marks t ≡ t) (sym (append-nil (e
 
 -- ---- a character
 
-past_ascii : (b : ℕ) → 128 ≤ b → is_mark b ≡ false
+pub past_ascii : (b : ℕ) → 128 ≤ b → is_mark b ≡ false
 past_ascii b large = grind (arith, nat_tests)
 
 marks_are_ascii : (b : ℕ) → is_mark b ≡ true → b < 128

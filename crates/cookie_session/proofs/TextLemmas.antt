@@ -1,16 +1,17 @@
 -- The text of a session: its pairs are read back.
-use Rattle.std.proofs.Common.{◌≡◌, ℕ, zero, suc, ◌^◌, ◌<◌, List, [], ◌∷◌, ◌++◌, map, All, IsUtf8, append_assoc, append-nil, codes, refl, sym, ap, ◌∙◌}
+use Rattle.std.proofs.Common.{◌≡◌, ℕ, zero, suc, ◌^◌, ◌<◌, false, List, [], ◌∷◌, ◌++◌, map, All, IsUtf8, append_assoc, append-nil, codes, refl, sym, ap, subst, ◌∙◌}
 use Rattle.std.proofs.lemmas.Fmt.{IsAscii-decimal}
 use Rattle.std.proofs.lemmas.List.Elements.{All-nil, All-cons, All-head, All-tail, All-weaker}
 use Rattle.std.proofs.lemmas.Simd.{map-map}
 use Rattle.std.proofs.lemmas.Str.{IsUtf8-from_ascii, utf8_lossy-IsUtf8}
 use Rattle.std.specs.Fmt.{decimal}
+use Rattle.std.specs.List.{list_any}
 use Rattle.std.specs.Str.Lossy.{utf8_lossy}
 use Rattle.form_urlencoded.specs.Form.{decode, extend_pairs, raw_pairs}
 use Rattle.form_urlencoded.proofs.FormLemmas.{IsBytePair, round_trip}
 use Rattle.cookie.specs.Bytes.{IsBytes}
 use Rattle.cookie.proofs.SealingLemmas.{bytes_text}
-use Rattle.cookie_session.specs.Form.{compact_form, compact_pair, decoded_pairs, escape_marks, form_pairs, form_text}
+use Rattle.cookie_session.specs.Form.{compact_form, compact_pair, decoded_pairs, escape_marks, form_pairs, form_text, is_mark}
 use Rattle.cookie_session.specs.Id.{id_text}
 use Rattle.cookie_session.proofs.MarkLemmas.{compact_nonempty, compact_pair_nonempty, decode-escape_marks, escape_marks-decimal, escape_marks-id_text, escape_marks_unmarked, written_pair}
 
@@ -49,7 +50,11 @@ form_pairs-extended es are =
 form_text-written : (text : List ℕ) → IsUtf8 text → form_text (escape_marks text) ≡ text
 form_text-written text is = ap utf8_lossy (decode-escape_marks text (small_text text is)) ∙ utf8_lossy-IsUtf8 text is
 
--- so are pairs of texts
+-- a text without marks stands for itself
+pub form_text-unmarked : (text : List ℕ) → IsUtf8 text → list_any is_mark text ≡ false → form_text text ≡ text
+form_text-unmarked text is none = subst (λ t. form_text t ≡ text) (escape_marks_unmarked text none) (form_text-written text is)
+
+-- pairs of texts that were written are read back
 pub decoded_pairs-written : (es : List (List ℕ × List ℕ)) → All IsTextPair es → decoded_pairs (map written_pair es) ≡ es
 decoded_pairs-written [] are = refl
 decoded_pairs-written (e ∷ es) are =

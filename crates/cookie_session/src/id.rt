@@ -4,12 +4,13 @@ ghost use Rattle.cookie_session.specs.Id.{IsId, id_text};
 ghost use Rattle.cookie_session.specs.declared.session_error.SessionError.TheVariants as refusal;
 
 use crate::session_error::SessionError;
-use base64::DecodeAllocError;
 use base64::engine::general_purpose::URL_SAFE_NO_PAD;
 use rand_core::TryRng;
-use std::alloc::{AllocError, Global};
 
 pub(crate) const ID_LENGTH: usize = 16;
+
+// The bytes of an id's text.
+const TEXT_LENGTH: usize = 22;
 
 // Sixteen bytes from one draw.
 pub(crate) fn draw_id<R: TryRng>(rng: &mut R) -> Result<[u8; 16], SessionError>
@@ -24,17 +25,20 @@ pub(crate) fn draw_id<R: TryRng>(rng: &mut R) -> Result<[u8; 16], SessionError>
 }
 
 // The id that has this text, else zeros.
-pub(crate) fn id_of(alloc: Global, text: &[u8]) -> Result<[u8; 16], AllocError>
-    ensures { IfOk result (λ id. (written : List ℕ) → IsId written → text.now ≡ id_text written
-        → id ≡ written) }
+pub(crate) fn id_of(text: &[u8]) -> [u8; 16]
+    ensures { (written : List ℕ) → IsId written → text.now ≡ id_text written → result ≡ written }
 {
-    let bytes = match URL_SAFE_NO_PAD.decode(alloc, text) {
-        Ok(bytes) => bytes,
-        Err(DecodeAllocError::DecodeError(_)) => return Ok([0; ID_LENGTH]),
-        Err(DecodeAllocError::OutOfMemory) => return Err(AllocError),
-    };
-    match bytes.as_slice().first_chunk::<ID_LENGTH>() {
-        Some(id) => Ok(*id),
-        None => Ok([0; ID_LENGTH]),
+    // Room for six groups of four symbols.
+    let mut bytes = [0; 18];
+    if text.len() != TEXT_LENGTH
+        || URL_SAFE_NO_PAD
+            .decode_slice_unchecked(text, &mut bytes)
+            .is_err()
+    {
+        return [0; ID_LENGTH];
+    }
+    match bytes.first_chunk::<ID_LENGTH>() {
+        Some(id) => *id,
+        None => [0; ID_LENGTH],
     }
 }

@@ -6,8 +6,17 @@ ghost use Rattle.cookie_session.specs.Form.{escape_marks, is_mark, with_pair};
 use percent_encoding::percent_encode_byte;
 use std::alloc::AllocError;
 
-// A bit for each mark: what the reader of a form gives a meaning.
-const MARKS: u64 = 1 << b'%' | 1 << b'&' | 1 << b'+' | 1 << b'=';
+// 1 at each mark: `%`, `&`, `+` and `=`, which the reader of a form gives a meaning.
+const MARKS: [u8; 256] = [
+    0, 0, 0, 0, 0, 0, 0, 0, 0, 0, 0, 0, 0, 0, 0, 0, 0, 0, 0, 0, 0, 0, 0, 0, 0, 0, 0, 0, 0, 0, 0, 0,
+    0, 0, 0, 0, 0, 1, 1, 0, 0, 0, 0, 1, 0, 0, 0, 0, 0, 0, 0, 0, 0, 0, 0, 0, 0, 0, 0, 0, 0, 1, 0, 0,
+    0, 0, 0, 0, 0, 0, 0, 0, 0, 0, 0, 0, 0, 0, 0, 0, 0, 0, 0, 0, 0, 0, 0, 0, 0, 0, 0, 0, 0, 0, 0, 0,
+    0, 0, 0, 0, 0, 0, 0, 0, 0, 0, 0, 0, 0, 0, 0, 0, 0, 0, 0, 0, 0, 0, 0, 0, 0, 0, 0, 0, 0, 0, 0, 0,
+    0, 0, 0, 0, 0, 0, 0, 0, 0, 0, 0, 0, 0, 0, 0, 0, 0, 0, 0, 0, 0, 0, 0, 0, 0, 0, 0, 0, 0, 0, 0, 0,
+    0, 0, 0, 0, 0, 0, 0, 0, 0, 0, 0, 0, 0, 0, 0, 0, 0, 0, 0, 0, 0, 0, 0, 0, 0, 0, 0, 0, 0, 0, 0, 0,
+    0, 0, 0, 0, 0, 0, 0, 0, 0, 0, 0, 0, 0, 0, 0, 0, 0, 0, 0, 0, 0, 0, 0, 0, 0, 0, 0, 0, 0, 0, 0, 0,
+    0, 0, 0, 0, 0, 0, 0, 0, 0, 0, 0, 0, 0, 0, 0, 0, 0, 0, 0, 0, 0, 0, 0, 0, 0, 0, 0, 0, 0, 0, 0, 0,
+];
 
 // Appends `name=text`, after an `&` if it isn't the first pair.
 pub(crate) fn push_pair(form: &mut String, name: &str, text: &str) -> Result<(), AllocError>
@@ -26,9 +35,18 @@ pub(crate) fn push_pair(form: &mut String, name: &str, text: &str) -> Result<(),
 fn push_escaped(form: &mut String, text: &str) -> Result<(), AllocError>
     ensures { OnOk result (string_bytes form.new ≡ string_bytes form.old ++ escape_marks text.now) }
 {
-    if !has_mark(text) {
-        return form.push_str(text);
+    if has_mark(text) {
+        push_marked(form, text)
+    } else {
+        form.push_str(text)
     }
+}
+
+// The same, character by character. It is apart so that texts without marks cost less.
+#[inline(never)]
+fn push_marked(form: &mut String, text: &str) -> Result<(), AllocError>
+    ensures { OnOk result (string_bytes form.new ≡ string_bytes form.old ++ escape_marks text.now) }
+{
     for character in text.chars() {
         push_character(form, character)?;
     }
@@ -36,10 +54,10 @@ fn push_escaped(form: &mut String, text: &str) -> Result<(), AllocError>
 }
 
 // Whether a byte of the text is a mark.
-fn has_mark(text: &str) -> bool
+pub(crate) fn has_mark(text: &str) -> bool
     ensures { result ≡ list_any is_mark text.now }
 {
-    text.as_bytes().iter().any(|byte| is_mark(*byte as char))
+    text.as_bytes().iter().any(|byte| is_mark(*byte))
 }
 
 // Appends the character, escaped if it is a mark.
@@ -47,16 +65,16 @@ fn push_character(form: &mut String, character: char) -> Result<(), AllocError>
     ensures { OnOk result (string_bytes form.new
         ≡ string_bytes form.old ++ escape_marks (encode_utf8 character)) }
 {
-    if is_mark(character) {
+    if character.is_ascii() && is_mark(character as u8) {
         form.push_str(percent_encode_byte(character as u8))
     } else {
         form.push(character)
     }
 }
 
-// Whether the character is a mark.
-fn is_mark(character: char) -> bool
-    ensures { result ≡ is_mark character }
+// Whether the byte is a mark.
+fn is_mark(byte: u8) -> bool
+    ensures { result ≡ is_mark byte }
 {
-    character < '@' && MARKS >> (character as u32) & 1 == 1
+    MARKS[byte as usize] == 1
 }

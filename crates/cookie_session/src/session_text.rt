@@ -1,18 +1,21 @@
 //! The text of a session, read back.
 ghost use Rattle.std.specs.Prelude.{◌≡◌, ◌↔◌, ◌<◌, ◌^◌, ℕ, Some, IfOk};
+ghost use Rattle.std.specs.Cow.{cow_str_bytes};
 ghost use Rattle.std.specs.FinMap.{empty};
 ghost use Rattle.std.specs.Fmt.{decimal};
 ghost use Rattle.form_urlencoded.specs.Parse.{raw_pairs_left};
-ghost use Rattle.cookie_session.specs.Form.{decoded_pairs, filled};
+ghost use Rattle.cookie_session.specs.Form.{decoded_pairs, filled, form_text};
 ghost use Rattle.cookie_session.specs.Reading.{ReadsId, ReadsNumber};
 ghost use Rattle.cookie_session.specs.Session.{IsSessionText, SessionState};
 
 use crate::id::id_of;
+use crate::pair_text::has_mark;
 use crate::session::Session;
 use cookie::TextMap;
 use form_urlencoded::{RawPairs, decode, raw_pairs};
 use itoa::Buffer;
 use std::alloc::{AllocError, Global};
+use std::borrow::CowStr;
 
 // The session that has this text, if there is one.
 pub(crate) fn read_session(alloc: Global, text: &str) -> Result<Option<Session>, AllocError>
@@ -35,7 +38,7 @@ fn parse_session(alloc: Global, text: &str) -> Result<Session, AllocError>
 {
     let mut pairs = raw_pairs(text.as_bytes());
     let _version = pairs.next();
-    let id = next_id(alloc, &mut pairs)?;
+    let id = next_id(&mut pairs);
     let started = next_number(&mut pairs);
     let seen = next_number(&mut pairs);
     let texts = texts_of(alloc, pairs)?;
@@ -43,30 +46,34 @@ fn parse_session(alloc: Global, text: &str) -> Result<Session, AllocError>
 }
 
 // The id that is the value of the next pair, else zeros. The text of an id has no escapes.
-fn next_id(alloc: Global, pairs: &mut RawPairs<'_>) -> Result<[u8; 16], AllocError>
-    ensures { IfOk result (λ id. ReadsId pairs.old pairs.new id) }
+fn next_id(pairs: &mut RawPairs<'_>) -> [u8; 16]
+    ensures { ReadsId pairs.old pairs.new result }
 {
     match pairs.next() {
-        Some((_, value)) => id_of(alloc, value),
-        None => Ok([0; 16]),
+        Some((_, value)) => id_of(value),
+        None => [0; 16],
     }
 }
 
-// The number that is the value of the next pair, else 0. The text of a number has no escapes.
+// The number that is the value of the next pair, else any. The text of a number has no escapes.
 fn next_number(pairs: &mut RawPairs<'_>) -> u64
     ensures { ReadsNumber pairs.old pairs.new result }
 {
     match pairs.next() {
-        Some((_, value)) => number_of(str::from_utf8(value).unwrap_or("")),
+        Some((_, value)) => number_of(value),
         None => 0,
     }
 }
 
-// The number that has this text, else 0.
-fn number_of(text: &str) -> u64
+// The number that has this text, else any. The low half of a digit's byte is its value.
+fn number_of(text: &[u8]) -> u64
     ensures { (number : ℕ) → number < 2 ^ 64 → text.now ≡ decimal number → result ≡ number }
 {
-    text.parse().unwrap_or(0)
+    let mut number = 0u64;
+    for digit in text {
+        number = number.wrapping_mul(10).wrapping_add(u64::from(*digit % 16));
+    }
+    number
 }
 
 // The number whose text this is, if there is one.
@@ -74,7 +81,7 @@ pub(crate) fn exact_number(text: &str) -> Option<u64>
     ensures { (number : ℕ) → (result ≡ Some number)
         ↔ ((number < 2 ^ 64) × (text.now ≡ decimal number)) }
 {
-    let number = number_of(text);
+    let number = number_of(text.as_bytes());
     if Buffer::new().format(number) == text {
         Some(number)
     } else {
@@ -89,9 +96,27 @@ pub(crate) fn texts_of(alloc: Global, pairs: RawPairs<'_>) -> Result<TextMap, Al
 {
     let mut texts = TextMap::new(alloc);
     for (name, value) in pairs {
-        let name = decode(alloc, name)?;
-        let value = decode(alloc, value)?;
+        let name = form_text(alloc, name)?;
+        let value = form_text(alloc, value)?;
         texts.put(&name, value.into_owned(alloc)?)?;
     }
     Ok(texts)
+}
+
+// The text that a name or a value of a form stands for. Without marks it is itself.
+fn form_text(alloc: Global, bytes: &[u8]) -> Result<CowStr<'_>, AllocError>
+    ensures { IfOk result (λ text. cow_str_bytes text ≡ form_text bytes.now) }
+{
+    match str::from_utf8(bytes) {
+        Ok(text) if !has_mark(text) => Ok(CowStr::Borrowed(text)),
+        _ => marked_text(alloc, bytes),
+    }
+}
+
+// The same of any bytes. It is apart so that texts without marks cost less.
+#[inline(never)]
+fn marked_text(alloc: Global, bytes: &[u8]) -> Result<CowStr<'_>, AllocError>
+    ensures { IfOk result (λ text. cow_str_bytes text ≡ form_text bytes.now) }
+{
+    decode(alloc, bytes)
 }

@@ -1,23 +1,17 @@
-use Rattle.std.proofs.Common.{◌≡◌, length, take, refl, sym, ap, subst, ◌∙◌, arith}
-use Rattle.std.proofs.lemmas.List.{take_all}
-use Rattle.base64.specs.Engines.{url_safe_no_pad}
-use Rattle.base64.specs.GeneralPurpose.{IsDecodeFailure}
+use Rattle.std.proofs.Common.{length, ap, rules, sym, ◌∙◌}
+use Rattle.cookie_session.proofs.IdLemmas.{decoded_id, length-id_text, undecoded}
 use Rattle.cookie_session.proofs.id.id_of.Goals as goal
+use Rattle.cookie_session.proofs.id.id_of.Goals.{then-text-ne-TEXT_LENGTH-via-then-text-ne-TEXT_LENGTH, then-text-ne-TEXT_LENGTH-via-else-text-ne-TEXT_LENGTH+then-is_err}
 
-pub returns-in-Err-DecodeError : goal.returns-in-Err-DecodeError
-returns-in-Err-DecodeError c written is shown =
-    let found = (c.in-Err-DecodeError.ensures.strict (refl, refl) written is.bytes).1 shown in
-    let failed = subst (IsDecodeFailure url_safe_no_pad c.args.text.now) c.in-Err-DecodeError.field-0-is c.in-Err-DecodeError.ensures.err in
-    absurd (let clash = sym found ∙ failed in cc)
+pub returns-then-text-ne-TEXT_LENGTH : goal.returns-then-text-ne-TEXT_LENGTH
+returns-then-text-ne-TEXT_LENGTH c written is shown = elim c.then-text-ne-TEXT_LENGTH.branch [
+  | then-text-ne-TEXT_LENGTH-via-then-text-ne-TEXT_LENGTH w ↦ absurd (w.if-text-ne-TEXT_LENGTH.true (ap length shown ∙ length-id_text written is))
+  | then-text-ne-TEXT_LENGTH-via-else-text-ne-TEXT_LENGTH+then-is_err w ↦
+      absurd (undecoded c.args.text.now written w.decode_slice_unchecked.result (sym w.is_err.ensures.value ∙ w.if-is_err.true) w.decode_slice_unchecked.ensures.err is shown)
+]
 
 pub returns-in-Some : goal.returns-in-Some
 returns-in-Some c written is shown =
-    let found = (c.in-Ok.ensures.strict (refl, refl) written is.bytes).1 shown in
-    let same : c.in-Ok.bytes.items ≡ written = let e = sym c.in-Ok.ensures.ok ∙ found in cc in
-    c.in-Some.ensures.cases.same ∙ ap (take 16) (c.as_slice.ensures.value ∙ same) ∙ take_all 16 written (omega (arith, is.long))
-
-pub returns : goal.returns
-returns c written is shown =
-    let found = (c.in-Ok.ensures.strict (refl, refl) written is.bytes).1 shown in
-    let same : c.in-Ok.bytes.items ≡ written = let e = sym c.in-Ok.ensures.ok ∙ found in cc in
-    absurd (omega (arith, c.in-None.ensures.cases, ap length (c.as_slice.ensures.value ∙ same), is.long))
+    c.in-Some.ensures.cases.same
+    ∙ decoded_id c.args.text.now written _ c.decode_slice_unchecked.new.output c.decode_slice_unchecked.result (sym c.is_err.ensures.value ∙ c.if-is_err.false)
+    c.decode_slice_unchecked.ensures.ok (search rules) is shown

@@ -1,9 +1,8 @@
-use Rattle.std.proofs.Common.{◌≡◌, Ok, ap, ◌∙◌}
-use Rattle.std.proofs.lemmas.Fmt.{parse-decimal}
-use Rattle.std.specs.Result.{result_unwrap_or}
+use Rattle.std.proofs.Common.{fold, ap, arith, ◌∙◌}
+use Rattle.std.proofs.lemmas.List.{take_all}
+use Rattle.cookie_session.proofs.DigitLemmas.{fold-decimal, with_digit}
 use Rattle.cookie_session.proofs.session_text.number_of.Goals as goal
 
 pub returns : goal.returns
-returns c number below is =
-    let read : c.parse.result ≡ Ok number = parse-decimal 64 number c.args.text.now c.parse.result below below is c.parse.ensures.value.0 in
-    c.unwrap_or.ensures ∙ ap (λ r. result_unwrap_or r 0) read
+returns c number small shown =
+    c.loop-digit.invariant ∙ ap (fold with_digit 0) (take_all c.loop-digit.digit-index c.args.text.now (omega arith) ∙ shown) ∙ fold-decimal number small

@@ -1,6 +1,6 @@
-use Rattle.std.proofs.Common.{◌≡◌, ◌+◌, ◌<◌, false, true, length, take, get_or, sym, ap, subst, ◌∙◌, arith}
+use Rattle.std.proofs.Common.{◌≡◌, ◌+◌, ◌<◌, false, length, get_or, sym, ap, subst, ◌∙◌}
 use Rattle.std.proofs.lemmas.Bool.{and_parts}
-use Rattle.cookie.specs.Escapes.{escape, is_escaped}
+use Rattle.cookie.specs.Escapes.{is_escaped}
 use Rattle.cookie.proofs.EscapeLengthLemmas.{length-escape_more, length-escape_none}
 use Rattle.cookie_session.proofs.size.has_plain_bytes.Goals as goal
 

@@ -1,4 +1,4 @@
-use Rattle.std.proofs.Common.{◌≡◌, None, Some, option_map, ap, subst, ◌∙◌}
+use Rattle.std.proofs.Common.{◌≡◌, None, option_map, ap, subst, ◌∙◌}
 use Rattle.std.specs.String.{string_bytes}
 use Rattle.cookie.specs.AnswersExactly.{with_value}
 use Rattle.cookie.specs.Record.{CookieView}

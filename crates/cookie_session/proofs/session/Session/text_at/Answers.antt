@@ -1,8 +1,7 @@
-use Rattle.std.proofs.Common.{List, ℕ, ap, fold, rules, string_bytes, subst, ◌∙◌}
-use Rattle.std.specs.FinMap.{entries}
+use Rattle.std.proofs.Common.{List, ℕ, ap, fold, rules, subst, ◌∙◌}
 use Rattle.cookie.specs.TextMap.{AreTexts}
 use Rattle.cookie_session.specs.Form.{with_pair}
-use Rattle.cookie_session.specs.Session.{IsSession, SessionState, seen_at, session_text}
+use Rattle.cookie_session.specs.Session.{IsSession, SessionState, seen_at}
 use Rattle.cookie_session.proofs.TextLemmas.{head_pairs, head_pieces}
 use Rattle.cookie_session.proofs.session.Session.text_at.Goals as goal
 
