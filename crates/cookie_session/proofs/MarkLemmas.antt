@@ -18,10 +18,11 @@ use Rattle.base64.specs.GeneralPurpose.{engine_symbols}
 use Rattle.base64.specs.Rfc4648.{encode_group, encode_symbols}
 use Rattle.percent_encoding.specs.Percent.{percent_encode_byte}
 use Rattle.percent_encoding.proofs.PercentLemmas.{IsByte, IsEscapeByte, All-percent_encode_byte, percent_decode-nil, percent_decode_not_percent, percent_decode-percent_encode_byte}
-use Rattle.form_urlencoded.specs.Form.{decode, plus_to_space, raw_pairs, separator, split_once, split_pair}
-use Rattle.form_urlencoded.proofs.FormLemmas.{map-plus_to_space, raw_pairs-nil, raw_pairs_first, split_once_after_at, split_once_after_none, split_once_before_at, split_once_before_none}
+use Rattle.form_urlencoded.specs.Form.{decode, plus_to_space, separator}
+use Rattle.form_urlencoded.proofs.FormLemmas.{map-plus_to_space}
 use Rattle.cookie_session.specs.Form.{compact_form, compact_pair, escape_mark, escape_marks, is_mark, with_pair}
 use Rattle.cookie_session.specs.Id.{id_text}
+use Rattle.cookie_session.specs.Reading.{later_pairs, pairs_text}
 
 -- ---- escapes
 
@@ -173,28 +174,14 @@ All-escape_marks P (b ∷ bs) kept escape =
     (λ _. All-weaker IsEscapeByte P escape (percent_encode_byte b) (All-percent_encode_byte b)) (λ is. All-cons P b [] (kept b is) (All-nil P)))
     (All-escape_marks P bs kept escape))
 
-no_equals : (bs : List ℕ) → All (λ b. b ≢ 61) (escape_marks bs)
+pub no_equals : (bs : List ℕ) → All (λ b. b ≢ 61) (escape_marks bs)
 no_equals bs = All-escape_marks (λ b. b ≢ 61) bs (λ b is. (not_mark b is).3) (λ b escape. (not_separator b escape).1)
 
-no_ampersand : (pair : List ℕ × List ℕ) → All (λ b. b ≢ 38) (compact_pair pair)
-no_ampersand pair =
-    let P = λ (b : ℕ). b ≢ 38 in
-    let part = λ (bs : List ℕ). All-escape_marks P bs (λ b is. (not_mark b is).1) (λ b escape. (not_separator b escape).0) in
-    All-append P (escape_marks pair.0 ++ 61 ∷ []) (escape_marks pair.1)
-    (All-append P (escape_marks pair.0) (61 ∷ []) (part pair.0) (All-cons P 61 [] (λ e. omega arith) (All-nil P))) (part pair.1)
-
-split_pair-compact : (pair : List ℕ × List ℕ) → split_pair (compact_pair pair) ≡ (escape_marks pair.0, escape_marks pair.1)
-split_pair-compact pair =
-    let none = no_equals pair.0 in
-    rw (append_assoc, split_once_before_at 61 _ (escape_marks pair.1) none, split_once_after_at 61 _ (escape_marks pair.1) none)
+pub no_ampersand : (bs : List ℕ) → All (λ b. b ≢ 38) (escape_marks bs)
+no_ampersand bs = All-escape_marks (λ b. b ≢ 38) bs (λ b is. (not_mark b is).1) (λ b escape. (not_separator b escape).0)
 
 pub compact_pair_nonempty : (pair : List ℕ × List ℕ) → 0 < length (compact_pair pair)
 compact_pair_nonempty pair = simp length-append (omega arith)
-
--- each further pair, with `&` before it
-abbrev pub later_pairs : List (List ℕ × List ℕ) → List ℕ
-later_pairs [] = []
-later_pairs (pair ∷ pairs) = 38 ∷ compact_pair pair ++ later_pairs pairs
 
 pub compact_nonempty : (form : List ℕ) (pairs : List (List ℕ × List ℕ)) → 0 < length form → fold with_pair form pairs ≡ form ++ later_pairs pairs
 compact_nonempty form [] nonempty = sym (append-nil form)
@@ -203,27 +190,7 @@ compact_nonempty form (pair ∷ pairs) nonempty =
     let joined : separator form ≡ 38 ∷ [] = cond-true _ _ _ (lt-ltb 0 _ nonempty) in
     compact_nonempty (with_pair form pair) pairs longer ∙ simp (joined, append_assoc)
 
--- a pair as it is written
-abbrev pub written_pair : List ℕ × List ℕ → List ℕ × List ℕ
-written_pair pair = (escape_marks pair.0, escape_marks pair.1)
-
--- a pair at the front of the input is read as it is written
-raw_first : (pair : List ℕ × List ℕ) (input rest : List ℕ) → (split_once 38 input).0 ≡ compact_pair pair → (split_once 38 input).1 ≡ rest → raw_pairs input ≡ written_pair pair ∷ raw_pairs rest
-raw_first pair input rest first others =
-    let nonempty : 0 < length ((split_once 38 input).0) = rw first (compact_pair_nonempty pair) in
-    let front : split_pair ((split_once 38 input).0) ≡ written_pair pair = ap split_pair first ∙ split_pair-compact pair in
-    raw_pairs_first input nonempty ∙ (λ i. front i ∷ raw_pairs (others i))
-
-raw_later : (pair : List ℕ × List ℕ) (pairs : List (List ℕ × List ℕ)) → raw_pairs (compact_pair pair ++ later_pairs pairs) ≡ map written_pair (pair ∷ pairs)
-raw_later pair [] =
-    let none = no_ampersand pair in
-    ap raw_pairs (append-nil (compact_pair pair)) ∙ raw_first pair _ [] (split_once_before_none 38 _ none) (split_once_after_none 38 _ none) ∙ ap (λ l. written_pair pair ∷ l) raw_pairs-nil
-raw_later pair (following ∷ pairs) =
-    let none = no_ampersand pair in
-    let rest = compact_pair following ++ later_pairs pairs in
-    raw_first pair _ rest (split_once_before_at 38 _ rest none) (split_once_after_at 38 _ rest none) ∙ ap (λ l. written_pair pair ∷ l) (raw_later following pairs)
-
--- the pairs are read as they were written
-pub raw_pairs-compact_form : (pairs : List (List ℕ × List ℕ)) → raw_pairs (compact_form pairs) ≡ map written_pair pairs
-raw_pairs-compact_form [] = raw_pairs-nil
-raw_pairs-compact_form (pair ∷ pairs) = ap raw_pairs (compact_nonempty (compact_pair pair) pairs (compact_pair_nonempty pair)) ∙ raw_later pair pairs
+-- a form is read from the front
+pub compact_form-read : (pairs : List (List ℕ × List ℕ)) → compact_form pairs ≡ pairs_text pairs
+compact_form-read [] = refl
+compact_form-read (pair ∷ pairs) = compact_nonempty (compact_pair pair) pairs (compact_pair_nonempty pair)

@@ -11,9 +11,9 @@ use Rattle.form_urlencoded.specs.Form.{decode, extend_pairs, raw_pairs}
 use Rattle.form_urlencoded.proofs.FormLemmas.{IsBytePair, round_trip}
 use Rattle.cookie.specs.Bytes.{IsBytes}
 use Rattle.cookie.proofs.SealingLemmas.{bytes_text}
-use Rattle.cookie_session.specs.Form.{compact_form, compact_pair, decoded_pairs, escape_marks, form_pairs, form_text, is_mark}
+use Rattle.cookie_session.specs.Form.{compact_form, compact_pair, escape_marks, form_pairs, form_text, is_mark}
 use Rattle.cookie_session.specs.Id.{id_text}
-use Rattle.cookie_session.proofs.MarkLemmas.{compact_nonempty, compact_pair_nonempty, decode-escape_marks, escape_marks-decimal, escape_marks-id_text, escape_marks_unmarked, written_pair}
+use Rattle.cookie_session.proofs.MarkLemmas.{compact_nonempty, compact_pair_nonempty, decode-escape_marks, escape_marks-decimal, escape_marks-id_text, escape_marks_unmarked}
 
 abbrev IsTextPair : List ℕ × List ℕ → Type 0
 IsTextPair e = IsUtf8 e.0 × IsUtf8 e.1
@@ -47,19 +47,12 @@ form_pairs-extended es are =
     ∙ lossy_pairs es are
 
 -- a text that was written is read back
-form_text-written : (text : List ℕ) → IsUtf8 text → form_text (escape_marks text) ≡ text
+pub form_text-written : (text : List ℕ) → IsUtf8 text → form_text (escape_marks text) ≡ text
 form_text-written text is = ap utf8_lossy (decode-escape_marks text (small_text text is)) ∙ utf8_lossy-IsUtf8 text is
 
 -- a text without marks stands for itself
 pub form_text-unmarked : (text : List ℕ) → IsUtf8 text → list_any is_mark text ≡ false → form_text text ≡ text
 form_text-unmarked text is none = subst (λ t. form_text t ≡ text) (escape_marks_unmarked text none) (form_text-written text is)
-
--- pairs of texts that were written are read back
-pub decoded_pairs-written : (es : List (List ℕ × List ℕ)) → All IsTextPair es → decoded_pairs (map written_pair es) ≡ es
-decoded_pairs-written [] are = refl
-decoded_pairs-written (e ∷ es) are =
-    let first = All-head IsTextPair e es are in
-    λ i. (form_text-written e.0 first.0 i, form_text-written e.1 first.1 i) ∷ decoded_pairs-written es (All-tail IsTextPair e es are) i
 
 -- what comes before the texts
 abbrev pub head_text : List ℕ → ℕ → ℕ → List ℕ

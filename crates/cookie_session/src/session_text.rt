@@ -1,18 +1,19 @@
 //! The text of a session, read back.
-ghost use Rattle.std.specs.Prelude.{◌≡◌, ◌↔◌, ◌<◌, ◌^◌, ℕ, Some, IfOk};
+ghost use Rattle.std.specs.Prelude.{◌≡◌, ◌↔◌, ◌<◌, ◌^◌, ◌∷◌, ℕ, List, Some, IfOk, length};
 ghost use Rattle.std.specs.Cow.{cow_str_bytes};
 ghost use Rattle.std.specs.FinMap.{empty};
 ghost use Rattle.std.specs.Fmt.{decimal};
 ghost use Rattle.form_urlencoded.specs.Parse.{raw_pairs_left};
-ghost use Rattle.cookie_session.specs.Form.{decoded_pairs, filled, form_text};
-ghost use Rattle.cookie_session.specs.Reading.{ReadsId, ReadsNumber};
+ghost use Rattle.cookie.specs.TextMap.{AreTexts};
+ghost use Rattle.cookie_session.specs.Form.{decoded_pairs, escape_marks, filled, form_text};
+ghost use Rattle.cookie_session.specs.Reading.{pairs_text};
 ghost use Rattle.cookie_session.specs.Session.{IsSessionText, SessionState};
 
 use crate::id::id_of;
 use crate::pair_text::has_mark;
 use crate::session::Session;
 use cookie::TextMap;
-use form_urlencoded::{RawPairs, decode, raw_pairs};
+use form_urlencoded::{RawPairs, decode};
 use itoa::Buffer;
 use std::alloc::{AllocError, Global};
 use std::borrow::CowStr;
@@ -36,33 +37,66 @@ pub(crate) fn read_session(alloc: Global, text: &str) -> Result<Option<Session>,
 fn parse_session(alloc: Global, text: &str) -> Result<Session, AllocError>
     ensures { IfOk result (λ session. (s : SessionState) → IsSessionText text.now s → session ≡ s) }
 {
-    let mut pairs = raw_pairs(text.as_bytes());
-    let _version = pairs.next();
-    let id = next_id(&mut pairs);
-    let started = next_number(&mut pairs);
-    let seen = next_number(&mut pairs);
-    let texts = texts_of(alloc, pairs)?;
-    Ok(Session::of(id, started, seen, texts))
+    let (_, _, rest) = first_pair(text);
+    let (_, id, rest) = first_pair(rest);
+    let (_, started, rest) = first_pair(rest);
+    let (_, seen, rest) = first_pair(rest);
+    let texts = written_texts(alloc, rest)?;
+    Ok(Session::of(
+        id_of(id.as_bytes()),
+        number_of(started.as_bytes()),
+        number_of(seen.as_bytes()),
+        texts,
+    ))
 }
 
-// The id that is the value of the next pair, else zeros. The text of an id has no escapes.
-fn next_id(pairs: &mut RawPairs<'_>) -> [u8; 16]
-    ensures { ReadsId pairs.old pairs.new result }
+// The name and the value of the first pair, with their escapes, and the text after it.
+fn first_pair(text: &str) -> (&str, &str, &str)
+    ensures parts { (pair : List ℕ × List ℕ) (pairs : List (List ℕ × List ℕ))
+        → text.now ≡ pairs_text (pair ∷ pairs)
+        → (result.0.now ≡ escape_marks pair.0) × (result.1.now ≡ escape_marks pair.1)
+        × (result.2.now ≡ pairs_text pairs) }
+    ensures shorter { 0 < length text.now → length result.2.now < length text.now }
 {
-    match pairs.next() {
-        Some((_, value)) => id_of(value),
-        None => [0; 16],
+    let (name, after) = text.split_once('=').unwrap_or((text, ""));
+    let (value, rest) = after.split_once('&').unwrap_or((after, ""));
+    (name, value, rest)
+}
+
+// The texts of the pairs that were written.
+fn written_texts(alloc: Global, text: &str) -> Result<TextMap, AllocError>
+    ensures { IfOk result (λ texts. (pairs : List (List ℕ × List ℕ)) → AreTexts pairs
+        → text.now ≡ pairs_text pairs → texts ≡ filled pairs empty) }
+{
+    let mut texts = TextMap::new(alloc);
+    let mut rest = text;
+    while !rest.is_empty() {
+        let (name, value, after) = first_pair(rest);
+        let name = form_text(alloc, name)?;
+        let value = form_text(alloc, value)?;
+        texts.put(&name, value.into_owned(alloc)?)?;
+        rest = after;
+    }
+    Ok(texts)
+}
+
+// The text that a name or a value of a form stands for. Without marks it is itself.
+fn form_text(alloc: Global, text: &str) -> Result<CowStr<'_>, AllocError>
+    ensures { IfOk result (λ read. cow_str_bytes read ≡ form_text text.now) }
+{
+    if has_mark(text) {
+        marked_text(alloc, text)
+    } else {
+        Ok(CowStr::Borrowed(text))
     }
 }
 
-// The number that is the value of the next pair, else any. The text of a number has no escapes.
-fn next_number(pairs: &mut RawPairs<'_>) -> u64
-    ensures { ReadsNumber pairs.old pairs.new result }
+// The same of any text. It is apart so that texts without marks cost less.
+#[inline(never)]
+fn marked_text(alloc: Global, text: &str) -> Result<CowStr<'_>, AllocError>
+    ensures { IfOk result (λ read. cow_str_bytes read ≡ form_text text.now) }
 {
-    match pairs.next() {
-        Some((_, value)) => number_of(value),
-        None => 0,
-    }
+    decode(alloc, text.as_bytes())
 }
 
 // The number that has this text, else any. The low half of a digit's byte is its value.
@@ -89,34 +123,16 @@ pub(crate) fn exact_number(text: &str) -> Option<u64>
     }
 }
 
-// The texts of the pairs. The last one of a name counts.
+// The texts of the pairs of any form. The last one of a name counts.
 pub(crate) fn texts_of(alloc: Global, pairs: RawPairs<'_>) -> Result<TextMap, AllocError>
     ensures { IfOk result (λ texts.
         texts ≡ filled (decoded_pairs (raw_pairs_left pairs.entry)) empty) }
 {
     let mut texts = TextMap::new(alloc);
     for (name, value) in pairs {
-        let name = form_text(alloc, name)?;
-        let value = form_text(alloc, value)?;
+        let name = decode(alloc, name)?;
+        let value = decode(alloc, value)?;
         texts.put(&name, value.into_owned(alloc)?)?;
     }
     Ok(texts)
-}
-
-// The text that a name or a value of a form stands for. Without marks it is itself.
-fn form_text(alloc: Global, bytes: &[u8]) -> Result<CowStr<'_>, AllocError>
-    ensures { IfOk result (λ text. cow_str_bytes text ≡ form_text bytes.now) }
-{
-    match str::from_utf8(bytes) {
-        Ok(text) if !has_mark(text) => Ok(CowStr::Borrowed(text)),
-        _ => marked_text(alloc, bytes),
-    }
-}
-
-// The same of any bytes. It is apart so that texts without marks cost less.
-#[inline(never)]
-fn marked_text(alloc: Global, bytes: &[u8]) -> Result<CowStr<'_>, AllocError>
-    ensures { IfOk result (λ text. cow_str_bytes text ≡ form_text bytes.now) }
-{
-    decode(alloc, bytes)
 }

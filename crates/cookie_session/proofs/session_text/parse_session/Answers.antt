@@ -1,12 +1,11 @@
-use Rattle.std.proofs.Common.{ap, ◌∙◌}
-use Rattle.form_urlencoded.specs.Form.{raw_pairs}
+use Rattle.std.proofs.Common.{◌∙◌}
 use Rattle.cookie_session.proofs.ReadLemmas.{parsed}
 use Rattle.cookie_session.proofs.session_text.parse_session.Goals as goal
 
 pub returns : goal.returns
 returns c s is =
     c.of.ensures
-    ∙ parsed c.args.text.now c.raw_pairs-pairs.result c.next-version.new.self c.next_id-id.new.pairs c.next_number-started.new.pairs c.next_number-seen.new.pairs
-    c.next-version.result c.next_id-id.result c.next_number-started.result c.next_number-seen.result c.in_ok-texts.texts
-    (c.raw_pairs-pairs.ensures.value ∙ ap raw_pairs c.as_bytes.ensures.value)
-    c.next-version.ensures.steps c.next_id-id.ensures c.next_number-started.ensures c.next_number-seen.ensures c.in_ok-texts.ensures s is
+    ∙ parsed c.args.text.now _ _ _ _ _ _ _ _ _ _ _ _ c.id_of.result c.number_of.result c.number_of-2.result c.in_ok-texts.texts
+    c.first_pair.ensures.parts c.first_pair-2.ensures.parts c.first_pair-3.ensures.parts c.first_pair-4.ensures.parts
+    (λ written whole e. c.id_of.ensures written whole (c.as_bytes.ensures.value ∙ e)) (λ n small e. c.number_of.ensures n small (c.as_bytes-2.ensures.value ∙ e))
+    (λ n small e. c.number_of-2.ensures n small (c.as_bytes-3.ensures.value ∙ e)) c.in_ok-texts.ensures s is
