@@ -20,7 +20,7 @@ from .secrets import derive_key, keys_of, open_sealed, seal, sign, verify
 from .sessions import Session, Sessions
 from .tokens import Tokens
 
-__version__ = "0.2.0"
+__version__ = "0.3.0"
 __all__ = [
     "Agent", "CookieError", "Jar", "Session", "Sessions", "Tokens", "decoded_pairs", "derive_key", "errors", "explain",
     "keys_of", "open_sealed", "pairs", "print_cookie", "print_date", "read_cookie", "read_date", "read_decoded_cookie",
