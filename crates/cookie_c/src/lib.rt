@@ -22,7 +22,5 @@ mod sessions;
 mod signing;
 mod status;
 mod suffixes;
-#[cfg(test)]
-mod tests;
 mod tokens;
 mod version;

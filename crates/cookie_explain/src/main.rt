@@ -12,8 +12,6 @@ mod report;
 mod sending;
 mod session;
 mod target;
-#[cfg(test)]
-mod tests;
 
 use anyhow::{Context, Result};
 use clap::ArgMatches;

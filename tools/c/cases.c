@@ -1,0 +1,266 @@
+/* What the rows of cookie_vectors can't say of the library: buffers that are too short, bytes and numbers that no text
+ * has, handles with nothing in them, settings that are no site's, and times out of range. Each expected value is by
+ * cookie.h. What is encrypted is by Python's `cryptography` and `urllib.parse` (tools/session-rows). */
+#include "cookie.h"
+#include <stdio.h>
+#include <string.h>
+
+/* A text's two arguments. */
+#define T(text) (const uint8_t *)(text), sizeof(text) - 1
+/* The two arguments of the whole buffer, and of its first bytes. */
+#define OUT out, sizeof out
+#define ROOM(length) out, (length)
+
+static int faults = 0;
+static uint8_t out[64];
+static uint8_t KEY[64]; /* bytes of 7 */
+#define NOW UINT64_C(1445412480) /* Wed, 21 Oct 2015 07:28:00 GMT */
+
+static void must(bool is_so, int line, const char *what) {
+    if (!is_so) {
+        fprintf(stderr, "cases.c:%d: %s\n", line, what);
+        faults++;
+    }
+}
+#define MUST(fact) must(fact, __LINE__, #fact)
+
+/* Whether the text is at the start of the buffer, and nothing after it has changed. The buffer is fresh after that. */
+static bool holds(const char *text) {
+    size_t length = strlen(text);
+    bool is_held = memcmp(out, text, length) == 0;
+    for (size_t i = length; i < sizeof out; i++)
+        is_held = is_held && out[i] == 0xa5;
+    memset(out, 0xa5, sizeof out);
+    return is_held;
+}
+
+static bool is(cookie_answer answer, uint32_t status, size_t length) {
+    return answer.status == status && answer.length == length;
+}
+
+static bool lies(cookie_place place, size_t start, size_t length) {
+    return place.start == start && place.length == length;
+}
+
+/* The key is looked at before the texts, and the nonce before both. A text that doesn't fit is not written. */
+static void keys_and_nonces(void) {
+    for (size_t room = 0; room < 48; room += 47)
+        MUST(is(cookie_sign(KEY, 64, T("session"), T("anna"), ROOM(room)), COOKIE_BUFFER_TOO_SHORT, 48));
+    MUST(is(cookie_sign(KEY, 63, T("\xff"), T("\xff"), OUT), COOKIE_KEY_TOO_SHORT, 0));
+    MUST(is(cookie_verify(KEY, 63, T("\xff"), T("\xff"), OUT), COOKIE_KEY_TOO_SHORT, 0));
+    MUST(is(cookie_open(NULL, 0, T("\xff"), T("\xff"), OUT), COOKIE_KEY_TOO_SHORT, 0));
+    MUST(is(cookie_seal(KEY, 63, KEY, 12, T("n"), T("v"), OUT), COOKIE_KEY_TOO_SHORT, 0));
+    MUST(is(cookie_seal(KEY, 64, KEY, 0, T("n"), T("v"), OUT), COOKIE_BAD_NONCE, 0));
+    MUST(is(cookie_seal(KEY, 64, KEY, 11, T("n"), T("v"), OUT), COOKIE_BAD_NONCE, 0));
+    MUST(is(cookie_seal(KEY, 64, KEY, 13, T("n"), T("v"), OUT), COOKIE_BAD_NONCE, 0));
+    MUST(is(cookie_verify(KEY, 64, T("n"), T("\xff"), OUT), COOKIE_NOT_UTF8, 0));
+    MUST(is(cookie_derive_key(KEY, 31, OUT), COOKIE_MASTER_TOO_SHORT, 0));
+    MUST(holds(""));
+}
+
+static void dates_out_of_range(void) {
+    static const int dates[][4] = {{10000, 1, 1, 0}, {-10000, 1, 1, 0}, {2015, -1, 1, 0}, {2015, 1, 1, -1},
+                                   {2015, 2, 29, 0}, {32767, 127, 127, 127}, {-32768, -128, -128, -128}};
+    for (size_t i = 0; i < sizeof dates / sizeof *dates; i++) {
+        const int *date = dates[i];
+        cookie_answer answer = cookie_print_date((int16_t)date[0], (int8_t)date[1], (int8_t)date[2], 0, 0, (int8_t)date[3], OUT);
+        MUST(is(answer, COOKIE_NO_DATE, 0) && holds(""));
+    }
+    cookie_moment read = cookie_read_date(T("caf\xe9"));
+    MUST(read.status == COOKIE_NOT_UTF8 && read.year == 0 && read.month == 0);
+}
+
+/* The attributes with one number that is undefined, or with a date that isn't one. */
+static cookie_attributes undefined(int index) {
+    cookie_attributes numbers;
+    memset(&numbers, 0, sizeof numbers);
+    uint32_t *fields[] = {&numbers.http_only, &numbers.secure, &numbers.partitioned, &numbers.same_site,
+                          &numbers.has_path, &numbers.has_domain, &numbers.has_max_age, &numbers.has_expires};
+    static const uint32_t values[] = {3, 3, UINT32_MAX, 4, 2, 2, 2, 2};
+    if (index < 8)
+        *fields[index] = values[index];
+    else
+        numbers.has_expires = 1, numbers.expires.month = 13;
+    return numbers;
+}
+
+/* Attributes are looked at first, then the date, then the texts that count, for UTF-8 and then for control characters. */
+static void attributes_and_texts(void) {
+    for (int index = 0; index < 9; index++) {
+        cookie_attributes numbers = undefined(index);
+        uint32_t status = index < 8 ? COOKIE_BAD_ATTRIBUTE : COOKIE_NO_DATE;
+        MUST(is(cookie_print(T("\xff"), T("1"), T("/\n"), T(";"), &numbers, false, OUT), status, 0));
+    }
+    cookie_attributes set;
+    memset(&set, 0, sizeof set);
+    set.has_path = 1;
+    MUST(is(cookie_print(T("\xff"), T("1"), T("/\n"), T(";"), &set, false, OUT), COOKIE_NOT_UTF8, 0));
+    MUST(is(cookie_print(T("a"), T("1"), T("\xff"), T(";"), &set, false, OUT), COOKIE_NOT_UTF8, 0));
+    MUST(is(cookie_print(T("a"), T("1"), T("/\n"), T(";"), &set, false, OUT), COOKIE_INVALID_VALUE, 0) && holds(""));
+    set.has_path = 0, set.max_age = 5, set.expires.month = 13;
+    MUST(is(cookie_print(T("a"), T("1"), T("\xff"), T(";"), &set, false, OUT), COOKIE_DONE, 3) && holds("a=1"));
+}
+
+/* A header is read from any offset. */
+static void offsets_of_a_header(void) {
+    static const struct { size_t from; uint32_t status; size_t next; } cases[] = {
+        {1, COOKIE_EMPTY_NAME, 4}, {2, COOKIE_MISSING_PAIR, 4}, {3, COOKIE_DONE, 9}, {4, COOKIE_DONE, 9},
+        {9, COOKIE_DONE, 15}, {11, COOKIE_NOT_UTF8, 15}, {12, COOKIE_EMPTY_NAME, 15}, {15, COOKIE_NO_PAIR, 0},
+        {16, COOKIE_NO_PAIR, 0}, {(size_t)1 << 63, COOKIE_NO_PAIR, 0}, {SIZE_MAX, COOKIE_NO_PAIR, 0}};
+    for (size_t i = 0; i < sizeof cases / sizeof *cases; i++) {
+        cookie_pair pair = cookie_next_pair(T("a=1; b=2;;\xc3\xa9=3"), cases[i].from);
+        MUST(pair.status == cases[i].status && pair.next == cases[i].next);
+        pair = cookie_next_pair_decoded(T("a=1; b=2;;\xc3\xa9=3"), cases[i].from, ROOM(4));
+        MUST(pair.status == cases[i].status && pair.next == cases[i].next);
+    }
+    MUST(cookie_next_pair(NULL, 0, 1).status == COOKIE_NO_PAIR);
+    holds("");
+}
+
+static void short_buffers_of_reading(void) {
+    for (size_t room = 0; room < 5; room += 4) {
+        cookie_reading read = cookie_read_decoded(T("a%20b=c%3D; Secure"), ROOM(room));
+        MUST(read.status == COOKIE_BUFFER_TOO_SHORT && read.attributes.secure == 1 && holds(""));
+        MUST(read.name.length == 3 && lies(read.value, 3, 2));
+        cookie_pair pair = cookie_next_pair_decoded(T("a%20b=c%3D; Secure"), 0, ROOM(room));
+        MUST(pair.status == COOKIE_BUFFER_TOO_SHORT && pair.next == 11 && lies(pair.value, 3, 2) && holds(""));
+    }
+    MUST(cookie_read_decoded(T("a%20b=c%3D; Secure"), ROOM(5)).status == COOKIE_DONE && holds("a bc="));
+}
+
+static const uint8_t MOMENT[] = "Wed, 21 Oct 2015 07:28:00 GMT";
+
+/* A handle without a jar is refused, before its first jar and after its last. */
+static void handles_without_a_jar(void) {
+    cookie_jar jar = {0};
+    for (int turn = 0; turn < 2; turn++) {
+        MUST(cookie_jar_add_originals(&jar, T("a=1")) == COOKIE_NO_JAR);
+        MUST(cookie_jar_add(&jar, T("\xff")) == COOKIE_NO_JAR);
+        MUST(cookie_jar_remove(&jar, MOMENT, 29, T("a")) == COOKIE_NO_JAR);
+        MUST(cookie_jar_remove_scoped(&jar, MOMENT, 29, T("a"), T("/"), T("b.c")) == COOKIE_NO_JAR);
+        MUST(is(cookie_jar_get(&jar, T("a"), OUT), COOKIE_NO_JAR, 0));
+        MUST(is(cookie_jar_cookies(&jar, OUT), COOKIE_NO_JAR, 0));
+        MUST(is(cookie_jar_delta(&jar, OUT), COOKIE_NO_JAR, 0) && holds(""));
+        MUST(cookie_jar_new(1, 2, &jar) == COOKIE_DONE);
+        cookie_jar_free(&jar);
+        cookie_jar_free(&jar);
+    }
+}
+
+static void jars(void) {
+    cookie_jar jar = {0};
+    MUST(cookie_jar_new(1, 2, &jar) == COOKIE_DONE);
+    MUST(cookie_jar_add_originals(&jar, T("a=1;\xff=2; b=x%20y")) == COOKIE_DONE);
+    MUST(is(cookie_jar_get(&jar, T("b"), ROOM(2)), COOKIE_BUFFER_TOO_SHORT, 3) && holds(""));
+    MUST(is(cookie_jar_get(&jar, T("b"), OUT), COOKIE_DONE, 3) && holds("x y"));
+    MUST(cookie_jar_new(1, 2, &jar) == COOKIE_DONE);
+    MUST(is(cookie_jar_get(&jar, T("a"), OUT), COOKIE_NOT_FOUND, 0));
+    /* A text that isn't UTF-8 comes first, then a domain that would split a header, then a date that isn't one. */
+    MUST(cookie_jar_remove_scoped(&jar, T("\xff"), T("a"), T("/"), T("b\x01" "c")) == COOKIE_NOT_UTF8);
+    MUST(cookie_jar_remove_scoped(&jar, T("yesterday"), T("a"), T("/"), T("b\x01" "c")) == COOKIE_INVALID_VALUE);
+    MUST(cookie_jar_remove_scoped(&jar, T("yesterday"), T("a"), T("/"), T("b.c")) == COOKIE_NO_DATE);
+    MUST(cookie_jar_remove_scoped(&jar, NULL, 0, T("a"), T("/"), NULL, 0) == COOKIE_NO_DATE);
+    MUST(cookie_jar_remove(&jar, T("\xff"), T("a")) == COOKIE_NOT_UTF8);
+    MUST(cookie_jar_remove(&jar, T("Wed, 32 Oct 2015 07:28:00 GMT"), T("a")) == COOKIE_NO_DATE);
+    cookie_jar_free(&jar);
+}
+
+/* The session of ann, with the id of bytes 7, under the key of bytes 1. */
+static const char HEADER[] =
+    "__Host-session=BwcHBwcHBwcHBwcH-87ZgmbKjONu-Uxy0aMviNDKyZsTCEcbfEF7_5EyIdktW7bnpeCI2ZBoCu2FBUCJvjj9Q_BEVKhC6CoMc-"
+    "9Tkpk72dHUtmPrWGIJ7XkhCxxk6_aKGWjQ6_0";
+
+static cookie_session_settings settings(const uint8_t *keys, size_t length, const char *cookie) {
+    cookie_session_settings made = {keys, length, (const uint8_t *)cookie, strlen(cookie), 1200, 600};
+    return made;
+}
+
+static void settings_that_are_no_sites(void) {
+    cookie_sessions sessions = {0};
+    cookie_session session = {0};
+    cookie_session_settings site = settings(KEY, 63, "\xff");
+    MUST(cookie_sessions_new(&site, &sessions) == COOKIE_KEY_TOO_SHORT);
+    site = settings(KEY, 64, "s=\xff");
+    MUST(cookie_sessions_new(&site, &sessions) == COOKIE_NOT_UTF8);
+    MUST(is(cookie_session_end(&sessions, NOW, NULL, 0), COOKIE_NO_SESSIONS, 0));
+    MUST(cookie_session_start(KEY, 16, 253402207201, &session) == COOKIE_NO_DATE);
+    MUST(cookie_session_describe(&session).status == COOKIE_NO_SESSION);
+    site = settings(KEY, 64, "s=");
+    MUST(cookie_sessions_new(&site, &sessions) == COOKIE_DONE);
+    MUST(is(cookie_session_save(&sessions, &session, KEY, 12, NOW, NULL, 0), COOKIE_NO_SESSION, 0));
+    cookie_sessions_free(&sessions);
+}
+
+static void sessions(void) {
+    uint8_t keys[64];
+    memset(keys, 1, sizeof keys);
+    cookie_sessions sessions = {0};
+    cookie_session session = {0};
+    cookie_session_settings site = settings(keys, 64, "__Host-session=; Path=/; Secure");
+    MUST(cookie_sessions_new(&site, &sessions) == COOKIE_DONE);
+    MUST(cookie_session_open(&sessions, T(HEADER), NULL, 0, NOW, &session) == COOKIE_DONE);
+    cookie_session_facts facts = cookie_session_describe(&session);
+    MUST(facts.status == COOKIE_DONE && facts.is_opened && facts.place == 0);
+    MUST(facts.started == NOW && facts.seen == NOW && memcmp(facts.id, KEY, 16) == 0);
+    MUST(is(cookie_session_texts(&session, ROOM(7)), COOKIE_BUFFER_TOO_SHORT, 8) && holds(""));
+    MUST(is(cookie_session_texts(&session, ROOM(8)), COOKIE_DONE, 8) && holds("user=ann"));
+    cookie_sessions_free(&sessions);
+    cookie_session_free(&session);
+}
+
+/* What a browser makes of the text at https://github.io, some seconds after NOW, by an empty list. */
+static cookie_explanation explain(const char *path, const char *text, uint64_t later, size_t room) {
+    cookie_request request = {T("github.io"), (const uint8_t *)path, strlen(path), false, true, true, true, true};
+    cookie_suffixes suffixes = {0};
+    uint64_t now = later > UINT64_MAX - NOW ? UINT64_MAX : NOW + later;
+    MUST(cookie_suffixes_new(NULL, 0, &suffixes) == COOKIE_DONE);
+    cookie_explanation why = cookie_explain(&suffixes, &request, (const uint8_t *)text, strlen(text), now, ROOM(room));
+    cookie_suffixes_free(&suffixes);
+    return why;
+}
+
+/* Of a buffer that is too short by one byte nothing is written. One that just fits is filled. */
+static void short_buffers_of_explanations(void) {
+    cookie_explanation why = explain("/", "n=v; SameSite=None", 0, 15);
+    MUST(why.status == COOKIE_BUFFER_TOO_SHORT && why.refusal == 10 && holds(""));
+    MUST(why.sentence.length == 49 && lies(why.section, 49, 13));
+    why = explain("/dir/page", "n=v; Max-Age=9", 0, 14);
+    MUST(why.status == COOKIE_BUFFER_TOO_SHORT && why.refusal == 0 && why.stored.lifetime == 9 && holds(""));
+    MUST(lies(why.stored.path, 11, 4));
+    why = explain("/dir/page", "n=v; Max-Age=9", 0, 15);
+    MUST(why.status == COOKIE_DONE && holds("nvgithub.io/dir"));
+}
+
+/* With an empty list a domain of two labels is no public suffix. A path without a slash at its start counts as the
+ * root. The last time is 9999-12-30 22:00:00. */
+static void lists_and_times(void) {
+    const uint64_t LAST = 253402207200;
+    cookie_explanation why = explain("page", "n=v; Domain=github.io", 0, 15);
+    MUST(why.status == COOKIE_DONE && !why.stored.is_host_only && holds("nvgithub.io/"));
+    const uint64_t late[] = {LAST + 1 - NOW, (uint64_t)1 << 63, UINT64_MAX};
+    for (size_t i = 0; i < sizeof late / sizeof *late; i++) {
+        why = explain("/", "n=v", late[i], 15);
+        MUST(why.status == COOKIE_NO_DATE && why.refusal == 0 && why.stored.path.length == 0);
+        MUST(!why.stored.is_host_only && holds(""));
+    }
+    why = explain("/", "n=v", LAST - NOW, 15);
+    MUST(why.status == COOKIE_DONE && why.stored.path.length == 1);
+}
+
+int main(void) {
+    memset(KEY, 7, sizeof KEY);
+    holds("");
+    keys_and_nonces();
+    dates_out_of_range();
+    attributes_and_texts();
+    offsets_of_a_header();
+    short_buffers_of_reading();
+    handles_without_a_jar();
+    jars();
+    settings_that_are_no_sites();
+    sessions();
+    short_buffers_of_explanations();
+    lists_and_times();
+    printf("cases: %d faults\n", faults);
+    return faults != 0;
+}
