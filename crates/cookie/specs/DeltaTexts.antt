@@ -6,14 +6,14 @@ use Rattle.cookie_core.specs.Text.{cookie_text}
 use Rattle.cookie.specs.Jar.{Name, name_cmp, Marked}
 use Rattle.cookie.specs.Walk.{Walks}
 
--- the text is that of a cookie of the delta, encoded
+-- the text of a cookie of the delta, encoded
 pub record IsDeltaText (delta : FinMap name_cmp Marked) (text : List ℕ) : Type 0 where
   pub name : Name
   pub entry : Marked
   pub stands : get delta name ≡ Some entry
   pub is : text ≡ cookie_text true false entry.cookie
 
--- the texts are those of the delta's cookies, each at least once, in any order
+-- the texts of the delta's cookies, each at least once, in any order
 pub record AreDeltaTexts (delta : FinMap name_cmp Marked) (texts : List (List ℕ)) : Type 0 where
   pub each : (name : Name) (entry : Marked) → get delta name ≡ Some entry
       → Contains texts (cookie_text true false entry.cookie)
@@ -24,7 +24,7 @@ abbrev pub WalksDelta : FinMap name_cmp Marked → List Record → Type 0
 WalksDelta delta cookies =
     Walks (λ name. option_map (λ entry. entry.cookie) (get delta name)) cookies
 
--- the texts are those of the delta's cookies, each once, in any order
+-- the texts of the delta's cookies, each once, in any order
 pub record AreDeltaTextsOnce (delta : FinMap name_cmp Marked) (texts : List (List ℕ))
     : Type 0 where
   pub cookies : List Record

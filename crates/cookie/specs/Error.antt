@@ -28,7 +28,7 @@ abbrev pub texts_failure : TextsError → Error
 texts_failure unprinted.OutOfMemory = failure.OutOfMemory
 texts_failure unprinted.InvalidValue = failure.InvalidValue
 
--- its text, which is that of the error that it was made of
+-- its text: the text of the error that it was made of
 abbrev pub failure_text : Error → List ℕ
 failure_text failure.OutOfMemory = codes "out of memory"
 failure_text (failure.Parse error) = error_text error

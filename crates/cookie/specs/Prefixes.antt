@@ -66,7 +66,7 @@ host_prefix = codes "__Host-"
 abbrev pub host_bound : Record → Record
 host_bound cookie = record cookie { secure = Some true; path = Some (codes "/"); domain = None }
 
--- what such a cookie lends: its path and its domain are no longer those of the text that it was read from
+-- what such a cookie lends: its path and its domain are no longer parts of the text that it was read from
 abbrev pub host_bound_raw : CookieView → RawForms
 host_bound_raw cookie = record cookie.raw { path = None; domain = None }
 

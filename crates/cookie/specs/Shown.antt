@@ -10,6 +10,6 @@ additions [] = []
 additions (entry ∷ entries) =
     if entry.removed then additions entries else entry.cookie ∷ additions entries
 
--- those of the cookies under whose names the delta has nothing
+-- the cookies under whose names the delta has nothing
 abbrev pub uncovered : FinMap name_cmp Marked → List Record → List Record
 uncovered delta cookies = filter (λ c. is_none (get delta c.name)) cookies

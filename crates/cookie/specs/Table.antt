@@ -39,11 +39,11 @@ original_fields entry = (arc_value entry.cookie).fields
 abbrev pub delta_mark : DeltaCookie → Marked
 delta_mark entry = record { cookie = (arc_value entry.cookie).fields; removed = entry.removed }
 
--- each name is that of its value
+-- each value is under its own name
 abbrev pub IsKeyedByName : {Z : Type 0} → (Z → Name) → FinMap name_cmp Z → Type 0
 IsKeyedByName name_of table = (n : Name) → IfSome (get table n) (λ z. name_of z ≡ n)
 
--- each name is that of its cookie
+-- each cookie is under its own name
 pub record AreNamed (jar : JarState) : Type 0 where
   pub originals : IsKeyedByName (λ r. r.name) jar.originals
   pub delta : IsKeyedByName (λ m. m.cookie.name) jar.delta

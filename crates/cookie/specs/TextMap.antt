@@ -13,7 +13,7 @@ texts_code = code (coded_list coded_ℕ) (coded_list coded_ℕ)
 abbrev pub text_pairs : {Y : Type 0} → List (String Y × String Y) → List (List ℕ × List ℕ)
 text_pairs es = map (λ e. (string_bytes e.0, string_bytes e.1)) es
 
--- the map from the bytes of each key to those of its value
+-- the map from each key's bytes to its value's bytes
 abbrev pub texts_by_name : {Y : Type 0} → List (String Y × String Y) → FinMap name_cmp (List ℕ)
 texts_by_name es = from_entries (text_pairs es)
 

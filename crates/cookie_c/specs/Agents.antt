@@ -66,7 +66,7 @@ IfSeen request Holds Refuses =
     (HasTexts request × Holds (seen_request request))
     ⊎ ((why : Status) × IsUnseen request why × Refuses why)
 
--- the same of a request in a second; a second past the last is refused first
+-- `IfSeen` for a request at a second: a second past the last is refused first
 abbrev pub ForRequest : Request → ℕ → (RequestView → DateTime → Type 0) → (Status → Type 0)
     → Type 0
 ForRequest request second Holds Refuses =
@@ -101,14 +101,14 @@ ReadsResponse rules request text second answer old new =
     (λ site now. ReadsText (record { rules = rules; cookies = old }) site now text answer new)
     (λ why. (answer ≡ unread why) × (new ≡ old))
 
--- the same of what a handle has
+-- `ReadsResponse` for the agent in the handle; `NoAgent` if it has none
 abbrev pub ReadsAt : List Rule → Request → List ℕ → ℕ → AgentReading → Option CookieStore
     → Option CookieStore → Type 0
 ReadsAt rules request text second answer old new =
     AtStore (λ had made. ReadsResponse rules request text second answer had made)
     (λ why. answer ≡ unread why) old new
 
--- the same by the rules that a handle has, which a handle without them refuses first
+-- `ReadsAt` by the rules in a handle: a handle without a list refuses first
 abbrev pub ReadsBy : Option (List Rule) → Request → List ℕ → ℕ → AgentReading → Option CookieStore
     → Option CookieStore → Type 0
 ReadsBy None request text second answer old new =
@@ -131,7 +131,7 @@ pub record GivesHeader (is_made : Bool) (site : RequestView) (now : DateTime) (a
   pub given : IsGiven header answer before after
   pub left : new ≡ after_request is_made site now old
 
--- the same of a request in that second, or nothing is given
+-- `GivesHeader` for the request at that second; or nothing is given
 abbrev pub SendsRequest : Bool → Request → ℕ → Answer → List ℕ → List ℕ → CookieStore → CookieStore
     → Type 0
 SendsRequest is_made request second answer before after old new =
@@ -139,7 +139,7 @@ SendsRequest is_made request second answer before after old new =
     (λ site now. GivesHeader is_made site now answer old new before after)
     (λ why. IsRefused why answer before after × (new ≡ old))
 
--- the same of what a handle has
+-- `SendsRequest` for the agent in the handle; `NoAgent` if it has none
 abbrev pub SendsAt : Bool → Request → ℕ → Answer → List ℕ → List ℕ → Option CookieStore
     → Option CookieStore → Type 0
 SendsAt is_made request second answer before after old new =
@@ -154,7 +154,7 @@ abbrev pub ChangesStore : (Status → CookieStore → CookieStore → Type 0) �
 ChangesStore Makes number old new =
     Tells (λ answer. Changes status.NoAgent Makes answer (store_of old) (store_of new)) number
 
--- the same of a content
+-- `ChangesStore` for a content
 abbrev pub InStore : (Status → CookieStore → CookieStore → Type 0) → Status → Content → Content
     → Type 0
 InStore Makes answer old new =
@@ -211,7 +211,7 @@ TellsCookie now cookie answer before after =
     Explains now (Ok cookie) answer before after
     ⊎ ((why : Status) × IsUntold now cookie why × IsUnexplained why answer before after)
 
--- the same of a cookie that there may be
+-- `TellsCookie` for the cookie; `NotFound` if there is none
 abbrev pub TellsFound : DateTime → Option KeptView → Explanation → List ℕ → List ℕ → Type 0
 TellsFound now None answer before after = IsUnexplained status.NotFound answer before after
 TellsFound now (Some cookie) answer before after = TellsCookie now cookie answer before after
@@ -222,7 +222,7 @@ TellsIn index second store answer before after =
     AtSecond second (λ now. TellsFound now (slice_get store index) answer before after)
     (λ why. IsUnexplained why answer before after)
 
--- the same of what a handle has
+-- `TellsIn` for the agent in the handle; `NoAgent` if it has none
 abbrev pub TellsAt : ℕ → ℕ → Option CookieStore → Explanation → List ℕ → List ℕ → Type 0
 TellsAt index second None answer before after = IsUnexplained status.NoAgent answer before after
 TellsAt index second (Some store) answer before after =

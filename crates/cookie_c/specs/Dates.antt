@@ -34,7 +34,7 @@ told_moment moment =
       second = pos moment.time.second;
     }
 
--- the same of a date that there may not be
+-- the answer to a text with this date; or to one that is no date
 abbrev pub moment_or_refusal : Option DateTime → Moment
 moment_or_refusal None = refused_moment status.NoDate
 moment_or_refusal (Some moment) = told_moment moment

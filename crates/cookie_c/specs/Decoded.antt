@@ -60,7 +60,7 @@ IsDecodedReadingOf text answer old new =
     ⊎ ((why : ParseError) × IsDecodingRefusal text why
     × IsRefusedReading (refusal_status why) answer old new)
 
--- the same of a piece of a header, trimmed
+-- `IsDecodedReadingOf` for a piece of a header, trimmed
 abbrev pub IsDecodedPairOf : HeaderPiece → Pair → List ℕ → List ℕ → Type 0
 IsDecodedPairOf piece answer old new =
     ((r : Record) × (cookie_of true (trim piece.bytes) ≡ Some r)

@@ -6,7 +6,7 @@ use Rattle.cookie_browser.specs.declared.refusal.Refusal.{Refusal}
 use Rattle.cookie_c.specs.Explanations.{answer_to, texts_of}
 use Rattle.cookie_c.specs.declared.explanation.draft.Draft.{Draft}
 
--- they are those of the verdict at that time
+-- the draft has the verdict's answer and texts, at `now`
 abbrev pub IsDraftOf : DateTime → Result KeptView Refusal → Draft → Type 0
 IsDraftOf now verdict draft =
     (draft.answer ≡ answer_to now verdict) × (draft.texts.items ≡ texts_of verdict)

@@ -56,7 +56,7 @@ refusal_code refusal.SecurePrefix = 11
 refusal_code refusal.HostPrefix = 12
 refusal_code refusal.NamelessPrefix = 13
 
--- the number of the enforcement, which is that of the rule of its name (`same_site_code`)
+-- the number of the enforcement: the number of the rule with its name (`same_site_code`)
 abbrev pub enforcement_code : Enforcement → ℕ
 enforcement_code enforcement.Default = 0
 enforcement_code enforcement.Strict = 1

@@ -38,7 +38,7 @@ store_in _ = None
 
 -- ---- what a call makes of it
 
--- this is the answer, and all is as before
+-- returns `why`, and changes nothing
 abbrev pub IsKept : {X : Type 0} → Status → Status → X → X → Type 0
 IsKept why answer old new = (answer ≡ why) × (new ≡ old)
 
@@ -54,7 +54,7 @@ Changes lacks Makes answer None new = (answer ≡ lacks) × (new ≡ None)
 Changes {X} lacks Makes answer (Some old) new =
     (made : X) × (new ≡ Some made) × Makes answer old made
 
--- the number is that of an answer of which this holds
+-- the number of an answer for which `Holds` is true
 abbrev pub Tells : (Status → Type 0) → ℕ → Type 0
 Tells Holds number = (answer : Status) × (number ≡ code_of answer) × Holds answer
 

@@ -104,12 +104,12 @@ ArePairsGiven jar answer old new =
 abbrev pub jar_of : Jar → Option JarState
 jar_of jar = jar_in jar.handle.held.content
 
--- The handle's jar is as a call makes it, and the number is that of the call's answer.
+-- The handle's jar is as a call makes it, and the number is the number of the call's answer.
 abbrev pub AtJar : (Status → JarState → JarState → Type 0) → ℕ → Jar → Jar → Type 0
 AtJar Makes number old new =
     Tells (λ answer. Changes status.NoJar Makes answer (jar_of old) (jar_of new)) number
 
--- the same of a content
+-- `AtJar` for a content
 abbrev pub InJar : (Status → JarState → JarState → Type 0) → Status → Content → Content → Type 0
 InJar Makes answer old new =
     Changes status.NoJar Makes answer (jar_in (Some old)) (jar_in (Some new))

@@ -8,7 +8,7 @@ use Rattle.cookie_c.specs.Places.{IsBetween}
 use Rattle.cookie_c.specs.declared.next_piece.NextPiece.{NextPiece}
 use Rattle.cookie_c.specs.declared.next_piece.NextPiece.TheVariants as piece
 
--- the text is that of the piece, trimmed, and stands there in the header; its first `=`, if it has one, is the piece's
+-- `text` is the piece, trimmed, at `start` in the header; its first `=`, if it has one, is the piece's
 pub record IsTextOf (header : List ℕ) (p : HeaderPiece) (text : List ℕ) (start rest : ℕ)
     : Type 0 where
   pub trimmed : text ≡ trim p.bytes
@@ -18,7 +18,7 @@ pub record IsTextOf (header : List ℕ) (p : HeaderPiece) (text : List ℕ) (sta
       → mark_of p ≡ start + offset_of equals_sign text
   pub next : rest ≡ rest_after p
 
--- it is what comes next
+-- the result is the next piece of the header from `from` on, or its end
 abbrev pub IsNextPiece : List ℕ → ℕ → NextPiece → Type 0
 IsNextPiece header from piece.End = next_piece header from ≡ None
 IsNextPiece header from (piece.Other next) =

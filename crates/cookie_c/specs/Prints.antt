@@ -13,7 +13,7 @@ use Rattle.cookie_c.specs.declared.date.Moment.{Moment}
 use Rattle.cookie_c.specs.declared.status.Status.{Status}
 use Rattle.cookie_c.specs.declared.status.Status.TheVariants as status
 
--- each number but those of the age and the expiry is one that `numbers_of` has
+-- each number, but for the age and the expiry, is one that `numbers_of` has
 pub record AreCodes (numbers : Attributes) : Type 0 where
   pub http_only : numbers.http_only ≤ 2
   pub secure : numbers.secure ≤ 2

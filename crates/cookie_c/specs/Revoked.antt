@@ -7,7 +7,7 @@ use Rattle.cookie_session.specs.Id.{id_length}
 abbrev pub HasIds : List ℕ → Type 0
 HasIds bytes = length bytes % id_length ≡ 0
 
--- these ids
+-- the ids in `bytes`, sixteen bytes each
 abbrev pub ids_of : List ℕ → List (List ℕ)
 ids_of bytes = first_chunks id_length (length bytes / id_length) bytes
 

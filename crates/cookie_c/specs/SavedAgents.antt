@@ -32,7 +32,7 @@ abbrev pub InForm : Option SavedForm → (SavedForm → Type 0) → (Status → 
 InForm None Holds Refuses = Refuses status.BadAttribute
 InForm (Some form) Holds Refuses = Holds form
 
--- the same of the form of a number, and then of a second, which a second past the last refuses
+-- decode the form, then the time: refuse `BadAttribute`, then `NoDate`
 abbrev pub ForForm : ℕ → ℕ → (SavedForm → DateTime → Type 0) → (Status → Type 0) → Type 0
 ForForm number second Holds Refuses =
     InForm (form_of number) (λ form. AtSecond second (Holds form) Refuses) Refuses
@@ -63,7 +63,7 @@ pub record GivesSaved (form : SavedForm) (now : DateTime) (store : CookieStore)
   pub lacks : answer.left_out ≡ length (left_out now (carries form) store)
   pub first : answer.first_left_out ≡ first_of (left_out now (carries form) store)
 
--- the same of the form of this number in that second; or nothing is saved
+-- `GivesSaved` in the form of this number at that second; or nothing is saved
 abbrev pub Saves : ℕ → ℕ → CookieStore → AgentSaving → List ℕ → List ℕ → Type 0
 Saves number second store answer before after =
     ForForm number second
@@ -71,7 +71,7 @@ Saves number second store answer before after =
     ⊎ IsUnsaved status.OutOfMemory answer before after)
     (λ why. IsUnsaved why answer before after)
 
--- the same of what a handle has
+-- `Saves` for the agent in the handle; `NoAgent` if it has none
 abbrev pub SavesAt : ℕ → ℕ → Option CookieStore → AgentSaving → List ℕ → List ℕ → Type 0
 SavesAt number second None answer before after = IsUnsaved status.NoAgent answer before after
 SavesAt number second (Some store) answer before after =
@@ -98,7 +98,7 @@ pub record LoadsText (rules : List Rule) (form : SavedForm) (now : DateTime) (te
   pub left : new ≡ kept_with_each (lasting now (loaded_cookies form rules now text)) old
   pub told : answer ≡ loaded_with (bad_lines form rules now text)
 
--- the same in the form of this number in that second; or nothing is loaded
+-- `LoadsText` in the form of this number at that second; or nothing is loaded
 abbrev pub Loads : List Rule → ℕ → ℕ → List ℕ → AgentLoading → CookieStore → CookieStore → Type 0
 Loads rules number second text answer old new =
     ForForm number second
@@ -106,7 +106,7 @@ Loads rules number second text answer old new =
     ⊎ ((answer ≡ unloaded status.OutOfMemory) × (new ≡ old)))
     (λ why. (answer ≡ unloaded why) × (new ≡ old))
 
--- the same of what a handle has
+-- `Loads` for the agent in the handle; `NoAgent` if it has none
 abbrev pub LoadsAt : List Rule → ℕ → ℕ → List ℕ → AgentLoading → Option CookieStore
     → Option CookieStore → Type 0
 LoadsAt rules number second text answer old new =

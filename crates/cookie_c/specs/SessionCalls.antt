@@ -75,7 +75,7 @@ pub record IsUnset (name : List ℕ) (answer : Status) (old new : OpenSession) :
   pub unset : IsUtf8 name
       → (answer ≡ status.Done) × (new ≡ with_texts (remove old.session.texts name) old)
 
--- the texts are those of the form, and no others
+-- the texts are the form's, and no others
 abbrev pub HasForm : List ℕ → Status → OpenSession → OpenSession → Type 0
 HasForm form answer old new = HasTexts (texts_of_form form) answer old new
 
@@ -88,12 +88,12 @@ pub record IsTextGiven (name : List ℕ) (had : OpenSession) (answer : Answer) (
   pub given : (text : List ℕ) → IsUtf8 name → get had.session.texts name ≡ Some text
       → IsGiven text answer old new
 
--- the handle's session is as a call makes it, and the number is that of the call's answer
+-- the handle's session is as a call makes it, and the number is the number of the call's answer
 abbrev pub AtSession : (Status → OpenSession → OpenSession → Type 0) → ℕ → Handle → Handle → Type 0
 AtSession Makes number old new =
     Tells (λ answer. Changes status.NoSession Makes answer (session_of old) (session_of new)) number
 
--- the same of a content
+-- `AtSession` for a content
 abbrev pub InSession : (Status → OpenSession → OpenSession → Type 0) → Status → Content → Content
     → Type 0
 InSession Makes answer old new =

@@ -22,7 +22,7 @@ use Rattle.cookie_c.specs.declared.status.Status.TheVariants as status
 abbrev pub site_of : Handle → Option Site
 site_of sessions = site_in sessions.handle.held.content
 
--- the bytes are those of one key or more
+-- the bytes of one key or more
 abbrev pub HasKeys : List ℕ → Type 0
 HasKeys bytes = (0 < length bytes) × (length bytes % key_length ≡ 0)
 
@@ -85,7 +85,7 @@ pub record AtSecond (second : ℕ) (Holds : DateTime → Type 0) (Refuses : Stat
   pub no_date : last_second < second → Refuses status.NoDate
   pub dated : second ≤ last_second → (time : DateTime) × IsAtSecond second time × Holds time
 
--- the same of a call on a site, which a handle without one refuses first
+-- `AtSecond` for a call on a site: a handle without a site refuses first
 abbrev pub AtSite : Option Site → ℕ → (Sessions → DateTime → Type 0) → (Status → Type 0) → Type 0
 AtSite None second Holds Refuses = Refuses status.NoSessions
 AtSite (Some site) second Holds Refuses =

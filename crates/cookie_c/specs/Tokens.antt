@@ -37,7 +37,7 @@ IsTokenRefusal settings text now why =
     ⊎ ((why ≡ status.OutOfMemory) × HasKeys settings.keys.now × AreUtf8 settings text
     × (now ≤ last_second))))
 
--- this holds of the settings' tokens and the time, or the call is refused
+-- the settings, the text and the time are valid, and `Holds` is true for them; or a refusal as `IsTokenRefusal` says
 abbrev pub CallsTokens : TokenSettings → List ℕ → ℕ → (Tokens → DateTime → Type 0)
     → (Status → Type 0) → Type 0
 CallsTokens settings text now Holds Refuses =

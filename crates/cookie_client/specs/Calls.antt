@@ -73,7 +73,7 @@ asked_of_child (child.AddOriginal cookie) = AddOriginal cookie.fields
 asked_of_child (child.Add cookie) = Add cookie.fields
 asked_of_child (child.Remove cookie now) = Remove cookie.fields now
 
--- the same of any call
+-- `asked_of_child` for any call
 abbrev pub asked_of : JarCall → Change
 asked_of (calls.AddOriginal cookie) = AddOriginal cookie.fields
 asked_of (calls.Add cookie) = Add cookie.fields
@@ -92,7 +92,7 @@ change_of call = stored_by (handling_of call) (asked_of call)
 abbrev pub changes_of : List Bool → List JarCall → List Change
 changes_of outcomes calls = map change_of (accepted_items outcomes calls)
 
--- what the type of a cookie says of the one in a change
+-- the change's cookie meets `Cookie`'s invariant
 abbrev pub IsKnownChange : Change → Type 0
 IsKnownChange (AddOriginal cookie) = IsCookie cookie
 IsKnownChange (Add cookie) = IsCookie cookie

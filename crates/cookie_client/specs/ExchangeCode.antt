@@ -14,7 +14,7 @@ HoldsAdded change jar old new result =
     (before : JarState) → jar ≡ after change before
     → OnOk result (new ≡ holding (originals_of (change ∷ [])) old)
 
--- the header is that of a client, and tells all that it holds
+-- the header of a client, with all that it holds
 pub record IsHeaderOf (client : Values) (header : List ℕ) : Type 0 where
   pub text : header ≡ header_text client
   pub named : get client [] ≡ None

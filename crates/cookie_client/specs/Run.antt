@@ -18,7 +18,7 @@ use Rattle.cookie_client.specs.declared.run_error.RunError.TheVariants as refusa
 abbrev pub IsRead : Option (List ℕ) → Option (List ℕ) → List ℕ → Type 0
 IsRead old new bytes = Consumes old new bytes × IsAtEnd new
 
--- the refusal is that of a session at a good moment, or out of memory
+-- a session at a good moment refuses so, or memory ran out
 abbrev pub Refuses : {A : Type 0} → Result A Fault → RunError → Type 0
 Refuses session refusal.BadMoment = ⊥
 Refuses session refusal.BadInput = session ≡ Err BadInput

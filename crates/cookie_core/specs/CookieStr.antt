@@ -46,7 +46,7 @@ pub record IsSameText (old new : CookieStr) : Type 0 where
   pub fits : (whole : List ℕ) → Fits whole old → Fits whole new
   pub lent : (lender : Source) → raw_bytes lender new ≡ raw_bytes lender old
 
--- the same of texts that may be unset
+-- `IsSameText` for texts that may be unset
 pub record IsSameOptionalText (old new : Option CookieStr) : Type 0 where
   pub bytes : (whole : List ℕ)
       → option_map (text_bytes whole) new ≡ option_map (text_bytes whole) old

@@ -36,7 +36,7 @@ pub record IsFaultOf (bytes : List ℕ) (at : ℕ) (len : Option ℕ) : Type 0 w
   pub place : at ≡ utf8_valid_len bytes
   pub extent : len ≡ utf8_error_len (drop (utf8_valid_len bytes) bytes)
 
--- the bytes whose fault is named: those of the value only where those of the name are UTF-8
+-- the bytes whose fault is named: the value's only if the name is UTF-8
 abbrev pub blamed_text : List ℕ → List ℕ → List ℕ
 blamed_text name value = if is_utf8 (unescape name) then unescape value else unescape name
 

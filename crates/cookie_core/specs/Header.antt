@@ -7,7 +7,7 @@ use Rattle.cookie_core.specs.Pieces.{IsPieces, pieces}
 abbrev pub kept_texts : List (List ℕ) → List (List ℕ)
 kept_texts texts = filter (λ text. not (length text == 0)) (map trim texts)
 
--- the texts are those of the header's pieces that are not blank, trimmed, in order
+-- the header's pieces that are not blank, trimmed, in order
 abbrev pub IsHeaderTexts : List ℕ → List (List ℕ) → Type 0
 IsHeaderTexts header texts =
     (first : List ℕ) × (later : List (List ℕ)) × IsPieces header first later

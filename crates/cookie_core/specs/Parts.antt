@@ -12,7 +12,7 @@ part_text part = span_text part.whole.now part.span
 abbrev pub IsPartOf : List ℕ → Part → Type 0
 IsPartOf text part = part.whole.now ≡ text
 
--- the same of a part that may be missing
+-- if there is a part, it is a part of the text
 abbrev pub IsOptionalPartOf : List ℕ → Option Part → Type 0
 IsOptionalPartOf text part = IfSome part (IsPartOf text)
 

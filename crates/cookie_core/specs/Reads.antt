@@ -14,7 +14,7 @@ abbrev pub IsDecoded : Bool → List ℕ → List ℕ → Type 0
 IsDecoded false raw text = text ≡ raw
 IsDecoded true raw text = (text ≡ unescape raw) × IsUtf8 text
 
--- with decoding, the bytes of the name, or those of the value, are not UTF-8
+-- decoded, the name or the value is not UTF-8
 abbrev pub IsUndecodable : Bool → List ℕ → List ℕ → Type 0
 IsUndecodable false name value = ⊥
 IsUndecodable true name value = (¬ (IsUtf8 (unescape name))) ⊎ (¬ (IsUtf8 (unescape value)))

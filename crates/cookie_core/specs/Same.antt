@@ -54,7 +54,7 @@ pub record IsEquality (equal : Record → Record → Bool) : Type 0 where
   pub transitive : (cookie other third : Record) → equal cookie other ≡ true
       → equal other third ≡ true → equal cookie third ≡ true
 
--- the same of what contracts see of two cookies
+-- `same` for two cookies as contracts see them
 abbrev pub same_cookie : CookieView → CookieView → Bool
 same_cookie = on (λ cookie. cookie.fields) same
 
@@ -64,28 +64,28 @@ same_pair-equiv =
     and_equiv (on_equiv (λ (cookie : Record). cookie.name) nat_list_eq_equiv)
     (on_equiv (λ (cookie : Record). cookie.value) nat_list_eq_equiv)
 
--- the same of the flags
+-- so are the flags
 same_flags-equiv : IsEquivalence same_flags
 same_flags-equiv =
     and_equiv (on_equiv (λ (cookie : Record). cookie.http_only) (options_equiv bool_eq_equiv))
     (and_equiv (on_equiv (λ (cookie : Record). cookie.secure) (options_equiv bool_eq_equiv))
     (on_equiv (λ (cookie : Record). cookie.partitioned) (options_equiv bool_eq_equiv)))
 
--- the same of texts
+-- so are texts without their case
 same_ignoring_case-equiv : IsEquivalence same_ignoring_case
 same_ignoring_case-equiv = on_equiv str_to_ascii_lowercase nat_list_eq_equiv
 
--- the same of the path and the domain
+-- so are the path and the domain
 same_place-equiv : IsEquivalence same_place
 same_place-equiv =
     and_equiv (on_equiv (λ (cookie : Record). cookie.path) (options_equiv same_ignoring_case-equiv))
     (on_equiv (λ (cookie : Record). cookie.domain) (options_equiv same_ignoring_case-equiv))
 
--- the same of expiries
+-- so are expiries
 same_expiration-equiv : IsEquivalence same_expiration
 same_expiration-equiv = on_equiv datetime_of (options_equiv (on_equiv civil_nanos int_eq_equiv))
 
--- the same of the age and the expiry
+-- so are the age and the expiry
 same_lifetime-equiv : IsEquivalence same_lifetime
 same_lifetime-equiv =
     and_equiv (on_equiv (λ (cookie : Record). cookie.max_age) (options_equiv int_eq_equiv))

@@ -33,7 +33,7 @@ pub record SetsOneField (attribute : Key) (value : Option (List ℕ)) (cookie : 
   pub field : IsSetting attribute value (field_at attribute cookie)
   pub alone : cookie ≡ only attribute (field_at attribute cookie)
 
--- each attribute of the first, or that of the second where it is unset
+-- each attribute of the first, or of the second if the first has none
 abbrev pub either : Record → Record → Record
 either first second =
     record_of [] [] (λ attribute. option_or (field_at attribute first) (field_at attribute second))

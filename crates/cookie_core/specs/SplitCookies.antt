@@ -59,7 +59,7 @@ pub record IsItem (splitter : SplitView) (text : List ℕ) (outcome : Result Coo
   pub certain : splitter.is_owned ≡ false → IsCertain text outcome
   pub lends : IfOk outcome (LendsItem splitter.is_decoded splitter.is_owned text)
 
--- the next item is that of the first text, whether it is read or refused; with no text there is none, and none is left
+-- the next item is the first text's, whether it is read or refused; with no text there is none, and none is left
 abbrev pub NextCookie : SplitView → Option (Result CookieView ParseError) → SplitView → Type 0
 NextCookie old None new = (old.texts ≡ []) × (new.texts ≡ [])
 NextCookie old (Some outcome) new =

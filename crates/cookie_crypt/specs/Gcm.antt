@@ -49,7 +49,7 @@ blocks bytes = map (block_at bytes) (range_with_len 0 (block_count (length bytes
 abbrev pub lengths_block : ℕ → ℕ → ℕ
 lengths_block aad text = 8 * aad * 2 ^ 64 + 8 * text
 
--- the blocks that are hashed: those of the data, those of the encrypted text, and that of their lengths
+-- the blocks that are hashed: the data's, the encrypted text's, and the one of their lengths
 unfoldable pub hashed_blocks : List ℕ → List ℕ → List ℕ
 hashed_blocks aad text = blocks aad ++ blocks text ++ lengths_block (length aad) (length text) ∷ []
 

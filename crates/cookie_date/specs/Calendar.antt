@@ -12,7 +12,7 @@ abbrev pub second_fact : {P Q : Type 0} → P ⊎ Q → Option Q
 second_fact (inl p) = None
 second_fact (inr q) = Some q
 
--- that m is at most n, if it is
+-- a proof of m ≤ n, if it holds
 abbrev pub at_most : (m n : ℕ) → Option (m ≤ n)
 at_most m n = second_fact (cases_lt n m)
 

@@ -23,7 +23,7 @@ pub record AreSmall (found : Found) : Type 0 where
   pub month : IfSome found.month (λ month. month < 100)
   pub year : IfSome found.year (λ year. year < 10000)
 
--- the same of fields, whose year is then one of the calendar
+-- `AreSmall` for fields, whose year is one of the calendar
 pub record IsShort (fields : Fields) : Type 0 where
   pub year : IsYear fields.year
   pub month : fields.month < 100
