@@ -363,33 +363,6 @@ pub counted : (e : Option ℕ) (z : ℤ) → option_map pos e ≡ Some z → (co
 counted None z h = absurd (false≢true (ap is_some h))
 counted (Some count) z h = (count, refl, sym (ap (λ o. unwrap_or o z) h))
 
-pub seven_texts : (texts : List (Bor (List ℕ))) (z : Bor (List ℕ)) → length texts ≡ 7 → (now : DateTime) (is_http_only : Bool)
-    → read_line now is_http_only (get_or texts 0 z).now (flag_of (get_or texts 1 z).now) (get_or texts 2 z).now (flag_of (get_or texts 3 z).now)
-    (seconds_of_digits (get_or texts 4 z).now) (get_or texts 5 z).now (get_or texts 6 z).now
-    ≡ line_of_fields now is_http_only (map (λ t. t.now) texts)
-seven_texts [] z h now o = absurd (omega arith)
-seven_texts (a ∷ []) z h now o = absurd (omega arith)
-seven_texts (a ∷ b ∷ []) z h now o = absurd (omega arith)
-seven_texts (a ∷ b ∷ c ∷ []) z h now o = absurd (omega arith)
-seven_texts (a ∷ b ∷ c ∷ d ∷ []) z h now o = absurd (omega arith)
-seven_texts (a ∷ b ∷ c ∷ d ∷ e ∷ []) z h now o = absurd (omega arith)
-seven_texts (a ∷ b ∷ c ∷ d ∷ e ∷ f ∷ []) z h now o = absurd (omega arith)
-seven_texts (a ∷ b ∷ c ∷ d ∷ e ∷ f ∷ g ∷ []) z h now o = refl
-seven_texts (a ∷ b ∷ c ∷ d ∷ e ∷ f ∷ g ∷ x ∷ xs) z h now o = absurd (omega arith)
-
-pub six_texts : (texts : List (Bor (List ℕ))) (z : Bor (List ℕ)) → length texts ≡ 6 → (now : DateTime) (is_http_only : Bool)
-    → read_line now is_http_only (get_or texts 0 z).now (flag_of (get_or texts 1 z).now) (get_or texts 2 z).now (flag_of (get_or texts 3 z).now)
-    (seconds_of_digits (get_or texts 4 z).now) (get_or texts 5 z).now []
-    ≡ line_of_fields now is_http_only (map (λ t. t.now) texts)
-six_texts [] z h now o = absurd (omega arith)
-six_texts (a ∷ []) z h now o = absurd (omega arith)
-six_texts (a ∷ b ∷ []) z h now o = absurd (omega arith)
-six_texts (a ∷ b ∷ c ∷ []) z h now o = absurd (omega arith)
-six_texts (a ∷ b ∷ c ∷ d ∷ []) z h now o = absurd (omega arith)
-six_texts (a ∷ b ∷ c ∷ d ∷ e ∷ []) z h now o = absurd (omega arith)
-six_texts (a ∷ b ∷ c ∷ d ∷ e ∷ f ∷ []) z h now o = refl
-six_texts (a ∷ b ∷ c ∷ d ∷ e ∷ f ∷ x ∷ xs) z h now o = absurd (omega arith)
-
 pub other_texts : (texts : List (Bor (List ℕ))) → length texts ≢ 7 → length texts ≢ 6 → (now : DateTime) (is_http_only : Bool)
     → line.Bad ≡ line_of_fields now is_http_only (map (λ t. t.now) texts)
 other_texts [] h k now o = refl

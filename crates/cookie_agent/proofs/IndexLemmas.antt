@@ -25,20 +25,6 @@ same_mark a b e =
     let h = alike a b e in
     ap (λ n. mark_after (mark_after 0 n) a.domain) h.name ∙ ap (mark_after (mark_after 0 b.name)) h.domain
 
--- one of another mark doesn't give place
-pub marked_apart : (old new : KeptView) (now : DateTime) → (mark_of old ≡ mark_of new → ⊥) → gives_place new now old ≡ false
-marked_apart old new now apart = by (is_same_cookie old new) refl
-  where
-    by : (b : Bool) → is_same_cookie old new ≡ b → gives_place new now old ≡ false
-    by true same = absurd (apart (same_mark old new same))
-    by false other = and_right (lasts old.expiry now) (is_same_cookie old new) other
-
--- the mark at a place
-pub mark_at : (marks : _) (store : CookieStore) (i : ℕ) (mark : ℕ) (cookie : KeptView) → marks ≡ map mark_of store → i < length store → mark ≡ get_or marks i mark → cookie ≡ get_or store i cookie
-    → mark ≡ mark_of cookie
-mark_at marks store i mark cookie all below at is =
-    at ∙ ap (λ ms. get_or ms i mark) all ∙ get_or-map mark_of store i cookie mark below ∙ ap mark_of (sym is)
-
 -- a cookie with the mark of the one whose place it takes
 pub marks_stay : (store : CookieStore) (i : ℕ) (old new : KeptView) → i < length store → old ≡ get_or store i old → mark_of old ≡ mark_of new → map mark_of (set store i new) ≡ map mark_of store
 marks_stay store i old new below is same =

@@ -49,11 +49,6 @@ places_of_parts test place x xs = by (test x)
     by true = refl
     by false = refl
 
-pub cookies_of_parts : IsByPart (λ place. cookies_of)
-cookies_of_parts place (line.Cookie cookie) lines = refl
-cookies_of_parts place line.Other lines = refl
-cookies_of_parts place line.Bad lines = refl
-
 -- the texts of the saved cookies
 pub saved_parts : (now : DateTime) (is_carried : KeptView → Bool) (text : KeptView → List ℕ)
     → IsByPart (λ place store. concat (map text (saved now is_carried store)))
@@ -76,14 +71,6 @@ writes now is_carried text place cookie lasts carries =
     record {
       line = ap (λ b. concat (map text (cond b (cookie ∷ []) []))) (and_from (is_persistent now cookie) (is_carried cookie) lasts carries) ∙ append-nil (text cookie);
       places = ap (λ b. cond b (place ∷ []) []) (and_right (is_persistent now cookie) (not (is_carried cookie)) (ap not carries));
-    }
-
-pub passes_over : (now : DateTime) (is_carried : KeptView → Bool) (text : KeptView → List ℕ) (place : ℕ) (cookie : KeptView)
-    → is_persistent now cookie ≡ true → is_carried cookie ≡ false → Writes now is_carried text place cookie [] (place ∷ [])
-passes_over now is_carried text place cookie lasts missed =
-    record {
-      line = ap (λ b. concat (map text (cond b (cookie ∷ []) []))) (and_right (is_persistent now cookie) (is_carried cookie) missed);
-      places = ap (λ b. cond b (place ∷ []) []) (and_from (is_persistent now cookie) (not (is_carried cookie)) lasts (ap not missed));
     }
 
 -- ---- the lines of saved cookies, as a form carries them, and the empty one after them

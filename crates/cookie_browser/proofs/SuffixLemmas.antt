@@ -68,16 +68,6 @@ any-cut domain texts =
     any-same (is_in_domain domain false) (λ t. bytes_eq domain t || rest_in (cut 46 domain).1 t) (is_in_domain-cut domain) texts
     ∙ any-or (bytes_eq domain) (rest_in (cut 46 domain).1) texts
 
-fills_rule-same : (left right : List Rule) (domain : List ℕ) → HasSameElements left right → fills_rule left domain ≡ fills_rule right domain
-fills_rule-same left right domain same =
-    ap (λ b. not b && (is_one_label domain || list_any (is_covered domain) left)) (same (is_excepted domain))
-    ∙ ap (λ b. not (list_any (is_excepted domain) right) && (is_one_label domain || b)) (same (is_covered domain))
-
--- whether a domain is a public suffix depends only on which rules there are
-pub is_public_suffix-same : (left right : List Rule) (domain : List ℕ) → HasSameElements left right → is_public_suffix left domain ≡ is_public_suffix right domain
-unfolding is_public_suffix
-is_public_suffix-same left right domain same = fills_rule-same left right (without_last_dot domain) same
-
 bytes_same : (xs ys : List ℕ) → bytes_eq xs ys ≡ true → xs ≡ ys
 bytes_same xs ys e = (bytes_eq-Decides xs ys).0 e
 

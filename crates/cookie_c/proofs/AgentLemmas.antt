@@ -51,18 +51,6 @@ agent_none Makes number old new none left told = (
       (subst (λ n. Changes status.NoAgent Makes status.NoAgent None (store_in n)) (sym left) (refl, refl)),
 )
 
-pub agent_some : (Makes : Status → CookieStore → CookieStore → Type 0) (number : ℕ) (old new : Agent) (answer : Status) (content made : Content)
-    → old.handle.held.content ≡ Some content → new.handle.held.content ≡ Some made → number ≡ code_of answer
-    → InStore Makes answer content made → ChangesStore Makes number old new
-agent_some Makes number old new answer content made some left told makes =
-    tells_some store_in status.NoAgent Makes number old.handle.held.content new.handle.held.content answer content made some left told makes
-
--- what the call makes of the cookies that a content is
-pub agent_made : (Makes : Status → CookieStore → CookieStore → Type 0) (answer : Status) (had : Content) (store made : CookieStore)
-    → had ≡ content.Store store → Makes answer store made → InStore Makes answer had (content.Store made)
-agent_made Makes answer had store made is makes =
-    subst (λ h. InStore Makes answer h (content.Store made)) (sym is) (made, refl, makes)
-
 -- a call for a request that the agent sees
 pub seen_told : (request : Request) (site : RequestView) (Holds : RequestView → Type 0) (Refuses : Status → Type 0)
     → HasTexts request × (site ≡ seen_request request) → Holds site ⊎ Refuses status.OutOfMemory

@@ -80,9 +80,6 @@ pub record IsPlainTo (t : List ℕ) (n : ℕ) : Type 0 where
   pub kept : unescape t ≡ take n t ++ unescape (drop n t)
   pub same : has_escape t ≡ has_escape (drop n t)
 
-pub IsPlainTo-none : (t : List ℕ) → IsPlainTo t 0
-IsPlainTo-none t = record { kept = refl; same = refl }
-
 -- nor at the next
 pub IsPlainTo-more : (t : List ℕ) (n : ℕ) → n < length t → starts_with_escape (drop n t) ≡ false → IsPlainTo t n → IsPlainTo t (n + 1)
 IsPlainTo-more t n inside e h =

@@ -14,10 +14,6 @@ Keys = List (List ℕ)
 abbrev pub after_keys : Keys → Result Keys KeyTextError → Result Keys KeyTextError
 after_keys front result = result_map_both (λ keys. front ++ keys) (λ why. why) result
 
-pub after_no_keys : (r : Result Keys KeyTextError) → after_keys [] r ≡ r
-after_no_keys (Ok keys) = refl
-after_no_keys (Err why) = refl
-
 after_one_more : (front : Keys) (key : List ℕ) (r : Result Keys KeyTextError)
     → after_keys (front ++ key ∷ []) r ≡ after_keys front (result_map_both (λ keys. key ∷ keys) (λ why. why) r)
 after_one_more front key (Ok keys) = ap Ok (append_assoc front (key ∷ []) keys)

@@ -7,19 +7,6 @@ use Rattle.std.specs.Prelude.{IfSome, MatchOption, slice_get}
 use Rattle.cookie.specs.Keys.{encryption_half}
 use Rattle.cookie_session.specs.KeyRing.{IsSealedUnder, KeepsOpening, KeyOpensText, LeavesOpening, OpensTextAt}
 
--- what opened opens one place further back, where the new key doesn't open it
-pub kept_rotated : (key : List ℕ) (ring new : List (List ℕ)) → new ≡ key ∷ ring → KeepsOpening ring new
-kept_rotated key ring new is purpose place name text v opens none =
-    subst (λ r. OpensTextAt purpose r (place + 1) name text v) (sym is)
-    (subst (λ n. OpensTextAt purpose (key ∷ ring) n name text v) (sym (add-one place)) (record {
-      opens = opens.opens;
-      first = first;
-    }))
-  where
-    first : (newer : ℕ) (w : List ℕ) → newer < suc place → ¬ (KeyOpensText purpose (key ∷ ring) newer name text w)
-    first zero w below h = none w (subst (λ r. KeyOpensText purpose r 0 name text w) (sym is) h)
-    first (suc n) w below h = opens.first n w (omega arith) h
-
 get_front : (xs ys : List (List ℕ)) (i : ℕ) → i < length xs → slice_get (xs ++ ys) i ≡ slice_get xs i
 get_front [] ys i below = absurd (omega arith)
 get_front (x ∷ xs) ys zero below = refl

@@ -35,10 +35,6 @@ lossy_pairs (e ∷ es) are =
     let first = All-head IsTextPair e es are in
     λ i. (utf8_lossy-IsUtf8 e.0 first.0 i, utf8_lossy-IsUtf8 e.1 first.1 i) ∷ lossy_pairs es (All-tail IsTextPair e es are) i
 
--- the digits of a number are a text
-pub text_decimal : (n : ℕ) → n < 2 ^ 64 → IsUtf8 (decimal n)
-text_decimal n below = IsUtf8-from_ascii (decimal n) (IsAscii-decimal n below)
-
 -- a form of texts has these texts as its pairs
 pub form_pairs-extended : (es : List (List ℕ × List ℕ)) → All IsTextPair es → form_pairs (extend_pairs [] es) ≡ es
 form_pairs-extended es are =

@@ -210,11 +210,6 @@ on_err (Err e) p = p
 
 -- ---- how a call fails
 
--- an error that is passed on
-pub err_is : {T : Type 0} (r : Result T SessionError) (e : SessionError) → IsErrAnd r (λ x. x ≡ e) → r ≡ Err e
-err_is (Ok t) e h = absurd h
-err_is (Err x) e h = ap Err h
-
 -- what two facts give of an answer
 pub of_both : {T E : Type 0} (r : Result T E) (P Q R : T → Type 0) → ((t : T) → P t → Q t → R t) → IfOk r P → IfOk r Q → IfOk r R
 of_both (Ok t) P Q R k p q = k t p q
@@ -223,9 +218,6 @@ of_both (Err e) P Q R k p q = tt
 -- two calls that end alike
 abbrev pub SameErrors : {T U : Type 0} → Result T SessionError → Result U SessionError → Type 0
 SameErrors r s = (e : SessionError) → (r ≡ Err e) ↔ (s ≡ Err e)
-
-pub both_ok : {T U : Type 0} (r : Result T SessionError) (s : Result U SessionError) (t : T) (u : U) → r ≡ Ok t → s ≡ Ok u → SameErrors r s
-both_ok r s t u r_is s_is e = (λ h. cc, λ h. cc)
 
 pub both_err : {T U : Type 0} (r : Result T SessionError) (s : Result U SessionError) (e : SessionError) → r ≡ Err e → s ≡ Err e → SameErrors r s
 both_err r s e r_is s_is other = (λ h. cc, λ h. cc)
@@ -255,13 +247,6 @@ module _ (IsDrawn : List ℕ → Type 0) (CanFail : Type 0) (sessions : Sessions
 pub why_is : {T : Type 0} (r : Result T AnswerError) (e why : SessionError) → IsErrAnd r (λ x. x ≡ unanswered.Session e) → r ≡ Err (unanswered.Session why) → e ≡ why
 why_is (Ok t) e why is same = absurd is
 why_is (Err x) e why is same = cc
-
--- a refusal to print that is passed on
-pub unprinted_memory : {T : Type 0} (r : Result T AnswerError) (e : TextsError) (why : SessionError) → IsErrAnd r (λ x. x ≡ texts_failure e)
-    → r ≡ Err (unanswered.Session why) → why ≡ failure.OutOfMemory
-unprinted_memory (Ok t) e why is same = absurd is
-unprinted_memory (Err x) unprinted.OutOfMemory why is same = cc
-unprinted_memory (Err x) unprinted.InvalidValue why is same = absurd (let clash : unanswered.InvalidValue ≡ unanswered.Session why = cc in cc)
 
 pub unprinted_value : {T : Type 0} (r : Result T AnswerError) (e : TextsError) → IsErrAnd r (λ x. x ≡ texts_failure e)
     → r ≡ Err unanswered.InvalidValue → e ≡ unprinted.InvalidValue
