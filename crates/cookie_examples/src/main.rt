@@ -24,8 +24,6 @@ mod session;
 mod shop;
 mod show;
 mod team;
-#[cfg(test)]
-mod tests;
 
 use anyhow::Result;
 use cookie::read_date;

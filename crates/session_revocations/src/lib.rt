@@ -11,6 +11,3 @@ mod statements;
 pub use memory_revocations::MemoryRevocations;
 pub use revocation_error::RevocationError;
 pub use sqlite_revocations::SqliteRevocations;
-
-#[cfg(test)]
-mod tests;

@@ -1,5 +1,6 @@
 //! Calls on the set in SQLite and in memory, files that are opened again, and what is refused.
-use super::*;
+use cookie_session::Revocations;
+use session_revocations::{MemoryRevocations, RevocationError, SqliteRevocations};
 use sqlite::{Alter, Connection, Options};
 use std::fs;
 use std::test::Fail;

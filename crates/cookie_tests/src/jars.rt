@@ -1,6 +1,6 @@
 //! The jar and its client over calls that are drawn.
-use super::draws::{Draws, code};
-use super::moment;
+use crate::draws::{Draws, code};
+use crate::moment::moment;
 use cookie::{Cookie, CookieJar};
 use cookie_client::{ClientRequest, JarCall, Played, replay, rounds};
 use std::alloc::{AllocError, Global};

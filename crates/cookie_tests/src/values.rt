@@ -1,5 +1,5 @@
 //! Small values as values of Rust.
-use super::moment;
+use crate::moment::moment;
 use cookie::{Cookie, Expiration, SameSite};
 use cookie_core::days_after;
 use jiff::civil::datetime;

@@ -1,6 +1,6 @@
 //! One cookie: the calls of a builder, what outlives a cookie that was read, the places of a text's parts, and long
 //! texts.
-use super::moment;
+use crate::moment::moment;
 use cookie_core::{Cookie, CookieBuilder, Expiration, Layout, ParseError, SameSite, Span};
 use jiff::SignedDuration;
 use jiff::civil::datetime;

@@ -1,6 +1,6 @@
 //! The user agent over cookies that are drawn.
-use super::draws::{Draws, code};
-use super::moment;
+use crate::draws::{Draws, code};
+use crate::moment::moment;
 use cookie_agent::{Agent, Site};
 use cookie_browser::Suffixes;
 use jiff::SignedDuration;
