@@ -5,7 +5,7 @@ use Rattle.std.specs.Int.{w32, w128, from_be_bytes, to_be_bytes}
 use Rattle.cookie_crypt.specs.Aes.{encrypt_block}
 use Rattle.cookie_crypt.specs.Bytes.{IsBytes}
 use Rattle.cookie_crypt.specs.Ghash.{ghash, ghash_by_steps}
-use Rattle.cookie_crypt.specs.Steps.{block_count}
+use Rattle.cookie_crypt.specs.Steps.{StepCounts, block_count, sealing_steps}
 
 -- ---- blocks as numbers
 
@@ -90,6 +90,11 @@ pub record IsSealing (key nonce aad plain text tag : List ℕ) : Type 0 where
   pub within : IsWithin (length aad) (length plain)
   pub text_is : text ≡ gctr key nonce plain
   pub tag_is : tag ≡ tag_of key nonce aad text
+
+-- what a `Gcm` makes of a plain text: its sealing, counted
+pub record IsCountedSealing (key nonce aad plain text tag : List ℕ) (steps : StepCounts) : Type 0 where
+  pub sealing : IsSealing key nonce aad plain text tag
+  pub steps_are : steps ≡ sealing_steps (length aad) (length plain)
 
 -- every sealing of bytes under this key is bytes
 abbrev pub SealsToBytes : List ℕ → Type 0

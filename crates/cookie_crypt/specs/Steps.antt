@@ -26,11 +26,11 @@ with_products count steps =
 abbrev pub block_count : ℕ → ℕ
 block_count bytes = (bytes + 15) / 16
 
--- the tag of a text under data, by their lengths: one block, and a product for each block of data, text and lengths. The
--- hash subkey and its multiples are made with the key
+-- the tag of a text under data, by their lengths: two blocks, of H and of J0, and a product for each block of data, text
+-- and lengths
 abbrev pub tag_steps : ℕ → ℕ → StepCounts
 tag_steps aad text = record {
-  blocks = 1;
+  blocks = 2;
   products = block_count aad + block_count text + 1;
   table_steps = 32 * (block_count aad + block_count text + 1);
 }
@@ -38,7 +38,15 @@ tag_steps aad text = record {
 -- the sealing of a text under data: those, and a block for each block of the text
 abbrev pub sealing_steps : ℕ → ℕ → StepCounts
 sealing_steps aad text = record {
-  blocks = block_count text + 1;
+  blocks = block_count text + 2;
   products = block_count aad + block_count text + 1;
   table_steps = 32 * (block_count aad + block_count text + 1);
 }
+
+-- the tag under a key that keeps the multiples of H: only the block of J0
+abbrev pub prepared_tag_steps : ℕ → ℕ → StepCounts
+prepared_tag_steps aad text = record (tag_steps aad text) { blocks = 1 }
+
+-- the sealing under a key that keeps the multiples of H: a block for J0 and for each block of the text
+abbrev pub prepared_sealing_steps : ℕ → ℕ → StepCounts
+prepared_sealing_steps aad text = record (sealing_steps aad text) { blocks = block_count text + 1 }

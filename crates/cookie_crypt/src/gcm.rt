@@ -1,85 +1,32 @@
-//! AES-256-GCM with a nonce of twelve bytes (SP 800-38D).
-ghost use Rattle.std.specs.Prelude.{◌≡◌, ◌<◌, ◌≤◌, ◌+◌, ◌-◌, ◌^◌, ◌↔◌, ⊤, ℕ, List, length, IsSome, IfSome, IfNone, OnSome};
+//! AES-256-GCM under a key.
+ghost use Rattle.std.specs.Prelude.{◌≡◌, ◌↔◌, ⊤, ℕ, List, length, IsSome, IfSome, IfNone, OnSome};
 ghost use Rattle.std.specs.Bool.{OnTrue, OnFalse};
-ghost use Rattle.cookie_crypt.specs.Gcm.{gctr, tag_of, tag_by_steps, hash_subkey, longest_text, IsWithin, IsSealing, SealsToBytes};
+ghost use Rattle.cookie_crypt.specs.Gcm.{tag_by_steps, hash_subkey, IsWithin, IsSealing, SealsToBytes};
 ghost use Rattle.cookie_crypt.specs.Ghash.{HasSum, HasPowersFirst};
-ghost use Rattle.cookie_crypt.specs.Steps.{block_count, with_blocks, no_steps, tag_steps, sealing_steps};
+ghost use Rattle.cookie_crypt.specs.Steps.{no_steps, tag_steps, sealing_steps};
 
 use crate::aes::Aes256;
-use crate::block::{add_block, bytes_of, counter_block, number_of};
-use crate::equal::are_equal;
-use crate::ghash::hash_from;
-use crate::multiples::Multiples;
+use crate::sealing::{is_within, open, seal, subkey_multiples};
 use crate::steps::Steps;
 use std::alloc::AllocError;
 use std::marker::Model;
 
-/// The most bytes of a text: 2^36 - 32 (SP 800-38D 5.2.1.1).
-pub const LONGEST_TEXT: usize = (1 << 36) - 32;
-
-/// The most bytes of associated data: 2^61 - 1 (SP 800-38D 5.2.1.1).
-pub const LONGEST_DATA: usize = (1 << 61) - 1;
-
-// Adds the stream under the nonce to the text (SP 800-38D 6.5).
-fn add_key_stream(cipher: &Aes256, nonce: &[u8; 12], text: &mut [u8], steps: &mut Steps)
-    requires within { length text.old ≤ longest_text }
-    requires room { steps.old.blocks + block_count (length text.old) < 2 ^ 64 }
-    ensures made { text.new ≡ gctr cipher.now nonce.now text.old }
-    ensures counted { steps.new ≡ with_blocks (block_count (length text.old)) steps.old }
-{
-    for i in 0..text.len().div_ceil(16) {
-        let counter = i as u32 + 2;
-        let stream = steps.encrypt_block(cipher, counter_block(nonce, counter));
-        add_block(text, 16 * i, &stream);
-    }
-}
-
-// The tag of an encrypted text (SP 800-38D 7.1, steps 4 to 6).
-fn tag_of(
-    cipher: &Aes256,
-    multiples: &Multiples,
-    nonce: &[u8; 12],
-    aad: &[u8],
-    text: &[u8],
-    steps: &mut Steps,
-) -> [u8; 16]
-    requires subkey { multiples.now ≡ hash_subkey cipher.now }
-    requires within { IsWithin (length aad.now) (length text.now) }
-    requires room { steps.old.blocks < 2 ^ 40 }
-    requires no_products { steps.old.products ≡ 0 }
-    requires no_table_steps { steps.old.table_steps ≡ 0 }
-    ensures made { result ≡ tag_of cipher.now nonce.now aad.now text.now }
-    ensures by_steps { result ≡ tag_by_steps cipher.now nonce.now aad.now text.now }
-    ensures counted { steps.new
-        ≡ with_blocks steps.old.blocks (tag_steps (length aad.now) (length text.now)) }
-{
-    let hash = hash_from(0, multiples, aad, steps);
-    let hash = hash_from(hash, multiples, text, steps);
-    let lengths = ((8 * aad.len() as u128) << 64) + 8 * text.len() as u128;
-    let hash = steps.product(multiples, hash ^ lengths);
-    let mask = number_of(steps.encrypt_block(cipher, counter_block(nonce, 1)));
-    bytes_of(hash ^ mask)
-}
-
-/// AES-256-GCM under a key. Contracts see the key. It keeps the multiples of the hash subkey, which each tag looks up.
+/// AES-256-GCM under a key. Contracts see the key. Each call makes the hash subkey H and its multiples anew; for many
+/// texts under one key, a `PreparedGcm` keeps them.
 #[derive(Drop)]
 pub struct Gcm {
     cipher: Aes256,
-    multiples: Multiples,
 }
 
 impl Model for Gcm {
-    ghost use Rattle.std.specs.Prelude.{◌≡◌, ℕ, List};
+    ghost use Rattle.std.specs.Prelude.{ℕ, List};
     ghost use Rattle.cookie_crypt.specs.Bytes.{IsBytes};
-    ghost use Rattle.cookie_crypt.specs.Gcm.{hash_subkey};
-    ghost use Rattle.cookie_crypt.specs.Ghash.{HasPowersFirst};
 
     ghost Value = { List ℕ };
 
     ghost view = { λ g. g.cipher };
 
-    ghost invariant = { λ g. IsBytes g.cipher × (g.multiples ≡ hash_subkey g.cipher)
-        × HasPowersFirst (hash_subkey g.cipher) };
+    ghost invariant = { λ g. IsBytes g.cipher };
 }
 
 impl Gcm {
@@ -89,11 +36,8 @@ impl Gcm {
         ensures value { result ≡ key.now }
         ensures bytes { SealsToBytes key.now }
     {
-        let cipher = Aes256::new(key);
-        let subkey = number_of(cipher.encrypt_block([0; 16]));
         Gcm {
-            cipher,
-            multiples: Multiples::new(subkey),
+            cipher: Aes256::new(key),
         }
     }
 
@@ -128,13 +72,13 @@ impl Gcm {
 
         ensures bytes { SealsToBytes self.now }
     {
-        let Gcm { cipher, multiples } = self;
+        let cipher = &self.cipher;
         *steps = Steps::new();
-        if text.len() > LONGEST_TEXT || aad.len() > LONGEST_DATA {
+        if !is_within(aad, text) {
             return None;
         }
-        add_key_stream(cipher, nonce, text, steps);
-        Some(tag_of(cipher, multiples, nonce, aad, text, steps))
+        let multiples = subkey_multiples(cipher, steps);
+        Some(seal(cipher, &multiples, nonce, aad, text, steps))
     }
 
     /// Decrypts the text in place and returns true if text and tag are a sealing (SP 800-38D 7.2). Else it returns
@@ -164,16 +108,13 @@ impl Gcm {
         ensures uncounted { ¬ IsWithin (length aad.now) (length text.old) → steps.new ≡ no_steps }
         ensures bytes { SealsToBytes self.now }
     {
-        let Gcm { cipher, multiples } = self;
+        let cipher = &self.cipher;
         *steps = Steps::new();
-        if text.len() > LONGEST_TEXT || aad.len() > LONGEST_DATA {
+        if !is_within(aad, text) {
             return false;
         }
-        if !are_equal(&tag_of(cipher, multiples, nonce, aad, text, steps), tag) {
-            return false;
-        }
-        add_key_stream(cipher, nonce, text, steps);
-        true
+        let multiples = subkey_multiples(cipher, steps);
+        open(cipher, &multiples, nonce, aad, text, tag, steps)
     }
 }
 
@@ -186,7 +127,6 @@ impl Clone for Gcm {
     fn clone(&self) -> Result<Gcm, AllocError> {
         Ok(Gcm {
             cipher: self.cipher.copy(),
-            multiples: self.multiples.copy(),
         })
     }
 }

@@ -11,11 +11,15 @@ mod ghash;
 mod lanes;
 mod mac;
 mod multiples;
+mod prepared_gcm;
+mod sealing;
 mod steps;
 
 pub use aes::Aes256;
 pub use equal::are_equal;
 pub use expand::expand64;
-pub use gcm::{Gcm, LONGEST_DATA, LONGEST_TEXT};
+pub use gcm::Gcm;
 pub use mac::{Mac, hmac};
+pub use prepared_gcm::PreparedGcm;
+pub use sealing::{LONGEST_DATA, LONGEST_TEXT};
 pub use steps::Steps;

@@ -38,6 +38,9 @@ pub fn texts(rt: &HostRuntime, now: DateTime) -> Result<()> {
     let mut text = [1, 2, 3];
     let is_back = sealing::comes_back(&[7; 32], &[9; 12], b"name", &mut text);
     println!(rt; "comes back: {is_back}")?;
+    let (nonces, mut other) = ([[1; 12], [2; 12]], [4, 5]);
+    let are_back = sealing::both_come_back(&[7; 32], &nonces, b"name", &mut text, &mut other);
+    println!(rt; "both come back: {are_back}")?;
     Ok(())
 }
 

@@ -1,6 +1,6 @@
 //! AES-256, HMAC-SHA256, its expansion, and AES-256-GCM. data/cipher.tsv has the calls.
 use crate::step::{Answer, Player, Step};
-use cookie_crypt::{Aes256, Gcm, Mac, Steps, are_equal, expand64, hmac};
+use cookie_crypt::{Aes256, Gcm, Mac, PreparedGcm, Steps, are_equal, expand64, hmac};
 use hex::{FromHex, decode, encode};
 use std::alloc::Global;
 
@@ -21,7 +21,7 @@ impl Player for Cipher {
             "equal" => compared(inputs),
             "seal" => sealed(inputs),
             "open" => opened(inputs),
-            "steps" => counted(inputs),
+            "steps" | "prepared" => counted(inputs),
             "blocks" => blocks(inputs),
             "texts" => texts(inputs),
             _ => None,
@@ -112,12 +112,36 @@ fn opens(gcm: &Gcm, nonce: &[u8; 12], data: &[u8], text: &mut [u8], tag: &[u8; 1
     gcm.open_in_place(nonce, data, text, tag, &mut Steps::new())
 }
 
+// Whether a key that keeps H makes the same sealed text and tag of the text, and opens it again.
+fn is_sealed_alike(
+    prepared: &PreparedGcm,
+    nonce: &[u8; 12],
+    data: &[u8],
+    plain: &Vec<u8>,
+    sealed: &Vec<u8>,
+    tag: &[u8; 16],
+) -> Option<bool> {
+    let mut bytes = plain.clone().ok()?;
+    let own = prepared.seal_in_place(nonce, data, bytes.as_mut_slice(), &mut Steps::new())?;
+    let is_alike = own == *tag && bytes == *sealed;
+    let is_opened = prepared.open_in_place(
+        nonce,
+        data,
+        bytes.as_mut_slice(),
+        tag,
+        &mut Steps::new(),
+    );
+    Some(is_alike && is_opened && bytes == *plain)
+}
+
 // The sealed text of `KEY | NONCE | DATA | TEXT` and its tag, which opens it, and no other does.
 fn sealed(mut inputs: Inputs<'_>) -> Answer {
-    let gcm = Gcm::new(&inputs.array()?);
+    let key = inputs.array()?;
+    let (gcm, prepared) = (Gcm::new(&key), PreparedGcm::new(&key));
     let (nonce, data, plain) = (inputs.array()?, inputs.bytes()?, inputs.bytes()?);
     let mut bytes = plain.clone().ok()?;
     let tag = gcm.seal_in_place(&nonce, &data, bytes.as_mut_slice(), &mut Steps::new())?;
+    is_sealed_alike(&prepared, &nonce, &data, &plain, &bytes, &tag)?.then_some(())?;
     let (sealed, shown_tag) = (shown(inputs.0, &bytes)?, shown(inputs.0, &tag)?);
     let mut other = tag;
     other[3] ^= 1;
@@ -131,22 +155,29 @@ fn sealed(mut inputs: Inputs<'_>) -> Answer {
 
 // The text of `KEY | NONCE | DATA | SEALED | TAG`, or `refused`, if it isn't opened and stays as it is.
 fn opened(mut inputs: Inputs<'_>) -> Answer {
-    let gcm = Gcm::new(&inputs.array()?);
+    let key = inputs.array()?;
+    let (gcm, prepared) = (Gcm::new(&key), PreparedGcm::new(&key));
     let (nonce, data, sealed) = (inputs.array()?, inputs.bytes()?, inputs.bytes()?);
-    let mut bytes = sealed.clone().ok()?;
-    let is_opened = opens(&gcm, &nonce, &data, bytes.as_mut_slice(), &inputs.array()?);
+    let (mut bytes, tag) = (sealed.clone().ok()?, inputs.array()?);
+    let is_opened = opens(&gcm, &nonce, &data, bytes.as_mut_slice(), &tag)
+        || prepared.open_in_place(&nonce, &data, bytes.as_mut_slice(), &tag, &mut Steps::new());
     if !is_opened && bytes == sealed {
         return inputs.0.said("refused");
     }
     shown(inputs.0, &bytes)
 }
 
-// What sealing a text with data of these lengths counts.
+// What sealing a text with data of these lengths counts, also under a key that keeps H.
 fn counted(mut inputs: Inputs<'_>) -> Answer {
     let (data, mut text, mut steps) = ([0; 32], [0; 32], Steps::new());
     let data = data.get(..inputs.number()?)?;
     let text = text.get_mut(..inputs.number()?)?;
-    Gcm::new(&[7; 32]).seal_in_place(&[0; 12], data, text, &mut steps)?;
+    match inputs.0.call {
+        "prepared" => {
+            PreparedGcm::new(&[7; 32]).seal_in_place(&[0; 12], data, text, &mut steps)?
+        }
+        _ => Gcm::new(&[7; 32]).seal_in_place(&[0; 12], data, text, &mut steps)?,
+    };
     let (blocks, products, look_ups) = (steps.blocks(), steps.products(), steps.table_steps());
     format!(in inputs.0.alloc; "{blocks} | {products} | {look_ups}").ok()
 }

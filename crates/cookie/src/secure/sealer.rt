@@ -12,7 +12,7 @@ use crate::secure::sealed_text::SealedText;
 use crate::secure::sealing::{is_sealable, open_text, sealed_bytes};
 use base64::engine::general_purpose::STANDARD;
 use cookie_core::Cookie;
-use cookie_crypt::Gcm;
+use cookie_crypt::PreparedGcm;
 use rand_core::TryRng;
 use std::alloc::{AllocError, Global};
 use std::marker::Model;
@@ -29,7 +29,7 @@ use std::marker::Model;
 /// ```
 #[derive(Drop)]
 pub struct Sealer {
-    pub(super) cipher: Gcm,
+    pub(super) cipher: PreparedGcm,
 }
 
 impl Model for Sealer {
@@ -49,7 +49,7 @@ impl Sealer {
         ensures { result ≡ half.now }
     {
         Sealer {
-            cipher: Gcm::new(half),
+            cipher: PreparedGcm::new(half),
         }
     }
 

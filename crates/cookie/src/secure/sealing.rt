@@ -3,7 +3,7 @@ ghost use Rattle.std.specs.Prelude.{◌≡◌, ◌↔◌, ℕ, List, Some, IfOk,
 ghost use Rattle.cookie.specs.Opening.{IsSealedBytes, IsSealedTextBytes};
 ghost use Rattle.cookie.specs.Sealing.{IsSealable, sealed_bytes};
 
-use cookie_crypt::{Gcm, LONGEST_DATA, LONGEST_TEXT, Steps};
+use cookie_crypt::{LONGEST_DATA, LONGEST_TEXT, PreparedGcm, Steps};
 use std::alloc::{AllocError, Global};
 
 const NONCE_LENGTH: usize = 12;
@@ -20,7 +20,7 @@ pub(crate) fn is_sealable(name: &str, value: &str) -> bool
 // The nonce, the encrypted value and the tag.
 pub(crate) fn sealed_bytes(
     alloc: Global,
-    cipher: &Gcm,
+    cipher: &PreparedGcm,
     bound: &[u8],
     nonce: &[u8; 12],
     value: &str,
@@ -42,7 +42,7 @@ pub(crate) fn sealed_bytes(
 // The text that the bytes are a sealing of with this associated data, if they are one.
 pub(crate) fn open_text(
     alloc: Global,
-    cipher: &Gcm,
+    cipher: &PreparedGcm,
     bound: &[u8],
     bytes: &[u8],
 ) -> Result<Option<String>, AllocError>
@@ -62,7 +62,7 @@ pub(crate) fn open_text(
 // The same of bytes that may be no text.
 fn open(
     alloc: Global,
-    cipher: &Gcm,
+    cipher: &PreparedGcm,
     bound: &[u8],
     bytes: &[u8],
 ) -> Result<Option<Vec<u8>>, AllocError>

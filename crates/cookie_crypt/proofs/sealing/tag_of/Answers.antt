@@ -5,7 +5,7 @@ use Rattle.cookie_crypt.specs.Ghash.{ghash, ghash_from}
 use Rattle.cookie_crypt.specs.Gcm.{number_of, bytes_of, blocks, hash_subkey, hashed_blocks, lengths_block, masked_hash, tag_of}
 use Rattle.cookie_crypt.proofs.HornerLemmas.{ghash_from-append, ghash_from-push, ghash-iteration}
 use Rattle.cookie_crypt.proofs.GcmLemmas.{tag_by_steps-sum}
-use Rattle.cookie_crypt.proofs.gcm.tag_of.Goals as goal
+use Rattle.cookie_crypt.proofs.sealing.tag_of.Goals as goal
 
 pub returns-clause-made : goal.returns-clause-made
 unfolding tag_of masked_hash hash_subkey hashed_blocks

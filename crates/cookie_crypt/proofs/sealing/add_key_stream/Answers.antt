@@ -5,7 +5,7 @@ use Rattle.cookie_crypt.specs.Aes.{encrypt_block}
 use Rattle.cookie_crypt.specs.Gcm.{counter_block, key_stream, gctr}
 use Rattle.cookie_crypt.specs.Steps.{with_blocks}
 use Rattle.cookie_crypt.proofs.StepLemmas.{with_blocks-add}
-use Rattle.cookie_crypt.proofs.gcm.add_key_stream.Goals as goal
+use Rattle.cookie_crypt.proofs.sealing.add_key_stream.Goals as goal
 
 pub loop-i-preserved : goal.loop-i-preserved
 unfolding key_stream

@@ -1,7 +1,7 @@
 use Rattle.std.proofs.Common.{◌≡◌, ℕ, ◌*◌, ◌<◌, ◌≤◌, bit_xor, slice_index, length}
 use Rattle.cookie_crypt.specs.Gcm.{key_stream}
 use Rattle.cookie_crypt.specs.Steps.{with_blocks}
-use Rattle.cookie_crypt.proofs.gcm.add_key_stream.Given as goal
+use Rattle.cookie_crypt.proofs.sealing.add_key_stream.Given as goal
 
 abbrev pub invariant-loop-i : goal.invariant-loop-i
 invariant-loop-i l = record {
