@@ -181,10 +181,6 @@ static cookie_answer play_step(cookie_jar *jar, text step, uint8_t *out, size_t 
             sort_lines(out, answer.length);
         return answer;
     }
-    if (is_step("free", step, &rest)) {
-        cookie_jar_free(jar);
-        return of_status(COOKIE_DONE);
-    }
     fprintf(stderr, "no step %.*s\n", (int)step.length, (char *)step.bytes);
     exit(2);
 }
@@ -470,6 +466,10 @@ static cookie_answer call(const char *name, const text *in, uint8_t *out, size_t
         return print_cookie(in, out, length);
     if (strcmp(name, "explain") == 0)
         return explain(in, out, length);
+    if (strcmp(name, "refusal_sentence") == 0)
+        return cookie_refusal_sentence((uint32_t)number_in(in[0]), out, length);
+    if (strcmp(name, "refusal_section") == 0)
+        return cookie_refusal_section((uint32_t)number_in(in[0]), out, length);
     if (strcmp(name, "session_open") == 0)
         return open_session(in, out, length);
     if (strcmp(name, "session_save") == 0)

@@ -15,7 +15,8 @@ from deomigal import _agent, _library as library, agents, cookies, dates, errors
 from deomigal.addresses import Address
 
 CALLS = {"derive_key": library.DERIVE_KEY, "sign": library.SIGN, "verify": library.VERIFY, "seal": library.SEAL,
-         "open": library.OPEN, "print": library.PRINT, "print_date": library.PRINT_DATE, "run": library.RUN}
+         "open": library.OPEN, "print": library.PRINT, "print_date": library.PRINT_DATE, "run": library.RUN,
+         "refusal_sentence": _agent.REFUSAL_SENTENCE, "refusal_section": _agent.REFUSAL_SECTION}
 # The names of the statuses in the rows, such as NOT_UTF8 for `NotUtf8`.
 STATUSES = ["DONE"] + [re.sub(r"(?<!^)(?=[A-Z])", "_", error.__name__).upper() for _, error in sorted(errors.ERRORS.items())]
 FIELDS = ("year", "month", "day", "hour", "minute", "second")
@@ -64,9 +65,6 @@ def step(handle, text, out, length):
         return library.JAR_GET(handle, *rest, out, length)
     if word in (b"delta", b"cookies"):
         return (library.JAR_DELTA if word == b"delta" else library.JAR_COOKIES)(handle, out, length)
-    if word == b"free":
-        library.JAR_FREE(handle)
-        return library.Answer(library.DONE, 0)
     calls = {b"originals": library.JAR_ADD_ORIGINALS, b"add": library.JAR_ADD, b"remove": library.JAR_REMOVE,
              b"scoped": library.JAR_REMOVE_SCOPED}
     return library.Answer(calls[word](handle, *rest), 0)
@@ -107,7 +105,7 @@ def played(call, inputs, length):
         answer = play_token(call, inputs, out, length)
         return answer.status, answer.length, buffer.raw
     arguments = [1, 2] if call == "run" else []
-    if call == "print_date":
+    if call in ("print_date", "refusal_sentence", "refusal_section"):
         arguments = [int(number) for number in inputs[0].split()]
     else:
         for value in inputs[:4] if call == "print" else inputs:

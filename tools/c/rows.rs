@@ -212,6 +212,8 @@ unsafe extern "C" {
     fn cookie_suffixes_new(list: Text, list_length: usize, suffixes: &mut Handle) -> u32;
     fn cookie_suffixes_free(suffixes: &mut Handle);
     fn cookie_explain(suffixes: &mut Handle, request: &Request, text: Text, text_length: usize, now: u64, out: *mut u8, out_length: usize) -> Explanation;
+    fn cookie_refusal_sentence(refusal: u32, out: *mut u8, out_length: usize) -> Answer;
+    fn cookie_refusal_section(refusal: u32, out: *mut u8, out_length: usize) -> Answer;
     fn cookie_agent_new(agent: &mut Handle) -> u32;
     fn cookie_agent_read(agent: &mut Handle, suffixes: &mut Handle, request: &Request, text: Text, text_length: usize, now: u64) -> AgentReading;
     fn cookie_agent_header(agent: &mut Handle, request: &Request, now: u64, out: *mut u8, out_length: usize) -> Answer;
@@ -270,10 +272,6 @@ fn play_step(jar: &mut Handle, step: &[u8], out: *mut u8, length: usize) -> Answ
             b"get" => cookie_jar_get(jar, place(rest), rest.len(), out, length),
             b"delta" => cookie_jar_delta(jar, out, length),
             b"cookies" => cookie_jar_cookies(jar, out, length),
-            b"free" => {
-                cookie_jar_free(jar);
-                of_status(0)
-            }
             _ => panic!("no step {step:?}"),
         }
     }
@@ -560,6 +558,8 @@ fn call(name: &str, inputs: &[Vec<u8>], out: *mut u8, length: usize) -> Answer {
                 let attributes = attributes_in(&inputs[4]);
                 cookie_print(at(0), size(0), at(1), size(1), at(2), size(2), at(3), size(3), &attributes, inputs[5] == b"1", out, length)
             }
+            "refusal_sentence" => cookie_refusal_sentence(number_in(&inputs[0]) as u32, out, length),
+            "refusal_section" => cookie_refusal_section(number_in(&inputs[0]) as u32, out, length),
             "print_date" => {
                 let n = numbers(&inputs[0]);
                 cookie_print_date(n[0] as i16, n[1] as i8, n[2] as i8, n[3] as i8, n[4] as i8, n[5] as i8, out, length)

@@ -182,7 +182,7 @@ impl Session {
         Ok(())
     }
 
-    /// Its texts as a form, `name=value&name=value`, in byte order of the names (URL Standard 5.2). `with_form` reads
+    /// Its texts as a form, `name=value&name=value`, in byte order of the names (URL Standard 5.2). `set_form` reads
     /// it back.
     ///
     /// Fails only if out of memory.

@@ -1,5 +1,5 @@
 //! A session with the texts of a form (URL Standard 5.1).
-ghost use Rattle.std.specs.Prelude.{◌≡◌, IfOk, OnErr, OnOk};
+ghost use Rattle.std.specs.Prelude.{◌≡◌, OnErr, OnOk};
 ghost use Rattle.cookie_session.specs.Form.{texts_of_form};
 
 use crate::session::Session;
@@ -8,20 +8,10 @@ use form_urlencoded::raw_pairs;
 use std::alloc::{AllocError, Global};
 
 impl Session {
-    /// The session with the texts of a form in place of its own (URL Standard 5.1). Of two texts with one name the last
-    /// counts. Bytes that aren't UTF-8 are replaced by U+FFFD.
+    /// Puts the texts of a form in place of its own (URL Standard 5.1). Of two texts with one name the last counts. Bytes
+    /// that aren't UTF-8 are replaced by U+FFFD.
     ///
-    /// Fails only if out of memory, and then the session is gone.
-    pub fn with_form(self, alloc: Global, form: &[u8]) -> Result<Session, AllocError>
-        ensures { IfOk result (λ session. session
-            ≡ record self { texts = texts_of_form form.now }) }
-    {
-        let texts = texts_of(alloc, raw_pairs(form))?;
-        Ok(Session::of(*self.id(), self.started(), self.seen(), texts))
-    }
-
-    /// Puts the texts of a form in place of its own, as `with_form` does. Fails only if out of memory, and then leaves the
-    /// session as it was.
+    /// Fails only if out of memory, and then leaves the session as it was.
     pub fn set_form(&mut self, alloc: Global, form: &[u8]) -> Result<(), AllocError>
         ensures ok { OnOk result (self.new
             ≡ record self.old { texts = texts_of_form form.now }) }

@@ -55,6 +55,17 @@ fn holds<S: Alter + Drop>(
     Ok(true)
 }
 
+// As a site calls a new set: Ann is revoked until the later second, and Bob until 150.
+fn revokes<R: Revocations>(set: &mut R) -> Result<bool, R::Error> {
+    set.revoke(&ANN, 200)?;
+    set.revoke(&ANN, 100)?;
+    set.revoke(&BOB, 150)?;
+    set.forget(150)?;
+    let only_ann = set.is_revoked(&ANN)? && !set.is_revoked(&BOB)?;
+    set.forget(200)?;
+    Ok(only_ann && !set.is_revoked(&ANN)?)
+}
+
 #[test]
 fn calls_return_what_they_have_to(rt: HostRuntime) -> Result<(), Fail> {
     for row in ROWS.lines() {
@@ -66,6 +77,10 @@ fn calls_return_what_they_have_to(rt: HostRuntime) -> Result<(), Fail> {
         let (count, last) = (found.get::<i64>(0)?, found.get::<i64>(1)?);
         assert_eq!(rt; format!(in rt.alloc(); "{count} {last}")?.as_str(), wanted);
     }
+    let mut set = SqliteRevocations::new(Connection::open_in_memory(rt.alloc())?)?;
+    assert!(rt; revokes(&mut set)?);
+    let late = format!(in rt.alloc(); "{}", RevocationError::TooLate)?;
+    assert_eq!(rt; late.as_str(), "the second is past what the database keeps");
     Ok(())
 }
 
@@ -80,6 +95,7 @@ fn revokes_in_memory(rt: HostRuntime) -> Result<(), Fail> {
     assert!(rt; !revocations.is_revoked(&BOB)?);
     revocations.forget(200);
     assert!(rt; !revocations.is_revoked(&ANN)?);
+    assert!(rt; revokes(&mut revocations)?);
     Ok(())
 }
 

@@ -4,10 +4,10 @@ use crate::jar_calls::{after, calls_of, moment, test_key};
 use crate::jars::looks;
 use crate::step::{Answer, Player, Step};
 use cookie::CookieJar;
-use cookie_agent::{Agent, Limits, SavedForm, Scope, Site, StoredCookie, Verdict};
+use cookie_agent::{Agent, Limits, SavedForm, Scope, Site, Store, StoredCookie, Verdict};
 use cookie_browser::Suffixes;
-use cookie_theorems::visits::visit;
-use cookie_theorems::{AgentRequest, Plan};
+use cookie_theorems::visits::{visit, visits};
+use cookie_theorems::{AgentRequest, Plan, Visited};
 use jiff::civil::DateTime;
 use std::alloc::Global;
 use std::mem::{replace, swap};
@@ -47,9 +47,65 @@ impl<'r> Agents<'r> {
             "swap" => swap(&mut self.agent, &mut self.copy),
             "evict" => self.agent.evict(self.now),
             "clear" => self.agent.clear_domain(step.words.as_bytes()),
+            "clear_all" | "load" => self.change_store(step)?,
             _ => self.agent.trim(limits(step.words)?, self.now).ok()?,
         }
         step.done()
+    }
+
+    // Loads a cookies.txt into the agent's store, or removes all cookies.
+    fn change_store(&mut self, step: Step<'_>) -> Option<()> {
+        let (alloc, suffixes) = (step.alloc, self.suffixes);
+        let agent = replace(&mut self.agent, Agent::new(alloc, suffixes));
+        let mut store = agent.into_store();
+        match step.call {
+            "load" => {
+                let bytes = step.bytes()?;
+                let loaded = SavedForm::CookiesTxt
+                    .read(alloc, suffixes, &bytes, self.now)
+                    .ok()?;
+                store.load(loaded.cookies, self.now).ok()?;
+            }
+            _ => store.clear(),
+        }
+        self.agent = Agent::with_store(suffixes, store);
+        Some(())
+    }
+
+    // The lines of the cookies.txt that is written of the agent's cookies, which are its store's.
+    fn saved(&self, step: Step<'_>) -> Answer {
+        let (form, store) = (SavedForm::CookiesTxt, self.agent.store());
+        let saved = form.write(step.alloc, self.agent.cookies(), self.now).ok()?;
+        let other = form.write(step.alloc, store.cookies(), self.now).ok()?;
+        (saved.text == other.text).then_some(())?;
+        step.shown(saved.text.get(28..)?)
+    }
+
+    // Makes requests of a new agent, each of words such as `0 http://example.com/ | add a=1`. Returns the headers.
+    fn visits(&self, step: Step<'_>) -> Answer {
+        let (alloc, key) = (step.alloc, test_key());
+        let mut parts = Vec::new(alloc);
+        for words in step.words.split(" || ") {
+            let (front, calls) = step.with_words(words).halves();
+            let (seconds, url) = front.words.split_once(' ')?;
+            let part = (
+                site_of(alloc, url)?,
+                calls_of(&key, calls)?,
+                after(seconds)?,
+            );
+            parts.push(part).ok()?;
+        }
+        let mut requests = Vec::new(alloc);
+        for part in &parts {
+            let (site, calls, moment) = (&part.0, part.1.as_slice(), part.2);
+            let request = AgentRequest {
+                site,
+                calls,
+                moment,
+            };
+            requests.push(request).ok()?;
+        }
+        headers_of(step, &visits(alloc, self.suffixes, &requests, &[]).ok()?)
     }
 
     // Makes a request with these calls, each of which has to be accepted.
@@ -121,6 +177,13 @@ impl Player for Agents<'_> {
     fn answer(&mut self, step: Step<'_>) -> Answer {
         match step.call {
             "on" | "by" | "at" | "copy" | "swap" | "evict" | "clear" | "trim" => self.change(step),
+            "clear_all" | "load" => self.change(step),
+            "saved" => self.saved(step),
+            "visits" => self.visits(step),
+            "least" => {
+                let least = Limits::least();
+                format!(in step.alloc; "{} {}", least.per_domain, least.total).ok()
+            }
             "set" => {
                 let refusal = self.agent.read(&self.site, &step.bytes()?, self.now);
                 outcome(step, refusal.ok()?)
@@ -137,7 +200,8 @@ impl Player for Agents<'_> {
             "loaded" => {
                 let (form, bytes) = (SavedForm::CookiesTxt, step.bytes()?);
                 let loaded = form.read(step.alloc, self.suffixes, &bytes, self.now).ok()?;
-                let saved = form.write(step.alloc, &loaded.cookies, self.now).ok()?;
+                let store = Store::of(step.alloc, loaded.cookies).ok()?;
+                let saved = form.write(step.alloc, store.cookies(), self.now).ok()?;
                 step.shown(saved.text.get(28..)?)
             }
             _ => self.ask(step),
@@ -170,6 +234,16 @@ fn place_of(step: Step<'_>, verdict: Verdict) -> Answer {
         Verdict::Stored(cookie) => place(step, &scope_of(step, &cookie)?),
         Verdict::Refused(refusal) => step.refused(&refusal),
     }
+}
+
+// The headers of requests whose calls are all accepted.
+fn headers_of(step: Step<'_>, visited: &[Visited<'_>]) -> Answer {
+    let mut headers = Vec::new(step.alloc);
+    for one in visited {
+        (!one.outcomes.contains(&false)).then_some(())?;
+        headers.push(step.shown(&one.header)?).ok()?;
+    }
+    step.list(&headers)
 }
 
 // Whether a cookie of a domain, and the hosts below it, or of a path is sent to a host or to a path.

@@ -101,6 +101,7 @@ impl Player for Jars {
         match step.call {
             "seed" => self.rng = Counting(step.words.parse().ok()?),
             "draw" => self.key = Key::generate(&mut self.rng),
+            "clone" => self.key = self.key.clone().ok()?,
             "drawn" => return step.printed(self.rng.0),
             "failing" => return self.failing(step.inner()),
             _ => {

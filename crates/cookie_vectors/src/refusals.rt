@@ -6,7 +6,10 @@ use cookie::prefix::{Host, Prefix, Secure};
 use cookie::{Error, Expiration, JarError, KeyError, ParseError, SameSite, TextsError};
 use cookie_client::{ClientError, PrefixKind, RunError};
 use cookie_http::HttpError;
+use cookie_session::{KeyTextError, OpenError, SessionError};
+use cookie_theorems::ReturnError;
 use login_core::{Refusal, Route};
+use std::fmt;
 use std::fmt::{Debug, Display};
 
 /// What plays the rows on refusals.
@@ -63,11 +66,26 @@ fn fault_answer(step: Step<'_>) -> Answer {
         "RunError::BadMoment" => RunError::BadMoment,
         "RunError::BadInput" => RunError::BadInput,
         "RunError::BadLine(7)" => RunError::BadLine(7),
-        _ => return name_answer(step),
+        _ => return session_answer(step),
     };
     match step.call {
         "status" => step.printed(fault.status()),
         _ => told(step, fault),
+    }
+}
+
+// Refusals of what opens and saves sessions.
+fn session_answer(step: Step<'_>) -> Answer {
+    match step.words {
+        "KeyTextError::OutOfMemory" => told(step, KeyTextError::OutOfMemory),
+        "KeyTextError::Missing" => told(step, KeyTextError::Missing),
+        "KeyTextError::NotBase64(1)" => told(step, KeyTextError::NotBase64(1)),
+        "KeyTextError::TooShort(2, 63)" => told(step, KeyTextError::TooShort(2, 63)),
+        "OpenError::OutOfMemory" => told::<OpenError<fmt::Error>>(step, OpenError::OutOfMemory),
+        "OpenError::Revocations" => told(step, OpenError::Revocations(fmt::Error)),
+        "ReturnError::Session" => told(step, ReturnError::Session(SessionError::Over)),
+        "ReturnError::Http" => told(step, ReturnError::Http(HttpError::TooManyFields)),
+        _ => name_answer(step),
     }
 }
 

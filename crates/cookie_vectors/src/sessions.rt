@@ -1,5 +1,6 @@
 //! Sessions: rings of keys, sites that open and save sessions, and what clients and user agents bring back.
 //! data/sessions.tsv says what its calls return.
+mod requests;
 mod revoked;
 mod site;
 
@@ -12,13 +13,14 @@ use cookie::{Cookie, CookieJar};
 use cookie_agent::Agent;
 use cookie_browser::Suffixes;
 use cookie_client::{Client, JarCall};
-use cookie_session::{Opened, Revocations, Session, Tokens, second_of};
+use cookie_session::{NeverRevoked, Opened, Revocations, Session, Tokens, second_of};
 use cookie_theorems::open_for_agent::open_for_agent;
 use cookie_theorems::save_and_return::save_and_return;
 use cookie_theorems::save_over_headers::save_over_headers;
 use hex::encode;
 use jiff::civil::DateTime;
 use login_core::session_cookie;
+use requests::open_requests;
 pub use revoked::Revoked;
 pub use site::Site;
 use std::alloc::Global;
@@ -77,6 +79,7 @@ impl<'s> Visitors<'s> {
                 self.session.set_generation(step.alloc, number).ok()?;
             }
             "unset" => self.session.remove(&step.text()?),
+            "form" => self.session.set_form(step.alloc, &step.bytes()?).ok()?,
             "revoked" => self.revoked = Some(Revoked::of(step)?),
             _ => self.jars.jar = self.next_jar(step.alloc)?,
         }
@@ -112,6 +115,7 @@ impl<'s> Visitors<'s> {
         let found = match step.call {
             "session" => return self.texts(step),
             "times" => return self.times(step),
+            "as_form" => return step.shown(self.session.to_form(step.alloc).ok()?.as_bytes()),
             "id" => return encode(step.alloc, self.session.id()).ok(),
             "since" => return step.yes(self.session.is_since(step.words.parse().ok()?)),
             "kept" => return step.optional(self.session.generation()),
@@ -198,6 +202,18 @@ impl<'s> Visitors<'s> {
         }
     }
 
+    // Opens a text that was sealed for a purpose and a name, as `token | invitation | TEXT`.
+    fn open_for(&self, step: Step<'_>) -> Answer {
+        let (purpose, rest) = step.halves();
+        let (name, text) = rest.halves();
+        let sealer = self.site.sessions().keys.newest().sealer();
+        let opened = sealer.open_for(step.alloc, purpose.words, name.words, text.words);
+        match opened.ok()? {
+            Some(value) => step.escaped(value.as_bytes()),
+            None => step.said("-"),
+        }
+    }
+
     // Has the user agent read a `Set-Cookie` text of a response, as `https://a.example/ | a=1; Path=/`.
     fn read(&mut self, step: Step<'_>) -> Answer {
         let (url, text) = step.halves();
@@ -211,6 +227,15 @@ impl<'s> Visitors<'s> {
         match step.call {
             "revoke" => step.outcome(sessions.revoke(&self.session, revoked)),
             _ => step.outcome(revoked.forget(second_of(after(step.words)?))),
+        }
+    }
+
+    // Opens the sessions of requests, one after the other. `revoke_and_open` revokes the session first.
+    fn open_requests(&mut self, step: Step<'_>) -> Answer {
+        let (sessions, session) = (self.site.sessions(), &self.session);
+        match &mut self.revoked {
+            Some(revoked) => open_requests(step, sessions, session, revoked),
+            None => open_requests(step, sessions, session, &mut NeverRevoked),
         }
     }
 
@@ -282,10 +307,14 @@ impl Player for Visitors<'_> {
     fn answer(&mut self, step: Step<'_>) -> Answer {
         match step.call {
             "at" | "generator" | "revoked" | "back" => self.change(step),
-            "start" | "renew" | "set" | "unset" | "generation" => self.change(step),
+            "start" | "renew" | "set" | "unset" | "form" | "generation" => self.change(step),
             "make_token" | "read_token" => self.token(step),
-            "text" | "session" | "times" | "id" | "since" | "kept" | "held" => self.looked(step),
+            "open_for" => self.open_for(step),
+            "text" | "session" | "as_form" | "times" | "id" | "since" | "kept" | "held" => {
+                self.looked(step)
+            }
             "revoke" | "forget" => self.revoke(step),
+            "revoke_and_open" | "open_each" => self.open_requests(step),
             "open_field" => self.open_field(step),
             "open" | "open_for_agent" => self.open(step),
             "save_and_return" | "save_over_headers" => self.come_back(step),

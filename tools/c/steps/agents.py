@@ -69,7 +69,9 @@ class Agents:
         if step.call == "remove":
             made = step_of(b"remove", [1], step.words.encode(), self.url[0].lower(), b"/")
             return made, Play("agent", "NOT_FOUND" if step.wanted == "no" else "DONE", 0, b"", [LIST, *self.steps, made])
-        if step.call == "clear":
+        if step.call == "load":
+            made = step_of(b"load", [COOKIES_TXT, self.now], unescaped(step.words))
+        elif step.call == "clear":
             made = b"clear " + step.words.encode()
         elif step.call in ("evict", "trim"):
             made = step_of(step.call.encode(), [*map(int, step.words.split()), self.now])
@@ -132,6 +134,9 @@ class Agents:
             play = done("agent", text, LIST, *self.steps, made)
             self.steps += [made] if step.call == "retrieve" else []
             return [play]
+        if step.call == "saved":
+            text = b"" if step.wanted == "-" else unescaped(step.wanted)
+            return [done("agent", HEAD + text, LIST, *self.steps, step_of(b"save", [COOKIES_TXT, self.now]))]
         return [self.ask(step)]
 
 

@@ -1,12 +1,12 @@
 """What a browser makes of a cookie. The inputs are host, path, the four flags of the request with the second, which is
 now, the list, the text, and numbers: the step; the lengths of its sentence and its section, or the lengths of name,
 value, domain and path; and then what is stored: lifetime, SameSite, and whether it is persistent, host-only, secure and
-HttpOnly."""
+HttpOnly. `refusal_sentence` and `refusal_section` have the number of a step."""
 import re
 
 import rowfile
 from cookies import SITES
-from play import Lacks, done, lists
+from play import Lacks, done, lists, refused
 from rowfile import unescaped
 from sessions import FIRST
 
@@ -44,6 +44,21 @@ def refusal(name, said):
     return b"".join(texts), [REFUSALS.index(name) + 1, *map(len, texts), *[0] * 10]
 
 
+def told(what, number, wanted):
+    """What is told of the step of this number, or that there is none."""
+    call, inputs = f"refusal_{what}", [lists([number])]
+    return refused(call, "NOT_FOUND", *inputs) if wanted == "-" else done(call, unescaped(wanted), *inputs)
+
+
+def told_of(row, step):
+    """The sentence and the section of the step that refuses the words."""
+    names = [other.wanted for other in row.steps if f"{other.call} {other.words}" == step.words]
+    if step.wanted != "-" and names:
+        number = REFUSALS.index(names[0].removeprefix("refused ")) + 1
+        for what, wanted in zip(("sentence", "section"), step.wanted.split(" | ")):
+            yield step, told(what, number, wanted)
+
+
 def sentences(row):
     """The sentence and the section of each step that the row has both of: by `explain`, and by the same words without
     it."""
@@ -62,11 +77,15 @@ def browser(row, _player):
         said.update(sentences(other))
         kept.update((step.words, step.wanted) for step in other.steps if step.call == "stored")
     for step in row.steps:
+        if step.call in ("sentence", "section"):
+            yield step, told(step.call, int(step.words), step.wanted)
+            continue
         is_long = step.call in ("explain", "stored")
         how, words = step.words.split(" ", 1) if is_long else (step.call, step.words)
         if how not in CONTEXTS:
             raise Lacks(step)
         if step.call == "explain":
+            yield from told_of(row, step)
             continue
         if step.wanted.startswith("refused "):
             text, numbers = refusal(step.wanted.removeprefix("refused "), said)

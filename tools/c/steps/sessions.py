@@ -20,7 +20,7 @@ REFUSED_SAVES = {
 }
 # What is told of a handle without a session: the place of the key, both times, and the id.
 UNTOLD = lists([0, 0, 0]), bytes(16)
-QUIET = LOOKS | {"get", "text", "keys", "newest"}
+QUIET = LOOKS | {"get", "text", "as_form", "keys", "newest"}
 
 
 def key_named(name):
