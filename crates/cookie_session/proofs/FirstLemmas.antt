@@ -14,7 +14,7 @@ use Rattle.cookie.specs.Record.{CookieView, Record}
 use Rattle.cookie.proofs.OriginalLemmas.{has_first, same_delta}
 use Rattle.cookie_session.specs.Revocations.{none_revoked}
 use Rattle.cookie_session.specs.Session.{SessionState}
-use Rattle.cookie_session.specs.Sessions.{HoldsOne, IsClosed, IsOpen, IsOpenUnrevoked, OpensFirst, OpensUnrevoked, site_cookies}
+use Rattle.cookie_session.specs.Sessions.{HoldsOne, IsClosed, IsOpen, IsOpenUnrevoked, OpensFirst, OpensNone, OpensUnrevoked, site_cookies}
 use Rattle.cookie_session.specs.declared.opened.Opened.{Opened}
 use Rattle.cookie_session.specs.declared.sessions.Sessions.{Sessions}
 use Rattle.cookie_session.proofs.SessionLemmas.{opened}
@@ -36,6 +36,11 @@ module _ (site : Sessions) (cookies : List Record) (i : ℕ) (cookie : Record) (
       ∙ ap (λ rest. site_cookies site (take i cookies) ++ site_cookies site rest)
       (drop_more cookies i cookie below ∙ ap (λ c. c ∷ drop (i + 1) cookies) (sym is))
       ∙ ap (λ b. site_cookies site (take i cookies) ++ cond b (cookie ∷ site_cookies site (drop (i + 1) cookies)) (site_cookies site (drop (i + 1) cookies))) same
+
+  -- where no session is open in any, none is in this one
+  pub none_here : (now : DateTime) → OpensNone site cookies now → (place : ℕ) (state : SessionState) → ¬ (IsOpen site (Some cookie) now place state)
+  none_here now none place state is =
+      none place state (site_cookies site (take i cookies), site_cookies site (drop (i + 1) cookies), cookie, split_here, is)
 
 module _ (IsRevoked : List ℕ → Type 0) (site : Sessions) (now : DateTime) where
   abbrev pub Closed : List Record → Type 0

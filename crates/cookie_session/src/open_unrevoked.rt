@@ -1,9 +1,10 @@
 //! Opening and revoking sessions that can be revoked.
-ghost use Rattle.std.specs.Prelude.{◌≡◌, ◌↔◌, ℕ, Some, IfOk, OnErr, OnOk, map};
+ghost use Rattle.std.specs.Prelude.{◌≡◌, ◌≢◌, ◌↔◌, ℕ, Some, Err, IfOk, OnErr, OnOk, map};
 ghost use Rattle.cookie.specs.Originals.{field_cookies, first_of_name};
 ghost use Rattle.cookie_session.specs.Revocations.{AreSame, IsRevoked, IsRevokedToo, end_of};
 ghost use Rattle.cookie_session.specs.Session.{SessionState};
-ghost use Rattle.cookie_session.specs.Sessions.{HoldsOne, IsOpen, IsOpenUnrevoked, OpensOne, OpensUnrevoked};
+ghost use Rattle.cookie_session.specs.Sessions.{HoldsOne, IsOpen, IsOpenUnrevoked, OpensNone, OpensOne, OpensUnrevoked};
+ghost use Rattle.cookie_session.specs.declared.open_error.OpenError.TheVariants as refusal;
 
 use crate::open_error::OpenError;
 use crate::opened::Opened;
@@ -19,7 +20,8 @@ impl<'a> Sessions<'a> {
     /// name the first counts in which a session is open that isn't revoked. It looks up only the ids of sessions that
     /// are open. Returns `None` if there is no such session.
     ///
-    /// Fails if a session can't be looked up, or if out of memory. Refuse the request then.
+    /// Fails if a session can't be looked up, or if out of memory. Refuse the request then. With no session open in the
+    /// field only out of memory is possible, since the store isn't asked.
     ///
     /// ```
     /// let opened = sessions.open_unrevoked(alloc, field, now, &mut revocations)?;
@@ -51,6 +53,11 @@ impl<'a> Sessions<'a> {
         // The first cookie of the name holds one session at most, whether one is open or not.
         ensures first { IfOk result (λ _. HoldsOne self.now
             (first_of_name self.now.cookie.now.fields.name (field_cookies field.now))) }
+
+        // With no session open in the cookies the store isn't asked.
+        ensures unasked { OpensNone self.now (field_cookies field.now) now
+            → (revocations.new ≡ revocations.old)
+            × ((error : R.Error) → result ≢ Err (refusal.Revocations error)) }
 
         // It revokes nothing.
         ensures same { R.is_kept revocations.new
@@ -97,6 +104,11 @@ impl<'a> Sessions<'a> {
         ensures first { IfOk result (λ _. HoldsOne self.now
             (first_of_name self.now.cookie.now.fields.name (map (λ c. c.fields) cookies.now))) }
 
+        // With no session open in the cookies the store isn't asked.
+        ensures unasked { OpensNone self.now (map (λ c. c.fields) cookies.now) now
+            → (revocations.new ≡ revocations.old)
+            × ((error : R.Error) → result ≢ Err (refusal.Revocations error)) }
+
         // It revokes nothing.
         ensures same { R.is_kept revocations.new
             → AreSame (R.revoked_until revocations.old) (R.revoked_until revocations.new) }
@@ -129,6 +141,10 @@ impl<'a> Sessions<'a> {
             → answer ≡ Some (record { session = s; place = place })
             → IsOpen self.now (Some cookie.now.fields) now place s) }
         ensures once { IfOk result (λ _. HoldsOne self.now (Some cookie.now.fields)) }
+        ensures unasked { ((place : ℕ) (s : SessionState)
+            → ¬ (IsOpen self.now (Some cookie.now.fields) now place s))
+            → (revocations.new ≡ revocations.old)
+            × ((error : R.Error) → result ≢ Err (refusal.Revocations error)) }
         ensures same { R.is_kept revocations.new
             → AreSame (R.revoked_until revocations.old) (R.revoked_until revocations.new) }
         ensures kept { R.is_kept revocations.new → R.is_kept revocations.old }

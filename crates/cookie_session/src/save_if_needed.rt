@@ -1,5 +1,5 @@
 //! Saving the session of a request only if it must be saved.
-ghost use Rattle.std.specs.Prelude.{◌≡◌, ◌↔◌, ◌+◌, ◌/◌, ◌<◌, ◌≤◌, ℕ, Err, IfOk, IfSome, IsTrue, List, Ok, OnErr, OnOk, false, true};
+ghost use Rattle.std.specs.Prelude.{◌≡◌, ◌↔◌, ◌⊎◌, ◌+◌, ◌/◌, ◌<◌, ◌≤◌, ℕ, Err, IfOk, IfSome, IsTrue, List, Ok, OnErr, OnOk, false, true};
 ghost use Rattle.cookie.specs.Jar.{Add, after, view};
 ghost use Rattle.cookie.specs.Record.{IsCookie};
 ghost use Rattle.cookie.specs.Sealing.{IsNonce};
@@ -60,10 +60,12 @@ impl<'a> Sessions<'a> {
             × (jar.new ≡ after (Add (saved_cookie self.now nonce now visit.now.session))
             jar.old)) }
 
-        // A browser takes its size. Its texts are UTF-8, and its age is one that a duration can have.
+        // A browser takes its size and its prefix. Its texts are UTF-8, and its age is one that a duration can have.
         ensures fits { MustSave self.now now visit.now → OnOk result (IfSome
             (view jar.new self.now.cookie.now.fields.name)
             (λ cookie. browser_length cookie ≤ most_bytes)) }
+        ensures meets { MustSave self.now now visit.now
+            → OnOk result (meets_prefix self.now.cookie.now.fields ≡ true) }
         ensures cookie { MustSave self.now now visit.now → OnOk result (IfSome
             (view jar.new self.now.cookie.now.fields.name) IsCookie) }
 
@@ -79,11 +81,15 @@ impl<'a> Sessions<'a> {
         ensures over { MustSave self.now now visit.now
             → meets_prefix self.now.cookie.now.fields ≡ true
             → (¬ (CanSave self.now now visit.now.session)) ↔ (result ≡ Err refusal.Over) }
+        ensures lives { MustSave self.now now visit.now
+            → OnOk result (CanSave self.now now visit.now.session) }
         ensures too_long { MustSave self.now now visit.now
             → CanSave self.now now visit.now.session
             → ¬ (result ≡ Err refusal.Prefix) → ¬ (result ≡ Err refusal.OutOfMemory)
             → (¬ (CanSealSession (bare_cookie self.now now visit.now.session)))
             ↔ (result ≡ Err refusal.TooLong) }
+        ensures within { MustSave self.now now visit.now
+            → OnOk result (CanSealSession (bare_cookie self.now now visit.now.session)) }
         ensures undrawn { ¬ ((meets_prefix self.now.cookie.now.fields ≡ true)
             × CanSave self.now now visit.now.session
             × CanSealSession (bare_cookie self.now now visit.now.session)) → rng.new ≡ rng.old }
@@ -92,6 +98,8 @@ impl<'a> Sessions<'a> {
             × R.may_fill rng.old nonce rng.new
             × (size ≡ browser_length (saved_cookie self.now nonce now visit.now.session)) }
         ensures failed { result ≡ Err refusal.Generator → R.Error }
+        ensures memory { result ≡ Err refusal.OutOfMemory → (rng.new ≡ rng.old)
+            ⊎ ((nonce : List ℕ) × IsNonce nonce × R.may_fill rng.old nonce rng.new) }
 
         // After any refusal the jar is as it was.
         ensures err { OnErr result (jar.new ≡ jar.old) }

@@ -1,5 +1,5 @@
 //! The sessions of a site.
-ghost use Rattle.std.specs.Prelude.{◌≡◌, ◌↔◌, ◌<◌, ◌≤◌, ◌-◌, ◌+◌, min, true, ℕ, List, Some, Err, IfErr, IfOk, IfSome, OnOk, OnErr, alloc_error, length, map, string_bytes};
+ghost use Rattle.std.specs.Prelude.{◌≡◌, ◌↔◌, ◌⊎◌, ◌<◌, ◌≤◌, ◌-◌, ◌+◌, min, true, ℕ, List, Some, Err, IfErr, IfOk, IfSome, OnOk, OnErr, alloc_error, length, map, string_bytes};
 ghost use Rattle.cookie.specs.Jar.{Add, Remove, after, view};
 ghost use Rattle.cookie.specs.Memory.{Gives};
 ghost use Rattle.cookie.specs.Originals.{field_cookies, first_of_name, jar_for};
@@ -236,6 +236,8 @@ impl<'a> Sessions<'a> {
             × CanSave self.now now session.now
             × CanSealSession (bare_cookie self.now now session.now)) → rng.new ≡ rng.old }
         ensures failed { result ≡ Err refusal.Generator → R.Error }
+        ensures memory { result ≡ Err refusal.OutOfMemory → (rng.new ≡ rng.old)
+            ⊎ ((nonce : List ℕ) × IsNonce nonce × R.may_fill rng.old nonce rng.new) }
         ensures too_large { (size : ℕ) → result ≡ Err (refusal.TooLarge size)
             → (most_bytes < size) × (nonce : List ℕ) × IsNonce nonce
             × R.may_fill rng.old nonce rng.new

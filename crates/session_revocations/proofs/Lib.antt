@@ -10,3 +10,4 @@ pub mod ForgetLemmas
 pub mod AddLemmas
 pub mod CreateLemmas
 pub mod MemoryLemmas
+pub mod CrashLemmas

@@ -1,3 +1,4 @@
+pub mod Crash
 pub mod Held
 pub mod Memory
 pub mod RevocationError

@@ -1,18 +1,20 @@
 //! The set of revoked sessions in an SQLite database.
 ghost use Rattle.std.specs.Prelude.{◌≡◌, ◌≢◌, ◌⊎◌, ◌↔◌, ◌≤◌, ◌^◌, [], Err, false, IfOk, IsTrue, MatchOption, Ok, OnErr, OnOk, pos};
+ghost use Rattle.session_revocations.specs.Crash.{AreRowsLeft, IsLeftBy, IsLeftOpen};
 ghost use Rattle.session_revocations.specs.Held.{Forgets, IsKept, IsStill, Keeps, Revokes, WasOpen, is_revoked_in, rows_of};
 ghost use Rattle.session_revocations.specs.Table.{no_schema, revoked_schema};
 ghost use Rattle.session_revocations.specs.declared.revocation_error.RevocationError.TheVariants as refusal;
-ghost use Rattle.sqlite.specs.Files.{file_state};
-ghost use Rattle.sqlite.specs.Held.{state};
-ghost use Rattle.sqlite.specs.State.{HasCleanDisk, IsUnchanged, Survives};
+ghost use Rattle.sqlite.specs.Files.{Finds, file_state, image_of};
+ghost use Rattle.sqlite.specs.Held.{Held, state};
+ghost use Rattle.sqlite.specs.State.{HasCleanDisk, IsUnchanged, Opens, Survives};
 ghost use Rattle.sqlite.specs.Tree.{Trees};
+ghost use Rattle.sqlite_store.specs.declared.store.FileStore.{FileStore};
 
 use crate::revocation_error::RevocationError;
 use crate::{schema, statements};
 use cookie_session::Revocations;
 use sqlite::{Alter, Connection, FileStore, Options};
-use sqlite_disk::Disk;
+use sqlite_disk::{Disk, Files};
 use std::alloc::Global;
 use std::marker::Model;
 
@@ -260,6 +262,43 @@ impl<S: Alter + Drop> Revocations for SqliteRevocations<S> {
 }
 
 impl<D: Disk + Drop> SqliteRevocations<FileStore<D>> {
+    /// Opens the set that two files hold, the log and the database, also if a crash left them. After a crash exactly what
+    /// was revoked is revoked.
+    ///
+    /// Fails with `OtherSchema` if the files hold no set of revoked sessions.
+    ///
+    /// ```
+    /// let files = revocations.into_connection().close_files()?;
+    /// let again = SqliteRevocations::open_files(alloc, files, Options::new(seed))?;
+    /// ```
+    pub fn open_files(
+        alloc: Global,
+        files: Files<D>,
+        options: Options,
+    ) -> Result<SqliteRevocations<FileStore<D>>, RevocationError>
+        requires log { IsTrue (D.Disk.is_usable files.log) }
+        requires db { IsTrue (D.Disk.is_usable files.db) }
+
+        // It finds the database that the files hold.
+        ensures found { IfOk result (λ again. HasCleanDisk (file_state again)
+            → Finds files again × Opens (file_state again)) }
+
+        // After a crash between two calls each row is as the set showed it.
+        ensures after_crash { IfOk result (λ again. HasCleanDisk (file_state again)
+            → (before : Held (FileStore D D.Disk)) → IsLeftOpen before (image_of D.Disk files)
+            → rows_of (file_state again) ≡ rows_of (file_state before)) }
+
+        // After a crash within a call the rows are of a database that the call may leave.
+        ensures within { IfOk result (λ again. HasCleanDisk (file_state again)
+            → (before : Held (FileStore D D.Disk)) → IsLeftBy before (image_of D.Disk files)
+            → AreRowsLeft before (rows_of (file_state again))) }
+    {
+        match Connection::open_files(alloc, files, options) {
+            Ok(conn) => adopt(conn),
+            Err((error, _)) => Err(error.into()),
+        }
+    }
+
     /// Closes the two files, which copies the log into the database file, and opens them again. Exactly what was
     /// revoked is revoked.
     pub fn reopen(
@@ -277,9 +316,6 @@ impl<D: Disk + Drop> SqliteRevocations<FileStore<D>> {
                 return Err(error.into());
             }
         };
-        match Connection::open_files(alloc, files, options) {
-            Ok(conn) => adopt(conn),
-            Err((error, _)) => Err(error.into()),
-        }
+        SqliteRevocations::open_files(alloc, files, options)
     }
 }

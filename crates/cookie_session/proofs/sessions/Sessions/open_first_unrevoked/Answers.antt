@@ -1,7 +1,8 @@
-use Rattle.std.proofs.Common.{◌≡◌, ◌↔◌, ◌<◌, ◌≤◌, ◌+◌, ℕ, Bool, true, false, Decides, List, Option, Some, drop, get_or, length, map, take, ap, subst, sym, ◌∙◌, arith}
+use Rattle.std.proofs.Common.{◌≡◌, ◌↔◌, ◌<◌, ◌≤◌, ◌+◌, ℕ, Bool, true, false, Decides, List, Option, Some, Err, drop, get_or, length, map, take, ap, subst, sym, ◌∙◌, arith}
 use Rattle.std.proofs.lemmas.Bool.Decides.{Decides-eqb}
 use Rattle.std.proofs.lemmas.List.{get_or-map, length-map, take_all}
 use Rattle.std.proofs.lemmas.Option.{none-some}
+use Rattle.std.proofs.lemmas.Result.{err_from_is_err_and}
 use Rattle.std.proofs.lemmas.Slice.Eq.{bytes_eq-Decides, slice_eq-Decides}
 use Rattle.std.specs.Str.{bytes_eq}
 use Rattle.cookie.specs.Originals.{first_of_name}
@@ -10,7 +11,7 @@ use Rattle.cookie_session.specs.Revocations.{AreSame, IsRevoked}
 use Rattle.cookie_session.specs.Session.{SessionState}
 use Rattle.cookie_session.specs.Sessions.{HoldsOne, IsOpen, IsOpenUnrevoked, site_cookies}
 use Rattle.cookie_session.specs.declared.opened.Opened.{Opened}
-use Rattle.cookie_session.proofs.FirstLemmas.{Closed, closed_more, found_here, found_none, once_here, once_none, one_of_all, one_of_more, split_here}
+use Rattle.cookie_session.proofs.FirstLemmas.{Closed, closed_more, found_here, found_none, once_here, once_none, none_here, one_of_all, one_of_more, split_here}
 use Rattle.cookie_session.proofs.SessionLemmas.{opened}
 use Rattle.cookie_session.proofs.UnrevokedLemmas.{opens_alike, same_again}
 use Rattle.cookie_session.proofs.sessions.Sessions.open_first_unrevoked.Goals as goal
@@ -129,6 +130,9 @@ loop-cookie-preserved g c =
                   none-some (opened s place) (sym w.in_default.is ∙ (w.in_ok-opened.ensures.answers kept place s).1 (is.0, λ there. is.1 ((before.1 s.id 0).0 there)))),
             )),
         one_of_more site now cookies i cookie.fields at.0 at.1 c.loop-cookie.invariant.1 (λ named. w.in_ok-opened.ensures.once),
+        λ none.
+            let named = is_named cookie.fields.name site.cookie.now.fields.name _ _ c.eq.result decides c.name.ensures c.name-in-loop-cookie.ensures w.if-eq.true in
+            w.revocations-is ∙ (w.in_ok-opened.ensures.unasked (none_here site cookies i cookie.fields at.0 at.1 named now none)).0 ∙ c.loop-cookie.invariant.2 none,
       )
       | else-eq w ↦
           let other : bytes_eq site.cookie.now.fields.name cookie.fields.name ≡ true → ⊥ = λ named.
@@ -139,6 +143,7 @@ loop-cookie-preserved g c =
                 let before = c.loop-cookie.invariant.0 kept in
                 (before.0, before.1, closed_more gone site now cookies i cookie.fields at.0 at.1 before.2 (λ named. absurd (other named)))),
             one_of_more site now cookies i cookie.fields at.0 at.1 c.loop-cookie.invariant.1 (λ named. absurd (other named)),
+            λ none. w.revocations-is ∙ c.loop-cookie.invariant.2 none,
           )
     ]
 
@@ -168,3 +173,26 @@ returns-clause-first g c =
     let cookies = map fields c.args.cookies.now in
     let past : length cookies ≤ c.loop-cookie.cookie-index = omega (arith, length-map c.args.cookies.now fields) in
     subst (λ cs. HoldsOne site (first_of_name site.cookie.now.fields.name cs)) (take_all c.loop-cookie.cookie-index cookies past) c.loop-cookie.invariant.1
+
+pub returns-in-Some-clause-unasked : goal.returns-in-Some-clause-unasked
+returns-in-Some-clause-unasked g c none =
+    let site = c.args.self.now in
+    let cookies = map fields c.args.cookies.now in
+    let cookie = c.cookie-item.result in
+    let at = in_records c.args.cookies.now c.loop-cookie.cookie-index cookie c.loop-cookie-test.true c.cookie-item.is in
+    let decides = slice_eq-Decides Decides-eqb c.name.result.now c.name-in-loop-cookie.result.now c.eq.result c.eq.ensures in
+    let named = is_named cookie.fields.name site.cookie.now.fields.name _ _ c.eq.result decides c.name.ensures c.name-in-loop-cookie.ensures c.if-eq.true in
+    absurd (none_here site cookies c.loop-cookie.cookie-index cookie.fields at.0 at.1 named c.args.now none c.in-Some.opened.place c.in-Some.opened.session
+    (c.in_ok-opened.ensures.sealed c.in-Some.opened.place c.in-Some.opened.session c.in-Some.is))
+
+pub returns-in_err-opened-clause-unasked : goal.returns-in_err-opened-clause-unasked
+returns-in_err-opened-clause-unasked g c none =
+    let site = c.args.self.now in
+    let cookies = map fields c.args.cookies.now in
+    let cookie = c.cookie-item.result in
+    let at = in_records c.args.cookies.now c.loop-cookie.cookie-index cookie c.loop-cookie-test.true c.cookie-item.is in
+    let decides = slice_eq-Decides Decides-eqb c.name.result.now c.name-in-loop-cookie.result.now c.eq.result c.eq.ensures in
+    let named = is_named cookie.fields.name site.cookie.now.fields.name _ _ c.eq.result decides c.name.ensures c.name-in-loop-cookie.ensures c.if-eq.true in
+    let unasked = c.open_one.ensures.unasked (none_here site cookies c.loop-cookie.cookie-index cookie.fields at.0 at.1 named c.args.now none) in
+    let (why, is, same) = err_from_is_err_and c.from_residual.result c.from_residual.ensures.1 in
+    (unasked.0 ∙ c.loop-cookie.invariant.2 none, λ error e. unasked.1 error (c.in_err-opened.was ∙ ap Err (sym same) ∙ sym is ∙ e))

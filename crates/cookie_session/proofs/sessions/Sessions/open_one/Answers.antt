@@ -24,3 +24,15 @@ returns-in-Ok-false-clause-sealed g c place s e =
     let stored = Some c.args.cookie.now.fields in
     (subst (λ (o : Option Opened). (o ≡ Some (opened s place)) ↔ IsOpen c.args.self.now stored c.args.now place s) c.in-Some.is
     (c.in_ok-opened.ensures.answers place s)).0 e
+
+pub returns-in-Ok-false-clause-unasked : goal.returns-in-Ok-false-clause-unasked
+returns-in-Ok-false-clause-unasked g c none =
+    absurd (none c.in-Some.opened.place c.in-Some.opened.session ((c.in_ok-opened.ensures.answers c.in-Some.opened.place c.in-Some.opened.session).0 c.in-Some.is))
+
+pub returns-in-Ok-true-clause-unasked : goal.returns-in-Ok-true-clause-unasked
+returns-in-Ok-true-clause-unasked g c none =
+    absurd (none c.in-Some.opened.place c.in-Some.opened.session ((c.in_ok-opened.ensures.answers c.in-Some.opened.place c.in-Some.opened.session).0 c.in-Some.is))
+
+pub returns-in-Err-clause-unasked : goal.returns-in-Err-clause-unasked
+returns-in-Err-clause-unasked g c none =
+    absurd (none c.in-Some.opened.place c.in-Some.opened.session ((c.in_ok-opened.ensures.answers c.in-Some.opened.place c.in-Some.opened.session).0 c.in-Some.is))
