@@ -1,6 +1,6 @@
 //! A request and its response, from end to end.
 use anyhow::Result;
-use cookie::{Cookie, CookieBuilder, CookieJar, Key};
+use cookie::{CookieBuilder, CookieJar, Key, SameSite};
 use jiff::civil::DateTime;
 use rand_core::TryRng;
 use std::hash::RandomState;
@@ -18,7 +18,9 @@ pub fn answer<R: TryRng>(
 
     jar.add(CookieBuilder::new("theme", "dark").path("/").build())?;
     jar.remove(CookieBuilder::new("notice", "").path("/").build(), now)?;
-    jar.private_mut(key).add(Cookie::new("user", "ann"), rng)?;
+    let user = CookieBuilder::new("user", "ann").path("/").secure(true);
+    let user = user.http_only(true).same_site(SameSite::Lax).build();
+    jar.private_mut(key).add(user, rng)?;
 
     for text in &jar.set_cookie_texts()? {
         println!(rt; "Set-Cookie: {text}")?;
