@@ -12,3 +12,4 @@ pub mod ProductLemmas
 mod SboxLemmas
 mod StandardFacts
 mod StepLemmas
+mod TableLemmas

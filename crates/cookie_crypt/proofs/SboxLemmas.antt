@@ -1,5 +1,5 @@
 -- A byte has one inverse, by computing over all bytes.
-use Rattle.std.proofs.Common.{◌≡◌, ℕ, zero, suc, map, refl, ◌<◌, ◌≤◌, ap, sym, ◌∙◌, arith, get_or, min, cond, ◌==◌, ◌+◌, ◌/◌, ⊎_elim, true}
+use Rattle.std.proofs.Common.{◌≡◌, ℕ, zero, suc, map, refl, ◌<◌, ◌≤◌, ap, sym, ◌∙◌, arith, get_or, min, cond, if◌then◌else◌, ◌==◌, ◌+◌, ◌-◌, ⊎_elim, Bool, true, false}
 use Rattle.std.specs.List.{range_with_len}
 use Rattle.std.proofs.lemmas.Bool.{cases_lt}
 use Rattle.std.proofs.lemmas.List.FromFn.{get_or-map-range_with_len}
@@ -14,9 +14,14 @@ product_with_inverse : (b : ℕ) → b < 256 → byte_product b (inverse b) ≡ 
 unfolding inverse inverse_in_last byte_product byte_product_below byte_times_power byte_times_x
 product_with_inverse = on_bytes (λ b. byte_product b (inverse b)) (λ b. min b 1) refl
 
-inverse-lt : (b : ℕ) → b < 256 → inverse b / 256 ≡ 0
-unfolding inverse inverse_in_last byte_product byte_product_below byte_times_power byte_times_x
-inverse-lt = on_bytes (λ b. inverse b / 256) (λ b. 0) refl
+either-lt : (test : Bool) (x y : ℕ) → x < 256 → y < 256 → (if test then x else y) < 256
+either-lt true x y h k = h
+either-lt false x y h k = k
+
+inverse-lt : (count b : ℕ) → inverse_in_last count b < 256
+unfolding inverse_in_last
+inverse-lt zero b = omega arith
+inverse-lt (suc count) b = either-lt (byte_product b (255 - count) == 1) (255 - count) (inverse_in_last count b) (omega arith) (inverse-lt count b)
 
 inverse_of_zero : inverse 0 ≡ 0
 unfolding inverse inverse_in_last byte_product byte_product_below byte_times_power byte_times_x
@@ -60,12 +65,13 @@ two_below b (suc n) c d less h one one' =
     (λ least. let last : d ≡ n = omega arith in omega (arith, counted_last b n d last one', one_below b n c (omega arith) one))
 
 pub inverse_is : (b : ℕ) → b < 256 → IsInverse b (inverse b)
+unfolding inverse
 inverse_is b h = record {
-  byte = omega (arith, inverse-lt b h);
+  byte = inverse-lt 256 b;
   of_zero = λ none. ap inverse none ∙ inverse_of_zero;
   product = λ some. let one : min b 1 ≡ 1 = omega arith in product_with_inverse b h ∙ one;
   only = λ c fits one.
-      let inverse_fits : inverse b < 256 = omega (arith, inverse-lt b h) in
+      let inverse_fits : inverse b < 256 = inverse-lt 256 b in
       let some : 1 ≤ b = omega (arith, one_below b 256 c fits one, ones_of_byte b h) in
       let inverse_one : byte_product b (inverse b) ≡ 1 = omega (arith, product_with_inverse b h) in
       by_lt c (inverse b)

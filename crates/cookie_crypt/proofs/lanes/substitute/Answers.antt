@@ -3,10 +3,10 @@ use Rattle.std.specs.List.{range_with_len}
 use Rattle.std.proofs.lemmas.List.{length-map}
 use Rattle.std.proofs.lemmas.Simd.{zip2_splat, map-map}
 use Rattle.cookie_crypt.specs.Lanes.{entry}
-use Rattle.cookie_crypt.specs.ByteField.{byte_times_x, byte_times_power, byte_product_below, byte_product, inverse_in_last, inverse}
-use Rattle.cookie_crypt.specs.Sbox.{affine_below, s_box}
+use Rattle.cookie_crypt.specs.Sbox.{s_box}
 use Rattle.cookie_crypt.specs.declared.lanes.TheConstants.{FROM_LOW, FROM_HIGH, INVERSES, FIVE_OVER, FIRST, SECOND}
 use Rattle.cookie_crypt.proofs.LaneLemmas.{are_places, as_it_is, on_lanes}
+use Rattle.cookie_crypt.proofs.TableLemmas.{looked_up, looked_up-all, looked_up_from, table}
 use Rattle.cookie_crypt.proofs.lanes.substitute.Goals as goal
 
 abbrev turned : ℕ → ℕ
@@ -40,8 +40,8 @@ abbrev linear : ℕ → ℕ
 linear b = bit_xor (entry FIRST (first b)) (entry SECOND (second b))
 
 all_is : map (λ b. bit_xor (linear b) 99) (range_with_len 0 256) ≡ map s_box (range_with_len 0 256)
-unfolding s_box affine_below inverse inverse_in_last byte_product byte_product_below byte_times_power byte_times_x
-all_is = refl
+unfolding looked_up looked_up_from table
+all_is = looked_up-all
 
 pub look_up-requires : goal.look_up-requires
 look_up-requires c =

@@ -1,5 +1,4 @@
-use Rattle.std.proofs.Common.{◌≡◌, ℕ, List, ap, sym, ◌∙◌, rules}
-use Rattle.cookie_crypt.specs.Gcm.{gctr}
+use Rattle.std.proofs.Common.{◌≡◌, sym, ◌∙◌, rules}
 use Rattle.cookie_crypt.proofs.GcmLemmas.{sealing-turned_back}
 use Rattle.cookie_crypt.proofs.sealing.open.Goals as goal
 
