@@ -19,7 +19,7 @@ use Rattle.cookie_browser.specs.Storage.{CookieStore, KeptView, has_host_prefix,
 use Rattle.cookie_browser.specs.Suffixes.{Rule}
 use Rattle.cookie_browser.specs.declared.refusal.Refusal.{Refusal}
 use Rattle.cookie_browser.specs.declared.refusal.Refusal.TheVariants as refusal
-use Rattle.cookie_agent.proofs.HostLemmas.{no_hidden_prefix}
+use Rattle.cookie_agent.proofs.HostSetLemmas.{no_hidden_prefix}
 use Rattle.cookie_agent.proofs.SentFieldLemmas.{IsCutOutOf}
 use Rattle.cookie_agent.proofs.VerdictLemmas.{stored_by}
 

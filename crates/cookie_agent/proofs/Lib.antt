@@ -1,11 +1,14 @@
 pub mod CookiesTxtLemmas
 pub mod CutOutLemmas
 pub mod GroupLemmas
+pub mod HistoryLemmas
 pub mod HostJarLemmas
 pub mod HostLemmas
+pub mod HostSetLemmas
 pub mod IndexLemmas
 pub mod JsonLinesLemmas
 pub mod JsonReadLemmas
+pub mod KeptLemmas
 pub mod KeyLemmas
 pub mod LimitLemmas
 pub mod MissLemmas

@@ -8,7 +8,7 @@ use Rattle.cookie_browser.specs.Received.{received, with_piece, with_attribute}
 use Rattle.cookie_browser.specs.Request.{RequestView, is_in_domain, is_under_path, folder_of}
 use Rattle.cookie_browser.specs.Storage.{refusal_by_domain, refusal_by_connection, refusal_by_prefix}
 use Rattle.cookie_browser.specs.Suffixes.{Rule, Plain, is_public_suffix}
-use Rattle.cookie_agent.specs.Hosts.{kept_after_responses}
+use Rattle.cookie_agent.specs.Histories.{Begins, History, Reads, kept_after}
 use Rattle.cookie_agent.specs.Sent.{visible, sent_pair}
 
 -- ---- domains and paths
@@ -115,11 +115,15 @@ framed = record secure_top { is_same_site = false; is_top_level = false }
 abbrev rules : List Rule
 rules = Plain (codes "com") ∷ Plain (codes "co.uk") ∷ []
 
+-- texts of responses, the first one first
+abbrev texts_read : RequestView → DateTime → List (List ℕ) → History → History
+texts_read site now [] before = before
+texts_read site now (text ∷ texts) before =
+    texts_read site now texts (Reads (record { rules = rules; site = site; now = now; text = text }) before)
+
 -- what the second request has, after the texts came with the response to the first one
 abbrev shown : RequestView → RequestView → DateTime → List (List ℕ) → List (List ℕ)
-shown first second now texts =
-    let responses = map (λ text. record { site = first; now = now; text = text }) texts in
-    map sent_pair (visible second now (kept_after_responses rules responses []))
+shown first second now texts = map sent_pair (visible second now (kept_after (texts_read first now texts Begins)))
 
 pub two_paths : (now : DateTime) → shown below below now (codes "n=1; Path=/" ∷ codes "n=2; Path=/a" ∷ []) ≡ codes "n=1" ∷ codes "n=2" ∷ []
 unfolding received refusal_by_domain refusal_by_connection refusal_by_prefix is_public_suffix cut trim_wsp with_piece with_attribute

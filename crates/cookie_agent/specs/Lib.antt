@@ -1,5 +1,6 @@
 pub mod CookiesTxt
 pub mod CookiesTxtCode
+pub mod Histories
 pub mod HostJars
 pub mod Hosts
 pub mod JsonLines

@@ -58,12 +58,17 @@ abbrev pub as_carried : SavedForm → DateTime → KeptView → KeptView
 as_carried form.CookiesTxt now cookie = txt.txt_cookie now cookie
 as_carried form.JsonLines now cookie = cookie
 
--- The text of a store is read as its persistent cookies that the form can carry, in their order, but for those that are
--- for a public suffix. Without such a one no line is bad.
+-- what was written of a store at a moment is read as: its persistent cookies that the form can carry, in their order, but
+-- for those that are for a public suffix
+abbrev pub read_again : SavedForm → List Rule → DateTime → DateTime → CookieStore → CookieStore
+read_again form rules moment now store =
+    map (as_carried form now)
+    (filter (λ cookie. not (is_for_suffix rules cookie)) (saved moment (carries form) store))
+
+-- The text of a store is read so. Without a cookie for a public suffix no line is bad.
 pub record IsReadAgain (form : SavedForm) (rules : List Rule) (moment now : DateTime)
     (store : CookieStore) : Type 0 where
   pub cookies : loaded_cookies form rules now (saved_text form moment store)
-      ≡ map (as_carried form now)
-      (filter (λ cookie. not (is_for_suffix rules cookie)) (saved moment (carries form) store))
+      ≡ read_again form rules moment now store
   pub bad_lines : list_any (is_for_suffix rules) (saved moment (carries form) store) ≡ false
       → bad_lines form rules now (saved_text form moment store) ≡ []

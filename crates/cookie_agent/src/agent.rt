@@ -4,7 +4,7 @@ ghost use Rattle.std.specs.List.{list_any};
 ghost use Rattle.cookie_browser.specs.ReceivedCode.{received_view};
 ghost use Rattle.cookie_browser.specs.RefusedCode.{kept_view, request_view};
 ghost use Rattle.cookie_browser.specs.Storage.{is_overlaid, lasting, lasts, overlays, verdict_on};
-ghost use Rattle.cookie_agent.specs.HostJars.{AreOwnOriginals, IsLastOwn};
+ghost use Rattle.cookie_agent.specs.HostJars.{AreOwnOriginals, AreOwnSet, IsLastOwn};
 ghost use Rattle.cookie_agent.specs.Hosts.{AreOnlyOwn};
 ghost use Rattle.cookie_agent.specs.Limits.{IsWithin, trimmed};
 ghost use Rattle.cookie_agent.specs.Removals.{IsMissed, IsRemovedAsSet};
@@ -162,12 +162,13 @@ impl<'r> Agent<'r> {
         ensures value { IfOk result (λ header.
             IsOrderedHeader site.now now self.now.cookies header.items) }
 
-        // Only the site's own secure responses set what it has under names with the prefix `__Host-`, in any case.
-        ensures only_own { AreOnlyOwn }
-
-        // Nor does anything else reach what a server reads of it under such names.
-        ensures own_originals { AreOwnOriginals }
+        // Under names with the prefix `__Host-`, in any case, a server reads what the site's own secure responses set.
+        ensures own_set { AreOwnSet }
         ensures last_own { IsLastOwn }
+
+        // If nothing is trimmed or loaded, other responses don't even change the order.
+        ensures only_own { AreOnlyOwn }
+        ensures own_originals { AreOwnOriginals }
     {
         let sent = visible(self.store.alloc(), self.store.cookies(), site, now)?;
         let sent = by_path(sent)?;

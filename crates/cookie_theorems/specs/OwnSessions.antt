@@ -1,16 +1,15 @@
 -- Which session a user agent's request opens, whatever other hosts sent to the agent (RFC 6265bis, The "__Host-" Prefix).
-use Rattle.std.specs.Prelude.{◌≡◌, ◌↔◌, ◌++◌, true, false, ℕ, List, [], ◌∷◌, filter, Option, Some, None, Ok}
+use Rattle.std.specs.Prelude.{◌≡◌, ◌↔◌, true, false, ℕ, List, [], Option, Some, Ok}
 use Rattle.jiff.specs.Types.{DateTime}
 use Rattle.cookie.specs.Originals.{field_cookies}
 use Rattle.cookie.specs.Record.{IsCookie, Record}
 use Rattle.cookie.specs.Text.{cookie_text}
-use Rattle.cookie_agent.specs.HostJars.{IsHostName, last_stored, original_of}
-use Rattle.cookie_agent.specs.Hosts.{AreInOrder, Response, is_own, kept_after_responses}
+use Rattle.cookie_agent.specs.Histories.{History, IsInOrder, Response, kept_after}
+use Rattle.cookie_agent.specs.HostJars.{IsHostName, IsOwnSet, original_of, own_left}
 use Rattle.cookie_agent.specs.Sent.{IsOrderedHeader}
 use Rattle.cookie_agent.specs.Store.{AgentView}
 use Rattle.cookie_browser.specs.Request.{RequestView}
-use Rattle.cookie_browser.specs.Storage.{KeptView, is_sent, verdict}
-use Rattle.cookie_browser.specs.Suffixes.{Rule}
+use Rattle.cookie_browser.specs.Storage.{KeptView, has_host_prefix, is_sent, verdict}
 use Rattle.cookie_session.specs.Seconds.{second_of}
 use Rattle.cookie_session.specs.Session.{SessionState, seen_at}
 use Rattle.cookie_session.specs.Sessions.{CanSave, IsOpen, IsStored, LivesAt, OpensFirst, saved_cookie}
@@ -27,39 +26,47 @@ pub record IsRequestOpened (sessions : Sessions) (agent : AgentView) (site : Req
       → (answer ≡ Some (record { session = session; place = place }))
       ↔ OpensFirst sessions (field_cookies header) now place session
 
--- The agent came to its cookies by these responses, from whatever hosts and in the order of time. The session's cookie
--- has a name that begins with `__Host-`.
-pub record IsGuarded (sessions : Sessions) (agent : AgentView) (now : DateTime)
-    (responses : List Response) : Type 0 where
-  pub order : AreInOrder responses now
-  pub read : agent.cookies ≡ kept_after_responses agent.rules responses []
+-- Whatever happened to the agent, in whatever order of time: if the session's cookie has a name that begins with
+-- `__Host-`, in any case, a session opens only from a cookie that one of the site's own secure responses set.
+abbrev pub OpensOwnSet : Sessions → AgentView → RequestView → DateTime → Option Opened → Type 0
+OpensOwnSet sessions agent site now answer =
+    (history : History) → agent.cookies ≡ kept_after history
+    → has_host_prefix sessions.cookie.now.fields.name ≡ true
+    → (place : ℕ) (session : SessionState)
+    → answer ≡ Some (record { session = session; place = place })
+    → (cookie : Record) × IsOwnSet site history cookie
+    × IsOpen sessions (Some cookie) now place session
+
+-- The agent came to its cookies by these events, in the order of time. The session's cookie has a name that begins with
+-- `__Host-`.
+pub record IsGuarded (sessions : Sessions) (agent : AgentView) (now : DateTime) (history : History)
+    : Type 0 where
+  pub order : IsInOrder history now
+  pub came : agent.cookies ≡ kept_after history
   pub named : IsHostName sessions.cookie.now.fields.name
 
--- what a server reads of the session's cookie, as the last of the site's own secure responses stored it which stored one
-abbrev pub own_cookie : Sessions → List Rule → RequestView → DateTime → List Response
-    → Option Record
-own_cookie sessions rules site now responses =
-    original_of site now
-    (last_stored rules sessions.cookie.now.fields.name (filter (is_own site) responses))
+-- what a server reads of the last of the session's cookies that is left of the site's own secure responses
+abbrev pub own_cookie : Sessions → RequestView → DateTime → History → Option Record
+own_cookie sessions site now history =
+    original_of site now (own_left site sessions.cookie.now.fields.name history)
 
--- Then a session opens exactly if it is open in that cookie, whatever else the responses are.
+-- Then a session opens exactly if it is open in that cookie.
 abbrev pub OpensOnlyOwn : Sessions → AgentView → RequestView → DateTime → Option Opened → Type 0
 OpensOnlyOwn sessions agent site now answer =
-    (responses : List Response) → IsGuarded sessions agent now responses
+    (history : History) → IsGuarded sessions agent now history
     → (place : ℕ) (session : SessionState)
     → (answer ≡ Some (record { session = session; place = place }))
-    ↔ IsOpen sessions (own_cookie sessions agent.rules site now responses) now place session
+    ↔ IsOpen sessions (own_cookie sessions site now history) now place session
 
--- Of the site's own secure responses this is the last one that stored the session's cookie. It has the text of the
--- cookie that `Sessions::save` added to a jar for this session, and the agent stored it as this one.
-pub record IsLastSave (sessions : Sessions) (rules : List Rule) (site : RequestView)
-    (responses : List Response) (session : SessionState) (save : Response) (kept : KeptView)
+-- The cookie that is left has the name and the value of one that a browser stores of the text of this response: of the
+-- cookie that `Sessions::save` added to a jar for this session.
+pub record IsLastSave (sessions : Sessions) (site : RequestView) (history : History)
+    (session : SessionState) (save : Response) (kept : KeptView)
     : Type 0 where
-  pub earlier : List Response
-  pub later : List Response
-  pub own : filter (is_own site) responses ≡ earlier ++ save ∷ later
-  pub quiet : last_stored rules sessions.cookie.now.fields.name later ≡ None
-  pub stored : verdict rules save.site save.now [] save.text ≡ Ok kept
+  pub left : own_left site sessions.cookie.now.fields.name history ≡ Some kept
+  pub set : KeptView
+  pub stored : verdict save.rules save.site save.now [] save.text ≡ Ok set
+  pub same : (kept.name ≡ set.name) × (kept.value ≡ set.value)
   -- what `save` promises of a cookie that it added
   pub nonce : List ℕ
   pub text : save.text ≡ cookie_text true false (saved_cookie sessions nonce save.now session)
@@ -71,9 +78,9 @@ pub record IsLastSave (sessions : Sessions) (rules : List Rule) (site : RequestV
 -- Then this session opens as long as its cookie is sent and it lives, by the newest key, and no other opens.
 abbrev pub KeepsLastSave : Sessions → AgentView → RequestView → DateTime → Option Opened → Type 0
 KeepsLastSave sessions agent site now answer =
-    (responses : List Response) → IsGuarded sessions agent now responses
+    (history : History) → IsGuarded sessions agent now history
     → (session : SessionState) (save : Response) (kept : KeptView)
-    → IsLastSave sessions agent.rules site responses session save kept
+    → IsLastSave sessions site history session save kept
     → (place : ℕ) (found : SessionState)
     → (answer ≡ Some (record { session = found; place = place }))
     ↔ ((found ≡ seen_at (second_of save.now) session) × (place ≡ 0)

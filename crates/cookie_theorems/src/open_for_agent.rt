@@ -1,7 +1,7 @@
 //! The session that a user agent's request opens.
 ghost use Rattle.std.specs.Prelude.{IfOk, alloc_error};
 ghost use Rattle.cookie.specs.Memory.{Gives};
-ghost use Rattle.cookie_theorems.specs.OwnSessions.{IsRequestOpened, KeepsLastSave, OpensOnlyOwn};
+ghost use Rattle.cookie_theorems.specs.OwnSessions.{IsRequestOpened, KeepsLastSave, OpensOnlyOwn, OpensOwnSet};
 
 use cookie_agent::{Agent, Site};
 use cookie_session::{Opened, Sessions};
@@ -11,10 +11,11 @@ use std::alloc::{AllocError, Global};
 /// Has a user agent make a request to a site, at the time `now` in UTC, and opens the session of its `Cookie` header as
 /// the site's server does, by [`Sessions::open_field`].
 ///
-/// If the session's cookie has a name that begins with `__Host-`, and no byte of it is escaped, only the site's own
-/// secure responses decide which session opens: the last of them that stored the cookie. What other hosts and insecure
-/// connections send changes nothing, whatever their texts are. This requires that the agent wasn't trimmed
-/// ([`Agent::trim`]).
+/// If the session's cookie has a name that begins with `__Host-`, the session comes from a cookie that one of the site's
+/// own secure responses set, whatever happened to the agent. What other hosts and insecure connections send plants none,
+/// whatever their texts are. If no byte of the name is escaped, and no time goes back, the session comes from the last
+/// such cookie. It stays, unless [`Agent::remove`], [`Agent::clear_domain`] or [`Agent::trim`] drops it, or a load
+/// brings an older one.
 ///
 /// Fails only if out of memory.
 pub fn open_for_agent(
@@ -27,7 +28,8 @@ pub fn open_for_agent(
     ensures opened { Gives alloc_error result
         (IsRequestOpened sessions.now agent.now site.now now) }
 
-    // Only the site's own secure responses decide, if the cookie's name begins with `__Host-`.
+    // The site's own secure responses decide, if the cookie's name begins with `__Host-`.
+    ensures own_set { IfOk result (OpensOwnSet sessions.now agent.now site.now now) }
     ensures own { IfOk result (OpensOnlyOwn sessions.now agent.now site.now now) }
     ensures saved { IfOk result (KeepsLastSave sessions.now agent.now site.now now) }
 {

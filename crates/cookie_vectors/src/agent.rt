@@ -1,5 +1,5 @@
 //! A user agent: what it stores and sends, and its requests. data/agent.tsv says what its calls return.
-use crate::browsing::{context_of, outcome, site_of};
+use crate::browsing::{context_of, limits, outcome, site_of};
 use crate::jar_calls::{after, calls_of, moment, test_key};
 use crate::jars::looks;
 use crate::step::{Answer, Player, Step};
@@ -207,12 +207,6 @@ impl Player for Agents<'_> {
             _ => self.ask(step),
         }
     }
-}
-
-fn limits(words: &str) -> Option<Limits> {
-    let (per_domain, total) = words.split_once(' ')?;
-    let (per_domain, total) = (per_domain.parse().ok()?, total.parse().ok()?);
-    Some(Limits { per_domain, total })
 }
 
 // `host www.example.com /a`, or `domain example.com /a`.

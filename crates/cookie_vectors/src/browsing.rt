@@ -1,6 +1,6 @@
 //! What the rows on browsers and on user agents share.
 use crate::step::{Answer, Step};
-use cookie_agent::{RequestContext, Site};
+use cookie_agent::{Limits, RequestContext, Site};
 use cookie_browser::Refusal;
 use std::alloc::Global;
 
@@ -31,6 +31,13 @@ pub fn site_of(alloc: Global, url: &str) -> Option<Site> {
         return Site::of_address(alloc, host, path, scheme == "https").ok();
     }
     Site::new(alloc, host, path, scheme == "https").ok()
+}
+
+/// The limits of a domain's cookies and of all, as `50 3000`.
+pub fn limits(words: &str) -> Option<Limits> {
+    let (per_domain, total) = words.split_once(' ')?;
+    let (per_domain, total) = (per_domain.parse().ok()?, total.parse().ok()?);
+    Some(Limits { per_domain, total })
 }
 
 /// `refused STEP`, or `done` if no step refuses.

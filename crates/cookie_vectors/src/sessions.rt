@@ -1,16 +1,17 @@
 //! Sessions: rings of keys, sites that open and save sessions, and what clients and user agents bring back.
 //! data/sessions.tsv says what its calls return.
+mod browser;
 mod requests;
 mod revoked;
 mod site;
 
-use crate::browsing::{outcome, site_of};
+use crate::browsing::site_of;
 use crate::jar_calls::{after, calls_of, moment, test_key};
 use crate::jars::Jars;
 use crate::sources::Sevens;
 use crate::step::{Answer, Player, Step};
+use browser::Browser;
 use cookie::{Cookie, CookieJar};
-use cookie_agent::Agent;
 use cookie_browser::Suffixes;
 use cookie_client::{Client, JarCall};
 use cookie_session::{NeverRevoked, Opened, Revocations, Session, Tokens, second_of};
@@ -35,7 +36,7 @@ pub struct Visitors<'s> {
     site: Site,
     jars: Jars,
     client: Client,
-    agent: Agent<'s>,
+    browser: Browser<'s>,
     now: DateTime,
     left: usize,
     session: Session,
@@ -48,7 +49,7 @@ impl<'s> Visitors<'s> {
             site: Site::new(alloc, session_cookie(true), 1200, 600)?,
             jars: Jars::new(alloc),
             client: Client::new(alloc),
-            agent: Agent::new(alloc, suffixes),
+            browser: Browser::new(alloc, suffixes),
             now: moment(),
             left: 28,
             session: Session::start(alloc, moment(), &mut Sevens { left: 16 }).ok()?,
@@ -214,13 +215,6 @@ impl<'s> Visitors<'s> {
         }
     }
 
-    // Has the user agent read a `Set-Cookie` text of a response, as `https://a.example/ | a=1; Path=/`.
-    fn read(&mut self, step: Step<'_>) -> Answer {
-        let (url, text) = step.halves();
-        let (site, text) = (site_of(step.alloc, url.words)?, text.bytes()?);
-        outcome(step, self.agent.read(&site, &text, self.now).ok()?)
-    }
-
     // Revokes the session, or forgets which ones are over.
     fn revoke(&mut self, step: Step<'_>) -> Answer {
         let (sessions, revoked) = (self.site.sessions(), self.revoked.as_mut()?);
@@ -260,7 +254,7 @@ impl<'s> Visitors<'s> {
             "open" => sessions.open(alloc, &self.jars.jar, now),
             _ => {
                 let site = site_of(alloc, step.words)?;
-                open_for_agent(alloc, &sessions, &self.agent, &site, now)
+                open_for_agent(alloc, &sessions, &self.browser.agent, &site, now)
             }
         };
         self.take(step, opened.ok()?)
@@ -320,7 +314,9 @@ impl Player for Visitors<'_> {
             "save_and_return" | "save_over_headers" => self.come_back(step),
             "save" | "end" | "keep" => self.settle(step),
             "find" => self.find(step),
-            "read" => self.read(step),
+            "read" | "retrieve" | "drop" | "evict" | "clear" | "trim" | "restart" => {
+                self.browser.answer(step, self.now)
+            }
             "site" | "limits" | "ring" | "rotate" | "older" | "retire" | "keys" | "newest" => {
                 self.site.answer(step)
             }

@@ -5,7 +5,7 @@ use Rattle.cookie.specs.Header.{joined_texts}
 use Rattle.cookie_agent.specs.Store.{AgentView}
 use Rattle.cookie_agent.specs.Sent.{sent_pair, visible}
 use Rattle.cookie_agent.specs.SentCode.{targets}
-use Rattle.cookie_agent.proofs.HostJarLemmas.{last_own, own_originals}
+use Rattle.cookie_agent.proofs.HostJarLemmas.{last_own, own_originals, own_set}
 use Rattle.cookie_agent.proofs.HostLemmas.{only_own}
 use Rattle.cookie_agent.proofs.OrderLemmas.{ordered_header}
 use Rattle.cookie_agent.proofs.agent.Agent.header.Goals as goal
@@ -45,3 +45,12 @@ returns-in_err-sent-clause-last_own c = last_own
 
 pub returns-in_err-sent-2-clause-last_own : goal.returns-in_err-sent-2-clause-last_own
 returns-in_err-sent-2-clause-last_own c = last_own
+
+pub returns-clause-own_set : goal.returns-clause-own_set
+returns-clause-own_set c = own_set
+
+pub returns-in_err-sent-clause-own_set : goal.returns-in_err-sent-clause-own_set
+returns-in_err-sent-clause-own_set c = own_set
+
+pub returns-in_err-sent-2-clause-own_set : goal.returns-in_err-sent-2-clause-own_set
+returns-in_err-sent-2-clause-own_set c = own_set
