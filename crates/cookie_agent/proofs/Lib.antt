@@ -22,7 +22,6 @@ pub mod PutLemmas
 pub mod RankLemmas
 pub mod RefusalLemmas
 pub mod RemovalLemmas
-pub mod RowFacts
 pub mod SavedFormLemmas
 pub mod SavedLemmas
 pub mod SentFieldLemmas

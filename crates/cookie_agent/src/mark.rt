@@ -1,8 +1,8 @@
-//! Numbers of texts.
+//! A hash of texts, to base 31, by which comparisons are skipped.
 ghost use Rattle.std.specs.Prelude.{◌≡◌};
 ghost use Rattle.cookie_agent.specs.StoredCode.{mark_after};
 
-// A number of the text, after the number of others. Most texts that differ have different numbers.
+// The hash of the text, after the hash of others. Most texts that differ have different ones.
 pub(crate) fn mark_after(mark: u64, text: &[u8]) -> u64
     ensures { result ≡ mark_after mark text.now }
 {
