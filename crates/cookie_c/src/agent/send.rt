@@ -1,5 +1,6 @@
 //! The `Cookie` header of a request for C.
 ghost use Rattle.std.specs.Prelude.{◌≡◌, ◌⊎◌, true, false, Some, IfOk, OnErr, OnOk};
+ghost use Rattle.cookie_agent.specs.HostJars.{AreOwnSet};
 ghost use Rattle.cookie_agent.specs.Sent.{IsOrderedHeader};
 ghost use Rattle.cookie_c.specs.Agents.{GivesHeader, IfSeen, SendsAt, SendsRequest, after_request, store_of};
 ghost use Rattle.cookie_c.specs.Answers.{IsRefused};
@@ -23,8 +24,8 @@ use std::mem::replace;
 /// and the earlier creation first among equals. It is empty if no cookie is sent. `now` is the time in seconds since
 /// 1970 in UTC. The agent is as before.
 ///
-/// Only the site's own secure responses set what the header has under names with the prefix `__Host-`, in any case
-/// (`AreOnlyOwn` of `cookie_agent`).
+/// Under names with the prefix `__Host-`, in any case, a server reads of it only what the site's own secure responses
+/// set, whatever else happened to an agent that began without cookies, and loaded only what was saved of such agents.
 ///
 /// Refuses a handle without an agent, then a time after 9999-12-30 22:00:00, and then a host or a path that isn't UTF-8.
 /// It may also run out of memory.
@@ -36,8 +37,9 @@ pub extern "C" fn cookie_agent_header(
     now: u64,
     out: &mut [u8],
 ) -> Answer
-    ensures { SendsAt false request.now now result out.old out.new
+    ensures sent { SendsAt false request.now now result out.old out.new
         (store_of agent.old) (store_of agent.new) }
+    ensures own_set { AreOwnSet }
 {
     send_at(alloc, agent, false, request, now, out)
 }
