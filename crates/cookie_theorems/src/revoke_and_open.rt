@@ -1,12 +1,11 @@
 //! A session that is revoked, and the requests after that.
-ghost use Rattle.std.specs.Prelude.{◌≡◌, ◌↔◌, ◌⊎◌, ℕ, Some, All, IfOk, OnOk};
+ghost use Rattle.std.specs.Prelude.{◌≡◌, ◌↔◌, ◌⊎◌, ℕ, Some, All, IfOk, OnErr, OnOk};
 ghost use Rattle.std.specs.List.{AllZip};
 ghost use Rattle.cookie.specs.Originals.{field_cookies};
-ghost use Rattle.cookie_session.specs.Revocations.{AreForgotten, IsRevoked, end_of};
+ghost use Rattle.cookie_session.specs.Revocations.{AreForgotten, AreSame, IsRevoked, end_of};
 ghost use Rattle.cookie_session.specs.Seconds.{second_of};
 ghost use Rattle.cookie_session.specs.Session.{SessionState};
-ghost use Rattle.cookie_session.specs.Sessions.{OpensUnrevoked};
-ghost use Rattle.cookie_theorems.specs.Revoking.{AreBefore, AreInOrder, HaveLifetime, IsOther, IsRevokedToEnd, OpensOther};
+ghost use Rattle.cookie_theorems.specs.Revoking.{AreAnswers, AreBefore, AreInOrder, AreLeft, HaveLifetime, IsAmong, IsAnswer, IsOther, IsRevokedToEnd, OpensOther, left_after, revoked_too};
 
 use crate::site_request::SiteRequest;
 use cookie_session::{OpenError, Opened, Revocations, Session, Sessions, second_of};
@@ -16,9 +15,11 @@ use std::alloc::Global;
 ///
 /// No request opens the session from a copy of its cookie, whoever sends it, whenever the copy was saved, and whichever
 /// keys the site has then. This requires that the times of the requests don't go back, that the site keeps its lifetime,
-/// and that what is revoked is kept. Nobody else is logged out: any other session opens, unless it was revoked before.
+/// and that what is revoked is kept. Nobody else is logged out: a request whose first open session is another one opens
+/// that, unless it was revoked before.
 ///
-/// Fails if the session can't be revoked, if a session can't be looked up, or if out of memory.
+/// Fails if the session can't be revoked, if a session can't be looked up, if what is over can't be forgotten, or if out
+/// of memory. Each session that was revoked before stays so until its second.
 pub fn revoke_and_open<R: Revocations>(
     alloc: Global,
     sessions: &Sessions<'_>,
@@ -26,6 +27,16 @@ pub fn revoke_and_open<R: Revocations>(
     requests: &[SiteRequest<'_>],
     revocations: &mut R,
 ) -> Result<Vec<Option<Opened>>, OpenError<R::Error>>
+    // Each request opens exactly the session that its cookies open, by what is revoked then.
+    ensures answers { R.is_kept revocations.new → R.can_revoke → IfOk result (λ answers. AreAnswers
+        (revoked_too session.now.id (end_of sessions.now.lifetime session.now)
+        (R.revoked_until revocations.old))
+        requests.now answers.items) }
+
+    // Whatever the look-ups say, only a session opens that is open in one of the request's cookies.
+    ensures sealed { IfOk result (λ answers. AllZip IsAmong requests.now answers.items) }
+
+    // No copy of the session opens.
     ensures refused { R.is_kept revocations.new → R.can_revoke
         → HaveLifetime sessions.now.lifetime requests.now → AreInOrder 0 requests.now
         → IfOk result (λ answers. All (IsOther session.now) answers.items) }
@@ -40,6 +51,22 @@ pub fn revoke_and_open<R: Revocations>(
         → AreBefore (end_of sessions.now.lifetime session.now) requests.now
         → OnOk result (IsRevokedToEnd (R.revoked_until revocations.new)
         sessions.now.lifetime session.now) }
+
+    // Exactly this session is revoked too, and exactly what is over at one of the requests is forgotten.
+    ensures forgotten { R.is_kept revocations.new → R.can_revoke
+        → OnOk result (AreSame (left_after requests.now (revoked_too session.now.id
+        (end_of sessions.now.lifetime session.now) (R.revoked_until revocations.old)))
+        (R.revoked_until revocations.new)) }
+
+    // After an error each session is revoked as before, or this one is revoked too, and exactly what is over at one of
+    // the first requests is forgotten.
+    ensures err { R.is_kept revocations.new → R.can_revoke
+        → OnErr result (AreSame (R.revoked_until revocations.old) (R.revoked_until revocations.new)
+        ⊎ AreLeft requests.now
+        (revoked_too session.now.id (end_of sessions.now.lifetime session.now)
+        (R.revoked_until revocations.old))
+        (R.revoked_until revocations.new)) }
+    ensures kept { R.is_kept revocations.new → R.is_kept revocations.old }
 {
     match sessions.revoke(session, revocations) {
         Ok(()) => open_each(alloc, requests, revocations),
@@ -51,15 +78,24 @@ pub fn revoke_and_open<R: Revocations>(
 /// that are over, and opens the request's session by [`Sessions::open_unrevoked`].
 ///
 /// No request opens a session that is revoked until its end, whatever cookies it sends. This requires that the times of
-/// the requests don't go back, that the site keeps its lifetime, and that what is revoked is kept. A session that isn't
-/// revoked opens.
+/// the requests don't go back, that the site keeps its lifetime, and that what is revoked is kept. A request whose first
+/// open session isn't revoked opens that.
 ///
-/// Fails if a session can't be looked up, or if out of memory.
+/// Fails if a session can't be looked up, if what is over can't be forgotten, or if out of memory. Each session that was
+/// revoked stays so until its second.
 pub fn open_each<R: Revocations>(
     alloc: Global,
     requests: &[SiteRequest<'_>],
     revocations: &mut R,
 ) -> Result<Vec<Option<Opened>>, OpenError<R::Error>>
+    // Each request opens exactly the session that its cookies open, by what is revoked then.
+    ensures answers { R.is_kept revocations.new → IfOk result (λ answers.
+        AreAnswers (R.revoked_until revocations.old) requests.now answers.items) }
+
+    // Whatever the look-ups say, only a session opens that is open in one of the request's cookies.
+    ensures sealed { IfOk result (λ answers. AllZip IsAmong requests.now answers.items) }
+
+    // No copy of a session opens that is revoked until its end.
     ensures refused { R.is_kept revocations.new → (lifetime : ℕ) (gone : SessionState)
         → HaveLifetime lifetime requests.now → AreInOrder 0 requests.now
         → IsRevokedToEnd (R.revoked_until revocations.old) lifetime gone
@@ -70,11 +106,18 @@ pub fn open_each<R: Revocations>(
         AllZip (OpensOther (IsRevoked (R.revoked_until revocations.old)))
         requests.now answers.items) }
 
-    // What is revoked stays so until its end.
+    // What is revoked stays so until its end, also after an error.
     ensures stays { R.is_kept revocations.new → (lifetime : ℕ) (gone : SessionState)
         → AreBefore (end_of lifetime gone) requests.now
         → IsRevokedToEnd (R.revoked_until revocations.old) lifetime gone
-        → OnOk result (IsRevokedToEnd (R.revoked_until revocations.new) lifetime gone) }
+        → IsRevokedToEnd (R.revoked_until revocations.new) lifetime gone }
+
+    // Exactly what is over at one of the requests is forgotten, and after an error at one of the first of them.
+    ensures forgotten { R.is_kept revocations.new → OnOk result (AreSame
+        (left_after requests.now (R.revoked_until revocations.old))
+        (R.revoked_until revocations.new)) }
+    ensures err { R.is_kept revocations.new → OnErr result (AreLeft requests.now
+        (R.revoked_until revocations.old) (R.revoked_until revocations.new)) }
     ensures kept { R.is_kept revocations.new → R.is_kept revocations.old }
 {
     let mut answers = Vec::new(alloc);
@@ -91,13 +134,15 @@ fn open_one<R: Revocations>(
     request: &SiteRequest<'_>,
     revocations: &mut R,
 ) -> Result<Option<Opened>, OpenError<R::Error>>
-    ensures answers { R.is_kept revocations.new → IfOk result (λ answer.
-        (place : ℕ) (s : SessionState)
-        → (answer ≡ Some (record { session = s; place = place }))
-        ↔ OpensUnrevoked (IsRevoked (R.revoked_until revocations.new)) request.now.sessions
-        (field_cookies request.now.field.now) request.now.time place s) }
+    ensures answers { R.is_kept revocations.new → IfOk result
+        (IsAnswer (R.revoked_until revocations.new) request.now) }
+    ensures sealed { IfOk result (IsAmong request.now) }
     ensures forgotten { R.is_kept revocations.new → OnOk result
         (AreForgotten (second_of request.now.time)
+        (R.revoked_until revocations.old) (R.revoked_until revocations.new)) }
+    ensures err { R.is_kept revocations.new → OnErr result
+        (AreSame (R.revoked_until revocations.old) (R.revoked_until revocations.new)
+        ⊎ AreForgotten (second_of request.now.time)
         (R.revoked_until revocations.old) (R.revoked_until revocations.new)) }
     ensures kept { R.is_kept revocations.new → R.is_kept revocations.old }
 {
