@@ -89,8 +89,8 @@ def library_at(path: str) -> ctypes.CDLL:
         ) from error
 
 
-# The shared object is beside this file; the variable COOKIE_C names another one.
-LIBRARY = library_at(os.environ.get("COOKIE_C", str(pathlib.Path(__file__).parent / "libcookie_c.so")))
+# The shared object is beside this file; the variable DEOMIGAL_LIBRARY names another one.
+LIBRARY = library_at(os.environ.get("DEOMIGAL_LIBRARY", str(pathlib.Path(__file__).parent / "libcookie_c.so")))
 TEXT: list[Any] = [ctypes.c_char_p, ctypes.c_size_t]
 HANDLE: list[Any] = [ctypes.POINTER(Handle)]
 SEEDS: list[Any] = [ctypes.c_uint64] * 2

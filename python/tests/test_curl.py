@@ -1,9 +1,11 @@
 """Facts about the files of curl and of an agent: both read what both write (cookies.txt)."""
+import shutil
 import subprocess
 import tempfile
 import unittest
 from pathlib import Path
 
+import pytest
 from clients import Urllib
 from deomigal import Agent
 from deomigal.agents import NETSCAPE
@@ -75,6 +77,7 @@ def pairs(header):
     return sorted((header or b"").split(b"; "))
 
 
+@pytest.mark.skipif(not shutil.which("curl"), reason="no curl")
 class CurlFacts(unittest.TestCase):
     maxDiff = None
 

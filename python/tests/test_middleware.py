@@ -6,12 +6,17 @@ import unittest
 from wsgiref.util import setup_testing_defaults
 from wsgiref.validate import validator
 
+import pytest
 from deomigal import Sessions
 from deomigal.asgi import SessionMiddleware
 from deomigal.errors import BadPrefix, InvalidValue, MasterTooShort, Over, TooLarge
 from deomigal.secrets import keys_of
 from deomigal.wsgi import SessionMiddleware as WsgiMiddleware
-from facts import FORTNIGHT, NOON, OLDER, SECRET, age_of, damaged, disguised, not_shared, pair_of
+from helpers import FORTNIGHT, NOON, OLDER, SECRET, age_of, damaged, disguised, not_shared, pair_of
+
+pytest.importorskip("starlette")
+pytest.importorskip("httpx", reason="Starlette's client needs it")
+
 from starlette.applications import Starlette
 from starlette.datastructures import Secret
 from starlette.middleware import Middleware
@@ -108,6 +113,9 @@ class Starlettes(unittest.TestCase):
     @not_shared("an age below 1 second, with which no session could be saved, is refused when the middleware is made")
     def test_session_expires(self):
         """test_session_expires: with max_age=-1 a session is over at once."""
+        client = client_of(max_age=-1)
+        client.post("/update_session", json={"some": "data"})
+        assert client.get("/view_session").json() == {"session": {}}
 
     def test_secure_session(self):
         """test_secure_session: with https_only a client sends the cookie over https and not over http."""

@@ -1,14 +1,16 @@
-"""Prints the table of python/README.md on the sizes of sessions: the bytes of the cookie (its name and its value), and
+"""The table of python/README.md on the sizes of sessions: the bytes of the cookie (its name and its value), and
 how much fits in one, for Flask's own sessions, which zlib compresses, and for those of `deomigal.flask`.
 
-What is drawn is drawn from a seed, so each run prints the same. Another zlib may print a few bytes more or fewer."""
+What is drawn is drawn from a seed, so each run has the same. Another zlib may have a few bytes more or fewer."""
 import random
-import sys
 
-import flask
+import pytest
 from deomigal.errors import TooLarge
+from helpers import NOON, SECRET, page
+
+flask = pytest.importorskip("flask")
+
 from deomigal.flask import FlaskSession, SessionInterface
-from facts import NOON, SECRET
 
 MOST = 4096
 NAME = "session"
@@ -114,8 +116,8 @@ def table():
     return lines, ratios
 
 
-if __name__ == "__main__":
+def test_table():
+    """Each session of the page has at most 1.4 times the bytes of Flask's own, and the page has this table."""
     lines, ratios = table()
-    print("\n".join(lines))
-    print("of Flask's bytes:", ", ".join(f"{ratio:.2f}" for ratio in ratios), file=sys.stderr)
-    sys.exit(any(ratio > RATIO for ratio in ratios[1:]))
+    assert max(ratios[1:]) <= RATIO, ratios
+    assert "\n".join(lines) in page("python/README.md")

@@ -6,24 +6,14 @@ import tracemalloc
 import unittest
 from unittest import mock
 
-import django
-import flask
-from django.conf import settings
-from facts import NOON, SECRET, pair_of
-
-settings.configure(SECRET_KEY=SECRET, SESSION_ENGINE="deomigal.django", USE_TZ=True, DEFAULT_CHARSET="utf-8")
-django.setup()
-
+import pytest
 from deomigal import Sessions, compression
-from deomigal import django as engine
 from deomigal.asgi import SessionMiddleware as AsgiMiddleware
 from deomigal.compression import COMPRESSED, DIGITS, MOST_BYTES, bytes_of_digits, deflated, digits_of
 from deomigal.errors import TooLarge
-from deomigal.flask import SessionInterface, session
 from deomigal.wsgi import KEY
 from deomigal.wsgi import SessionMiddleware as WsgiMiddleware
-from django.http import HttpResponse
-from django.test import RequestFactory, override_settings
+from helpers import NOON, SECRET, pair_of
 
 HOUR = 3600
 # More bytes than may be expanded, which fit in a cookie once they are compressed.
@@ -47,6 +37,9 @@ class Flasks:
 
     def ask(self, change, cookie=None, **words):
         """The values of the request's session after the change, and the cookie that is set, if any."""
+        flask = pytest.importorskip("flask")
+        from deomigal.flask import SessionInterface, session
+
         app, seen = flask.Flask(__name__), []
         app.config.update(SECRET_KEY=SECRET, PROPAGATE_EXCEPTIONS=True)
         SessionInterface(**words).init_app(app)
@@ -98,6 +91,13 @@ class Djangos:
     """How Django is asked."""
 
     def ask(self, change, cookie=None, **words):
+        pytest.importorskip("django")
+        import django_site  # noqa: F401
+        from deomigal import django as engine
+        from django.conf import settings
+        from django.http import HttpResponse
+        from django.test import RequestFactory, override_settings
+
         seen = []
 
         def page(request):
@@ -211,7 +211,11 @@ class DjangoFacts(Djangos, Shared, unittest.TestCase):
 
     def test_pickle(self):
         """Values that aren't UTF-8 are compressed too."""
-        with override_settings(SESSION_SERIALIZER="django.contrib.sessions.serializers.PickleSerializer"):
+        pytest.importorskip("django")
+        import django_site  # noqa: F401
+        from django.test import override_settings
+
+        with override_settings(SESSION_SERIALIZER="django_site.Pickles"):
             cookie = self.kept(LONG, compress=True)
             self.assertLess(cookie_size(cookie), 1000)
             self.reads(cookie, LONG)

@@ -1,67 +1,29 @@
-"""Django's own tests of sessions, with `deomigal.django` as the engine, and facts about it. DJANGO_TESTS is the folder
-`tests` of Django's sources."""
+"""Facts about `deomigal.django`. tools/try-suites plays Django's own tests."""
 import datetime
 import json
-import os
-import sys
 from unittest import mock
 
-import django
-from django.conf import settings
-from facts import NOON, OLDER, SECRET, age_of, damaged, disguised, not_shared, pair_of
+import pytest
+from helpers import NOON, OLDER, SECRET, age_of, damaged, disguised, pair_of
 
-sys.path.append(os.environ["DJANGO_TESTS"])
-settings.configure(
-    SECRET_KEY=SECRET,
-    SESSION_ENGINE="deomigal.django",
-    ROOT_URLCONF="django_facts",
-    ALLOWED_HOSTS=["*"],
-    INSTALLED_APPS=["django.contrib.auth", "django.contrib.contenttypes", "django.contrib.sessions", "sessions_tests"],
-    MIDDLEWARE=["deomigal.django.SessionMiddleware"],
-    DEFAULT_AUTO_FIELD="django.db.models.AutoField",
-    USE_TZ=True,
-    DATABASES={"default": {"ENGINE": "django.db.backends.sqlite3", "NAME": ":memory:"}},
-)
-django.setup()
+pytest.importorskip("django")
 
+import django_site  # noqa: F401
 from deomigal import Sessions
 from deomigal import django as engine
 from deomigal.errors import BadPrefix, InvalidValue, MasterTooShort, TooLarge
 from deomigal.revocations import MemoryRevocations
 from deomigal.secrets import derive_key
+from django.conf import settings
 from django.contrib.auth import login
 from django.contrib.auth.models import User
 from django.contrib.sessions.middleware import SessionMiddleware as DjangoMiddleware
-from django.db import connection
 from django.http import JsonResponse
 from django.test import Client, RequestFactory, SimpleTestCase, override_settings
-from django.test.utils import setup_test_environment
 from django.urls import re_path
-from sessions_tests import tests
 
-setup_test_environment()
-connection.creation.create_test_db(verbosity=0)
 urlpatterns = []
-
-
-class DjangoCookieSessionTests(tests.CookieSessionTests):
-    """Django's tests of signed-cookie sessions. Two that these skip, or expect to fail, pass."""
-
-    backend = engine.SessionStore
-    test_actual_expiry = tests.SessionTestsMixin.test_actual_expiry
-    test_session_load_does_not_create_record = tests.SessionTestsMixin.test_session_load_does_not_create_record
-
-    @not_shared("Django skips it for sessions in cookies: there is no store in which a logout could be seen")
-    def test_session_save_does_not_resurrect_session_logged_out_in_other_context(self):
-        pass
-
-
-class DjangoMiddlewareTests(tests.SessionMiddlewareTests):
-    """Django's tests of its middleware, which makes sessions of the engine."""
-
-    @not_shared("it reads the session in the table of Django's database engine")
-    def test_empty_session_saved(self):
-        pass
+PICKLES = "django_site.Pickles"
 
 
 def change(session, path):
@@ -184,14 +146,14 @@ class EngineFacts(SimpleTestCase):
         short = self.kept("/short")
         self.reads(short, {"user": "ann"}, NOON + 59)
         self.reads(short, {}, NOON + 60)
-        with override_settings(SESSION_SERIALIZER="django.contrib.sessions.serializers.PickleSerializer"):
+        with override_settings(SESSION_SERIALIZER=PICKLES):
             until = self.kept("/until", now=NOON - 60)
             self.reads(until, {"user": "ann"}, NOON + 59)
             self.reads(until, {}, NOON + 60)
 
     def test_other_serializer(self):
         """A session that another serializer made is empty."""
-        with override_settings(SESSION_SERIALIZER="django.contrib.sessions.serializers.PickleSerializer"):
+        with override_settings(SESSION_SERIALIZER=PICKLES):
             cookie = self.kept()
             self.reads(cookie, {"user": "ann"})
         self.reads(cookie, {})

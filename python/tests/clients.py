@@ -1,22 +1,22 @@
-"""The clients, each with an agent. `ask` makes a request, follows its redirects, and reads the whole response."""
+"""The clients, each with an agent. `ask` makes a request, follows its redirects, and reads the whole response.
+
+Each imports what it `needs`, so that a test of the others runs without that."""
 import asyncio
 import ssl
 import urllib.request
 
-import aiohttp
-import deomigal.httpx as httpx_drop_in
-import httpx
-import mechanize
 from deomigal import cookiejar
 from deomigal.agents import SAME_SITE
-from deomigal.aiohttp import cookies_of
-from deomigal.requests import session_of
 
 
 class Requests:
     """requests with `session_of`"""
 
+    needs = "requests"
+
     def __init__(self, agent, certificate):
+        from deomigal.requests import session_of
+
         self.session = session_of(agent)
         self.part = self.session.get_adapter("https://")
         self.session.trust_env, self.session.verify = False, certificate
@@ -32,8 +32,13 @@ class Requests:
 class Httpx:
     """httpx with `cookies_of`"""
 
+    needs = "httpx"
+
     def __init__(self, agent, certificate):
-        made = httpx_drop_in.cookies_of(agent, httpx.HTTPTransport(verify=certificate))
+        import httpx
+        from deomigal.httpx import cookies_of
+
+        made = cookies_of(agent, httpx.HTTPTransport(verify=certificate))
         self.part = made["transport"]
         self.client = httpx.Client(follow_redirects=True, **made)
 
@@ -63,8 +68,13 @@ class Looped:
 class AsyncHttpx(Looped):
     """httpx with `async_cookies_of`"""
 
+    needs = "httpx"
+
     async def open(self, agent, certificate):
-        made = httpx_drop_in.async_cookies_of(agent, httpx.AsyncHTTPTransport(verify=certificate))
+        import httpx
+        from deomigal.httpx import async_cookies_of
+
+        made = async_cookies_of(agent, httpx.AsyncHTTPTransport(verify=certificate))
         self.part = made["transport"]
         self.client = httpx.AsyncClient(follow_redirects=True, **made)
 
@@ -79,10 +89,16 @@ class AsyncHttpx(Looped):
 class Aiohttp(Looped):
     """aiohttp with `cookies_of`"""
 
+    needs = "aiohttp"
+
     async def open(self, agent, certificate):
+        import aiohttp
+        from deomigal.aiohttp import cookies_of
+
         made = cookies_of(agent)
         self.part = made["cookie_jar"]
         context = ssl.create_default_context(cafile=certificate)
+        self.refusal = aiohttp.ClientResponseError
         self.session = aiohttp.ClientSession(connector=aiohttp.TCPConnector(ssl=context), **made)
 
     async def asked(self, url, method="GET", context=SAME_SITE):
@@ -91,7 +107,7 @@ class Aiohttp(Looped):
             async with self.session.request(method, url) as response:
                 await response.read()
                 return response.status
-        except aiohttp.ClientResponseError as error:
+        except self.refusal as error:
             # It refuses a whole response whose fields hold a control character.
             return error.status
 
@@ -101,6 +117,8 @@ class Aiohttp(Looped):
 
 class Urllib:
     """urllib.request with `CookieJar`"""
+
+    needs = "urllib.request"
 
     def __init__(self, agent, certificate):
         self.part = cookiejar.CookieJar(agent)
@@ -122,7 +140,12 @@ class Urllib:
 class Mechanize:
     """mechanize with `CookieJar`"""
 
+    needs = "mechanize"
+
     def __init__(self, agent, certificate):
+        import mechanize
+
+        self.request = mechanize.Request
         self.part, self.browser = cookiejar.CookieJar(agent), mechanize.Browser()
         self.browser.set_cookiejar(self.part)
         self.browser.set_handle_robots(False)
@@ -131,7 +154,7 @@ class Mechanize:
 
     def ask(self, url, method="GET", context=SAME_SITE):
         self.part.context = context
-        response = self.browser.open(mechanize.Request(url, method=method))
+        response = self.browser.open(self.request(url, method=method))
         response.read()
         return response.code
 

@@ -6,12 +6,15 @@ import unittest
 from http.cookiejar import DefaultCookiePolicy
 from pathlib import Path
 
-import requests
+import pytest
 from clients import Requests
 from deomigal import Agent
 from deomigal.cookiejar import CookieJar
+from helpers import not_shared
+
+requests = pytest.importorskip("requests")
+
 from deomigal.requests import session_of
-from facts import not_shared
 from requests.cookies import CookieConflictError, create_cookie
 from server import Servers, resolved
 
@@ -79,10 +82,16 @@ class RequestsTests(unittest.TestCase):
     @not_shared(NO_CALLER)
     def test_cookie_persists_via_api(self):
         """test_cookie_persists_via_api: the caller's `cookies=` go to each host of a redirect."""
+        self.servers.answers = {SHOP + "redirect": (302, [(b"Location", b"/get")])}
+        self.session.get(SHOP + "redirect", cookies={"foo": "bar"})
+        assert self.sent() == b"foo=bar"
 
     @not_shared(NO_CALLER)
     def test_request_cookie_overrides_session_cookie(self):
         """test_request_cookie_overrides_session_cookie: a cookie of `cookies=` takes the place of the session's."""
+        self.set_by_redirect(b"foo=bar; Path=/")
+        self.session.get(SHOP, cookies={"foo": "baz"})
+        assert self.sent() == b"foo=baz"
 
     def test_request_cookies_not_persisted(self):
         """test_request_cookies_not_persisted: what the caller passes for a request isn't in the session afterwards."""
@@ -187,6 +196,9 @@ class RequestsTests(unittest.TestCase):
     @not_shared(NO_POLICY)
     def test_cookie_policy_copy(self):
         """test_cookie_policy_copy: a copy of a jar has its policy."""
+        jar, policy = CookieJar(Agent()), DefaultCookiePolicy()
+        jar.set_policy(policy)
+        assert jar.copy().get_policy() is policy
 
     def test_prepared_copy(self):
         """test_prepared_copy: a copy of a prepared request has the same cookies."""

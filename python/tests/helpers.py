@@ -1,6 +1,9 @@
-"""What the files of facts share. Each fact is a test; one that isn't shared is skipped with the reason."""
+"""What the tests share."""
 import re
-import unittest
+from pathlib import Path
+
+import pytest
+from deomigal.revocations import MemoryRevocations
 
 NOON = 2_000_000_000
 DAY = 24 * 3600
@@ -8,7 +11,13 @@ FORTNIGHT = 14 * DAY
 SECRET = "a secret key of at least 32 bytes"
 OLDER = "an older secret of at least 32 bytes"
 
-not_shared = unittest.skip
+# The project, whose pages and rows some tests read.
+TOP = Path(__file__).resolve().parent.parent.parent
+
+
+def not_shared(reason):
+    """Marks a test of a framework, in our words, that this package fails for the reason. python/README.md lists it."""
+    return pytest.mark.xfail(reason=reason, strict=True)
 
 
 def pair_of(text):
@@ -55,3 +64,40 @@ def disguised(pair):
     yield from (space + pair for space in ("\u2003", "\u00a0", "\u0085", "\u3000"))
     yield pair.replace("__Host-", "%5F_Host-", 1)
     yield pair.replace("__Host-", "__Host%2D", 1)
+
+
+def page(name):
+    """The text of a page of the project. A test is skipped if its folder was copied out of the project."""
+    path = TOP / name
+    if not path.exists():
+        pytest.skip(f"no {name} here")
+    return path.read_text()
+
+
+class Failing:
+    """Revocations that can't be kept or looked up, for this reason."""
+
+    def __init__(self, error):
+        self.error = error
+
+    def is_revoked(self, id):
+        raise self.error
+
+    def revoke(self, id, until):
+        raise self.error
+
+
+class Breaking(MemoryRevocations):
+    """Revocations that fail as long as they are broken."""
+
+    is_broken = False
+
+    def is_revoked(self, id):
+        if self.is_broken:
+            raise OSError("the store is gone")
+        return super().is_revoked(id)
+
+    def revoke(self, id, until):
+        if self.is_broken:
+            raise OSError("the store is gone")
+        super().revoke(id, until)

@@ -5,10 +5,14 @@ import random
 import unittest
 import warnings
 
+import pytest
 from deomigal import decoded_pairs, read_decoded_cookie
 from deomigal.errors import EmptyName, InvalidValue, NoDate
+from helpers import disguised, not_shared
+
+pytest.importorskip("werkzeug")
+
 from deomigal.werkzeug import ALLOWED, dump_cookie, parse_cookie
-from facts import disguised, not_shared
 from werkzeug.datastructures import Headers, MultiDict
 from werkzeug.http import dump_cookie as werkzeugs_dump
 from werkzeug.http import parse_cookie as werkzeugs_parse
@@ -43,6 +47,7 @@ class Werkzeugs(unittest.TestCase):
     @not_shared("`;` ends a value, in quotes too (RFC 6265 4.1.1, 5.2)")
     def test_parse_cookie_semicolon(self):
         r"""test_parse_cookie: `b="\";"` is `";`."""
+        assert parse_cookie(r'a=1; b="\";"')["b"] == '";'
 
     def test_dump_cookie(self):
         """test_dump_cookie: the attributes, and values with `/` and `=` as they are. The blanks are the next fact's."""
@@ -54,6 +59,7 @@ class Werkzeugs(unittest.TestCase):
     @not_shared("a value has no blank, in quotes neither (RFC 6265 4.1.1): it is `foo=bar%20baz%20blub`")
     def test_dump_cookie_blanks(self):
         """test_dump_cookie: `bar baz blub` is printed in quotes."""
+        assert dump_cookie("foo", "bar baz blub", path=None) == 'foo="bar baz blub"'
 
     def test_bad_cookies(self):
         """test_bad_cookies: blanks around names and values are dropped, and the values of a name keep their order. The
@@ -67,6 +73,7 @@ class Werkzeugs(unittest.TestCase):
     @not_shared("a piece without `=` is no cookie (RFC 6265 4.2.1)")
     def test_bad_cookies_nameless(self):
         """test_bad_cookies: `oops` is a cookie without a value."""
+        assert parse_cookie("a=1; oops ; b=2")["oops"] == ""
 
     def test_empty_keys_are_ignored(self):
         """test_empty_keys_are_ignored: empty pieces count for nothing."""
@@ -97,6 +104,7 @@ class Werkzeugs(unittest.TestCase):
     @not_shared(r"a value has no `\` (RFC 6265 4.1.1): it is `foo=%E2%98%83`")
     def test_cookie_unicode_dumping_text(self):
         """test_cookie_unicode_dumping: the value is printed in quotes, with escapes by a backslash."""
+        assert dump_cookie("foo", SNOWMAN) == 'foo="\\342\\230\\203"; Path=/'
 
     def test_cookie_unicode_keys(self):
         """test_cookie_unicode_keys: a name outside ASCII is read back."""
@@ -105,6 +113,7 @@ class Werkzeugs(unittest.TestCase):
     @not_shared("a name has ASCII only (RFC 6265 4.1.1): it is `f%C3%B6=f%C3%B6`")
     def test_cookie_unicode_keys_text(self):
         """test_cookie_unicode_keys: the name is printed as it is."""
+        assert dump_cookie("f\u00f6", "f\u00f6").startswith("f\u00f6=")
 
     def test_cookie_unicode_parsing(self):
         """test_cookie_unicode_parsing: bytes of UTF-8 are read, as Firefox sends them."""
@@ -132,6 +141,7 @@ class Werkzeugs(unittest.TestCase):
     @not_shared("a browser drops `SameSite=None` without `Secure` (RFC 6265bis 5.7): `Secure` is printed too")
     def test_cookie_samesite_none(self):
         """test_cookie_samesite_attribute: `SameSite=None` is printed by itself."""
+        assert dump_cookie("foo", "bar", samesite="none", path=None) == "foo=bar; SameSite=None"
 
     def test_cookie_samesite_invalid(self):
         """test_cookie_samesite_invalid: another rule raises `ValueError`."""

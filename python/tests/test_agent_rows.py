@@ -5,15 +5,15 @@ import tempfile
 import unittest
 from pathlib import Path
 
+import pytest
 from clients import CLIENTS
 from deomigal import Agent
 from deomigal.agents import CROSS_SITE, CROSS_SITE_LINK, SAME_SITE
+from helpers import TOP
 from server import Servers, resolved
 
-HERE = Path(__file__).resolve().parent
-sys.path.insert(0, str(HERE.parent / "c/steps"))
-import rowfile  # noqa: E402
-
+sys.path.insert(0, str(TOP / "tools/c/steps"))
+rowfile = pytest.importorskip("rowfile")
 ROWS = rowfile.rows(rowfile.DATA / "agent.tsv")
 MINUTE = int(datetime.datetime(2015, 10, 21, 7, 28, tzinfo=datetime.timezone.utc).timestamp())
 # The rules of the rows.
@@ -64,6 +64,7 @@ class Rows(unittest.TestCase):
 
     def play(self, kind):
         """Plays each row that needs no other call."""
+        pytest.importorskip(kind.needs)
         rows = [row for row in ROWS if {step.call for step in row.steps} <= CALLS]
         self.assertGreater(len(rows), 20)
         for row in rows:
@@ -77,7 +78,7 @@ class Rows(unittest.TestCase):
                     client.close()
 
 
-def test_of(kind):
+def player_of(kind):
     """The test of a client."""
     def test(self):
         self.play(kind)
@@ -87,4 +88,4 @@ def test_of(kind):
 
 
 for kind in CLIENTS:
-    setattr(Rows, f"test_{kind.__name__.lower()}", test_of(kind))
+    setattr(Rows, f"test_{kind.__name__.lower()}", player_of(kind))

@@ -1,10 +1,7 @@
 """Facts about wrong types, about copies, and about what is shown of a session."""
 import copy
 import datetime
-import doctest
-import importlib
 import pickle
-import pkgutil
 import tracemalloc
 import unittest
 from inspect import isclass
@@ -12,7 +9,6 @@ from inspect import isclass
 import deomigal
 from deomigal import Agent, Jar, Session, Sessions, Tokens, errors, explain
 from deomigal.errors import TooLarge
-from deomigal.werkzeug import dump_cookie, parse_cookie
 
 KEY = bytes(64)
 MANY = 2**32
@@ -75,9 +71,6 @@ CALLS = [
     (explain.verdict, ["https://a.example/", "a=1", "", False, NOW], "0124"),
     (explain.refusal, ["https://a.example/", "a=1", ""], "012"),
     (explain.explain, ["https://a.example/", "a=1", "", False, NOW], "0124"),
-    (dump_cookie, ["a", "1"], "01"),
-    (lambda *words: dump_cookie("a", domain=words[0], samesite=words[1], path=words[2]), ["a", "Lax", "/"], "012"),
-    (parse_cookie, ["a=1"], "0"),
 ]
 # Calls with a wrong argument of another kind.
 OTHERS = [
@@ -99,8 +92,6 @@ OTHERS = [
     lambda: deomigal.print_cookie("a", "1", max_age="1"),
     lambda: deomigal.print_cookie("a", "1", max_age=1.5),
     lambda: deomigal.keys_of("x" * 32),
-    lambda: dump_cookie("a", max_age="1"),
-    lambda: dump_cookie("a", expires=[]),
     lambda: SITE.start().update(user=1),
     lambda: SITE.start().update({1: "ann"}),
     lambda: Agent(b"", per_domain="1"),
@@ -169,14 +160,6 @@ class TypeFacts(unittest.TestCase):
                     with self.assertRaisesRegex(TypeError, "can't be copied or pickled"):
                         make(value)
             self.assertEqual(jar["a"], "1")
-
-    def test_samples(self):
-        """The samples of each module print what they say."""
-        names = {found.name for found in pkgutil.iter_modules(deomigal.__path__)}
-        # The first two aren't to be imported here, and the third isn't Python.
-        for name in names - {"__main__", "django", "libcookie_c"}:
-            results = doctest.testmod(importlib.import_module(f"deomigal.{name}"))
-            self.assertEqual(results.failed, 0, name)
 
     def test_errors(self):
         """An error is pickled with its number, and its text has no value of the session."""

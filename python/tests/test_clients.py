@@ -9,12 +9,10 @@ from pathlib import Path
 from unittest import mock
 from urllib.parse import urlsplit
 
-import httpx
-import requests
+import pytest
 from clients import CLIENTS, Aiohttp, AsyncHttpx, Httpx, Mechanize, Requests, Urllib
 from deomigal import Agent, cookiejar, explain
 from deomigal.agents import CROSS_SITE
-from deomigal.requests import session_of
 from server import Servers, resolved
 
 HOSTS = "shop.example www.shop.example other.example bank.example evil.example localhost xn--bcher-kva.example 127.0.0.1".split()
@@ -62,6 +60,7 @@ class Facts(unittest.TestCase):
     def each(self, kinds=CLIENTS, **settings):
         """Each client with a new agent."""
         for kind in kinds:
+            pytest.importorskip(kind.needs)
             self.setUp()
             self.playing = kind.__doc__
             with Agent(**settings) as agent, resolved(self.servers):
@@ -178,6 +177,9 @@ class Facts(unittest.TestCase):
 
     def test_two_readings(self):
         """An address that requests and urllib3 could read otherwise is none."""
+        pytest.importorskip("requests")
+        from deomigal.requests import session_of
+
         with Agent() as agent:
             adapter = session_of(agent).get_adapter("https://")
             for url in (r"http://evil.example\@bank.example/", "http://bank.example:80:80/", "http://bank.example%2f/", "http:///x"):
@@ -206,6 +208,7 @@ class Facts(unittest.TestCase):
 
     def test_host_header(self):
         """A header `Host`, which requests also sends where a redirect goes, doesn't say whose cookies they are."""
+        requests = pytest.importorskip("requests")
         self.servers.texts = [b"planted=1; Path=/"]
         with resolved(self.servers):
             for is_adapter in (True, False):
@@ -221,6 +224,7 @@ class Facts(unittest.TestCase):
 
     def test_jar_as_it_is(self):
         """As the `cookies` of requests and httpx the jar stores by RFC 6265bis, and what they send is in it."""
+        requests, httpx = map(pytest.importorskip, ("requests", "httpx"))
         with resolved(self.servers):
             for made in (requests.Session, httpx.Client):
                 with Agent() as agent:
@@ -244,6 +248,7 @@ class Facts(unittest.TestCase):
     def test_threads(self):
         """Threads share an agent: no cookie is lost."""
         for kind in (Requests, Httpx, Urllib):
+            pytest.importorskip(kind.needs)
             with self.subTest(client=kind.__doc__), Agent(per_domain=500) as agent, resolved(self.servers):
                 # Each URL sets a cookie of its own.
                 self.servers.answers = {
