@@ -94,6 +94,9 @@ cookie_data-no_float cookie expiry = rw (of_integer-no_float expiry, of_integer-
 
 -- ---- bytes and letters
 
+pub small_at : (letters : List ℕ) (i d : ℕ) → list_all (λ letter. nat_lt letter 256) letters ≡ true → i < length letters → get_or letters i d < 256
+small_at letters i d h below = let k = AllPass-from_list_all (λ letter. nat_lt letter 256) letters h i d below in grind (arith, nat_tests, k)
+
 -- ---- four texts that are the same
 
 pub same_texts : (F : List ℕ → List ℕ → List ℕ → List ℕ → Line) (a b c d p q r s : List ℕ)

@@ -51,6 +51,12 @@ agent_none Makes number old new none left told = (
       (subst (λ n. Changes status.NoAgent Makes status.NoAgent None (store_in n)) (sym left) (refl, refl)),
 )
 
+pub agent_some : (Makes : Status → CookieStore → CookieStore → Type 0) (number : ℕ) (old new : Agent) (answer : Status) (content made : Content)
+    → old.handle.held.content ≡ Some content → new.handle.held.content ≡ Some made → number ≡ code_of answer
+    → InStore Makes answer content made → ChangesStore Makes number old new
+agent_some Makes number old new answer content made some left told makes =
+    tells_some store_in status.NoAgent Makes number old.handle.held.content new.handle.held.content answer content made some left told makes
+
 -- a call for a request that the agent sees
 pub seen_told : (request : Request) (site : RequestView) (Holds : RequestView → Type 0) (Refuses : Status → Type 0)
     → HasTexts request × (site ≡ seen_request request) → Holds site ⊎ Refuses status.OutOfMemory

@@ -38,11 +38,26 @@ jar_none Makes number old new none left told = (
       (subst (λ n. Changes status.NoJar Makes status.NoJar None (jar_in n)) (sym left) (refl, refl)),
 )
 
+pub jar_some : (Makes : Status → JarState → JarState → Type 0) (number : ℕ) (old new : Jar) (answer : Status) (content made : Content)
+    → old.handle.held.content ≡ Some content → new.handle.held.content ≡ Some made → number ≡ code_of answer
+    → InJar Makes answer content made → AtJar Makes number old new
+jar_some Makes number old new answer content made some left told makes =
+    tells_some jar_in status.NoJar Makes number old.handle.held.content new.handle.held.content answer content made some left told makes
+
 -- what the call makes of the jar that a content is
 pub jar_made : (Makes : Status → JarState → JarState → Type 0) (answer : Status) (had : Content) (jar made : JarState)
     → had ≡ content.Jar jar → Makes answer jar made → InJar Makes answer had (content.Jar made)
 jar_made Makes answer had jar made is makes =
     subst (λ h. InJar Makes answer h (content.Jar made)) (sym is) (made, refl, makes)
+
+pub jar_read_none : (Gives : JarState → Answer → List ℕ → List ℕ → Type 0) (jar : Jar) (answer : Answer) (old new : List ℕ)
+    → jar.handle.held.content ≡ None → IsRefused status.NoJar answer old new → Reads status.NoJar Gives (jar_of jar) answer old new
+jar_read_none Gives jar answer old new none refused = subst (λ o. Reads status.NoJar Gives (jar_in o) answer old new) (sym none) refused
+
+pub jar_read_some : (Gives : JarState → Answer → List ℕ → List ℕ → Type 0) (jar : Jar) (content : Content) (answer : Answer) (old new : List ℕ)
+    → jar.handle.held.content ≡ Some content → Reads status.NoJar Gives (jar_in (Some content)) answer old new
+    → Reads status.NoJar Gives (jar_of jar) answer old new
+jar_read_some Gives jar content answer old new some gives = reads_some jar_in status.NoJar Gives jar.handle.held.content content answer old new some gives
 
 pub session_none : (Makes : Status → OpenSession → OpenSession → Type 0) (number : ℕ) (old new : Session)
     → old.handle.held.content ≡ None → new.handle.held.content ≡ None → number ≡ code_of status.NoSession → AtSession Makes number old new
@@ -53,8 +68,23 @@ session_none Makes number old new none left told = (
       (subst (λ n. Changes status.NoSession Makes status.NoSession None (session_in n)) (sym left) (refl, refl)),
 )
 
+pub session_some : (Makes : Status → OpenSession → OpenSession → Type 0) (number : ℕ) (old new : Session) (answer : Status) (content made : Content)
+    → old.handle.held.content ≡ Some content → new.handle.held.content ≡ Some made → number ≡ code_of answer
+    → InSession Makes answer content made → AtSession Makes number old new
+session_some Makes number old new answer content made some left told makes =
+    tells_some session_in status.NoSession Makes number old.handle.held.content new.handle.held.content answer content made some left told makes
+
 -- what the call makes of the session that a content is
 pub session_made : (Makes : Status → OpenSession → OpenSession → Type 0) (answer : Status) (had : Content) (session made : OpenSession)
     → had ≡ content.Session session → Makes answer session made → InSession Makes answer had (content.Session made)
 session_made Makes answer had session made is makes =
     subst (λ h. InSession Makes answer h (content.Session made)) (sym is) (made, refl, makes)
+
+pub session_read_none : (Gives : OpenSession → Answer → List ℕ → List ℕ → Type 0) (session : Session) (answer : Answer) (old new : List ℕ)
+    → session.handle.held.content ≡ None → IsRefused status.NoSession answer old new → Reads status.NoSession Gives (session_of session) answer old new
+session_read_none Gives session answer old new none refused = subst (λ o. Reads status.NoSession Gives (session_in o) answer old new) (sym none) refused
+
+pub session_read_some : (Gives : OpenSession → Answer → List ℕ → List ℕ → Type 0) (session : Session) (content : Content) (answer : Answer) (old new : List ℕ)
+    → session.handle.held.content ≡ Some content → Reads status.NoSession Gives (session_in (Some content)) answer old new
+    → Reads status.NoSession Gives (session_of session) answer old new
+session_read_some Gives session content answer old new some gives = reads_some session_in status.NoSession Gives session.handle.held.content content answer old new some gives

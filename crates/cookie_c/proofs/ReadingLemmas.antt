@@ -14,3 +14,27 @@ span_is_at text p place e (forward, _, end) =
     let last : p.end ≤ length text = end.0 in
     let zero : 0 + p.start ≡ p.start = omega arith in
     rw e (omega arith, ap (λ n. take (p.end - p.start) (drop n text)) zero)
+
+span_is_between : (text : List ℕ) (first last : ℕ) (p : Span) (place : Place) → place ≡ place_behind 0 p → StandsIn text p
+    → first ≤ p.start → p.end ≤ last → IsBetween text first last place (span_text text p)
+span_is_between text first last p place e stands begins ends =
+    let forward : p.start ≤ p.end = stands.0 in
+    record {
+      bytes = span_is_at text p place e stands;
+      begins = rw e (omega arith);
+      ends = rw e (omega arith);
+    }
+
+pub name_is_between : (text : List ℕ) (layout : Layout) (place : Place) → place ≡ place_behind 0 layout.name → IsLayoutIn text layout
+    → IsBetween text 0 (offset_of 61 text) place (span_text text layout.name)
+name_is_between text layout place e is = span_is_between text 0 (offset_of 61 text) layout.name place e is.name (omega arith) is.before
+
+pub value_is_between : (text : List ℕ) (layout : Layout) (place : Place) → place ≡ place_behind 0 layout.value → IsLayoutIn text layout
+    → IsBetween text (offset_of 61 text + 1) (offset_of 59 text) place (span_text text layout.value)
+value_is_between text layout place e is =
+    span_is_between text (offset_of 61 text + 1) (offset_of 59 text) layout.value place e is.value (omega (arith, is.after)) is.within
+
+-- whether a text is set
+pub is_some_mapped : {X Y : Type 0} (f : X → Y) (o : Option X) → is_some (option_map f o) ≡ is_some o
+is_some_mapped f None = refl
+is_some_mapped f (Some x) = refl
