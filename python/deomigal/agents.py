@@ -14,6 +14,7 @@ from typing import Callable, Iterable, Iterator, NamedTuple
 from ._agent import JSON, NETSCAPE, Core, KeptCookie, header_bytes
 from ._library import Uncopied, bytes_of
 from .addresses import Address, address_of
+from .dates import whole_second
 from .explain import Refusal, second_of, suffix_list
 
 # The methods that are safe (RFC 9110 9.2.1).
@@ -110,7 +111,7 @@ class Agent(Uncopied):
 
     def read_at(self, address: Address, text: bytes, second: int | None = None) -> Refusal | None:
         """Reads the value of a `Set-Cookie` header of a response from the address, as `read` does."""
-        second = self.second(None) if second is None else second
+        second = self.second(None) if second is None else whole_second(second)
         with self.lock:
             refusal = self.core.read(address, text, second)
             self.stored += refusal is None
@@ -147,7 +148,7 @@ class Agent(Uncopied):
 
     def header_at(self, address: Address, is_safe: bool = True, second: int | None = None) -> bytes:
         """The value of the `Cookie` header of a request to the address. The drop-ins call it."""
-        second = self.second(None) if second is None else second
+        second = self.second(None) if second is None else whole_second(second)
         with self.lock:
             return self.core.retrieve(address, is_safe, second)
 
@@ -243,8 +244,8 @@ class Agent(Uncopied):
         return address._replace(is_same_site=context.is_same_site, is_top_level=context.is_top_level)
 
     def second(self, now: datetime.datetime | None) -> int:
-        """The time in whole seconds since 1970 in UTC, by default the clock's."""
-        return int(self.clock()) if now is None else second_of(now)
+        """The time in whole seconds since 1970 in UTC, by default the clock's. Raises `NoDate` if a call doesn't take it."""
+        return whole_second(self.clock()) if now is None else second_of(now)
 
 
 def form_of(form: str) -> str:

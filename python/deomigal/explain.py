@@ -13,7 +13,7 @@ from ._library import (
 )
 from .addresses import Address, address_of
 from .cookies import RULES
-from .dates import print_date
+from .dates import print_date, whole_second
 from .errors import error_of
 
 # The steps that refuse a cookie, in the order of their numbers in cookie.h.
@@ -254,7 +254,7 @@ def second_of(now: datetime.datetime | None) -> int:
     if not isinstance(now, (datetime.datetime, type(None))):
         raise TypeError("a time is a datetime.datetime")
     now = now or datetime.datetime.now(datetime.timezone.utc)
-    return int(now.replace(microsecond=0, tzinfo=now.tzinfo or datetime.timezone.utc).timestamp())
+    return whole_second(now.replace(microsecond=0, tzinfo=now.tzinfo or datetime.timezone.utc).timestamp())
 
 
 def date_after(second: int, lifetime: int) -> datetime.datetime:

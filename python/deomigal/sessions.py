@@ -5,7 +5,6 @@ from __future__ import annotations
 import contextlib
 import os
 import threading
-import time
 from typing import Any, Iterator, MutableMapping, Sequence
 from urllib.parse import parse_qsl, urlencode
 
@@ -16,7 +15,8 @@ from ._library import (
 )
 from .compression import expanded, smaller
 from .cookies import print_cookie
-from .errors import NoDate, NoSession, RevocationsError, error_of
+from .dates import whole_second
+from .errors import NoSession, NotUtf8, RevocationsError, error_of
 from .revocations import ID_LENGTH, Revocations
 
 # Room for a cookie that a browser stores, and for the texts in it.
@@ -39,7 +39,7 @@ class Session(MutableMapping[str, str]):
     def __init__(self, now: int) -> None:
         if not isinstance(now, int):
             raise TypeError("a second is an int")
-        self.now = self.started = self.seen = now
+        self.now = self.started = self.seen = whole_second(now)
         self.place: int | None = None
         self.id = os.urandom(ID_LENGTH)
         # The ids that cookies of it may have, each with its start.
@@ -149,6 +149,8 @@ class Sessions(Uncopied):
         compress: bool = False,
     ) -> None:
         ring = ring_of(keys)
+        if not isinstance(lifetime, int) or not isinstance(idle, int):
+            raise TypeError("a limit is an int of seconds")
         if not all(0 <= limit < 2**32 for limit in (lifetime, idle)):
             raise OverflowError("a limit has at most 32 bits")
         if revocations is not None and not (hasattr(revocations, "is_revoked") and hasattr(revocations, "revoke")):
@@ -167,11 +169,9 @@ class Sessions(Uncopied):
     def start(self, now: float | None = None) -> Session:
         """A new session without texts. `now` is in seconds since 1970; without it the clock's time counts.
 
-        Start one at a login, if no text of before it may survive.
+        Start one at a login, if no text of before it may survive. Raises `NoDate` for a time before 1970, or from 2^64 on.
         """
-        if not isinstance(now, (int, float, type(None))):
-            raise TypeError("a time is in seconds since 1970")
-        return Session(int(time.time() if now is None else now))
+        return Session(whole_second(now))
 
     def open(self, header: str | bytes | None, now: float | None = None) -> Session:
         """The session in a request's `Cookie` header, or a new one if the header has no open session, or is None.
@@ -212,7 +212,7 @@ class Sessions(Uncopied):
 
     def fill(self, session: Session) -> int:
         """Opens the session of its header for its handle, and returns the status."""
-        inputs = (self.handle, session.header, session.revoked, seconds(session), session.handle)
+        inputs = (self.handle, session.header, session.revoked, session.now, session.handle)
         with self.lock:
             status: int = SESSION_OPEN(*arguments_of(SESSION_OPEN, inputs))
         return status
@@ -252,7 +252,8 @@ class Sessions(Uncopied):
         """The value of the `Set-Cookie` header that saves the session, encrypted under the newest key.
 
         Save at each request, so that the idle time counts from it. Raises `TooLarge` if a browser wouldn't store the
-        cookie: there is room for about 2,950 bytes of texts in UTF-8, or of what they are when they are compressed.
+        cookie: there is room for about 2,950 bytes of texts in UTF-8, or of what they are when they are compressed. Raises
+        `NotUtf8` for a text with a lone surrogate.
 
         >>> from deomigal import derive_key
         >>> from deomigal.errors import TooLarge
@@ -267,14 +268,19 @@ class Sessions(Uncopied):
         """
         if not isinstance(session, Session):
             raise TypeError("what is saved is a Session")
-        now, handle = seconds(session), session.handle
+        now, handle = session.now, session.handle
         if session.is_renewed and not handle.is_open:
             done(SESSION_START, session.id, now, handle)
         elif session.is_renewed:
             done(SESSION_RENEW, handle, session.id, now)
         elif not handle.is_open and (status := self.fill(session)) != DONE:
             raise error_of(status)
-        done(SESSION_SET_TEXTS, handle, urlencode(smaller(session.texts, self.compress)))
+        try:
+            form = urlencode(smaller(session.texts, self.compress))
+        except UnicodeEncodeError:
+            # A lone surrogate.
+            raise error_of(NotUtf8.status) from None
+        done(SESSION_SET_TEXTS, handle, form)
         with self.lock:
             text = given(SESSION_SAVE, self.handle, handle, os.urandom(12), now, room=ROOM).decode()
         session.starts[session.id] = session.started
@@ -290,14 +296,7 @@ class Sessions(Uncopied):
         'session=; HttpOnly; SameSite=Lax; Secure; Path=/; Max-Age=0; Expires=Tue, 21 Oct 2014 07:28:00 GMT'
         """
         with self.lock:
-            return given(SESSION_END, self.handle, seconds(self.start(now))).decode()
-
-
-def seconds(session: Session) -> int:
-    """The second of the session's request. A second before 1970 is refused, as one past the year 9999 is."""
-    if not 0 <= session.now < 2**64:
-        raise error_of(NoDate.status)
-    return session.now
+            return given(SESSION_END, self.handle, whole_second(now)).decode()
 
 
 @contextlib.contextmanager

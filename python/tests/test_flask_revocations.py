@@ -95,6 +95,14 @@ class FlaskFacts(unittest.TestCase):
         response, text = self.ask("/logout", cookie)
         self.assertEqual((response.status_code, text, self.user(cookie)), (503, None, "ann"))
 
+    def test_before_views(self):
+        """A function of `before_request` that uses the session is answered so too. Flask's own methods answer it."""
+        self.app.before_request(lambda: session.get("user") and None)
+        cookie = pair_of(self.ask("/login")[1])
+        self.store.is_broken = True
+        self.assertEqual(self.ask("/plain", cookie)[0].status_code, 503)
+        self.assertIs(self.app.handle_exception.__func__, flask.Flask.handle_exception)
+
     def test_handler(self):
         """The application can answer it."""
         self.app.register_error_handler(RevocationsError, lambda error: ("Come back", 529))

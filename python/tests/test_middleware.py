@@ -1,17 +1,21 @@
 """Facts about `deomigal.asgi` and `deomigal.wsgi`. Those of Starlette are in our words, with the test that says them
 (Starlette 0.26.1, tests/middleware/test_session.py)."""
 import asyncio
+import copy
 import json
+import pickle
+import sys
 import unittest
 from wsgiref.util import setup_testing_defaults
 from wsgiref.validate import validator
 
 import pytest
 from deomigal import Sessions
-from deomigal.asgi import SessionMiddleware
+from deomigal.asgi import SessionMiddleware, session_of
 from deomigal.errors import BadPrefix, InvalidValue, MasterTooShort, Over, TooLarge
 from deomigal.secrets import keys_of
 from deomigal.wsgi import SessionMiddleware as WsgiMiddleware
+from deomigal.wsgi import session_of as wsgi_session_of
 from helpers import FORTNIGHT, NOON, OLDER, SECRET, age_of, damaged, disguised, not_shared, pair_of
 
 pytest.importorskip("starlette")
@@ -44,6 +48,21 @@ def change(session, path):
         session.renew()
     elif path == "/read":
         session.get("user")
+    elif path in USES:
+        USES[path](session)
+
+
+# Uses of a session whose values are MANY, as a dict's.
+MANY = {"a": 1, "b": [1], "c": {"d": 1}}
+USES = {
+    "/many": lambda session: session.update(copy.deepcopy(MANY)),
+    "/popitem": lambda session: session.update(popped=session.popitem()),
+    "/reversed": lambda session: session.update(names=list(reversed(session))),
+    "/fromkeys": lambda session: session.update(made=session.fromkeys("a")),
+    "/deepcopy": lambda session: copy.deepcopy(session)["b"].append(2),
+    "/copy": lambda session: session.update(copied=[dict(copy.copy(session)), type(copy.copy(session)).__name__]),
+    "/pickle": lambda session: session.update(pickled=pickle.loads(pickle.dumps(session))),
+}
 
 
 async def show(request):
@@ -228,6 +247,17 @@ class Shared:
         self.reads(pair_of(text), {"cart": [1, 1]})
         self.assertIsNone(self.ask("/", cookie)[2])
 
+    def test_uses(self):
+        """It is used as a dict is. Its copies are dicts of their own."""
+        cookie = self.kept("/many")
+        for path, changes in (
+            ("/popitem", {"c": None, "popped": ["c", {"d": 1}]}), ("/reversed", {"names": ["c", "b", "a"]}),
+            ("/fromkeys", {"made": {"a": None}}), ("/deepcopy", {}), ("/copy", {"copied": [MANY, "dict"]}),
+            ("/pickle", {"pickled": MANY}),
+        ):
+            values = {name: value for name, value in {**MANY, **changes}.items() if value is not None}
+            self.assertEqual(self.ask(path, cookie)[1], values, path)
+
     def test_damaged(self):
         """A damaged cookie is an empty session, and no error."""
         for pair in damaged(self.kept()):
@@ -342,11 +372,59 @@ class Shared:
             lambda environ, _: seen.append(repr(environ["deomigal.session"])) or [], SECRET, clock=lambda: NOON
         )
         app({"HTTP_COOKIE": pair_of(Wsgi().ask("/set")[2])}, None)
-        self.assertEqual(seen, ["<Values ['user']>"])
+        self.assertEqual(seen, ["<CookieSession ['user']>"])
+
+
+def replaced(values):
+    """The cookie that an application of ASGI sets, which puts this in the session's place."""
+    async def app(scope, receive, send):
+        scope["session"] = values
+        await send({"type": "http.response.start", "status": 200, "headers": []})
+
+    return app
 
 
 class AsgiFacts(Asgi, Shared, unittest.TestCase):
     """Facts about `deomigal.asgi`."""
+
+    def test_replaced(self):
+        """What an application puts in the session's place is saved, and None or nothing ends it."""
+        for values, text in (({"user": "bo"}, None), ({}, ""), (None, "")):
+            sent, scope = [], {"type": "http", "headers": [(b"cookie", self.kept().encode())]}
+
+            async def send(message):
+                sent.append(message)
+
+            asyncio.run(SessionMiddleware(replaced(values), SECRET, clock=lambda: NOON)(scope, None, send))
+            cookie = pair_of(dict(sent[0]["headers"])[b"set-cookie"].decode())
+            if text is None:
+                self.reads(cookie, values)
+            else:
+                self.assertEqual(cookie, "session=")
+
+    def test_check(self):
+        """`check` raises `TooLarge` in the view, where the application can answer it, and nothing for what fits."""
+        async def page(request):
+            session_of(request)["text"] = "x" * int(request.query_params["letters"])
+            session_of(request).check()
+            return PlainTextResponse("")
+
+        async def answer(request, error):
+            request.session.clear()
+            return PlainTextResponse("", 413)
+
+        app = Starlette(
+            routes=[Route("/", page)], middleware=[Middleware(SessionMiddleware, secret_key=SECRET)],
+            exception_handlers={TooLarge: answer},
+        )
+        client = TestClient(app)
+        self.assertEqual([client.get(f"/?letters={letters}").status_code for letters in (100, 5000)], [200, 413])
+
+    def test_no_session(self):
+        """Without the middleware there is no session, which is an error."""
+        for found in (session_of, wsgi_session_of):
+            with self.assertRaises(TypeError):
+                found({})
 
     def test_secret(self):
         """Starlette's `Secret` is a key."""
@@ -373,3 +451,50 @@ class AsgiFacts(Asgi, Shared, unittest.TestCase):
 
 class WsgiFacts(Wsgi, Shared, unittest.TestCase):
     """Facts about `deomigal.wsgi`."""
+
+    def play(self, app, **settings):
+        """What the application sends, and its pages."""
+        environ, sent = {"PATH_INFO": "/"}, []
+        setup_testing_defaults(environ)
+        site = WsgiMiddleware(app, SECRET, clock=lambda: NOON, **settings)
+        pages = list(site(environ, lambda status, headers, error=None: sent.append((status, dict(headers)))))
+        return sent, pages
+
+    def test_replaced(self):
+        """What an application puts in the session's place is saved."""
+        def app(environ, start_response):
+            environ["deomigal.session"] = {"user": "bo"}
+            start_response("200 OK", [])
+            return []
+
+        self.reads(pair_of(self.play(app)[0][0][1]["Set-Cookie"]), {"user": "bo"})
+
+    def test_generator(self):
+        """A generator starts its response late. If the revocations fail then, the status is 503."""
+        closed = []
+
+        def app(environ, start_response):
+            try:
+                wsgi_session_of(environ).revoke() if environ.get("fails") else wsgi_session_of(environ).update(user="ann")
+                start_response("200 OK", [])
+                yield b"page"
+            finally:
+                closed.append(1)
+
+        sent, pages = self.play(app)
+        self.assertEqual((sent[0][0], pages), ("200 OK", [b"page"]))
+        self.reads(pair_of(sent[0][1]["Set-Cookie"]), {"user": "ann"})
+        sent, pages = self.play(lambda environ, start: app({**environ, "fails": "1"}, start))
+        self.assertEqual((sent[0][0], len(pages), closed), ("503 Service Unavailable", 1, [1, 1]))
+
+    def test_too_large_is_answered(self):
+        """An application answers `TooLarge` by a second response with the error (PEP 3333), which saves nothing."""
+        def app(environ, start_response):
+            wsgi_session_of(environ)["text"] = "x" * 5000
+            try:
+                start_response("200 OK", [])
+            except TooLarge:
+                start_response("413 Content Too Large", [], sys.exc_info())
+            return [b""]
+
+        self.assertEqual(self.play(app)[0], [("413 Content Too Large", {})])

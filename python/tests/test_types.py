@@ -80,6 +80,7 @@ OTHERS = [
     lambda: Sessions(["x" * 64], "session", 60, 60),
     lambda: Sessions([KEY], "session", "60", 60),
     lambda: Sessions([KEY], "session", 60, 1.5),
+    lambda: Sessions([KEY], "session", datetime.timedelta(hours=1), 60),
     lambda: SITE.open("", "1"),
     lambda: SITE.open("", []),
     lambda: SITE.start("1"),
