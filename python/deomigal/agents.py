@@ -11,7 +11,7 @@ import threading
 import time
 from typing import Callable, Iterable, Iterator, NamedTuple
 
-from ._agent import JSON, NETSCAPE, Core, KeptCookie, header_bytes
+from ._agent import JSON, NETSCAPE, Core, AgentCookie, header_bytes
 from ._library import Uncopied, bytes_of
 from .addresses import Address, address_of
 from .dates import whole_second
@@ -152,7 +152,7 @@ class Agent(Uncopied):
         with self.lock:
             return self.core.retrieve(address, is_safe, second)
 
-    def __iter__(self) -> Iterator[KeptCookie]:
+    def __iter__(self) -> Iterator[AgentCookie]:
         """The cookies that are stored and not expired, in the order of their creation.
 
         >>> agent = Agent()
@@ -169,7 +169,7 @@ class Agent(Uncopied):
         """How many cookies are stored and not expired."""
         return sum(1 for _ in self)
 
-    def remove(self, cookie: KeptCookie) -> bool:
+    def remove(self, cookie: AgentCookie) -> bool:
         """Removes the stored cookie that has the name, the domain, the path and the `is_host_only` of this one. Returns
         whether there was one.
 
@@ -259,18 +259,18 @@ def replace(path: str, text: bytes) -> None:
     """Writes the file beside, and puts it in the place of the old one, so that a crash leaves one of the two whole."""
     folder, name = os.path.split(path)
     # Its mode is 0600.
-    handle, made = tempfile.mkstemp(prefix=f".{name}.", dir=folder)
+    handle, beside = tempfile.mkstemp(prefix=f".{name}.", dir=folder)
     try:
         with open(handle, "wb") as file:
             file.write(text)
             file.flush()
             os.fsync(file.fileno())
-        os.replace(made, path)
+        os.replace(beside, path)
     except BaseException:
-        os.unlink(made)
+        os.unlink(beside)
         raise
-    kept = os.open(folder, os.O_RDONLY)
+    directory = os.open(folder, os.O_RDONLY)
     try:
-        os.fsync(kept)
+        os.fsync(directory)
     finally:
-        os.close(kept)
+        os.close(directory)

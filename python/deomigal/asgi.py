@@ -42,7 +42,7 @@ class SessionMiddleware(Middleware):
             await send(message)
 
         try:
-            session = scope["session"] = self.opened(header)
+            session = scope["session"] = self.open_session(header)
             await self.app(scope, receive, send_with_cookie)
         except RevocationsError:
             if is_begun:

@@ -4,7 +4,7 @@ from __future__ import annotations
 import datetime
 import time
 
-from ._library import DONE, PRINT_DATE, READ_DATE, Moment, bytes_of, given
+from ._library import DONE, PRINT_DATE, READ_DATE, Moment, bytes_of, bytes_from
 from .errors import NoDate, error_of
 
 # The first second that `datetime` has.
@@ -72,4 +72,4 @@ def print_date(moment: datetime.datetime) -> str:
     >>> print_date(datetime.datetime(2015, 10, 21, 7, 28))
     'Wed, 21 Oct 2015 07:28:00 GMT'
     """
-    return given(PRINT_DATE, *numbers_of(moment)).decode()
+    return bytes_from(PRINT_DATE, *numbers_of(moment)).decode()

@@ -137,7 +137,7 @@ class FlaskSession(SecureCookieSession):
     def text(self, value: Any) -> str:
         """The text of a value. Flask's JSON escapes what is outside ASCII, which has fewer bytes as it is."""
         text: str = self.serializer.dumps(value)
-        return short(text) if isinstance(self.serializer, TaggedJSONSerializer) else text
+        return without_escapes(text) if isinstance(self.serializer, TaggedJSONSerializer) else text
 
     def is_refused(self) -> bool:
         """Whether a check raised `TooLarge` for the values that it has."""
@@ -160,10 +160,10 @@ def name_of(name: Any) -> str:
     raise TypeError(f"a name is a str, a number, a bool or None, and not of the type {type(name).__name__}")
 
 
-def short(text: str) -> str:
+def without_escapes(text: str) -> str:
     """The text of JSON without escapes by `\\u`. With a lone surrogate, which has no UTF-8, it stays as it is.
 
-    >>> short('{"a":"\\\\u03b1"}'), short('"\\\\ud800"')
+    >>> without_escapes('{"a":"\\\\u03b1"}'), without_escapes('"\\\\ud800"')
     ('{"a":"\u03b1"}', '"\\\\ud800"')
     """
     if "\\u" not in text:

@@ -10,10 +10,10 @@ from urllib.parse import parse_qsl, urlencode
 
 from ._library import (
     DONE, SESSION_DESCRIBE, SESSION_END, SESSION_FREE, SESSION_OPEN, SESSION_RENEW, SESSION_SAVE, SESSION_SET_TEXTS,
-    SESSION_START, SESSION_TEXTS, SESSIONS_FREE, SESSIONS_NEW, Settings, Uncopied, arguments_of, done, given, handle_of,
+    SESSION_START, SESSION_TEXTS, SESSIONS_FREE, SESSIONS_NEW, Settings, Uncopied, arguments_of, perform, bytes_from, handle_of,
     header_of, ring_of,
 )
-from .compression import expanded, smaller
+from .compression import expand, shorten
 from .cookies import print_cookie
 from .dates import whole_second
 from .errors import NoSession, NotUtf8, RevocationsError, error_of
@@ -163,7 +163,7 @@ class Sessions(Uncopied):
         self.handle = handle_of(self, SESSIONS_FREE)
         # Only one call at a time may use the handle.
         self.lock = threading.Lock()
-        done(SESSIONS_NEW, Settings(ring, len(ring), cookie, len(cookie), lifetime, idle), self.handle)
+        perform(SESSIONS_NEW, Settings(ring, len(ring), cookie, len(cookie), lifetime, idle), self.handle)
         self.save(self.start())
 
     def start(self, now: float | None = None) -> Session:
@@ -199,9 +199,9 @@ class Sessions(Uncopied):
         if status == DONE:
             session.started, session.seen, session.place = facts.started, facts.seen, facts.place
             session.id, session.starts, session.is_renewed = found, {found: facts.started}, False
-            form = given(SESSION_TEXTS, session.handle, room=ROOM).decode()
+            form = bytes_from(SESSION_TEXTS, session.handle, room=ROOM).decode()
             try:
-                session.texts = expanded(dict(parse_qsl(form, keep_blank_values=True)))
+                session.texts = expand(dict(parse_qsl(form, keep_blank_values=True)))
             except ValueError:
                 # Another program saved it, under the same key.
                 return self.start(session.now)
@@ -221,7 +221,7 @@ class Sessions(Uncopied):
         """Whether the session with this id is revoked. Raises `RevocationsError` for whatever the look-up raises."""
         if self.revocations is None:
             return False
-        with named("it can't be looked up whether a session is revoked"):
+        with as_revocations_error("it can't be looked up whether a session is revoked"):
             found = self.revocations.is_revoked(id)
         if not isinstance(found, bool):
             raise RevocationsError(f"is_revoked returns a bool, and not a value of the type {type(found).__name__}")
@@ -244,7 +244,7 @@ class Sessions(Uncopied):
         """
         if self.revocations is None:
             raise RevocationsError("these sessions can't be revoked: they have no revocations")
-        with named("a session can't be revoked"):
+        with as_revocations_error("a session can't be revoked"):
             for id, started in list(session.starts.items()):
                 self.revocations.revoke(id, started + self.lifetime)
 
@@ -270,19 +270,19 @@ class Sessions(Uncopied):
             raise TypeError("what is saved is a Session")
         now, handle = session.now, session.handle
         if session.is_renewed and not handle.is_open:
-            done(SESSION_START, session.id, now, handle)
+            perform(SESSION_START, session.id, now, handle)
         elif session.is_renewed:
-            done(SESSION_RENEW, handle, session.id, now)
+            perform(SESSION_RENEW, handle, session.id, now)
         elif not handle.is_open and (status := self.fill(session)) != DONE:
             raise error_of(status)
         try:
-            form = urlencode(smaller(session.texts, self.compress))
+            form = urlencode(shorten(session.texts, self.compress))
         except UnicodeEncodeError:
             # A lone surrogate.
             raise error_of(NotUtf8.status) from None
-        done(SESSION_SET_TEXTS, handle, form)
+        perform(SESSION_SET_TEXTS, handle, form)
         with self.lock:
-            text = given(SESSION_SAVE, self.handle, handle, os.urandom(12), now, room=ROOM).decode()
+            text = bytes_from(SESSION_SAVE, self.handle, handle, os.urandom(12), now, room=ROOM).decode()
         session.starts[session.id] = session.started
         return text
 
@@ -296,11 +296,11 @@ class Sessions(Uncopied):
         'session=; HttpOnly; SameSite=Lax; Secure; Path=/; Max-Age=0; Expires=Tue, 21 Oct 2014 07:28:00 GMT'
         """
         with self.lock:
-            return given(SESSION_END, self.handle, whole_second(now)).decode()
+            return bytes_from(SESSION_END, self.handle, whole_second(now)).decode()
 
 
 @contextlib.contextmanager
-def named(what: str) -> Iterator[None]:
+def as_revocations_error(what: str) -> Iterator[None]:
     """Raises what is raised within as `RevocationsError`."""
     try:
         yield

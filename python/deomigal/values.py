@@ -26,10 +26,10 @@ CODER = json.JSONEncoder(separators=(",", ":"), ensure_ascii=False)
 ASCII_CODER = json.JSONEncoder(separators=(",", ":"))
 
 
-def packed(data: bytes) -> dict[str, str]:
+def pack(data: bytes) -> dict[str, str]:
     """The bytes as the text of a session, in the shorter of two forms. Bytes that aren't UTF-8 have only the second.
 
-    >>> packed(b'{"a":1}'), packed(b"a=b&c=d")
+    >>> pack(b'{"a":1}'), pack(b"a=b&c=d")
     ({'j': '{"a":1}'}, {'b': 'YT1iJmM9ZA'})
     """
     encoded = base64.urlsafe_b64encode(data).rstrip(b"=").decode()
@@ -41,10 +41,10 @@ def packed(data: bytes) -> dict[str, str]:
     return {PLAIN: text} if length <= len(encoded) else {ENCODED: encoded}
 
 
-def unpacked(texts: Mapping[str, str]) -> bytes:
-    """The bytes that `packed` made the text of. Raises `ValueError` if the texts are another program's.
+def unpack(texts: Mapping[str, str]) -> bytes:
+    """The bytes that `pack` made the text of. Raises `ValueError` if the texts are another program's.
 
-    >>> unpacked(packed(b"12")), unpacked(packed(b"\\xff"))
+    >>> unpack(pack(b"12")), unpack(pack(b"\\xff"))
     (b'12', b'\\xff')
     """
     if list(texts) == [PLAIN]:
@@ -177,7 +177,7 @@ class CookieSession(Mapped):
 
     def save(self, data: bytes) -> str:
         """The text of the `Set-Cookie` header that saves these values."""
-        self.source.texts = packed(data)
+        self.source.texts = pack(data)
         return self.sessions.save(self.source)
 
     def replace(self, values: Mapping[str, Any] | None) -> None:
@@ -241,12 +241,12 @@ class Middleware:
             partitioned=partitioned, revocations=revocations, compress=compress,
         )
 
-    def opened(self, header: bytes) -> CookieSession:
+    def open_session(self, header: bytes) -> CookieSession:
         """The session in the request's `Cookie` header, or a new one."""
         source = self.sessions.open(header, self.clock())
         if not source.is_new:
             try:
-                data = unpacked(source)
+                data = unpack(source)
                 values = json.loads(data)
                 if isinstance(values, dict):
                     return CookieSession(self.sessions, source, values, data)

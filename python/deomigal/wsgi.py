@@ -43,7 +43,7 @@ class SessionMiddleware(Middleware):
             return start_response(status, [*headers, *fields], *error)
 
         try:
-            session = environ[KEY] = self.opened(header_in(environ))
+            session = environ[KEY] = self.open_session(header_in(environ))
             pages: Iterable[bytes] = self.app(environ, start_with_cookie)
         except RevocationsError:
             return refuse(start_response)

@@ -9,7 +9,7 @@ from unittest import mock
 import pytest
 from deomigal import Sessions, compression
 from deomigal.asgi import SessionMiddleware as AsgiMiddleware
-from deomigal.compression import COMPRESSED, DIGITS, MOST_BYTES, bytes_of_digits, deflated, digits_of
+from deomigal.compression import COMPRESSED, DIGITS, MOST_BYTES, bytes_of_digits, deflate, digits_of
 from deomigal.errors import TooLarge
 from deomigal.wsgi import KEY
 from deomigal.wsgi import SessionMiddleware as WsgiMiddleware
@@ -192,7 +192,7 @@ class FlaskFacts(Flasks, Shared, unittest.TestCase):
 
     def test_taken(self):
         """A session of an application with the one name that compressed ones have is read as it was saved."""
-        for value in ("ann", digits_of(deflated(b"user=%22ann%22", 9))):
+        for value in ("ann", digits_of(deflate(b"user=%22ann%22", 9))):
             for words in ({}, {"compress": True}):
                 for values in ({COMPRESSED: value}, {COMPRESSED: value, "user": "bo"}):
                     self.reads(self.kept(values, **words), values)
@@ -245,13 +245,13 @@ class SessionsFacts(unittest.TestCase):
 
     def test_taken(self):
         """A text that a stranger chose isn't expanded: the server chose what is."""
-        texts = {COMPRESSED: digits_of(deflated(b"user=admin", 9))}
+        texts = {COMPRESSED: digits_of(deflate(b"user=admin", 9))}
         for compress in (False, True):
             self.assertEqual(dict(self.made(texts, compress)), texts)
 
     def test_taken_whole(self):
         """Without the option a session with that name isn't compressed either."""
-        sizes = [len(compression.smaller({COMPRESSED: "x" * 900}, compress)[COMPRESSED]) for compress in (False, True)]
+        sizes = [len(compression.shorten({COMPRESSED: "x" * 900}, compress)[COMPRESSED]) for compress in (False, True)]
         self.assertGreater(sizes[0], 900)
         self.assertLess(sizes[1], 100)
 
@@ -263,10 +263,10 @@ class SessionsFacts(unittest.TestCase):
 
     def test_broken(self):
         """A compressed text that is none is no session."""
-        whole = deflated(b"user=ann&" * 50, 9)
-        broken = [digits_of(data) for data in (whole[:-1], whole + b"x", b"", b"\xff" * 20, deflated(b"\xff=", 9))]
-        with mock.patch("deomigal.sessions.smaller", lambda texts, _: texts):
-            self.assertEqual(dict(self.made({COMPRESSED: digits_of(deflated(b"user=ann", 9))})), {"user": "ann"})
+        whole = deflate(b"user=ann&" * 50, 9)
+        broken = [digits_of(data) for data in (whole[:-1], whole + b"x", b"", b"\xff" * 20, deflate(b"\xff=", 9))]
+        with mock.patch("deomigal.sessions.shorten", lambda texts, _: texts):
+            self.assertEqual(dict(self.made({COMPRESSED: digits_of(deflate(b"user=ann", 9))})), {"user": "ann"})
             for text in ("", "junk", "%", "\u03b1", "\x7f" * 15, *broken):
                 self.assertTrue(self.made({COMPRESSED: text}).is_new, text)
 
@@ -274,7 +274,7 @@ class SessionsFacts(unittest.TestCase):
         """What deflate doesn't make shorter stays as it is, so 2,900 bytes have room whatever they are."""
         texts = {"notes": "".join(random.Random(1).choices(DIGITS, k=2900))}
         self.assertEqual(dict(self.made(texts, True)), texts)
-        self.assertEqual(compression.smaller(texts, True), texts)
+        self.assertEqual(compression.shorten(texts, True), texts)
 
     def test_digits(self):
         """Each number of bytes has its digits, which are characters of a session's cookie as they are."""
@@ -282,5 +282,5 @@ class SessionsFacts(unittest.TestCase):
             for data in (bytes(length), b"\xff" * length, os.urandom(length)):
                 digits = digits_of(data)
                 self.assertEqual((bytes_of_digits(digits), len(digits)), (data, -(-length * 15 // 13)))
-        self.assertEqual(compression.escaped(DIGITS), DIGITS)
+        self.assertEqual(compression.escape(DIGITS), DIGITS)
         self.assertLess(256**13, len(DIGITS) ** 15)
