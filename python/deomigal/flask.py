@@ -33,6 +33,8 @@ from .values import CODER, with_expiry
 # Where a request's environment has the session that was opened for it, since to read `flask.session` counts as its use; and
 # where the application's extensions have the interface.
 KEY = "deomigal.flask.session"
+# The types of values that don't change within.
+CONSTANT = (str, int, float, bool, bytes, type(None))
 
 
 class Unavailable(RevocationsError, ServiceUnavailable):
@@ -54,8 +56,8 @@ class FlaskSession(SecureCookieSession):
     ) -> None:
         super().__init__(values)
         self.sessions, self.source, self.new, self.is_old = sessions, source, source.is_new and not is_old, is_old
-        # `opened` has the texts of the cookie that it was opened from.
-        self.serializer, self.opened = serializer, dict(source.texts)
+        # The texts of the cookie that it was opened from, and their values.
+        self.serializer, self.opened, self.loaded = serializer, dict(source.texts), dict(values)
         # The texts that were saved last, and the cookie's text, or None if it was too large.
         self.saved: tuple[dict[str, str], str | None] | None = None
 
@@ -127,8 +129,14 @@ class FlaskSession(SecureCookieSession):
     def texts(self) -> dict[str, str]:
         """The texts of its values. What wasn't used has the texts that it was opened from."""
         if self.modified or self.accessed or self.is_old:
-            return {name_of(name): self.text(value) for name, value in dict.items(self)}
+            return {name_of(name): self.text_of(name, value) for name, value in dict.items(self)}
         return self.opened
+
+    def text_of(self, name: Any, value: Any) -> str:
+        """The text of a value. One that is as it was opened has its text of then."""
+        if type(value) in CONSTANT and name in self.opened and self.loaded.get(name) is value:
+            return self.opened[name]
+        return self.text(value)
 
     def is_changed(self) -> bool:
         """Whether it was changed, or a value within it."""
