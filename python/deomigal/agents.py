@@ -11,7 +11,8 @@ import threading
 import time
 from typing import Callable, Iterable, Iterator, NamedTuple
 
-from ._agent import JSON, NETSCAPE, Core, AgentCookie, header_bytes
+from ._agent import JSON, NETSCAPE, Core, header_bytes
+from ._agent import AgentCookie as AgentCookie
 from ._library import Uncopied, bytes_of
 from .addresses import Address, address_of
 from .dates import whole_second

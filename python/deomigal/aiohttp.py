@@ -13,9 +13,9 @@ isn't UTF-8 isn't sent.
 """
 from __future__ import annotations
 
-from http.cookies import Morsel, SimpleCookie
+from http.cookies import BaseCookie, Morsel, SimpleCookie
 from types import MappingProxyType
-from typing import Any, Iterator, Mapping, Sequence
+from typing import TYPE_CHECKING, Any, Iterator, Mapping, Sequence
 
 import aiohttp
 from aiohttp.abc import AbstractCookieJar, ClearCookiePredicate
@@ -38,7 +38,14 @@ def cookies_of(agent: Agent | None = None, *, context: Context = SAME_SITE) -> d
     return {"cookie_jar": jar, "request_class": ClientRequest, "response_class": ClientResponse}
 
 
-class SentCookies(SimpleCookie[str]):
+# What is known of `SimpleCookie` differs by the version of mypy.
+if TYPE_CHECKING:
+    Cookies = BaseCookie[str]
+else:
+    Cookies = SimpleCookie
+
+
+class SentCookies(Cookies):
     """The cookies that a request to the URL sends. `header` is the agent's header. `added` are those of the caller."""
 
     def __init__(self, jar: CookieJar, url: URL) -> None:
@@ -63,7 +70,7 @@ class SentCookies(SimpleCookie[str]):
         return "; ".join([*pieces, own] if own else pieces)
 
 
-class ReadCookies(SimpleCookie[str]):
+class ReadCookies(Cookies):
     """The cookies of a response whose headers the agent has read."""
 
 
@@ -104,7 +111,7 @@ class CookieJar(AbstractCookieJar):
             return
         named: Any = cookies.items() if isinstance(cookies, Mapping) else cookies
         for name, value in named:
-            parsed: SimpleCookie[str] = SimpleCookie()
+            parsed: BaseCookie[str] = SimpleCookie()
             parsed[name] = value
             domain = parsed[name]["domain"].lstrip(".")
             url = response_url if response_url.host or not domain else URL.build(scheme="https", host=domain)
@@ -144,9 +151,9 @@ class CookieJar(AbstractCookieJar):
         return True
 
     @property
-    def cookies(self) -> Mapping[tuple[str, str], SimpleCookie[str]]:
+    def cookies(self) -> Mapping[tuple[str, str], BaseCookie[str]]:
         """The stored cookies by domain and path. It can't be changed."""
-        found: dict[tuple[str, str], SimpleCookie[str]] = {}
+        found: dict[tuple[str, str], BaseCookie[str]] = {}
         for cookie in self.agent:
             named = found.setdefault((cookie.domain, cookie.path), SimpleCookie())
             # By itself a name may be one that `http.cookies` refuses.
@@ -190,7 +197,7 @@ class ClientResponse(aiohttp.ClientResponse):
         await super().start(connection)
         if isinstance(self.jar, CookieJar) and not hasattr(AbstractCookieJar, "update_cookies_from_headers"):
             self.jar.read([value for name, value in self.raw_headers if name.lower() == b"set-cookie"], self.url)
-            read = ReadCookies()
+            read: Any = ReadCookies()
             read.update(self.cookies)
             self.cookies = read
         return self

@@ -14,6 +14,7 @@ from typing import Any, Awaitable, Callable, Mapping, MutableMapping
 from .errors import RevocationsError
 from .values import UNAVAILABLE, UNAVAILABLE_FIELDS, CookieSession, Middleware, session_at
 
+__all__ = ["CookieSession", "SessionMiddleware", "session_of"]
 Message = MutableMapping[str, Any]
 Receive = Callable[[], Awaitable[Message]]
 Send = Callable[[Message], Awaitable[None]]

@@ -42,7 +42,8 @@ class Request(ctypes.Structure):
     _fields_ = [
         ("host", ctypes.c_char_p), ("host_length", ctypes.c_size_t),
         ("path", ctypes.c_char_p), ("path_length", ctypes.c_size_t),
-    ] + [(name, ctypes.c_bool) for name in ("is_address", "is_secure", "is_same_site", "is_top_level", "is_safe")]
+        *((name, ctypes.c_bool) for name in ("is_address", "is_secure", "is_same_site", "is_top_level", "is_safe")),
+    ]
 
 
 class StoredCookie(ctypes.Structure):

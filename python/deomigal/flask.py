@@ -278,7 +278,8 @@ class SessionInterface(FlaskSessionInterface):
             "same_site": same_site and same_site.title(),
             "partitioned": app.config.get("SESSION_COOKIE_PARTITIONED", False),
         }
-        secrets = self.keys or [app.secret_key or b"", *(app.config.get("SECRET_KEY_FALLBACKS") or ())]
+        derived: list[Any] = [app.secret_key or b"", *(app.config.get("SECRET_KEY_FALLBACKS") or ())]
+        secrets = self.keys or derived
         idle = lifetime if self.idle is None else self.idle
         settings = (secrets, self.get_cookie_name(app), lifetime, idle, attributes)
         latest = self.latest

@@ -14,6 +14,7 @@ from typing import Any, Callable, Iterable, Iterator, Mapping
 from .errors import RevocationsError, TooLarge
 from .values import UNAVAILABLE, UNAVAILABLE_FIELDS, CookieSession, Middleware, session_at
 
+__all__ = ["CookieSession", "SessionMiddleware", "session_of"]
 # The session's name in the environment.
 KEY = "deomigal.session"
 
