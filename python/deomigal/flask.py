@@ -78,7 +78,9 @@ class FlaskSession(SecureCookieSession):
 
     def __deepcopy__(self, memo: dict[int, Any]) -> FlaskSession:
         values = copy.deepcopy(dict(self), memo)
-        return type(self)(self.sessions, copy.copy(self.source), values, self.is_old, self.serializer)
+        copied = type(self)(self.sessions, copy.copy(self.source), values, self.is_old, self.serializer)
+        copied.modified, copied.opened, copied.loaded = self.modified, self.opened, self.loaded
+        return copied
 
     @property
     def started(self) -> int:
