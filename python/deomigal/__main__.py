@@ -18,13 +18,13 @@ def date(text: str) -> int:
         raise argparse.ArgumentTypeError(str(error)) from None
 
 
-def explain(words: argparse.Namespace) -> None:
+def explain(arguments: argparse.Namespace) -> None:
     """Prints what a browser makes of the lines of standard input."""
-    address = address_of(words.url, words.cross_site)
-    title, suffixes = (words.suffixes, pathlib.Path(words.suffixes).read_bytes()) if words.suffixes else suffix_list()
+    address = address_of(arguments.url, arguments.cross_site)
+    title, suffixes = (arguments.suffixes, pathlib.Path(arguments.suffixes).read_bytes()) if arguments.suffixes else suffix_list()
     out, paste = sys.stdout.buffer, sys.stdin.buffer.read()
     out.write(f"public suffixes: {title}\n".encode())
-    browser = Browser(suffixes, address, second_of(None) if words.now is None else words.now)
+    browser = Browser(suffixes, address, second_of(None) if arguments.now is None else arguments.now)
     for line in counted_lines(paste):
         out.write(browser.answer(line) + b"\n")
     out.write(browser.header(browser.address._replace(is_same_site=True, is_top_level=True)) + b"\n")
@@ -40,9 +40,9 @@ def main() -> None:
     command.add_argument("--now", metavar="DATE", type=date, help="the time of the response, as an HTTP date")
     command.add_argument("--suffixes", metavar="FILE", help="the list of public suffixes")
     command.add_argument("--cross-site", action="store_true", help="another site's page made the request")
-    words = parser.parse_args()
+    arguments = parser.parse_args()
     try:
-        explain(words)
+        explain(arguments)
     except (OSError, ValueError) as error:
         sys.stdout.flush()
         command.error(str(error))

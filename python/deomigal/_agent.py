@@ -5,7 +5,7 @@ import ctypes
 import functools
 from typing import Any, Callable, Iterator, NamedTuple
 
-from ._library import DONE, HANDLE, SECOND, TEXT, Answer, bytes_of, declare, done, given, handle_of, told
+from ._library import DONE, HANDLE, SECOND, TEXT, Answer, bytes_of, declare, perform, bytes_from, handle_of, answer_and_bytes
 from .addresses import Address
 from .cookies import RULES
 from .errors import BufferTooShort, NotFound, error_of
@@ -54,7 +54,7 @@ REFUSAL_SENTENCE = declare("refusal_sentence", [ctypes.c_uint32] + TEXT, Answer)
 REFUSAL_SECTION = declare("refusal_section", [ctypes.c_uint32] + TEXT, Answer)
 
 
-class KeptCookie(NamedTuple):
+class AgentCookie(NamedTuple):
     """A cookie that an agent stores, with name and value as the header had them. A byte that isn't UTF-8 is a lone
     surrogate, as in names of files (PEP 383).
 
@@ -105,7 +105,7 @@ class Core:
         self.suffixes, self.rules, self.handle = suffixes, rules_of(suffixes), handle_of(self, AGENT_FREE)
         # Where headers are written to.
         self.room = ctypes.create_string_buffer(HEADER_ROOM)
-        done(AGENT_NEW, self.handle)
+        perform(AGENT_NEW, self.handle)
 
     def read(self, address: Address, text: bytes, now: int) -> Refusal | None:
         """Reads the text of a `Set-Cookie` header of a response from the address. Returns why it is refused, or None."""
@@ -117,13 +117,13 @@ class Core:
 
     def header(self, address: Address, is_safe: bool, now: int) -> bytes:
         """The value of the `Cookie` header of a request to the address."""
-        return self.sent(AGENT_HEADER, request_of(address, is_safe), now)
+        return self.header_by(AGENT_HEADER, request_of(address, is_safe), now)
 
     def retrieve(self, address: Address, is_safe: bool, now: int) -> bytes:
         """The same, for a request that is made: `now` is the last access of what it sends."""
-        return self.sent(AGENT_RETRIEVE, request_of(address, is_safe), now)
+        return self.header_by(AGENT_RETRIEVE, request_of(address, is_safe), now)
 
-    def sent(self, call: Callable[..., Any], request: Request, now: int) -> bytes:
+    def header_by(self, call: Callable[..., Any], request: Request, now: int) -> bytes:
         """The header that the call returns. If there is too little room for it, the call is made again."""
         while True:
             answer = call(self.handle, request, now, self.room, len(self.room))
@@ -136,11 +136,11 @@ class Core:
 
     def evict(self, now: int) -> None:
         """Drops what is expired."""
-        done(AGENT_EVICT, self.handle, now)
+        perform(AGENT_EVICT, self.handle, now)
 
     def trim(self, per_domain: int, total: int, now: int) -> None:
         """Drops what is expired, and then what is above the limits."""
-        done(AGENT_TRIM, self.handle, per_domain, total, now)
+        perform(AGENT_TRIM, self.handle, per_domain, total, now)
 
     def count(self, now: int) -> int:
         """How many cookies are stored. It looks for a few of them."""
@@ -156,24 +156,24 @@ class Core:
         """Whether a cookie is stored at this index."""
         return bool(AGENT_COOKIE(self.handle, index, now, None, 0).status != NotFound.status)
 
-    def cookies(self, now: int) -> Iterator[KeptCookie]:
+    def cookies(self, now: int) -> Iterator[AgentCookie]:
         """The stored cookies. Some may be expired at that second: such a one has it as its expiry."""
         index, room = 0, ROOM
         while True:
             buffer = ctypes.create_string_buffer(room)
-            kept = AGENT_COOKIE(self.handle, index, now, buffer, room)
-            end = kept.stored.path.start + kept.stored.path.length
-            if kept.status == NotFound.status:
+            found = AGENT_COOKIE(self.handle, index, now, buffer, room)
+            end = found.stored.path.start + found.stored.path.length
+            if found.status == NotFound.status:
                 return
-            if kept.status == BufferTooShort.status:
+            if found.status == BufferTooShort.status:
                 room = end
-            elif kept.status != DONE:
-                raise error_of(kept.status)
+            elif found.status != DONE:
+                raise error_of(found.status)
             else:
-                yield kept_of(kept.stored, buffer.raw[:end], now)
+                yield agent_cookie_of(found.stored, buffer.raw[:end], now)
                 index += 1
 
-    def remove(self, cookie: KeptCookie) -> bool:
+    def remove(self, cookie: AgentCookie) -> bool:
         """Removes the cookie with the key of this one. Returns whether there was one."""
         name, domain, path = map(header_bytes, (cookie.name, cookie.domain, cookie.path))
         status = AGENT_REMOVE(
@@ -186,14 +186,14 @@ class Core:
     def clear(self, domain: bytes | None) -> None:
         """Removes all cookies, or those of the domain, in lower case, and of the domains below it."""
         if domain is None:
-            done(AGENT_NEW, self.handle)
+            perform(AGENT_NEW, self.handle)
         else:
-            done(AGENT_CLEAR, self.handle, domain)
+            perform(AGENT_CLEAR, self.handle, domain)
 
     def save(self, form: str, now: int) -> tuple[bytes, int]:
         """The text of the cookies that have an expiry and aren't expired, in that form, and how many of them the form
         can't carry."""
-        saving, text = told(AGENT_SAVE, self.handle, FORMS[form], now, room=HEADER_ROOM)
+        saving, text = answer_and_bytes(AGENT_SAVE, self.handle, FORMS[form], now, room=HEADER_ROOM)
         if saving.status != DONE:
             raise error_of(saving.status)
         return text, saving.left_out
@@ -222,18 +222,18 @@ def request_of(address: Address, is_safe: bool = True) -> Request:
 @functools.lru_cache(maxsize=None)
 def refusal_of(number: int) -> Refusal:
     """Why the step with the number refuses a cookie."""
-    sentence, section = (given(call, number, room=ROOM).decode() for call in (REFUSAL_SENTENCE, REFUSAL_SECTION))
+    sentence, section = (bytes_from(call, number, room=ROOM).decode() for call in (REFUSAL_SENTENCE, REFUSAL_SECTION))
     return Refusal(STEPS[number - 1], sentence, section)
 
 
-def kept_of(stored: StoredCookie, texts: bytes, now: int) -> KeptCookie:
+def agent_cookie_of(stored: StoredCookie, texts: bytes, now: int) -> AgentCookie:
     """The stored cookie, whose texts are in these bytes."""
     name, value, domain, path = (
         text_of(texts[at.start : at.start + at.length])
         for at in (stored.name, stored.value, stored.domain, stored.path)
     )
     expiry = now + stored.lifetime if stored.is_persistent else None
-    return KeptCookie(
+    return AgentCookie(
         name, value, domain, path, expiry, RULES[stored.same_site], stored.is_host_only, stored.is_secure,
         stored.is_http_only,
     )

@@ -4,6 +4,7 @@ from __future__ import annotations
 import ctypes
 import os
 import pathlib
+import platform
 import weakref
 from typing import Any, Callable, NoReturn, Sequence
 
@@ -84,6 +85,10 @@ def library_at(path: str) -> ctypes.CDLL:
     try:
         return ctypes.CDLL(path)
     except OSError as error:
+        host = platform.system(), platform.machine(), platform.libc_ver()[0]
+        if host != ("Linux", "x86_64", "glibc"):
+            why = f"deomigal's wheel is for Linux on x86-64 with glibc, and this is {' '.join(filter(None, host))}"
+            raise ImportError(f"{why}: use a container such as python:3.12-slim.") from error
         raise ImportError(
             f"deomigal lacks its library: {error}. In the project, tools/c/install PREFIX makes a wheel that has it."
         ) from error
@@ -203,14 +208,14 @@ def arguments_of(function: Any, inputs: tuple[Any, ...]) -> list[Any]:
     return arguments
 
 
-def done(function: Callable[..., Any], *inputs: Any) -> None:
+def perform(function: Callable[..., Any], *inputs: Any) -> None:
     """Makes a call that returns no text."""
     status = function(*arguments_of(function, inputs))
     if status != DONE:
         raise error_of(status)
 
 
-def told(function: Callable[..., Any], *inputs: Any, room: int = 256) -> tuple[Any, bytes]:
+def answer_and_bytes(function: Callable[..., Any], *inputs: Any, room: int = 256) -> tuple[Any, bytes]:
     """What a call returns, and its bytes. If the first buffer is too short, it is called again with one that fits."""
     arguments = arguments_of(function, inputs)
     while True:
@@ -221,9 +226,9 @@ def told(function: Callable[..., Any], *inputs: Any, room: int = 256) -> tuple[A
         room = answer.length
 
 
-def given(function: Callable[..., Any], *inputs: Any, room: int = 256) -> bytes:
+def bytes_from(function: Callable[..., Any], *inputs: Any, room: int = 256) -> bytes:
     """The bytes that a call returns."""
-    answer, text = told(function, *inputs, room=room)
+    answer, text = answer_and_bytes(function, *inputs, room=room)
     if answer.status != DONE:
         raise error_of(answer.status, answer.length)
     return text
@@ -240,10 +245,10 @@ def decoded(function: Callable[..., Any], *inputs: Any, room: int = 256) -> tupl
         room = answer.value.start + answer.value.length
 
 
-def read(function: Callable[..., Any], none: tuple[type[CookieError], ...], *inputs: Any) -> str | None:
+def text_or_none(function: Callable[..., Any], none: tuple[type[CookieError], ...], *inputs: Any) -> str | None:
     """The text that a call returns, or None if it is refused as one of `none`."""
     try:
-        return given(function, *inputs).decode()
+        return bytes_from(function, *inputs).decode()
     except none:
         return None
 

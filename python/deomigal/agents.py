@@ -11,9 +11,11 @@ import threading
 import time
 from typing import Callable, Iterable, Iterator, NamedTuple
 
-from ._agent import JSON, NETSCAPE, Core, KeptCookie, header_bytes
+from ._agent import JSON, NETSCAPE, Core, header_bytes
+from ._agent import AgentCookie as AgentCookie
 from ._library import Uncopied, bytes_of
 from .addresses import Address, address_of
+from .dates import whole_second
 from .explain import Refusal, second_of, suffix_list
 
 # The methods that are safe (RFC 9110 9.2.1).
@@ -110,7 +112,7 @@ class Agent(Uncopied):
 
     def read_at(self, address: Address, text: bytes, second: int | None = None) -> Refusal | None:
         """Reads the value of a `Set-Cookie` header of a response from the address, as `read` does."""
-        second = self.second(None) if second is None else second
+        second = self.second(None) if second is None else whole_second(second)
         with self.lock:
             refusal = self.core.read(address, text, second)
             self.stored += refusal is None
@@ -147,11 +149,11 @@ class Agent(Uncopied):
 
     def header_at(self, address: Address, is_safe: bool = True, second: int | None = None) -> bytes:
         """The value of the `Cookie` header of a request to the address. The drop-ins call it."""
-        second = self.second(None) if second is None else second
+        second = self.second(None) if second is None else whole_second(second)
         with self.lock:
             return self.core.retrieve(address, is_safe, second)
 
-    def __iter__(self) -> Iterator[KeptCookie]:
+    def __iter__(self) -> Iterator[AgentCookie]:
         """The cookies that are stored and not expired, in the order of their creation.
 
         >>> agent = Agent()
@@ -168,7 +170,7 @@ class Agent(Uncopied):
         """How many cookies are stored and not expired."""
         return sum(1 for _ in self)
 
-    def remove(self, cookie: KeptCookie) -> bool:
+    def remove(self, cookie: AgentCookie) -> bool:
         """Removes the stored cookie that has the name, the domain, the path and the `is_host_only` of this one. Returns
         whether there was one.
 
@@ -243,8 +245,8 @@ class Agent(Uncopied):
         return address._replace(is_same_site=context.is_same_site, is_top_level=context.is_top_level)
 
     def second(self, now: datetime.datetime | None) -> int:
-        """The time in whole seconds since 1970 in UTC, by default the clock's."""
-        return int(self.clock()) if now is None else second_of(now)
+        """The time in whole seconds since 1970 in UTC, by default the clock's. Raises `NoDate` if a call doesn't take it."""
+        return whole_second(self.clock()) if now is None else second_of(now)
 
 
 def form_of(form: str) -> str:
@@ -258,18 +260,18 @@ def replace(path: str, text: bytes) -> None:
     """Writes the file beside, and puts it in the place of the old one, so that a crash leaves one of the two whole."""
     folder, name = os.path.split(path)
     # Its mode is 0600.
-    handle, made = tempfile.mkstemp(prefix=f".{name}.", dir=folder)
+    handle, beside = tempfile.mkstemp(prefix=f".{name}.", dir=folder)
     try:
         with open(handle, "wb") as file:
             file.write(text)
             file.flush()
             os.fsync(file.fileno())
-        os.replace(made, path)
+        os.replace(beside, path)
     except BaseException:
-        os.unlink(made)
+        os.unlink(beside)
         raise
-    kept = os.open(folder, os.O_RDONLY)
+    directory = os.open(folder, os.O_RDONLY)
     try:
-        os.fsync(kept)
+        os.fsync(directory)
     finally:
-        os.close(kept)
+        os.close(directory)

@@ -13,16 +13,16 @@ isn't UTF-8 isn't sent.
 """
 from __future__ import annotations
 
-from http.cookies import Morsel, SimpleCookie
+from http.cookies import BaseCookie, Morsel, SimpleCookie
 from types import MappingProxyType
-from typing import Any, Iterator, Mapping, Sequence
+from typing import TYPE_CHECKING, Any, Iterator, Mapping, Sequence
 
 import aiohttp
 from aiohttp.abc import AbstractCookieJar, ClearCookiePredicate
 from aiohttp.typedefs import LooseCookies
 from yarl import URL
 
-from ._agent import KeptCookie, header_bytes
+from ._agent import AgentCookie, header_bytes
 from .addresses import Address, address_at
 from .agents import SAFE_METHODS, SAME_SITE, Agent, Context
 from .dates import print_date
@@ -38,7 +38,14 @@ def cookies_of(agent: Agent | None = None, *, context: Context = SAME_SITE) -> d
     return {"cookie_jar": jar, "request_class": ClientRequest, "response_class": ClientResponse}
 
 
-class SentCookies(SimpleCookie[str]):
+# What is known of `SimpleCookie` differs by the version of mypy.
+if TYPE_CHECKING:
+    Cookies = BaseCookie[str]
+else:
+    Cookies = SimpleCookie
+
+
+class SentCookies(Cookies):
     """The cookies that a request to the URL sends. `header` is the agent's header. `added` are those of the caller."""
 
     def __init__(self, jar: CookieJar, url: URL) -> None:
@@ -63,7 +70,7 @@ class SentCookies(SimpleCookie[str]):
         return "; ".join([*pieces, own] if own else pieces)
 
 
-class ReadCookies(SimpleCookie[str]):
+class ReadCookies(Cookies):
     """The cookies of a response whose headers the agent has read."""
 
 
@@ -104,14 +111,14 @@ class CookieJar(AbstractCookieJar):
             return
         named: Any = cookies.items() if isinstance(cookies, Mapping) else cookies
         for name, value in named:
-            made: SimpleCookie[str] = SimpleCookie()
-            made[name] = value
-            domain = made[name]["domain"].lstrip(".")
+            parsed: BaseCookie[str] = SimpleCookie()
+            parsed[name] = value
+            domain = parsed[name]["domain"].lstrip(".")
             url = response_url if response_url.host or not domain else URL.build(scheme="https", host=domain)
             address = self.address_of(url)
             if address is None:
                 raise ValueError(f"the cookie {name!r} has no host: pass the URL of its response")
-            self.agent.read_at(address, header_bytes(made[name].OutputString()))
+            self.agent.read_at(address, header_bytes(parsed[name].OutputString()))
 
     def update_cookies_from_headers(self, headers: Sequence[str], response_url: URL) -> None:
         """Reads the `Set-Cookie` headers of a response. Newer versions of aiohttp call it."""
@@ -123,15 +130,15 @@ class CookieJar(AbstractCookieJar):
 
     def clear(self, predicate: ClearCookiePredicate | None = None) -> None:
         """Removes all cookies, or those for which the predicate is true."""
-        for kept in list(self.agent):
-            if predicate is None or predicate(morsel_with_attributes(kept)):
-                self.agent.remove(kept)
+        for cookie in list(self.agent):
+            if predicate is None or predicate(morsel_with_attributes(cookie)):
+                self.agent.remove(cookie)
 
     def clear_domain(self, domain: str) -> None:
         """Removes the cookies of the domain and of those below it."""
-        for kept in list(self.agent):
-            if kept.domain == domain or kept.domain.endswith(f".{domain}"):
-                self.agent.remove(kept)
+        for cookie in list(self.agent):
+            if cookie.domain == domain or cookie.domain.endswith(f".{domain}"):
+                self.agent.remove(cookie)
 
     @property
     def unsafe(self) -> bool:
@@ -144,19 +151,19 @@ class CookieJar(AbstractCookieJar):
         return True
 
     @property
-    def cookies(self) -> Mapping[tuple[str, str], SimpleCookie[str]]:
+    def cookies(self) -> Mapping[tuple[str, str], BaseCookie[str]]:
         """The stored cookies by domain and path. It can't be changed."""
-        found: dict[tuple[str, str], SimpleCookie[str]] = {}
-        for kept in self.agent:
-            named = found.setdefault((kept.domain, kept.path), SimpleCookie())
+        found: dict[tuple[str, str], BaseCookie[str]] = {}
+        for cookie in self.agent:
+            named = found.setdefault((cookie.domain, cookie.path), SimpleCookie())
             # By itself a name may be one that `http.cookies` refuses.
-            dict.__setitem__(named, kept.name, morsel_with_attributes(kept))
+            dict.__setitem__(named, cookie.name, morsel_with_attributes(cookie))
         return MappingProxyType(found)
 
     @property
     def host_only_cookies(self) -> frozenset[tuple[str, str]]:
         """The domain and the name of each stored cookie that only its host gets."""
-        return frozenset((kept.domain, kept.name) for kept in self.agent if kept.is_host_only)
+        return frozenset((cookie.domain, cookie.name) for cookie in self.agent if cookie.is_host_only)
 
     def __iter__(self) -> Iterator[Morsel[str]]:
         return map(morsel_with_attributes, self.agent)
@@ -169,6 +176,7 @@ class ClientRequest(aiohttp.ClientRequest):
     """A request that sends the agent's header as it is."""
 
     def update_cookies(self, cookies: LooseCookies | None) -> None:
+        """Sets the `Cookie` header."""
         if not isinstance(cookies, SentCookies):
             super().update_cookies(cookies)
             return
@@ -180,15 +188,16 @@ class ClientRequest(aiohttp.ClientRequest):
 class ClientResponse(aiohttp.ClientResponse):
     """A response whose `Set-Cookie` headers the agent reads as they came."""
 
-    def __init__(self, *words: Any, session: aiohttp.ClientSession, **named: Any) -> None:
-        super().__init__(*words, session=session, **named)
+    def __init__(self, *arguments: Any, session: aiohttp.ClientSession, **options: Any) -> None:
+        super().__init__(*arguments, session=session, **options)
         self.jar = session.cookie_jar
 
     async def start(self, connection: Any) -> ClientResponse:
+        """Reads the head of the response, and has the agent read its cookies."""
         await super().start(connection)
         if isinstance(self.jar, CookieJar) and not hasattr(AbstractCookieJar, "update_cookies_from_headers"):
             self.jar.read([value for name, value in self.raw_headers if name.lower() == b"set-cookie"], self.url)
-            read = ReadCookies()
+            read: Any = ReadCookies()
             read.update(self.cookies)
             self.cookies = read
         return self
@@ -211,11 +220,11 @@ def morsel_of(name: str, value: str) -> Morsel[str]:
     return morsel
 
 
-def morsel_with_attributes(kept: KeptCookie) -> Morsel[str]:
+def morsel_with_attributes(cookie: AgentCookie) -> Morsel[str]:
     """The stored cookie as a morsel."""
-    morsel = morsel_of(kept.name, kept.value)
-    morsel["domain"], morsel["path"], morsel["samesite"] = kept.domain, kept.path, kept.same_site or ""
-    morsel["secure"], morsel["httponly"] = kept.is_secure or "", kept.is_http_only or ""
-    if kept.expiry is not None:
-        morsel["expires"] = print_date(date_after(0, kept.expiry))
+    morsel = morsel_of(cookie.name, cookie.value)
+    morsel["domain"], morsel["path"], morsel["samesite"] = cookie.domain, cookie.path, cookie.same_site or ""
+    morsel["secure"], morsel["httponly"] = cookie.is_secure or "", cookie.is_http_only or ""
+    if cookie.expiry is not None:
+        morsel["expires"] = print_date(date_after(0, cookie.expiry))
     return morsel

@@ -4,18 +4,25 @@
 
     app.add_middleware(SessionMiddleware, secret_key=SECRET_KEY, https_only=True)
 
-`request.session` is a dict as with Starlette's own middleware, whose arguments come first.
+`request.session` is a dict as with Starlette's own middleware, whose arguments come first. `session_of(request)` is the
+same, with the type that has `renew`.
 """
 from __future__ import annotations
 
-from typing import Any, Awaitable, Callable, MutableMapping
+from typing import Any, Awaitable, Callable, Mapping, MutableMapping
 
 from .errors import RevocationsError
-from .values import UNAVAILABLE, UNAVAILABLE_FIELDS, Middleware, Values
+from .values import UNAVAILABLE, UNAVAILABLE_FIELDS, CookieSession, Middleware, session_at
 
+__all__ = ["CookieSession", "SessionMiddleware", "session_of"]
 Message = MutableMapping[str, Any]
 Receive = Callable[[], Awaitable[Message]]
 Send = Callable[[Message], Awaitable[None]]
+
+
+def session_of(scope: Mapping[str, Any]) -> CookieSession:
+    """The session of a request, which `SessionMiddleware` opened. `scope` is ASGI's, or Starlette's request."""
+    return session_at(scope, "session")
 
 
 class SessionMiddleware(Middleware):
@@ -32,12 +39,11 @@ class SessionMiddleware(Middleware):
             nonlocal is_begun
             is_begun = True
             if message["type"] == "http.response.start":
-                message = {**message, "headers": [*message.get("headers", ()), *lines(self.fields(values))]}
+                message = {**message, "headers": [*message.get("headers", ()), *lines(self.fields(session, scope.get("session")))]}
             await send(message)
 
         try:
-            values: Values = self.opened(header)
-            scope["session"] = values
+            session = scope["session"] = self.open_session(header)
             await self.app(scope, receive, send_with_cookie)
         except RevocationsError:
             if is_begun:

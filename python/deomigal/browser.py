@@ -7,7 +7,7 @@ from typing import Iterator, NamedTuple
 from ._agent import Core, header_bytes, text_of
 from .addresses import Address, address_of
 from .dates import read_date
-from .explain import STEPS, Found, found_at, second_of, told
+from .explain import STEPS, Found, found_at, second_of, report_of
 
 BLANKS = b" \t"
 # How a request came about, by the word after its address: whether it is same-site, and a top-level navigation.
@@ -83,7 +83,7 @@ class Browser:
             found = found._replace(
                 refusal=STEPS.index(refusal.step) + 1, sentence=refusal.sentence.encode(), section=refusal.section.encode()
             )
-        return told(found, text, self.now, removal)
+        return report_of(found, text, self.now, removal)
 
     def removal(self, found: Found) -> bytes:
         """What comes of the cookie if it is expired."""

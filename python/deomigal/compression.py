@@ -22,11 +22,11 @@ VALUES = {digit: value for value, digit in enumerate(DIGITS)}
 BYTES, PLACES = 13, 15
 
 
-def smaller(texts: Mapping[str, str], compress: bool) -> Mapping[str, str]:
+def shorten(texts: Mapping[str, str], compress: bool) -> Mapping[str, str]:
     """The texts as a session's cookie is to have them: compressed, if `compress` is set and that is shorter.
 
     >>> texts = {"notes": "to be, or not to be " * 20}
-    >>> smaller(texts, False) == texts, len(smaller(texts, True)[COMPRESSED]) < 40
+    >>> shorten(texts, False) == texts, len(shorten(texts, True)[COMPRESSED]) < 40
     (True, True)
     """
     # What would be read as a compressed session is kept whole in one.
@@ -37,42 +37,42 @@ def smaller(texts: Mapping[str, str], compress: bool) -> Mapping[str, str]:
     if len(form) > MOST_BYTES:
         # No browser stores so much.
         return texts
-    made = {COMPRESSED: digits_of(deflated(form, 9 if compress else 0))}
-    return made if is_taken or len(form_of(made)) < len(form) else texts
+    compressed = {COMPRESSED: digits_of(deflate(form, 9 if compress else 0))}
+    return compressed if is_taken or len(form_of(compressed)) < len(form) else texts
 
 
-def expanded(texts: Mapping[str, str]) -> dict[str, str]:
-    """The texts that `smaller` was given, with compression or without. Raises `ValueError` if another program compressed
+def expand(texts: Mapping[str, str]) -> dict[str, str]:
+    """The texts that `shorten` was given, with compression or without. Raises `ValueError` if another program compressed
     them, and so if they have more than `MOST_BYTES`.
 
-    >>> expanded(smaller({"user": "ann" * 20}, True)) == expanded({"user": "ann" * 20}) == {"user": "ann" * 20}
+    >>> expand(shorten({"user": "ann" * 20}, True)) == expand({"user": "ann" * 20}) == {"user": "ann" * 20}
     True
     """
     if list(texts) != [COMPRESSED]:
         return dict(texts)
-    pairs = inflated(bytes_of_digits(texts[COMPRESSED])).decode().split("&")
+    pairs = inflate(bytes_of_digits(texts[COMPRESSED])).decode().split("&")
     return {unquote(name): unquote(text) for name, _, text in (pair.partition("=") for pair in pairs)}
 
 
 def form_of(texts: Mapping[str, str]) -> bytes:
     """The texts as a session's cookie has them, without its times and its id."""
-    return "&".join(f"{escaped(name)}={escaped(text)}" for name, text in texts.items()).encode()
+    return "&".join(f"{escape(name)}={escape(text)}" for name, text in texts.items()).encode()
 
 
-def escaped(text: str) -> str:
+def escape(text: str) -> str:
     """The text with escapes of the marks."""
     for mark in MARKS:
         text = text.replace(mark, f"%{ord(mark):02X}")
     return text
 
 
-def deflated(data: bytes, level: int) -> bytes:
+def deflate(data: bytes, level: int) -> bytes:
     """The data by deflate, without a header and a checksum: the cipher's tag is one."""
     compressor = zlib.compressobj(level, wbits=-15)
     return compressor.compress(data) + compressor.flush()
 
 
-def inflated(data: bytes) -> bytes:
+def inflate(data: bytes) -> bytes:
     """What was deflated. Raises `ValueError` for other data, and for more than `MOST_BYTES` bytes, which aren't made."""
     decompressor = zlib.decompressobj(wbits=-15)
     try:

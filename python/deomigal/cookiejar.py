@@ -15,7 +15,7 @@ import re
 from typing import Any, Iterable, Iterator
 from urllib.parse import unquote, urlsplit
 
-from ._agent import KeptCookie, header_bytes
+from ._agent import AgentCookie, header_bytes
 from .addresses import Address, address_at
 from .agents import SAFE_METHODS, SAME_SITE, Agent, Context
 from .cookies import RULES
@@ -190,7 +190,7 @@ def wire_bytes(value: str) -> bytes:
         return header_bytes(value)
 
 
-def domain_of(cookie: KeptCookie) -> str:
+def domain_of(cookie: AgentCookie) -> str:
     """The domain as http.cookiejar has it: with a dot before it, if the hosts below it get the cookie too. A host of one
     label has `.local` after it."""
     if not cookie.is_host_only:
@@ -204,16 +204,16 @@ def without_local(domain: str) -> str:
     return host if "." not in host.lstrip(".") else domain
 
 
-def cookie_of(kept: KeptCookie) -> http.cookiejar.Cookie:
+def cookie_of(cookie: AgentCookie) -> http.cookiejar.Cookie:
     """The cookie as http.cookiejar has it. One without a name has the value as its name, and no value."""
-    rest: dict[str, str | None] = {"HttpOnly": None} if kept.is_http_only else {}
-    if kept.same_site is not None:
-        rest["SameSite"] = kept.same_site
+    rest: dict[str, str | None] = {"HttpOnly": None} if cookie.is_http_only else {}
+    if cookie.same_site is not None:
+        rest["SameSite"] = cookie.same_site
     return http.cookiejar.Cookie(
-        version=0, name=kept.name or kept.value, value=kept.value if kept.name else None, port=None,
-        port_specified=False, domain=domain_of(kept), domain_specified=not kept.is_host_only,
-        domain_initial_dot=not kept.is_host_only, path=kept.path, path_specified=True, secure=kept.is_secure,
-        expires=kept.expiry, discard=kept.expiry is None, comment=None, comment_url=None, rest=rest,  # type: ignore
+        version=0, name=cookie.name or cookie.value, value=cookie.value if cookie.name else None, port=None,
+        port_specified=False, domain=domain_of(cookie), domain_specified=not cookie.is_host_only,
+        domain_initial_dot=not cookie.is_host_only, path=cookie.path, path_specified=True, secure=cookie.is_secure,
+        expires=cookie.expiry, discard=cookie.expiry is None, comment=None, comment_url=None, rest=rest,  # type: ignore
     )
 
 

@@ -2,12 +2,36 @@
 from __future__ import annotations
 
 import datetime
+import time
 
-from ._library import DONE, PRINT_DATE, READ_DATE, Moment, bytes_of, given
+from ._library import DONE, PRINT_DATE, READ_DATE, Moment, bytes_of, bytes_from
 from .errors import NoDate, error_of
 
 # The first second that `datetime` has.
 FIRST = datetime.datetime(1, 1, 1, tzinfo=datetime.timezone.utc)
+
+
+# One more than the last second that a call takes.
+END = 2**64
+
+
+def whole_second(now: float | None) -> int:
+    """The whole second since 1970, of the clock if there is none. Raises `NoDate` for one before 1970 or from 2^64 on, which
+    a call would take for another one.
+
+    >>> whole_second(1445412480.9)
+    1445412480
+    """
+    if not isinstance(now, (int, float, type(None))):
+        raise TypeError("a time is in seconds since 1970")
+    try:
+        second = int(time.time() if now is None else now)
+    except (OverflowError, ValueError):
+        # The infinite ones, and what is no number.
+        second = -1
+    if not 0 <= second < END:
+        raise error_of(NoDate.status)
+    return second
 
 
 def date_of(moment: Moment) -> datetime.datetime | None:
@@ -48,4 +72,4 @@ def print_date(moment: datetime.datetime) -> str:
     >>> print_date(datetime.datetime(2015, 10, 21, 7, 28))
     'Wed, 21 Oct 2015 07:28:00 GMT'
     """
-    return given(PRINT_DATE, *numbers_of(moment)).decode()
+    return bytes_from(PRINT_DATE, *numbers_of(moment)).decode()

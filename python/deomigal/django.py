@@ -22,11 +22,11 @@ from .cookies import pairs, print_cookie
 from .errors import RevocationsError
 from .secrets import keys_of
 from .sessions import Session, Sessions
-from .values import UNAVAILABLE, UNAVAILABLE_FIELDS, packed, unpacked
+from .values import UNAVAILABLE, UNAVAILABLE_FIELDS, pack, unpack
 from .wsgi import header_in
 
 SALT = "deomigal.django"
-made: tuple[Any, Sessions] | None = None
+latest: tuple[Any, Sessions] | None = None
 
 
 def attributes() -> dict[str, Any]:
@@ -44,22 +44,22 @@ def site() -> Sessions:
     SECRET_KEY_FALLBACKS. A session is over DEOMIGAL_LIFETIME seconds after its start, by default SESSION_COOKIE_AGE.
     DEOMIGAL_REVOCATIONS keeps which sessions are revoked. With DEOMIGAL_COMPRESS they are saved compressed: see
     `deomigal.Sessions` for when not to."""
-    global made
+    global latest
     secrets = (settings.SECRET_KEY, *(getattr(settings, "SECRET_KEY_FALLBACKS", None) or ()))
     lifetime = getattr(settings, "DEOMIGAL_LIFETIME", None) or settings.SESSION_COOKIE_AGE
     name, revocations = settings.SESSION_COOKIE_NAME, getattr(settings, "DEOMIGAL_REVOCATIONS", None)
     compress = bool(getattr(settings, "DEOMIGAL_COMPRESS", False))
     choice = (secrets, name, lifetime, attributes(), revocations, compress)
-    found = made
+    found = latest
     if found is None or found[0] != choice:
         sessions = Sessions(
             keys_of(secrets, SALT), name, lifetime, lifetime, **attributes(), revocations=revocations, compress=compress
         )
-        made = found = (choice, sessions)
+        latest = found = (choice, sessions)
     return found[1]
 
 
-def opened(key: str) -> Session:
+def session_of(key: str) -> Session:
     """The session in the value of the site's cookie, or a new one."""
     if not re.fullmatch(r"[!-+\--:<-\[\]-~]+", key):
         return site().start()
@@ -69,64 +69,65 @@ def opened(key: str) -> Session:
 class SessionStore(SessionBase):
     """A session, whose key is the value of its cookie. `kept` is the session that it was opened from."""
 
-    kept: Session | None = None
+    source: Session | None = None
     _session_cache: dict[str, Any]
 
     def load(self) -> dict[str, Any]:
         """The values of the session, or none if the cookie holds no session that is open."""
-        self.kept = opened(self.session_key or "")
-        if not self.kept.is_new:
+        self.source = session_of(self.session_key or "")
+        if not self.source.is_new:
             try:
-                values: dict[str, Any] = self.serializer().loads(unpacked(self.kept))
+                values: dict[str, Any] = self.serializer().loads(unpack(self.source))
                 if self.lives(values):
                     return values
             except Exception:
                 # Another program or another serializer saved it, as pickle, which raises what it wants.
                 pass
-        self.kept, self._session_key = None, ""
+        self.source, self._session_key = None, ""
         return {}
 
     def lives(self, values: dict[str, Any]) -> bool:
         """Whether the age that Django's settings or `set_expiry` allow isn't over."""
-        assert self.kept
+        assert self.source
         zone = datetime.timezone.utc if settings.USE_TZ else None
-        saved = datetime.datetime.fromtimestamp(self.kept.seen, zone)
+        saved = datetime.datetime.fromtimestamp(self.source.seen, zone)
         age: float = self.get_expiry_age(modification=saved, expiry=values.get("_session_expiry"))
-        return self.kept.now < self.kept.seen + age
+        return self.source.now < self.source.seen + age
 
     def save(self, must_create: bool = False) -> None:
         """Encrypts the session, as the value of its cookie. Raises `TooLarge` if a browser wouldn't store it."""
         values = self._get_session(no_load=must_create)
-        self.kept = self.kept or site().start()
-        self.kept.texts = packed(self.serializer().dumps(values))
-        text = site().save(self.kept)
+        self.source = self.source or site().start()
+        self.source.texts = pack(self.serializer().dumps(values))
+        text = site().save(self.source)
         self._session_key = text.partition(";")[0].partition("=")[2]
         self.modified = True
 
     def create(self) -> None:
-        self.kept, self.modified = None, True
+        """Begins another session. It has no key before it is saved."""
+        self.source, self.modified = None, True
 
     def delete(self, session_key: str | None = None) -> None:
         """Drops the values and the key. `flush` calls it, as at a logout. With DEOMIGAL_REVOCATIONS the session is
         revoked. Without it a copy of the cookie stays open until its limits."""
         self.revoke(session_key)
-        self.kept, self._session_key, self._session_cache = None, "", {}
+        self.source, self._session_key, self._session_cache = None, "", {}
         self.modified = True
 
     def revoke(self, session_key: str | None = None) -> None:
         """Revokes the session, if the site keeps which sessions are revoked."""
         if site().revocations is not None:
             is_other = session_key is not None and session_key != self.session_key
-            kept = opened(session_key or "") if is_other else self.kept or opened(self.session_key or "")
-            site().revoke(kept)
+            source = session_of(session_key or "") if is_other else self.source or session_of(self.session_key or "")
+            site().revoke(source)
 
     def cycle_key(self) -> None:
         """Starts it anew with the same values, so that the lifetime counts from this request. A login calls it. With
         DEOMIGAL_REVOCATIONS the session of before is revoked."""
         self._get_session()
-        if self.kept:
+        if self.source:
             self.revoke()
-            self.kept.renew()
+            self.source.renew()
         self.save()
 
     def exists(self, session_key: str | None = None) -> bool:
@@ -144,17 +145,18 @@ class SessionMiddleware(DjangoMiddleware):
     If it can't be looked up whether a session is revoked, the request is answered with status 503.
     """
 
-    def __init__(self, *words: Any, **named: Any) -> None:
-        super().__init__(*words, **named)
+    def __init__(self, *arguments: Any, **options: Any) -> None:
+        super().__init__(*arguments, **options)
         # Settings that no session could be saved with are refused now.
         site()
 
     def process_request(self, request: Any) -> Any:
+        """Opens the session of the request, or answers with status 503."""
         name = settings.SESSION_COOKIE_NAME
         keys = [value for found, value in pairs(header_in(request.META)) if found == name] or [""]
         # Of several the last counts if none is open, so that Django drops it.
         try:
-            request.session = self.SessionStore(next((key for key in keys[:-1] if not opened(key).is_new), keys[-1]))
+            request.session = self.SessionStore(next((key for key in keys[:-1] if not session_of(key).is_new), keys[-1]))
         except RevocationsError:
             return Unavailable()
         return None
@@ -164,6 +166,7 @@ class SessionMiddleware(DjangoMiddleware):
         return Unavailable() if isinstance(exception, RevocationsError) else None
 
     def process_response(self, request: Any, response: Any) -> Any:
+        """Saves the session in the response."""
         return response if isinstance(response, Unavailable) else super().process_response(request, response)
 
 

@@ -79,8 +79,8 @@ class BadLine(CookieError):
 
     status = 12
 
-    def __init__(self, *words: object, number: int = 0) -> None:
-        super().__init__(*words)
+    def __init__(self, *arguments: object, number: int = 0) -> None:
+        super().__init__(*arguments)
         self.number = number
 
 
@@ -149,8 +149,8 @@ class TooLarge(CookieError):
 
     status = 23
 
-    def __init__(self, *words: object, size: int = 0) -> None:
-        super().__init__(*words)
+    def __init__(self, *arguments: object, size: int = 0) -> None:
+        super().__init__(*arguments)
         self.size = size
 
 

@@ -9,11 +9,11 @@ import threading
 from typing import NamedTuple
 
 from ._library import (
-    DONE, HANDLE, SECOND, SUFFIXES_FREE, SUFFIXES_NEW, TEXT, Place, bytes_of, declare, done, handle_of,
+    DONE, HANDLE, SECOND, SUFFIXES_FREE, SUFFIXES_NEW, TEXT, Place, bytes_of, declare, perform, handle_of,
 )
 from .addresses import Address, address_of
 from .cookies import RULES
-from .dates import print_date
+from .dates import print_date, whole_second
 from .errors import error_of
 
 # The steps that refuse a cookie, in the order of their numbers in cookie.h.
@@ -37,19 +37,26 @@ COPIES = (
 
 
 class Request(ctypes.Structure):
+    """A request, for C."""
+
     _fields_ = [
         ("host", ctypes.c_char_p), ("host_length", ctypes.c_size_t),
         ("path", ctypes.c_char_p), ("path_length", ctypes.c_size_t),
-    ] + [(name, ctypes.c_bool) for name in ("is_address", "is_secure", "is_same_site", "is_top_level", "is_safe")]
+        *((name, ctypes.c_bool) for name in ("is_address", "is_secure", "is_same_site", "is_top_level", "is_safe")),
+    ]
 
 
 class StoredCookie(ctypes.Structure):
+    """A stored cookie as C returns it: the places of its texts, and the rest."""
+
     _fields_ = [(name, Place) for name in ("name", "value", "domain", "path")] + [
         ("lifetime", ctypes.c_uint64), ("same_site", ctypes.c_uint32),
     ] + [(name, ctypes.c_bool) for name in ("is_persistent", "is_host_only", "is_secure", "is_http_only")]
 
 
 class Explanation(ctypes.Structure):
+    """What C returns of a text: what refuses it, or what is stored."""
+
     _fields_ = [
         ("status", ctypes.c_uint32), ("refusal", ctypes.c_uint32), ("sentence", Place), ("section", Place),
         ("stored", StoredCookie),
@@ -66,7 +73,7 @@ class Suffixes:
         self.handle = handle_of(self, SUFFIXES_FREE)
         # Only one call at a time may use the handle.
         self.lock = threading.Lock()
-        done(SUFFIXES_NEW, text, self.handle)
+        perform(SUFFIXES_NEW, text, self.handle)
 
 
 class Refusal(NamedTuple):
@@ -188,10 +195,10 @@ def explain(
     """
     second, line = second_of(now), bytes_of(text)
     found = found_at(address_of(url, is_cross_site), line, list_text(suffixes), second)
-    return shown(told(found, line, second))
+    return shown(report_of(found, line, second))
 
 
-def told(found: Found, text: bytes, now: int, removal: bytes = b"would remove, if it were stored: ") -> bytes:
+def report_of(found: Found, text: bytes, now: int, removal: bytes = b"would remove, if it were stored: ") -> bytes:
     """The line on what was found of the text. It begins with `removal` if the cookie is expired."""
     if found.refusal:
         return b"refused: %b (RFC 6265bis, %b)" % (found.sentence, found.section)
@@ -254,7 +261,7 @@ def second_of(now: datetime.datetime | None) -> int:
     if not isinstance(now, (datetime.datetime, type(None))):
         raise TypeError("a time is a datetime.datetime")
     now = now or datetime.datetime.now(datetime.timezone.utc)
-    return int(now.replace(microsecond=0, tzinfo=now.tzinfo or datetime.timezone.utc).timestamp())
+    return whole_second(now.replace(microsecond=0, tzinfo=now.tzinfo or datetime.timezone.utc).timestamp())
 
 
 def date_after(second: int, lifetime: int) -> datetime.datetime:

@@ -8,9 +8,10 @@
 """
 from __future__ import annotations
 
+import copy
 import json
 import time
-from typing import Any, Callable, Sequence, cast
+from typing import Any, Callable, Dict, Mapping, NoReturn, Sequence, cast
 
 import flask
 from flask import Flask, Request, Response
@@ -27,7 +28,13 @@ from .errors import RevocationsError
 from .revocations import Revocations
 from .secrets import keys_of
 from .sessions import Session, Sessions
-from .values import with_expiry
+from .values import CODER, with_expiry
+
+# Where a request's environment has the session that was opened for it, since to read `flask.session` counts as its use; and
+# where the application's extensions have the interface.
+KEY = "deomigal.flask.session"
+# The types of values that don't change within.
+CONSTANT = (str, int, float, bool, bytes, type(None))
 
 
 class Unavailable(RevocationsError, ServiceUnavailable):
@@ -39,34 +46,58 @@ class Unavailable(RevocationsError, ServiceUnavailable):
 
 
 class FlaskSession(SecureCookieSession):
-    """What `flask.session` is. `kept` is the session that it was opened from, and `sessions` how the site keeps it.
-    `is_old` is whether it was a session of Flask's own class. `serializer` prints each value."""
+    """What `flask.session` is. A change within a value is saved too. `source` is the session that it was opened from, and
+    `sessions` how the site keeps it. `is_old` is whether it was a session of Flask's own class. `serializer` prints each
+    value."""
 
     def __init__(
-        self, sessions: Sessions, kept: Session, values: dict[str, Any], is_old: bool = False, serializer: Any = tagged
+        self, sessions: Sessions, source: Session, values: Mapping[str, Any], is_old: bool = False,
+        serializer: Any = tagged,
     ) -> None:
         super().__init__(values)
-        self.sessions, self.kept, self.new, self.is_old = sessions, kept, kept.is_new and not is_old, is_old
-        self.serializer = serializer
-        # The texts for which a cookie was made last, and the cookie's text, or None if it was too large.
-        self.made: tuple[dict[str, str], str | None] | None = None
+        self.sessions, self.source, self.new, self.is_old = sessions, source, source.is_new and not is_old, is_old
+        # The texts of the cookie that it was opened from, and their values.
+        self.serializer, self.opened, self.loaded = serializer, dict(source.texts), dict(values)
+        # The texts that were saved last, and the cookie's text, or None if it was too large.
+        self.saved: tuple[dict[str, str], str | None] | None = None
+
+    def items(self) -> Any:
+        """Its names and values. Flask's own doesn't count that as a use."""
+        self.accessed = True
+        return super().items()
+
+    def values(self) -> Any:
+        """Its values. Flask's own doesn't count that as a use."""
+        self.accessed = True
+        return super().values()
+
+    def copy(self) -> dict[str, Any]:
+        """Its names and values as a dict. Flask's own doesn't count that as a use."""
+        self.accessed = True
+        return super().copy()
+
+    def __deepcopy__(self, memo: dict[int, Any]) -> FlaskSession:
+        values = copy.deepcopy(dict(self), memo)
+        copied = type(self)(self.sessions, copy.copy(self.source), values, self.is_old, self.serializer)
+        copied.modified, copied.opened, copied.loaded = self.modified, self.opened, self.loaded
+        return copied
 
     @property
     def started(self) -> int:
         """When it started, in seconds since 1970."""
-        return self.kept.started
+        return self.source.started
 
     @property
     def id(self) -> bytes:
         """Its id, of sixteen bytes: each copy of its cookie has it, whenever it was saved, until it is renewed."""
-        return self.kept.id
+        return self.source.id
 
     def renew(self) -> None:
         """Starts it anew with the same values and another id, so that the lifetime counts from this request. Call it at
         a login."""
-        self.kept.renew()
+        self.source.renew()
         self.modified = self.accessed = True
-        self.made = None
+        self.saved = None
 
     def clear(self) -> None:
         """Drops the values, and starts it anew. The browser drops its cookie, but a copy of the cookie stays open until
@@ -78,7 +109,7 @@ class FlaskSession(SecureCookieSession):
         """Revokes it, and then clears it. Call it at a logout: no copy of its cookie opens any more, whenever it was
         saved. Raises `RevocationsError` if that can't be kept, or if the interface has no `revocations`."""
         try:
-            self.sessions.revoke(self.kept)
+            self.sessions.revoke(self.source)
         except RevocationsError as error:
             raise Unavailable(error) from error
         self.clear()
@@ -86,50 +117,89 @@ class FlaskSession(SecureCookieSession):
     def check(self) -> None:
         """Raises `TooLarge` if no browser would store the session as it is now. It is checked so after each view, if
         `SessionInterface.init_app` was called. What is too large isn't saved, and the browser keeps what it has."""
-        if self and self.modified:
+        if self and self.is_changed():
             self.save()
 
     def save(self) -> str:
         """The text of the cookie that saves it. It is made once for the same values."""
         texts = self.texts()
-        if self.made is None or self.made[0] != texts or self.made[1] is None:
-            self.kept.texts, self.made = texts, (texts, None)
-            self.made = texts, self.sessions.save(self.kept)
-        return cast(str, self.made[1])
+        if self.saved is None or self.saved[0] != texts or self.saved[1] is None:
+            self.source.texts, self.saved = texts, (texts, None)
+            self.saved = texts, self.sessions.save(self.source)
+        return cast(str, self.saved[1])
 
     def texts(self) -> dict[str, str]:
-        """The texts of its values."""
-        if self.modified or self.is_old:
-            return {str(name): self.text(value) for name, value in self.items()}
-        return self.kept.texts
+        """The texts of its values. What wasn't used has the texts that it was opened from."""
+        if self.modified or self.accessed or self.is_old:
+            return {name_of(name): self.text_of(name, value) for name, value in dict.items(self)}
+        return self.opened
+
+    def text_of(self, name: Any, value: Any) -> str:
+        """The text of a value. One that is as it was opened has its text of then."""
+        if type(value) in CONSTANT and name in self.opened and self.loaded.get(name) is value:
+            return self.opened[name]
+        return self.text(value)
+
+    def is_changed(self) -> bool:
+        """Whether it was changed, or a value within it."""
+        return self.modified or self.texts() != self.opened
 
     def text(self, value: Any) -> str:
         """The text of a value. Flask's JSON escapes what is outside ASCII, which has fewer bytes as it is."""
         text: str = self.serializer.dumps(value)
-        return short(text) if isinstance(self.serializer, TaggedJSONSerializer) else text
+        return without_escapes(text) if isinstance(self.serializer, TaggedJSONSerializer) else text
 
     def is_refused(self) -> bool:
         """Whether a check raised `TooLarge` for the values that it has."""
-        return self.made is not None and self.made[1] is None and self.made[0] == self.texts()
+        return self.saved is not None and self.saved[1] is None and self.saved[0] == self.texts()
 
     def __repr__(self) -> str:
         return f"<FlaskSession {list(self.keys())!r}>"
 
 
-def short(text: str) -> str:
+def name_of(name: Any) -> str:
+    """The text of a value's name, which is the name of a member in JSON. Raises `TypeError` for a name that JSON hasn't.
+
+    >>> name_of("user"), name_of(None), name_of(3)
+    ('user', 'null', '3')
+    """
+    if isinstance(name, str):
+        return name
+    if name is None or isinstance(name, (int, float)):
+        return CODER.encode(name)
+    raise TypeError(f"a name is a str, a number, a bool or None, and not of the type {type(name).__name__}")
+
+
+def without_escapes(text: str) -> str:
     """The text of JSON without escapes by `\\u`. With a lone surrogate, which has no UTF-8, it stays as it is.
 
-    >>> short('{"a":"\\\\u03b1"}'), short('"\\\\ud800"')
+    >>> without_escapes('{"a":"\\\\u03b1"}'), without_escapes('"\\\\ud800"')
     ('{"a":"\u03b1"}', '"\\\\ud800"')
     """
     if "\\u" not in text:
         return text
-    shorter = json.dumps(json.loads(text), separators=(",", ":"), ensure_ascii=False)
+    shorter = CODER.encode(json.loads(text))
     try:
         shorter.encode()
     except UnicodeEncodeError:
         return text
     return shorter
+
+
+class UnopenedSession(Dict[str, Any], SessionMixin):
+    """What `flask.session` is if it can't be looked up whether the session is revoked: each use raises that error."""
+
+    def __init__(self, error: Unavailable) -> None:
+        self.error = error
+
+    def fail(self, *_: Any, **__: Any) -> NoReturn:
+        """Raises the error."""
+        raise self.error
+
+    __getitem__ = __setitem__ = __delitem__ = __contains__ = __iter__ = __len__ = __bool__ = __eq__ = fail
+    __or__ = __ror__ = __ior__ = __reversed__ = fail  # type: ignore
+    get = keys = values = items = pop = popitem = setdefault = update = clear = copy = fail  # type: ignore
+    renew = revoke = check = fail
 
 
 # The session of the request, as `flask.session` is, but with the type that it has here.
@@ -167,7 +237,8 @@ class SessionInterface(FlaskSessionInterface):
         self.serializer = self.serializer if serializer is None else serializer
         self.salt = self.salt if salt is None else salt
         self.revocations, self.compress = revocations, compress
-        self.made: tuple[Any, Sessions] | None = None
+        # The last settings, and the sessions that they make.
+        self.latest: tuple[Any, Sessions] | None = None
         connect_to_logins(self.renew_at_login)
 
     def init_app(self, app: Flask) -> None:
@@ -176,27 +247,28 @@ class SessionInterface(FlaskSessionInterface):
         too short, with the line that makes a good one."""
         self.sessions(app)
         app.session_interface = self
-        setattr(app, "dispatch_request", self.checked(app, app.dispatch_request))
-        setattr(app, "handle_exception", self.answered(app, app.handle_exception))
+        app.extensions[KEY] = self
+        app.before_request(self.refuse_unopened)
+        # Flask offers nothing between the view and the functions of `after_request`, and what these or `save_session` raise
+        # no `errorhandler(TooLarge)` answers. So the call that makes the view's answer is replaced.
+        setattr(app, "dispatch_request", self.checking(app, app.dispatch_request))
 
-    def checked(self, app: Flask, dispatch: Callable[..., Any]) -> Callable[..., Any]:
-        """Calls the view, and then checks the session. So `errorhandler(TooLarge)` answers what is raised."""
-        def dispatch_request(*given: Any) -> Any:
-            answer = dispatch(*given)
-            if app.session_interface is self and isinstance(session, FlaskSession):
-                session.check()
+    def checking(self, app: Flask, dispatch: Callable[..., Any]) -> Callable[..., Any]:
+        """A call that calls the view, and then checks the session. So `errorhandler(TooLarge)` answers what is raised."""
+        def dispatch_request(*arguments: Any) -> Any:
+            answer = dispatch(*arguments)
+            opened = opened_session()
+            if app.session_interface is self and isinstance(opened, FlaskSession):
+                opened.check()
             return answer
 
         return dispatch_request
 
-    def answered(self, app: Flask, handle: Callable[..., Any]) -> Callable[..., Any]:
-        """Answers a session that can't be looked up as an error of the view, since it is opened before the view."""
-        def handle_exception(error: Exception) -> Any:
-            if isinstance(error, Unavailable):
-                return app.finalize_request(app.handle_user_exception(error), from_error_handler=True)
-            return handle(error)
-
-        return handle_exception
+    def refuse_unopened(self) -> None:
+        """Before each view, raises why the session can't be opened. So `errorhandler(RevocationsError)` answers it."""
+        opened = opened_session()
+        if isinstance(opened, UnopenedSession):
+            opened.fail()
 
     def sessions(self, app: Flask) -> Sessions:
         """The sessions of the application, by its keys and its settings as they are now."""
@@ -208,35 +280,46 @@ class SessionInterface(FlaskSessionInterface):
             "same_site": same_site and same_site.title(),
             "partitioned": app.config.get("SESSION_COOKIE_PARTITIONED", False),
         }
-        secrets = self.keys or [app.secret_key or b"", *(app.config.get("SECRET_KEY_FALLBACKS") or ())]
+        derived: list[Any] = [app.secret_key or b"", *(app.config.get("SECRET_KEY_FALLBACKS") or ())]
+        secrets = self.keys or derived
         idle = lifetime if self.idle is None else self.idle
         settings = (secrets, self.get_cookie_name(app), lifetime, idle, attributes)
-        made = self.made
-        if made is None or made[0] != settings:
+        latest = self.latest
+        if latest is None or latest[0] != settings:
             keys = self.keys or keys_of(secrets, self.salt)
             sessions = Sessions(
                 keys, *settings[1:4], **attributes, revocations=self.revocations, compress=self.compress
             )
-            self.made = made = (settings, sessions)
-        return made[1]
+            self.latest = latest = (settings, sessions)
+        return latest[1]
 
-    def open_session(self, app: Flask, request: Request) -> FlaskSession | None:
+    def open_session(self, app: Flask, request: Request) -> SessionMixin | None:
         """The session of the request, a new one, or None if the application has no key."""
         if not self.keys and not app.secret_key:
             return None
         sessions, header = self.sessions(app), request.environ.get("HTTP_COOKIE", "")
+        opened: SessionMixin
         try:
-            kept = sessions.open(header, self.clock())
+            opened = self.session_in(app, sessions, header)
         except RevocationsError as error:
-            raise Unavailable(error) from error
+            opened = UnopenedSession(Unavailable(error))
+            if app.extensions.get(KEY) is not self:
+                # Without `init_app` nothing refuses it before the view.
+                opened.fail()
+        request.environ[KEY] = opened
+        return opened
+
+    def session_in(self, app: Flask, sessions: Sessions, header: str) -> FlaskSession:
+        """The session in the request's header, or a new one."""
+        source = sessions.open(header, self.clock())
         try:
-            values = {name: self.serializer.loads(text) for name, text in kept.items()}
+            values = {name: self.serializer.loads(text) for name, text in source.items()}
         except Exception:
             # Another program or another serializer saved it, and a serializer raises what it wants.
-            kept, values = sessions.start(kept.now), {}
-        old = self.old_values(app, header) if self.migrate and kept.is_new else None
+            source, values = sessions.start(source.now), {}
+        old = self.old_values(app, header) if self.migrate and source.is_new else None
         values = values if old is None else old
-        return self.session_class(sessions, kept, values, old is not None, self.serializer)
+        return self.session_class(sessions, source, values, old is not None, self.serializer)
 
     def old_values(self, app: Flask, header: str) -> dict[str, Any] | None:
         """The values of a session of Flask's own class, or None."""
@@ -255,14 +338,14 @@ class SessionInterface(FlaskSessionInterface):
         """Whether to save the session: it was changed, an older key or Flask's own class opened it, or its use is to
         count."""
         assert isinstance(session, FlaskSession)
-        return session.modified or session.is_old or bool(session.kept.place) or self.is_due(app, session)
+        return session.is_changed() or session.is_old or bool(session.source.place) or self.is_due(app, session)
 
     def is_due(self, app: Flask, session: FlaskSession) -> bool:
         """Whether the use of a session that wasn't changed is to count: it wasn't saved for a part of its idle time."""
         limit = app.permanent_session_lifetime.total_seconds() if self.idle is None else self.idle
         refresh = limit / 10 if self.refresh is None else self.refresh
         counts = app.config["SESSION_REFRESH_EACH_REQUEST"] and (session.permanent or self.idle is not None)
-        return bool(counts and session.kept.now - session.kept.seen >= refresh)
+        return bool(counts and session.source.now - session.source.seen >= refresh)
 
     def save_session(self, app: Flask, session: SessionMixin, response: Response) -> None:
         """Saves the session in the response, or removes its cookie if it was emptied. An error page or a file that
@@ -282,15 +365,21 @@ class SessionInterface(FlaskSessionInterface):
     def text_of(self, app: Flask, session: FlaskSession) -> str | None:
         """The text of the cookie that saves the session or has it dropped, or None."""
         if not session:
-            return session.sessions.end(session.kept.now) if session.modified else None
+            return session.sessions.end(session.source.now) if session.modified else None
         if not self.should_set_cookie(app, session) or session.is_refused():
             return None
-        return with_expiry(session.save(), session.kept, session.permanent)
+        return with_expiry(session.save(), session.source, session.permanent)
 
     def renew_at_login(self, app: Flask, **_: Any) -> None:
         """Starts the session anew at a login, if this keeps the application's sessions."""
-        if app.session_interface is self and isinstance(session, FlaskSession):
-            session.renew()
+        opened = opened_session()
+        if app.session_interface is self and isinstance(opened, FlaskSession):
+            opened.renew()
+
+
+def opened_session() -> SessionMixin | None:
+    """The session that was opened for the request, if any."""
+    return cast("SessionMixin | None", flask.request.environ.get(KEY))
 
 
 def connect_to_logins(receiver: Callable[..., None]) -> None:

@@ -110,6 +110,7 @@ class CookieTransport(httpx.BaseTransport):
         self.transport.__exit__(kind, error, trace)
 
     def close(self) -> None:
+        """Closes the transport within."""
         self.transport.close()
 
 
@@ -146,4 +147,5 @@ class AsyncCookieTransport(httpx.AsyncBaseTransport):
         await self.transport.__aexit__(kind, error, trace)
 
     async def aclose(self) -> None:
+        """Closes the transport within."""
         await self.transport.aclose()

@@ -8,7 +8,7 @@ from urllib.parse import unquote
 
 from ._library import (
     JAR_ADD, JAR_ADD_ORIGINALS, JAR_COOKIES, JAR_DELTA, JAR_FREE, JAR_GET, JAR_NEW, JAR_REMOVE_SCOPED, RUN, Uncopied,
-    done, given, handle_of, header_of, read, seeds,
+    perform, bytes_from, handle_of, header_of, seeds, text_or_none,
 )
 from .dates import print_date
 from .errors import NotFound
@@ -33,8 +33,8 @@ class Jar(Uncopied):
         # Only one call at a time may use the handle.
         self.lock = threading.Lock()
         originals = header_of(header)
-        done(JAR_NEW, *seeds(), self.handle)
-        done(JAR_ADD_ORIGINALS, self.handle, originals)
+        perform(JAR_NEW, *seeds(), self.handle)
+        perform(JAR_ADD_ORIGINALS, self.handle, originals)
 
     def __enter__(self) -> Jar:
         return self
@@ -49,7 +49,7 @@ class Jar(Uncopied):
         control character.
         """
         with self.lock:
-            done(JAR_ADD, self.handle, text)
+            perform(JAR_ADD, self.handle, text)
 
     def remove(self, name: str, moment: datetime.datetime | None = None, path: str = "", domain: str = "") -> None:
         """Removes the cookie of that name, now or at the time `moment`.
@@ -59,12 +59,12 @@ class Jar(Uncopied):
         """
         moment = moment or datetime.datetime.now(datetime.timezone.utc)
         with self.lock:
-            done(JAR_REMOVE_SCOPED, self.handle, print_date(moment), name, path, domain)
+            perform(JAR_REMOVE_SCOPED, self.handle, print_date(moment), name, path, domain)
 
     def get(self, name: str) -> str | None:
         """The value of the cookie of that name, or None."""
         with self.lock:
-            return read(JAR_GET, (NotFound,), self.handle, name)
+            return text_or_none(JAR_GET, (NotFound,), self.handle, name)
 
     def __getitem__(self, name: str) -> str:
         """The value of the cookie of that name, or `KeyError`."""
@@ -80,7 +80,7 @@ class Jar(Uncopied):
     def items(self) -> list[tuple[str, str]]:
         """The names of the jar's cookies with their values, in any order."""
         with self.lock:
-            lines = given(JAR_COOKIES, self.handle).decode().split("\n")[:-1]
+            lines = bytes_from(JAR_COOKIES, self.handle).decode().split("\n")[:-1]
         pairs = (line.partition("=") for line in lines)
         return [(unquote(name), unquote(value)) for name, _, value in pairs]
 
@@ -94,7 +94,7 @@ class Jar(Uncopied):
     def delta(self) -> list[str]:
         """The lines `Set-Cookie: ..` for the jar's changes, in any order."""
         with self.lock:
-            return given(JAR_DELTA, self.handle).decode().split("\n")[:-1]
+            return bytes_from(JAR_DELTA, self.handle).decode().split("\n")[:-1]
 
     def close(self) -> None:
         """Frees the jar. All other calls raise `NoJar` from then on."""
@@ -112,4 +112,4 @@ def run(moment: str | datetime.datetime, text: str) -> str:
     """
     if isinstance(moment, datetime.datetime):
         moment = print_date(moment)
-    return given(RUN, *seeds(), moment, text).decode()
+    return bytes_from(RUN, *seeds(), moment, text).decode()

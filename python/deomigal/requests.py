@@ -93,22 +93,22 @@ class CookieAdapter(Uncopied, HTTPAdapter):
     Sessions and threads may share it.
     """
 
-    def __init__(self, agent: Agent | None = None, *, context: Context = SAME_SITE, **named: Any) -> None:
-        super().__init__(**named)
+    def __init__(self, agent: Agent | None = None, *, context: Context = SAME_SITE, **options: Any) -> None:
+        super().__init__(**options)
         self.agent, self.context = Agent() if agent is None else agent, context
 
-    def send(self, request: PreparedRequest, *words: Any, **named: Any) -> Response:
+    def send(self, request: PreparedRequest, *arguments: Any, **options: Any) -> Response:
         """Sends the request with the agent's cookies, and reads the cookies of the response."""
         request.headers.pop("Cookie", None)
         address = self.address_of(request.url or "")
         if address is None:
-            return super().send(request, *words, **named)
+            return super().send(request, *arguments, **options)
         is_safe = self.context.is_safe and (request.method or "").upper() in SAFE_METHODS
         header = self.agent.header_at(address, is_safe)
         if header:
             # http.client prints a character as the byte of Latin-1.
             request.headers["Cookie"] = header.decode("latin-1")
-        response = super().send(request, *words, **named)
+        response = super().send(request, *arguments, **options)
         self.agent.read_all(address, texts_of(response.raw.headers.getlist("Set-Cookie")))
         return response
 

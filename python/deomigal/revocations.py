@@ -63,13 +63,16 @@ class MemoryRevocations:
         self.until: dict[bytes, int] = {}
 
     def is_revoked(self, id: bytes) -> bool:
+        """Whether the session with this id is revoked."""
         return id_of(id) in self.until
 
     def revoke(self, id: bytes, until: int) -> None:
+        """Revokes the session with this id until that second, or a later one."""
         with self.lock:
             self.until[id_of(id)] = max(until, self.until.get(id, until))
 
     def forget(self, now: float) -> None:
+        """Forgets each session whose second isn\'t after `now`."""
         with self.lock:
             self.until = {id: until for id, until in self.until.items() if until > now}
 
@@ -96,10 +99,10 @@ class SqliteRevocations:
             raise RevocationsError(f"SQLite {sqlite3.sqlite_version} is older than 3.37, the first with STRICT tables")
         self.path, self.timeout = os.fspath(path), timeout
         # A connection is used by the thread and the process that made it.
-        self.kept = threading.local()
-        self.called(lambda connection: None)
+        self.local = threading.local()
+        self.with_connection(lambda connection: None)
 
-    def called(self, call: Callable[[sqlite3.Connection], T]) -> T:
+    def with_connection(self, call: Callable[[sqlite3.Connection], T]) -> T:
         """What the call returns for this thread's connection. An error of SQLite is one of these."""
         try:
             return call(self.connection())
@@ -108,36 +111,36 @@ class SqliteRevocations:
 
     def connection(self) -> sqlite3.Connection:
         """The connection of this thread."""
-        made: tuple[int, sqlite3.Connection] | None = getattr(self.kept, "made", None)
-        if made is None or made[0] != os.getpid():
-            self.kept.made = made = (os.getpid(), self.connected())
-        return made[1]
+        opened: tuple[int, sqlite3.Connection] | None = getattr(self.local, "opened", None)
+        if opened is None or opened[0] != os.getpid():
+            self.local.opened = opened = (os.getpid(), self.connect())
+        return opened[1]
 
-    def connected(self) -> sqlite3.Connection:
+    def connect(self) -> sqlite3.Connection:
         """A new connection, over a file that has the table. SQLite doesn't wait for another process that switches a new
         file to WAL at the same time, so this does."""
         end = time.monotonic() + self.timeout
         while True:
             try:
-                return self.prepared()
+                return self.open_connection()
             except sqlite3.OperationalError as error:
                 if "locked" not in str(error) or time.monotonic() > end:
                     raise
             time.sleep(0.01)
 
-    def prepared(self) -> sqlite3.Connection:
+    def open_connection(self) -> sqlite3.Connection:
         """A new connection, over a file that has the table."""
         connection = sqlite3.connect(self.path, timeout=self.timeout, isolation_level=None)
         try:
             connection.execute("PRAGMA journal_mode = WAL")
             connection.execute("PRAGMA synchronous = FULL")
-            self.prepare(connection)
+            self.make_table(connection)
         except BaseException:
             connection.close()
             raise
         return connection
 
-    def prepare(self, connection: sqlite3.Connection) -> None:
+    def make_table(self, connection: sqlite3.Connection) -> None:
         """Makes the table in an empty file. Refuses a file that has another one."""
         if not self.tables(connection):
             connection.execute("BEGIN IMMEDIATE")
@@ -159,24 +162,27 @@ class SqliteRevocations:
         return [" ".join(text.split()) for text, in rows]
 
     def is_revoked(self, id: bytes) -> bool:
-        words, id = "SELECT 1 FROM revoked WHERE id = ? LIMIT 1", id_of(id)
-        return self.called(lambda connection: connection.execute(words, [id]).fetchone() is not None)
+        """Whether the session with this id is revoked."""
+        statement, id = "SELECT 1 FROM revoked WHERE id = ? LIMIT 1", id_of(id)
+        return self.with_connection(lambda connection: connection.execute(statement, [id]).fetchone() is not None)
 
     def revoke(self, id: bytes, until: int) -> None:
-        words = "INSERT INTO revoked SELECT ?1, ?2"
-        words += " WHERE NOT EXISTS (SELECT 1 FROM revoked WHERE id = ?1 AND until >= ?2)"
+        """Revokes the session with this id until that second, or a later one."""
+        statement = "INSERT INTO revoked SELECT ?1, ?2"
+        statement += " WHERE NOT EXISTS (SELECT 1 FROM revoked WHERE id = ?1 AND until >= ?2)"
         id = id_of(id)
-        self.called(lambda connection: connection.execute(words, [id, until]))
+        self.with_connection(lambda connection: connection.execute(statement, [id, until]))
 
     def forget(self, now: float) -> None:
-        self.called(lambda connection: connection.execute("DELETE FROM revoked WHERE until <= ?", [int(now)]))
+        """Forgets each session whose second isn\'t after `now`."""
+        self.with_connection(lambda connection: connection.execute("DELETE FROM revoked WHERE until <= ?", [int(now)]))
 
     def close(self) -> None:
         """Closes the connection of this thread. The next call opens another one."""
-        made: tuple[int, sqlite3.Connection] | None = getattr(self.kept, "made", None)
-        if made is not None and made[0] == os.getpid():
-            made[1].close()
-        self.kept.made = None
+        opened: tuple[int, sqlite3.Connection] | None = getattr(self.local, "opened", None)
+        if opened is not None and opened[0] == os.getpid():
+            opened[1].close()
+        self.local.opened = None
 
 
 class RedisRevocations:
@@ -192,15 +198,18 @@ class RedisRevocations:
         self.client, self.prefix = client, prefix
 
     def key(self, id: bytes) -> str:
+        """The key of the id in Redis."""
         return self.prefix + id_of(id).hex()
 
     def is_revoked(self, id: bytes) -> bool:
+        """Whether the session with this id is revoked."""
         found = self.client.exists(self.key(id))
         if found not in (0, 1):
             raise RevocationsError(f"`exists` returned {found!r}, which is no number of keys")
         return bool(found)
 
     def revoke(self, id: bytes, until: int) -> None:
+        """Revokes the session with this id until that second, or a later one."""
         if not self.client.set(self.key(id), b"", nx=True, exat=until):
             # It is revoked already: the later second counts.
             self.client.expireat(self.key(id), until, gt=True)

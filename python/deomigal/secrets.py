@@ -5,7 +5,7 @@ import hmac
 import os
 from typing import Iterable
 
-from ._library import DERIVE_KEY, OPEN, SEAL, SIGN, VERIFY, bytes_of, given, key_of, read
+from ._library import DERIVE_KEY, OPEN, SEAL, SIGN, VERIFY, bytes_of, bytes_from, key_of, text_or_none
 from .errors import MasterTooShort, NotSealed, NotSigned, NotUtf8
 
 # The fewest bytes of a master key.
@@ -19,7 +19,7 @@ def derive_key(master: bytes) -> bytes:
     >>> len(derive_key(b"a master key of at least 32 bytes"))
     64
     """
-    return given(DERIVE_KEY, key_of(master))
+    return bytes_from(DERIVE_KEY, key_of(master))
 
 
 def keys_of(secrets: Iterable[str | bytes], salt: str | bytes | None = None) -> list[bytes]:
@@ -50,12 +50,12 @@ def sign(key: bytes, name: str, value: str) -> str:
     >>> sign(derive_key(b"a master key of at least 32 bytes"), "session", "ann")
     'yfpi77iCbAHvzPqzaNqCydxDHw00Rx+/JAtbZtMf68U=ann'
     """
-    return given(SIGN, key_of(key), name, value).decode()
+    return bytes_from(SIGN, key_of(key), name, value).decode()
 
 
 def verify(key: bytes, name: str, text: str) -> str | None:
     """The value of a text that `sign` made under the same key and name, or None. Raises `KeyTooShort`."""
-    return read(VERIFY, (NotSigned, NotUtf8), key_of(key), name, text)
+    return text_or_none(VERIFY, (NotSigned, NotUtf8), key_of(key), name, text)
 
 
 def seal(key: bytes, name: str, value: str, nonce: bytes | None = None) -> str:
@@ -69,9 +69,9 @@ def seal(key: bytes, name: str, value: str, nonce: bytes | None = None) -> str:
     'ann'
     """
     drawn = os.urandom(12) if nonce is None else key_of(nonce, "a nonce is bytes")
-    return given(SEAL, key_of(key), drawn, name, value).decode()
+    return bytes_from(SEAL, key_of(key), drawn, name, value).decode()
 
 
 def open_sealed(key: bytes, name: str, text: str) -> str | None:
     """The value of a text that `seal` made under the same key and name, or None. Raises `KeyTooShort`."""
-    return read(OPEN, (NotSealed, NotUtf8), key_of(key), name, text)
+    return text_or_none(OPEN, (NotSealed, NotUtf8), key_of(key), name, text)

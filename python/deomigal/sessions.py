@@ -5,18 +5,18 @@ from __future__ import annotations
 import contextlib
 import os
 import threading
-import time
 from typing import Any, Iterator, MutableMapping, Sequence
 from urllib.parse import parse_qsl, urlencode
 
 from ._library import (
     DONE, SESSION_DESCRIBE, SESSION_END, SESSION_FREE, SESSION_OPEN, SESSION_RENEW, SESSION_SAVE, SESSION_SET_TEXTS,
-    SESSION_START, SESSION_TEXTS, SESSIONS_FREE, SESSIONS_NEW, Settings, Uncopied, arguments_of, done, given, handle_of,
+    SESSION_START, SESSION_TEXTS, SESSIONS_FREE, SESSIONS_NEW, Settings, Uncopied, arguments_of, perform, bytes_from, handle_of,
     header_of, ring_of,
 )
-from .compression import expanded, smaller
+from .compression import expand, shorten
 from .cookies import print_cookie
-from .errors import NoDate, NoSession, RevocationsError, error_of
+from .dates import whole_second
+from .errors import NoSession, NotUtf8, RevocationsError, error_of
 from .revocations import ID_LENGTH, Revocations
 
 # Room for a cookie that a browser stores, and for the texts in it.
@@ -39,7 +39,7 @@ class Session(MutableMapping[str, str]):
     def __init__(self, now: int) -> None:
         if not isinstance(now, int):
             raise TypeError("a second is an int")
-        self.now = self.started = self.seen = now
+        self.now = self.started = self.seen = whole_second(now)
         self.place: int | None = None
         self.id = os.urandom(ID_LENGTH)
         # The ids that cookies of it may have, each with its start.
@@ -149,6 +149,8 @@ class Sessions(Uncopied):
         compress: bool = False,
     ) -> None:
         ring = ring_of(keys)
+        if not isinstance(lifetime, int) or not isinstance(idle, int):
+            raise TypeError("a limit is an int of seconds")
         if not all(0 <= limit < 2**32 for limit in (lifetime, idle)):
             raise OverflowError("a limit has at most 32 bits")
         if revocations is not None and not (hasattr(revocations, "is_revoked") and hasattr(revocations, "revoke")):
@@ -161,17 +163,15 @@ class Sessions(Uncopied):
         self.handle = handle_of(self, SESSIONS_FREE)
         # Only one call at a time may use the handle.
         self.lock = threading.Lock()
-        done(SESSIONS_NEW, Settings(ring, len(ring), cookie, len(cookie), lifetime, idle), self.handle)
+        perform(SESSIONS_NEW, Settings(ring, len(ring), cookie, len(cookie), lifetime, idle), self.handle)
         self.save(self.start())
 
     def start(self, now: float | None = None) -> Session:
         """A new session without texts. `now` is in seconds since 1970; without it the clock's time counts.
 
-        Start one at a login, if no text of before it may survive.
+        Start one at a login, if no text of before it may survive. Raises `NoDate` for a time before 1970, or from 2^64 on.
         """
-        if not isinstance(now, (int, float, type(None))):
-            raise TypeError("a time is in seconds since 1970")
-        return Session(int(time.time() if now is None else now))
+        return Session(whole_second(now))
 
     def open(self, header: str | bytes | None, now: float | None = None) -> Session:
         """The session in a request's `Cookie` header, or a new one if the header has no open session, or is None.
@@ -199,9 +199,9 @@ class Sessions(Uncopied):
         if status == DONE:
             session.started, session.seen, session.place = facts.started, facts.seen, facts.place
             session.id, session.starts, session.is_renewed = found, {found: facts.started}, False
-            form = given(SESSION_TEXTS, session.handle, room=ROOM).decode()
+            form = bytes_from(SESSION_TEXTS, session.handle, room=ROOM).decode()
             try:
-                session.texts = expanded(dict(parse_qsl(form, keep_blank_values=True)))
+                session.texts = expand(dict(parse_qsl(form, keep_blank_values=True)))
             except ValueError:
                 # Another program saved it, under the same key.
                 return self.start(session.now)
@@ -212,7 +212,7 @@ class Sessions(Uncopied):
 
     def fill(self, session: Session) -> int:
         """Opens the session of its header for its handle, and returns the status."""
-        inputs = (self.handle, session.header, session.revoked, seconds(session), session.handle)
+        inputs = (self.handle, session.header, session.revoked, session.now, session.handle)
         with self.lock:
             status: int = SESSION_OPEN(*arguments_of(SESSION_OPEN, inputs))
         return status
@@ -221,7 +221,7 @@ class Sessions(Uncopied):
         """Whether the session with this id is revoked. Raises `RevocationsError` for whatever the look-up raises."""
         if self.revocations is None:
             return False
-        with named("it can't be looked up whether a session is revoked"):
+        with as_revocations_error("it can't be looked up whether a session is revoked"):
             found = self.revocations.is_revoked(id)
         if not isinstance(found, bool):
             raise RevocationsError(f"is_revoked returns a bool, and not a value of the type {type(found).__name__}")
@@ -244,7 +244,7 @@ class Sessions(Uncopied):
         """
         if self.revocations is None:
             raise RevocationsError("these sessions can't be revoked: they have no revocations")
-        with named("a session can't be revoked"):
+        with as_revocations_error("a session can't be revoked"):
             for id, started in list(session.starts.items()):
                 self.revocations.revoke(id, started + self.lifetime)
 
@@ -252,7 +252,8 @@ class Sessions(Uncopied):
         """The value of the `Set-Cookie` header that saves the session, encrypted under the newest key.
 
         Save at each request, so that the idle time counts from it. Raises `TooLarge` if a browser wouldn't store the
-        cookie: there is room for about 2,950 bytes of texts in UTF-8, or of what they are when they are compressed.
+        cookie: there is room for about 2,950 bytes of texts in UTF-8, or of what they are when they are compressed. Raises
+        `NotUtf8` for a text with a lone surrogate.
 
         >>> from deomigal import derive_key
         >>> from deomigal.errors import TooLarge
@@ -267,16 +268,21 @@ class Sessions(Uncopied):
         """
         if not isinstance(session, Session):
             raise TypeError("what is saved is a Session")
-        now, handle = seconds(session), session.handle
+        now, handle = session.now, session.handle
         if session.is_renewed and not handle.is_open:
-            done(SESSION_START, session.id, now, handle)
+            perform(SESSION_START, session.id, now, handle)
         elif session.is_renewed:
-            done(SESSION_RENEW, handle, session.id, now)
+            perform(SESSION_RENEW, handle, session.id, now)
         elif not handle.is_open and (status := self.fill(session)) != DONE:
             raise error_of(status)
-        done(SESSION_SET_TEXTS, handle, urlencode(smaller(session.texts, self.compress)))
+        try:
+            form = urlencode(shorten(session.texts, self.compress))
+        except UnicodeEncodeError:
+            # A lone surrogate.
+            raise error_of(NotUtf8.status) from None
+        perform(SESSION_SET_TEXTS, handle, form)
         with self.lock:
-            text = given(SESSION_SAVE, self.handle, handle, os.urandom(12), now, room=ROOM).decode()
+            text = bytes_from(SESSION_SAVE, self.handle, handle, os.urandom(12), now, room=ROOM).decode()
         session.starts[session.id] = session.started
         return text
 
@@ -290,18 +296,11 @@ class Sessions(Uncopied):
         'session=; HttpOnly; SameSite=Lax; Secure; Path=/; Max-Age=0; Expires=Tue, 21 Oct 2014 07:28:00 GMT'
         """
         with self.lock:
-            return given(SESSION_END, self.handle, seconds(self.start(now))).decode()
-
-
-def seconds(session: Session) -> int:
-    """The second of the session's request. A second before 1970 is refused, as one past the year 9999 is."""
-    if not 0 <= session.now < 2**64:
-        raise error_of(NoDate.status)
-    return session.now
+            return bytes_from(SESSION_END, self.handle, whole_second(now)).decode()
 
 
 @contextlib.contextmanager
-def named(what: str) -> Iterator[None]:
+def as_revocations_error(what: str) -> Iterator[None]:
     """Raises what is raised within as `RevocationsError`."""
     try:
         yield

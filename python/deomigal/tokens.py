@@ -2,10 +2,10 @@
 from __future__ import annotations
 
 import os
-import time
 from typing import Sequence
 
-from ._library import TOKEN_MAKE, TOKEN_READ, TokenSettings, Uncopied, bytes_of, given, read, ring_of
+from ._library import TOKEN_MAKE, TOKEN_READ, TokenSettings, Uncopied, bytes_of, bytes_from, text_or_none, ring_of
+from .dates import whole_second
 from .errors import NotSealed, NotUtf8
 
 
@@ -28,10 +28,10 @@ class Tokens(Uncopied):
     """
 
     def __init__(self, keys: Sequence[bytes], purpose: str, lifetime: int) -> None:
-        ring, named = ring_of(keys), bytes_of(purpose)
+        ring, purpose_bytes = ring_of(keys), bytes_of(purpose)
         if not 0 <= lifetime < 2**32:
             raise OverflowError("a lifetime has at most 32 bits")
-        self.settings = TokenSettings(ring, len(ring), named, len(named), lifetime)
+        self.settings = TokenSettings(ring, len(ring), purpose_bytes, len(purpose_bytes), lifetime)
         self.make("")
 
     def make(self, value: str, now: float | None = None) -> str:
@@ -40,15 +40,9 @@ class Tokens(Uncopied):
         It draws twelve random bytes: let at most 2^32 be drawn under one key (SP 800-38D 8.3). Raises `NotUtf8`,
         `TooLong` or `NoDate`.
         """
-        return given(TOKEN_MAKE, self.settings, value, os.urandom(12), second_of(now), room=len(value) + 256).decode()
+        return bytes_from(TOKEN_MAKE, self.settings, value, os.urandom(12), whole_second(now), room=len(value) + 256).decode()
 
     def read(self, token: str | bytes, now: float | None = None) -> str | None:
-        """The value of a token that `make` made for the same purpose under one of the keys, or None if it is over."""
-        return read(TOKEN_READ, (NotSealed, NotUtf8), self.settings, token, second_of(now))
-
-
-def second_of(now: float | None) -> int:
-    """The whole second, of the clock if there is none."""
-    if not isinstance(now, (int, float, type(None))):
-        raise TypeError("a time is in seconds since 1970")
-    return int(time.time() if now is None else now)
+        """The value of a token that `make` made for the same purpose under one of the keys, or None if it is over. Raises
+        `NoDate`."""
+        return text_or_none(TOKEN_READ, (NotSealed, NotUtf8), self.settings, token, whole_second(now))

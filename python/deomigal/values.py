@@ -21,12 +21,15 @@ EMPTY = b"{}"
 UNAVAILABLE = b"Try again in a moment.\n"
 UNAVAILABLE_FIELDS = [("Content-Type", "text/plain"), ("Retry-After", "1")]
 FORTNIGHT = 14 * 24 * 3600
+# How the values of a session are printed: as they are, or in ASCII, with escapes.
+CODER = json.JSONEncoder(separators=(",", ":"), ensure_ascii=False)
+ASCII_CODER = json.JSONEncoder(separators=(",", ":"))
 
 
-def packed(data: bytes) -> dict[str, str]:
+def pack(data: bytes) -> dict[str, str]:
     """The bytes as the text of a session, in the shorter of two forms. Bytes that aren't UTF-8 have only the second.
 
-    >>> packed(b'{"a":1}'), packed(b"a=b&c=d")
+    >>> pack(b'{"a":1}'), pack(b"a=b&c=d")
     ({'j': '{"a":1}'}, {'b': 'YT1iJmM9ZA'})
     """
     encoded = base64.urlsafe_b64encode(data).rstrip(b"=").decode()
@@ -38,10 +41,10 @@ def packed(data: bytes) -> dict[str, str]:
     return {PLAIN: text} if length <= len(encoded) else {ENCODED: encoded}
 
 
-def unpacked(texts: Mapping[str, str]) -> bytes:
-    """The bytes that `packed` made the text of. Raises `ValueError` if the texts are another program's.
+def unpack(texts: Mapping[str, str]) -> bytes:
+    """The bytes that `pack` made the text of. Raises `ValueError` if the texts are another program's.
 
-    >>> unpacked(packed(b"12")), unpacked(packed(b"\\xff"))
+    >>> unpack(pack(b"12")), unpack(pack(b"\\xff"))
     (b'12', b'\\xff')
     """
     if list(texts) == [PLAIN]:
@@ -52,19 +55,19 @@ def unpacked(texts: Mapping[str, str]) -> bytes:
     raise ValueError("these texts aren't a session of values")
 
 
-def json_of(values: Mapping[str, Any]) -> bytes:
+def json_of(values: Any) -> bytes:
     """The values in JSON. A lone surrogate has no UTF-8, and is escaped."""
     try:
-        return json.dumps(values, separators=(",", ":"), ensure_ascii=False).encode()
+        return CODER.encode(values).encode()
     except UnicodeEncodeError:
-        return json.dumps(values, separators=(",", ":")).encode()
+        return ASCII_CODER.encode(values).encode()
 
 
-def with_expiry(text: str, session: Session, is_kept: bool = True) -> str:
+def with_expiry(text: str, session: Session, is_lasting: bool = True) -> str:
     """The text of the saved session's cookie with `Expires` beside its `Max-Age`, for browsers that know only one. With
     neither if the browser isn't to keep it when it closes."""
     head, _, age = text.rpartition("; Max-Age=")
-    return f"{text}; Expires={print_date(date_after(session.now, int(age)))}" if is_kept else head
+    return f"{text}; Expires={print_date(date_after(session.now, int(age)))}" if is_lasting else head
 
 
 if TYPE_CHECKING:
@@ -75,15 +78,16 @@ else:
         """A dict whose calls go through the five of a `MutableMapping`."""
 
 
-class Values(Mapped):
-    """The values of a session: a dict of what JSON has. `accessed` is whether the request used it.
+class CookieSession(Mapped):
+    """The session of a request: a dict of what JSON has. A change within a value is saved too. A copy is a plain dict.
 
-    `opened` is their JSON as it was opened: a change within a value shows when they are printed again.
+    `accessed` is whether the request used it. `source` is the session that it was opened from, and `opened` the JSON that
+    its values had then: a change shows when they are printed again.
     """
 
-    def __init__(self, sessions: Sessions, kept: Session, values: Mapping[str, Any], opened: bytes) -> None:
+    def __init__(self, sessions: Sessions, source: Session, values: Mapping[str, Any], opened: bytes) -> None:
         dict.__init__(self, values)
-        self.sessions, self.kept, self.opened, self.accessed = sessions, kept, opened, False
+        self.sessions, self.source, self.opened, self.accessed = sessions, source, opened, False
 
     def __getitem__(self, name: str) -> Any:
         self.accessed = True
@@ -105,29 +109,48 @@ class Values(Mapped):
         self.accessed = True
         return dict.__len__(self)
 
+    def __reversed__(self) -> Iterator[str]:
+        self.accessed = True
+        return dict.__reversed__(self)
+
+    def popitem(self) -> tuple[str, Any]:
+        """Removes the name that was put in last, and returns it with its value, or raises `KeyError`."""
+        for name in reversed(self):
+            return name, self.pop(name)
+        raise KeyError("the session has no values")
+
+    @classmethod
+    def fromkeys(cls, names: Iterable[str], value: Any = None) -> dict[str, Any]:  # type: ignore[override]
+        """A plain dict with these names, each with the value."""
+        return dict.fromkeys(names, value)
+
+    def __reduce_ex__(self, _: Any) -> tuple[Any, ...]:
+        self.accessed = True
+        return dict, (dict(dict.items(self)),)
+
     def __repr__(self) -> str:
-        return f"<Values {list(dict.keys(self))!r}>"
+        return f"<CookieSession {list(dict.keys(self))!r}>"
 
     @property
     def started(self) -> int:
         """When the session started, in seconds since 1970."""
-        return self.kept.started
+        return self.source.started
 
     @property
     def is_new(self) -> bool:
         """Whether the request has no open session."""
-        return self.kept.is_new
+        return self.source.is_new
 
     @property
     def id(self) -> bytes:
         """Its id, of sixteen bytes: each copy of its cookie has it, whenever it was saved, until it is renewed."""
-        return self.kept.id
+        return self.source.id
 
     def renew(self) -> None:
         """Starts it anew with the same values and another id, so that the lifetime counts from this request. Call it at
         a login."""
         self.accessed = True
-        self.kept.renew()
+        self.source.renew()
 
     def clear(self) -> None:
         """Drops the values, and starts it anew. A copy of its cookie stays open until its limits: at a logout call
@@ -138,8 +161,39 @@ class Values(Mapped):
     def revoke(self) -> None:
         """Revokes it, and then clears it. Call it at a logout: no copy of its cookie opens any more, whenever it was
         saved. Raises `RevocationsError` if that can't be kept, or if the middleware has no `revocations`."""
-        self.sessions.revoke(self.kept)
+        self.sessions.revoke(self.source)
         self.clear()
+
+    def check(self) -> None:
+        """Raises `TooLarge` if no browser would store the session as it is now. Else that is raised where the response
+        starts, and then the application can't answer it."""
+        data = self.json()
+        if data not in (self.opened, EMPTY):
+            self.save(data)
+
+    def json(self) -> bytes:
+        """Its values in JSON."""
+        return json_of(dict(dict.items(self)))
+
+    def save(self, data: bytes) -> str:
+        """The text of the `Set-Cookie` header that saves these values."""
+        self.source.texts = pack(data)
+        return self.sessions.save(self.source)
+
+    def replace(self, values: Mapping[str, Any] | None) -> None:
+        """Has these values, if an application put another dict in its place."""
+        if values is not self:
+            self.accessed = True
+            super().clear()
+            self.update(values or {})
+
+
+def session_at(place: Mapping[str, Any], key: str) -> CookieSession:
+    """The session there, which a middleware opened. Raises `TypeError` if there is none."""
+    session = place.get(key)
+    if not isinstance(session, CookieSession):
+        raise TypeError("there is no session of SessionMiddleware here")
+    return session
 
 
 class Middleware:
@@ -178,7 +232,7 @@ class Middleware:
         # Starlette's `Secret` shows its text only by `str`.
         newest: str | bytes = secret_key if isinstance(secret_key, bytes) else str(secret_key)
         lifetime = FORTNIGHT if max_age is None else max_age
-        self.app, self.clock, self.is_kept = app, clock, max_age is not None
+        self.app, self.clock, self.is_lasting = app, clock, max_age is not None
         # Only with an idle time does a session need to be saved that was only read.
         self.refresh = idle / 10 if refresh is None and idle is not None else refresh
         self.sessions = Sessions(
@@ -187,42 +241,41 @@ class Middleware:
             partitioned=partitioned, revocations=revocations, compress=compress,
         )
 
-    def opened(self, header: bytes) -> Values:
-        """The values of the session in the request's `Cookie` header, or none."""
-        kept = self.sessions.open(header, self.clock())
-        if not kept.is_new:
+    def open_session(self, header: bytes) -> CookieSession:
+        """The session in the request's `Cookie` header, or a new one."""
+        source = self.sessions.open(header, self.clock())
+        if not source.is_new:
             try:
-                data = unpacked(kept)
+                data = unpack(source)
                 values = json.loads(data)
                 if isinstance(values, dict):
-                    return Values(self.sessions, kept, values, data)
+                    return CookieSession(self.sessions, source, values, data)
             except ValueError:
                 # Another program saved it, under the same key.
                 pass
-            kept = self.sessions.start(kept.now)
-        return Values(self.sessions, kept, {}, EMPTY)
+            source = self.sessions.start(source.now)
+        return CookieSession(self.sessions, source, {}, EMPTY)
 
-    def fields(self, values: Values) -> list[tuple[str, str]]:
+    def fields(self, session: CookieSession, values: Mapping[str, Any] | None) -> list[tuple[str, str]]:
         """The fields that the response needs: the cookie of a session that is to be saved or dropped, and that the page
-        depends on cookies, if it does."""
-        is_used = values.accessed
-        text = self.cookie_of(values)
+        depends on cookies, if it does. `values` is what the application left in the session's place."""
+        session.replace(values)
+        text = self.cookie_of(session)
         fields = [] if text is None else [("Set-Cookie", text)]
-        return [*fields, ("Vary", "Cookie")] if is_used or fields else fields
+        return [*fields, ("Vary", "Cookie")] if session.accessed or fields else fields
 
-    def cookie_of(self, values: Values) -> str | None:
+    def cookie_of(self, session: CookieSession) -> str | None:
         """The text of the `Set-Cookie` header that saves the session or has it dropped, or None."""
-        kept, data = values.kept, json_of(dict(dict.items(values)))
-        is_changed = data != values.opened or kept.is_renewed
+        source, data = session.source, session.json()
+        is_changed = data != session.opened or source.is_renewed
         if data == EMPTY:
-            return self.sessions.end(kept.now) if is_changed and not kept.is_new else None
-        if not (is_changed or self.is_due(values)):
+            return self.sessions.end(source.now) if is_changed and not source.is_new else None
+        if not (is_changed or self.is_due(session)):
             return None
-        kept.texts = packed(data)
-        return with_expiry(self.sessions.save(kept), kept, self.is_kept)
+        return with_expiry(session.save(data), source, self.is_lasting)
 
-    def is_due(self, values: Values) -> bool:
+    def is_due(self, session: CookieSession) -> bool:
         """Whether to save a session that was only read: an older key opened it, or its idle time is to count from now."""
-        age = values.kept.now - values.kept.seen
+        age = session.source.now - session.source.seen
         is_old = self.refresh is not None and age >= self.refresh
-        return values.accessed and (is_old or bool(values.kept.place))
+        return session.accessed and (is_old or bool(session.source.place))

@@ -68,8 +68,8 @@ def dump_cookie(
     pair, *attributes = text.split("; ")
     text = "; ".join([pair, *sorted(attributes, key=lambda attribute: ORDER.index(attribute.partition("=")[0]))])
     if max_size and len(text) > max_size:
-        told = f"The {key!r} cookie is too large: it has {len(text)} bytes, and the limit is {max_size} bytes."
-        warnings.warn(f"{told} Browsers may ignore it.", stacklevel=2)
+        warning = f"The {key!r} cookie is too large: it has {len(text)} bytes, and the limit is {max_size} bytes."
+        warnings.warn(f"{warning} Browsers may ignore it.", stacklevel=2)
     return text
 
 
@@ -124,6 +124,7 @@ def parse_cookie(
 
 
 def is_quoted(value: str) -> bool:
+    """Whether the value is in quotes."""
     return len(value) >= 2 and value[0] == value[-1] == '"'
 
 
@@ -131,9 +132,9 @@ def decoded(value: str) -> bytes:
     """The bytes of a value, without its quotes and escapes."""
     if not is_quoted(value):
         return unquote_to_bytes(value)
-    return re.sub(rb"(?s)\\([0-3][0-7]{2}|.)", lambda found: escaped(found[1]), value[1:-1].encode())
+    return re.sub(rb"(?s)\\([0-3][0-7]{2}|.)", lambda found: unescape(found[1]), value[1:-1].encode())
 
 
-def escaped(text: bytes) -> bytes:
+def unescape(text: bytes) -> bytes:
     """What stands after a backslash: the number of a byte, or the byte."""
     return bytes([int(text, 8)]) if len(text) == 3 else text

@@ -1,39 +1,72 @@
 """Sessions for WSGI (PEP 3333) in one encrypted cookie:
 
-    from deomigal.wsgi import SessionMiddleware
+    from deomigal.wsgi import SessionMiddleware, session_of
 
     application = SessionMiddleware(application, SECRET_KEY, https_only=True)
 
-`environ["deomigal.session"]` is a dict.
+`environ["deomigal.session"]` is a dict. `session_of(environ)` is the same, with the type that has `renew`.
 """
 from __future__ import annotations
 
 import sys
-from typing import Any, Callable, Iterable, Mapping
+from typing import Any, Callable, Iterable, Iterator, Mapping
 
-from .errors import RevocationsError
-from .values import UNAVAILABLE, UNAVAILABLE_FIELDS, Middleware, Values
+from .errors import RevocationsError, TooLarge
+from .values import UNAVAILABLE, UNAVAILABLE_FIELDS, CookieSession, Middleware, session_at
 
+__all__ = ["CookieSession", "SessionMiddleware", "session_of"]
 # The session's name in the environment.
 KEY = "deomigal.session"
 
 
+def session_of(environ: Mapping[str, Any]) -> CookieSession:
+    """The session of a request, which `SessionMiddleware` opened."""
+    return session_at(environ, KEY)
+
+
 class SessionMiddleware(Middleware):
-    """Keeps the session of a request in `environ["deomigal.session"]`, and saves it when the response starts."""
+    """Keeps the session of a request in `environ["deomigal.session"]`, and saves it when the response starts. If it raises
+    `TooLarge` there, the application may start another response with `sys.exc_info()`, which saves nothing if it does so
+    again."""
 
     def __call__(self, environ: dict[str, Any], start_response: Callable[..., Any]) -> Iterable[bytes]:
+        is_begun = False
+
         def start_with_cookie(status: str, headers: list[tuple[str, str]], *error: Any) -> Any:
-            return start_response(status, [*headers, *self.fields(values)], *error)
+            nonlocal is_begun
+            try:
+                fields = self.fields(session, environ.get(KEY))
+            except TooLarge:
+                if not any(error):
+                    raise
+                fields = []
+            is_begun = True
+            return start_response(status, [*headers, *fields], *error)
 
         try:
-            values: Values = self.opened(header_in(environ))
-            environ[KEY] = values
+            session = environ[KEY] = self.open_session(header_in(environ))
             pages: Iterable[bytes] = self.app(environ, start_with_cookie)
         except RevocationsError:
-            # In the place of a response that has begun, this raises the error again.
-            start_response("503 Service Unavailable", [*UNAVAILABLE_FIELDS], sys.exc_info())
-            return [UNAVAILABLE]
-        return pages
+            return refuse(start_response)
+        return pages if is_begun else late(pages, start_response)
+
+
+def refuse(start_response: Callable[..., Any]) -> list[bytes]:
+    """Answers a request whose session can't be looked up. In the place of a response that has begun, this raises the error
+    again."""
+    start_response("503 Service Unavailable", [*UNAVAILABLE_FIELDS], sys.exc_info())
+    return [UNAVAILABLE]
+
+
+def late(pages: Iterable[bytes], start_response: Callable[..., Any]) -> Iterator[bytes]:
+    """The pages of an application that starts its response when the first of them is taken, such as a generator."""
+    try:
+        yield from pages
+    except RevocationsError:
+        yield from refuse(start_response)
+    finally:
+        if hasattr(pages, "close"):
+            pages.close()
 
 
 def header_in(environ: Mapping[str, Any]) -> bytes:

@@ -66,14 +66,14 @@ class Rows(unittest.TestCase):
         """Plays each row that needs no other call."""
         pytest.importorskip(kind.needs)
         rows = [row for row in ROWS if {step.call for step in row.steps} <= CALLS]
-        self.assertGreater(len(rows), 20)
+        assert len(rows) > 20
         for row in rows:
             clock = [MINUTE]
             agent = Agent(SUFFIXES, is_localhost_secure=False, clock=lambda: clock[0])
             with self.subTest(row=row.title), agent, resolved(self.servers):
                 client = kind(agent, self.servers.certificate[0])
                 try:
-                    self.assertEqual(list(played(client, self.servers, clock, row.steps)), [])
+                    assert list(played(client, self.servers, clock, row.steps)) == []
                 finally:
                     client.close()
 

@@ -9,7 +9,7 @@ from unittest import mock
 import pytest
 from deomigal import Sessions, compression
 from deomigal.asgi import SessionMiddleware as AsgiMiddleware
-from deomigal.compression import COMPRESSED, DIGITS, MOST_BYTES, bytes_of_digits, deflated, digits_of
+from deomigal.compression import COMPRESSED, DIGITS, MOST_BYTES, bytes_of_digits, deflate, digits_of
 from deomigal.errors import TooLarge
 from deomigal.wsgi import KEY
 from deomigal.wsgi import SessionMiddleware as WsgiMiddleware
@@ -115,70 +115,70 @@ class Djangos:
 class Shared:
     """The facts about each framework."""
 
-    def kept(self, values, **words):
+    def cookie_of(self, values, **words):
         """The cookie of these values."""
         return self.ask(lambda session: session.update(values), **words)[1]
 
     def reads(self, cookie, values, **words):
-        self.assertEqual(self.ask(lambda session: None, cookie, **words)[0], values)
+        assert self.ask(lambda session: None, cookie, **words)[0] == values
 
     def test_default(self):
         """A session isn't compressed without the option: the cookie's length tells only of the texts' length."""
-        self.assertEqual(
-            [cookie_size(self.kept({"notes": letters})) for letters in ("x" * 2000, "xy" * 1000)],
-            [cookie_size(self.kept({"notes": DRAWN["notes"][:2000]}))] * 2,
+        assert (
+            [cookie_size(self.cookie_of({"notes": letters})) for letters in ("x" * 2000, "xy" * 1000)]
+            == [cookie_size(self.cookie_of({"notes": DRAWN["notes"][:2000]}))] * 2
         )
-        self.assertEqual(self.kept({"notes": "x"}).count("="), 1)
-        with self.assertRaises(TooLarge):
-            self.kept(LONG)
+        assert self.cookie_of({"notes": "x"}).count("=") == 1
+        with pytest.raises(TooLarge):
+            self.cookie_of(LONG)
 
     def test_round(self):
         """With the option a session has more room, and is read with the option and without, and saved again so."""
-        cookie = self.kept(LONG, compress=True)
-        self.assertLess(cookie_size(cookie), 400)
+        cookie = self.cookie_of(LONG, compress=True)
+        assert cookie_size(cookie) < 400
         for words in ({}, {"compress": True}, {"compress": False}):
             self.reads(cookie, LONG, **words)
-            self.reads(self.kept(ODD, **words), ODD, compress=True)
-            self.reads(self.kept(ODD, compress=True), ODD, **words)
+            self.reads(self.cookie_of(ODD, **words), ODD, compress=True)
+            self.reads(self.cookie_of(ODD, compress=True), ODD, **words)
         plain = self.ask(lambda session: session.update({"notes": "cut"}), cookie)[1]
         self.reads(plain, {"notes": "cut"}, compress=True)
 
     def test_shorter(self):
         """What deflate doesn't make shorter stays as it is, and 2,850 drawn characters have room."""
         for values, is_less in (({"user": "ann"}, False), (DRAWN, True)):
-            plain, compressed = (self.kept(values, compress=compress) for compress in (False, True))
-            self.assertEqual(cookie_size(compressed) < cookie_size(plain), is_less)
-            self.assertLessEqual(cookie_size(compressed), cookie_size(plain))
+            plain, compressed = (self.cookie_of(values, compress=compress) for compress in (False, True))
+            assert (cookie_size(compressed) < cookie_size(plain)) == is_less
+            assert cookie_size(compressed) <= cookie_size(plain)
             self.reads(compressed, values)
 
     def test_bomb(self):
         """What expands beyond the limit is no session, and takes no memory, with the option or without."""
         with mock.patch.object(compression, "MOST_BYTES", 2 * BOMB):
-            cookie = self.kept({"text": "x" * BOMB}, compress=True)
+            cookie = self.cookie_of({"text": "x" * BOMB}, compress=True)
             self.reads(cookie, {"text": "x" * BOMB})
-        self.assertLess(cookie_size(cookie), MOST)
+        assert cookie_size(cookie) < MOST
         for words in ({}, {"compress": True}):
             self.reads(cookie, {}, **words)
             tracemalloc.start()
             self.addCleanup(tracemalloc.stop)
             self.reads(cookie, {}, **words)
-            self.assertLess(tracemalloc.get_traced_memory()[1], BOMB / 2)
+            assert tracemalloc.get_traced_memory()[1] < BOMB / 2
             tracemalloc.stop()
 
     def test_most(self):
         """What is saved is read: a text below the limit is both, and one above it raises `TooLarge`."""
         values = {"text": "x" * (MOST_BYTES - 100)}
-        self.reads(self.kept(values, compress=True), values)
-        with self.assertRaises(TooLarge) as found:
-            self.kept({"text": "x" * MOST_BYTES}, compress=True)
-        self.assertGreater(found.exception.size, MOST_BYTES)
+        self.reads(self.cookie_of(values, compress=True), values)
+        with pytest.raises(TooLarge) as found:
+            self.cookie_of({"text": "x" * MOST_BYTES}, compress=True)
+        assert found.value.size > MOST_BYTES
 
     def test_too_large(self):
         """What is compressed and doesn't fit raises `TooLarge` too, and its size is that of the compressed cookie."""
         text = "".join(random.Random(1).choices("abcdefgh", k=12_000))
-        with self.assertRaises(TooLarge) as found:
-            self.kept({"text": text}, compress=True)
-        self.assertTrue(MOST < found.exception.size < len(text), found.exception.size)
+        with pytest.raises(TooLarge) as found:
+            self.cookie_of({"text": text}, compress=True)
+        assert MOST < found.value.size < len(text), found.value.size
 
 
 class FlaskFacts(Flasks, Shared, unittest.TestCase):
@@ -187,15 +187,15 @@ class FlaskFacts(Flasks, Shared, unittest.TestCase):
     def test_check(self):
         """`check` counts what is compressed."""
         self.reads(self.ask(lambda session: (session.update(LONG), session.check()), compress=True)[1], LONG)
-        with self.assertRaises(TooLarge):
+        with pytest.raises(TooLarge):
             self.ask(lambda session: (session.update(LONG), session.check()))
 
     def test_taken(self):
         """A session of an application with the one name that compressed ones have is read as it was saved."""
-        for value in ("ann", digits_of(deflated(b"user=%22ann%22", 9))):
+        for value in ("ann", digits_of(deflate(b"user=%22ann%22", 9))):
             for words in ({}, {"compress": True}):
                 for values in ({COMPRESSED: value}, {COMPRESSED: value, "user": "bo"}):
-                    self.reads(self.kept(values, **words), values)
+                    self.reads(self.cookie_of(values, **words), values)
 
 
 class AsgiFacts(Asgi, Shared, unittest.TestCase):
@@ -216,15 +216,15 @@ class DjangoFacts(Djangos, Shared, unittest.TestCase):
         from django.test import override_settings
 
         with override_settings(SESSION_SERIALIZER="django_site.Pickles"):
-            cookie = self.kept(LONG, compress=True)
-            self.assertLess(cookie_size(cookie), 1000)
+            cookie = self.cookie_of(LONG, compress=True)
+            assert cookie_size(cookie) < 1000
             self.reads(cookie, LONG)
 
 
 class SessionsFacts(unittest.TestCase):
     """Facts about `Sessions`."""
 
-    def made(self, texts, *compress):
+    def reopened(self, texts, *compress):
         """The session that opens once these texts are saved."""
         sessions = Sessions([bytes(64)], "s", HOUR, HOUR, **dict(zip(["compress"], compress)))
         session = sessions.start(NOON)
@@ -241,46 +241,46 @@ class SessionsFacts(unittest.TestCase):
         for _ in range(500):
             texts = {text(3): text(200) for _ in range(draw.randrange(6))}
             for compress in (False, True):
-                self.assertEqual(dict(self.made(texts, compress)), texts)
+                assert dict(self.reopened(texts, compress)) == texts
 
     def test_taken(self):
         """A text that a stranger chose isn't expanded: the server chose what is."""
-        texts = {COMPRESSED: digits_of(deflated(b"user=admin", 9))}
+        texts = {COMPRESSED: digits_of(deflate(b"user=admin", 9))}
         for compress in (False, True):
-            self.assertEqual(dict(self.made(texts, compress)), texts)
+            assert dict(self.reopened(texts, compress)) == texts
 
     def test_taken_whole(self):
         """Without the option a session with that name isn't compressed either."""
-        sizes = [len(compression.smaller({COMPRESSED: "x" * 900}, compress)[COMPRESSED]) for compress in (False, True)]
-        self.assertGreater(sizes[0], 900)
-        self.assertLess(sizes[1], 100)
+        sizes = [len(compression.shorten({COMPRESSED: "x" * 900}, compress)[COMPRESSED]) for compress in (False, True)]
+        assert sizes[0] > 900
+        assert sizes[1] < 100
 
     def test_default(self):
         """A session isn't compressed without the option."""
-        with self.assertRaises(TooLarge):
-            self.made(LONG)
-        self.assertEqual(dict(self.made(LONG, True)), LONG)
+        with pytest.raises(TooLarge):
+            self.reopened(LONG)
+        assert dict(self.reopened(LONG, True)) == LONG
 
     def test_broken(self):
         """A compressed text that is none is no session."""
-        whole = deflated(b"user=ann&" * 50, 9)
-        broken = [digits_of(data) for data in (whole[:-1], whole + b"x", b"", b"\xff" * 20, deflated(b"\xff=", 9))]
-        with mock.patch("deomigal.sessions.smaller", lambda texts, _: texts):
-            self.assertEqual(dict(self.made({COMPRESSED: digits_of(deflated(b"user=ann", 9))})), {"user": "ann"})
+        whole = deflate(b"user=ann&" * 50, 9)
+        broken = [digits_of(data) for data in (whole[:-1], whole + b"x", b"", b"\xff" * 20, deflate(b"\xff=", 9))]
+        with mock.patch("deomigal.sessions.shorten", lambda texts, _: texts):
+            assert dict(self.reopened({COMPRESSED: digits_of(deflate(b"user=ann", 9))})) == {"user": "ann"}
             for text in ("", "junk", "%", "\u03b1", "\x7f" * 15, *broken):
-                self.assertTrue(self.made({COMPRESSED: text}).is_new, text)
+                assert self.reopened({COMPRESSED: text}).is_new, text
 
     def test_shorter(self):
         """What deflate doesn't make shorter stays as it is, so 2,900 bytes have room whatever they are."""
         texts = {"notes": "".join(random.Random(1).choices(DIGITS, k=2900))}
-        self.assertEqual(dict(self.made(texts, True)), texts)
-        self.assertEqual(compression.smaller(texts, True), texts)
+        assert dict(self.reopened(texts, True)) == texts
+        assert compression.shorten(texts, True) == texts
 
     def test_digits(self):
         """Each number of bytes has its digits, which are characters of a session's cookie as they are."""
         for length in range(100):
             for data in (bytes(length), b"\xff" * length, os.urandom(length)):
                 digits = digits_of(data)
-                self.assertEqual((bytes_of_digits(digits), len(digits)), (data, -(-length * 15 // 13)))
-        self.assertEqual(compression.escaped(DIGITS), DIGITS)
-        self.assertLess(256**13, len(DIGITS) ** 15)
+                assert (bytes_of_digits(digits), len(digits)) == (data, -(-length * 15 // 13))
+        assert compression.escape(DIGITS) == DIGITS
+        assert 256**13 < len(DIGITS) ** 15

@@ -75,29 +75,29 @@ class EngineFacts(SimpleTestCase):
         values = {name: value for name, value in json.loads(response.content).items() if name != "_session_expiry"}
         return values, set_cookie and set_cookie.OutputString()
 
-    def kept(self, path="/set", **words):
+    def cookie_set_by(self, path="/set", **words):
         return pair_of(self.ask(path, **words)[1])
 
     def reads(self, cookie, values, now=NOON):
-        self.assertEqual(self.ask("/", cookie, now)[0], values)
+        assert self.ask("/", cookie, now)[0] == values
 
     def test_values(self):
         """A session has what was put in, and the cookie doesn't show it."""
         text = self.ask("/set")[1]
-        self.assertNotIn("ann", text)
-        self.assertEqual(age_of(text), settings.SESSION_COOKIE_AGE)
+        assert "ann" not in text
+        assert age_of(text) == settings.SESSION_COOKIE_AGE
         self.reads(pair_of(text), {"user": "ann"})
-        self.assertIsNone(self.ask("/", pair_of(text))[1])
+        assert self.ask("/", pair_of(text))[1] is None
 
     def test_damaged(self):
         """A damaged cookie is an empty session, and no error. Django has it dropped."""
-        for pair in damaged(self.kept()):
+        for pair in damaged(self.cookie_set_by()):
             values, text = self.ask("/", pair)
-            self.assertEqual((values, age_of(text or "; Max-Age=0")), ({}, 0), pair)
+            assert (values, age_of(text or "; Max-Age=0")) == ({}, 0), pair
 
     def test_other_name_or_key(self):
         """A session doesn't open under another name or another key, nor does one that `Sessions` or Flask saved."""
-        value = self.kept().partition("=")[2]
+        value = self.cookie_set_by().partition("=")[2]
         with override_settings(SESSION_COOKIE_NAME="other"):
             self.reads(f"other={value}", {})
         with override_settings(SECRET_KEY=OLDER):
@@ -110,20 +110,20 @@ class EngineFacts(SimpleTestCase):
     def test_fallbacks(self):
         """An older key opens a session (Django 4.1: SECRET_KEY_FALLBACKS). A saved one is under the newest."""
         with override_settings(SECRET_KEY=OLDER):
-            cookie = self.kept()
+            cookie = self.cookie_set_by()
         self.reads(cookie, {})
         with override_settings(SECRET_KEY_FALLBACKS=[OLDER]):
             self.reads(cookie, {"user": "ann"})
-            saved = self.kept("/bo", cookie=cookie)
+            saved = self.cookie_set_by("/bo", cookie=cookie)
         self.reads(saved, {"user": "bo"})
 
     def test_lifetime(self):
         """A session is over SESSION_COOKIE_AGE after its start. `cycle_key`, which a login calls, starts it anew."""
         age = settings.SESSION_COOKIE_AGE
-        cookie = self.kept()
+        cookie = self.cookie_set_by()
         self.reads(cookie, {"user": "ann"}, NOON + age - 1)
         self.reads(cookie, {}, NOON + age)
-        changed, cycled = (self.kept(path, cookie=cookie, now=NOON + age - 1) for path in ("/bo", "/cycle"))
+        changed, cycled = (self.cookie_set_by(path, cookie=cookie, now=NOON + age - 1) for path in ("/bo", "/cycle"))
         self.reads(changed, {}, NOON + age)
         self.reads(cycled, {"user": "ann"}, NOON + age)
         self.reads(cycled, {}, NOON + 2 * age - 1)
@@ -132,54 +132,54 @@ class EngineFacts(SimpleTestCase):
         """With a longer DEOMIGAL_LIFETIME the age counts from the last save, as in Django, up to that lifetime."""
         age = settings.SESSION_COOKIE_AGE
         with override_settings(DEOMIGAL_LIFETIME=3 * age):
-            cookie = self.kept()
+            cookie = self.cookie_set_by()
             self.reads(cookie, {}, NOON + age)
-            changed = self.kept("/bo", cookie=cookie, now=NOON + age - 1)
+            changed = self.cookie_set_by("/bo", cookie=cookie, now=NOON + age - 1)
             self.reads(changed, {"user": "bo"}, NOON + 2 * age - 2)
             self.reads(changed, {}, NOON + 2 * age - 1)
-            long = self.kept("/long")
+            long = self.cookie_set_by("/long")
             self.reads(long, {"user": "ann"}, NOON + 2 * age - 1)
             self.reads(long, {}, NOON + 2 * age)
 
     def test_own_expiry(self):
         """The server checks what `set_expiry` set. Django's signed cookies don't (its ticket 19201)."""
-        short = self.kept("/short")
+        short = self.cookie_set_by("/short")
         self.reads(short, {"user": "ann"}, NOON + 59)
         self.reads(short, {}, NOON + 60)
         with override_settings(SESSION_SERIALIZER=PICKLES):
-            until = self.kept("/until", now=NOON - 60)
+            until = self.cookie_set_by("/until", now=NOON - 60)
             self.reads(until, {"user": "ann"}, NOON + 59)
             self.reads(until, {}, NOON + 60)
 
     def test_other_serializer(self):
         """A session that another serializer made is empty."""
         with override_settings(SESSION_SERIALIZER=PICKLES):
-            cookie = self.kept()
+            cookie = self.cookie_set_by()
             self.reads(cookie, {"user": "ann"})
         self.reads(cookie, {})
 
     def test_login(self):
         """Django's login starts the session anew, for a visitor who had one just before its end."""
         request, end = RequestFactory().get("/"), NOON + settings.SESSION_COOKIE_AGE
-        cookie = self.kept()
+        cookie = self.cookie_set_by()
         with mock.patch("time.time", lambda: end - 1), mock.patch("django.contrib.auth.user_logged_in.send"):
             request.session = engine.SessionStore(cookie.partition("=")[2])
             login(request, User(pk=1, username="ann"), "django.contrib.auth.backends.ModelBackend")
             request.session.save()
         values = self.ask("/", f"sessionid={request.session.session_key}", end)[0]
-        self.assertEqual((values["user"], values["_auth_user_id"]), ("ann", "1"))
+        assert (values["user"], values["_auth_user_id"]) == ("ann", "1")
 
     def test_flush(self):
         """A session that was flushed has its cookie dropped."""
-        self.assertEqual(age_of(self.ask("/flush", self.kept())[1]), 0)
+        assert age_of(self.ask("/flush", self.cookie_set_by())[1]) == 0
 
     def test_room(self):
         """2,800 letters have room."""
-        self.reads(self.kept("/room"), {"text": "x" * 2800})
+        self.reads(self.cookie_set_by("/room"), {"text": "x" * 2800})
 
     def test_too_large(self):
         """A session that no browser would store raises `TooLarge`."""
-        with self.assertRaises(TooLarge):
+        with pytest.raises(TooLarge):
             self.ask("/large")
 
     def test_settings(self):
@@ -190,21 +190,21 @@ class EngineFacts(SimpleTestCase):
             (BadPrefix, {"SESSION_COOKIE_NAME": "__Host-session"}),
             (InvalidValue, {"SESSION_COOKIE_PATH": "/\r\nSet-Cookie: a=1"}),
         ):
-            with override_settings(**changed), self.assertRaises(refusal, msg=changed):
+            with override_settings(**changed), pytest.raises(refusal):
                 engine.SessionMiddleware(lambda request: None)
 
     @override_settings(SESSION_COOKIE_NAME="__Host-session", SESSION_COOKIE_SECURE=True)
     def test_djangos_middleware(self):
         """Django's own middleware takes a cookie whose name has other white space around it for the session's."""
-        request = RequestFactory().get("/", HTTP_COOKIE=f"\u2003{self.kept()}".encode().decode("latin-1"))
+        request = RequestFactory().get("/", HTTP_COOKIE=f"\u2003{self.cookie_set_by()}".encode().decode("latin-1"))
         for middleware, key_is_found in ((DjangoMiddleware, True), (engine.SessionMiddleware, False)):
             middleware(lambda request: None).process_request(request)
-            self.assertEqual(request.session.session_key is not None, key_is_found)
+            assert (request.session.session_key is not None) == key_is_found
 
     @override_settings(SESSION_COOKIE_NAME="__Host-session", SESSION_COOKIE_SECURE=True)
     def test_disguised(self):
         """A session under a disguised name isn't taken, before or after the user's own (RFC 6265bis 4.1.3)."""
-        ann, mallory = self.kept(), self.kept("/bo")
+        ann, mallory = self.cookie_set_by(), self.cookie_set_by("/bo")
         for pair in disguised(mallory):
             self.reads(pair, {})
             self.reads(f"{pair}; {ann}", {"user": "ann"})
@@ -212,7 +212,7 @@ class EngineFacts(SimpleTestCase):
 
     def test_several(self):
         """Of several cookies of the name the first that holds an open session counts."""
-        ann, bo = self.kept(), self.kept("/bo")
+        ann, bo = self.cookie_set_by(), self.cookie_set_by("/bo")
         self.reads(f"sessionid=junk; {ann}; {bo}", {"user": "ann"})
         self.reads("sessionid=junk; sessionid=junk", {})
 
@@ -220,21 +220,21 @@ class EngineFacts(SimpleTestCase):
         """With DEOMIGAL_REVOCATIONS a session that was flushed opens in no copy of its cookie. `cycle_key` revokes the one
         of before. A revoked cookie that another host planted hides no good one."""
         with override_settings(DEOMIGAL_REVOCATIONS=MemoryRevocations()):
-            first, other = self.kept(), self.kept("/bo")
-            later = self.kept(cookie=first)
-            self.assertEqual(age_of(self.ask("/flush", first)[1]), 0)
+            first, other = self.cookie_set_by(), self.cookie_set_by("/bo")
+            later = self.cookie_set_by(cookie=first)
+            assert age_of(self.ask("/flush", first)[1]) == 0
             for cookie in (first, later):
                 self.reads(cookie, {})
                 self.reads(f"{cookie}; {other}", {"user": "bo"})
                 self.reads(f"{other}; {cookie}", {"user": "bo"})
-            cycled = self.kept("/cycle", cookie=other)
+            cycled = self.cookie_set_by("/cycle", cookie=other)
             self.reads(cycled, {"user": "bo"})
             self.reads(other, {})
 
     def test_in_flight(self):
         """A request that is under way at the logout doesn't log the user in again."""
         with override_settings(DEOMIGAL_REVOCATIONS=MemoryRevocations()):
-            cookie = self.kept()
+            cookie = self.cookie_set_by()
 
             def slow(request):
                 request.session["late"] = len(request.session["user"])
@@ -244,12 +244,12 @@ class EngineFacts(SimpleTestCase):
             with mock.patch("time.time", lambda: NOON):
                 response = engine.SessionMiddleware(slow)(RequestFactory().get("/", HTTP_COOKIE=cookie))
             late = response.cookies["sessionid"]
-            self.assertGreater(len(late.value), 100)
+            assert len(late.value) > 100
             self.reads(f"sessionid={late.value}", {})
 
     def test_store_that_fails(self):
         """If the revocations fail, the status is 503, and no session is saved. A request without a session is answered."""
-        cookie = self.kept()
+        cookie = self.cookie_set_by()
         for kind, found in ((Broken, [503, 503, 503, 200]), (Full, [200, 503, 503, 200])):
             asked = [("/", cookie), ("/flush", cookie), ("/cycle", f"{cookie}; sessionid=junk"), ("/", None)]
             for save in (False, True):
@@ -259,5 +259,5 @@ class EngineFacts(SimpleTestCase):
                         with mock.patch("time.time", lambda: NOON):
                             client = Client(raise_request_exception=False)
                             response = client.get(path, **({"HTTP_COOKIE": text} if text else {}))
-                        self.assertEqual(response.status_code, status, (kind, path, save))
-                        self.assertFalse(status == 503 and response.cookies, (kind, path))
+                        assert response.status_code == status, (kind, path, save)
+                        assert not (status == 503 and response.cookies), (kind, path)

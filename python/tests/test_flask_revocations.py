@@ -51,30 +51,30 @@ class FlaskFacts(unittest.TestCase):
     def test_logout(self):
         """After a logout no copy of the cookie opens, and the cookie is dropped."""
         cookie, other = (pair_of(self.ask("/login")[1]) for _ in range(2))
-        self.assertEqual(self.user(cookie), "ann")
+        assert self.user(cookie) == "ann"
         response, text = self.ask("/logout", cookie)
-        self.assertEqual((response.status_code, "Max-Age=0" in text), (200, True))
-        self.assertEqual((self.user(cookie), self.user(other)), (None, "ann"))
+        assert (response.status_code, "Max-Age=0" in text) == (200, True)
+        assert (self.user(cookie), self.user(other)) == (None, "ann")
 
     def test_in_flight(self):
         """A request that is under way at the logout doesn't log the user in again."""
         cookie = pair_of(self.ask("/login")[1])
 
         def slow():
-            self.assertEqual(session["user"], "ann")
+            assert session["user"] == "ann"
             self.ask("/logout", cookie)
             session["touched"] = True
             return ""
 
         self.app.view_functions["/slow"] = slow
         late = pair_of(self.ask("/slow", cookie)[1])
-        self.assertNotEqual(late, "session=")
-        self.assertEqual((self.user(late), self.user(cookie)), (None, None))
+        assert late != "session="
+        assert (self.user(late), self.user(cookie)) == (None, None)
 
     def test_again(self):
         """What is put in after the logout is a session of its own."""
         cookie = pair_of(self.ask("/login")[1])
-        self.assertEqual((self.user(pair_of(self.ask("/again", cookie)[1])), self.user(cookie)), ("bo", None))
+        assert (self.user(pair_of(self.ask("/again", cookie)[1])), self.user(cookie)) == ("bo", None)
 
     def test_broken(self):
         """If the store fails, the answer is 503, no cookie is set, and no view is called. A request without a session
@@ -83,24 +83,32 @@ class FlaskFacts(unittest.TestCase):
         self.store.is_broken = True
         for path in ("/", "/touch", "/logout", "/plain"):
             response, text = self.ask(path, cookie)
-            self.assertEqual((response.status_code, response.headers["Retry-After"], text), (503, "1", None))
-        self.assertEqual(self.ask("/")[0].status_code, 200)
+            assert (response.status_code, response.headers["Retry-After"], text) == (503, "1", None)
+        assert self.ask("/")[0].status_code == 200
         self.store.is_broken = False
-        self.assertEqual(self.user(cookie), "ann")
+        assert self.user(cookie) == "ann"
 
     def test_broken_at_the_logout(self):
         """If it fails at the logout, the user is told so, and the cookie stays."""
         cookie = pair_of(self.ask("/login")[1])
         self.store.revoke = Failing(OSError()).revoke
         response, text = self.ask("/logout", cookie)
-        self.assertEqual((response.status_code, text, self.user(cookie)), (503, None, "ann"))
+        assert (response.status_code, text, self.user(cookie)) == (503, None, "ann")
+
+    def test_before_views(self):
+        """A function of `before_request` that uses the session is answered so too. Flask's own methods answer it."""
+        self.app.before_request(lambda: session.get("user") and None)
+        cookie = pair_of(self.ask("/login")[1])
+        self.store.is_broken = True
+        assert self.ask("/plain", cookie)[0].status_code == 503
+        assert self.app.handle_exception.__func__ is flask.Flask.handle_exception
 
     def test_handler(self):
         """The application can answer it."""
         self.app.register_error_handler(RevocationsError, lambda error: ("Come back", 529))
         cookie = pair_of(self.ask("/login")[1])
         self.store.is_broken = True
-        self.assertEqual((self.ask("/", cookie)[0].status_code, self.ask("/", cookie)[0].text), (529, "Come back"))
+        assert (self.ask("/", cookie)[0].status_code, self.ask("/", cookie)[0].text) == (529, "Come back")
 
     def test_without_init_app(self):
         """Without `init_app` too no view is called."""
@@ -108,12 +116,12 @@ class FlaskFacts(unittest.TestCase):
         app.add_url_rule("/seen", "seen", lambda: seen.append(1) or "")
         cookie = pair_of(self.ask("/login", app=app)[1])
         self.store.is_broken = True
-        self.assertIn(self.ask("/seen", cookie, app)[0].status_code, (500, 503))
-        self.assertEqual(seen, [])
+        assert self.ask("/seen", cookie, app)[0].status_code in (500, 503)
+        assert seen == []
 
     def test_none(self):
         """Without revocations `revoke` is an error, and not a logout."""
         app = flask_app()
         cookie = pair_of(self.ask("/login", app=app)[1])
         response, text = self.ask("/logout", cookie, app)
-        self.assertEqual((response.status_code, text), (503, None))
+        assert (response.status_code, text) == (503, None)

@@ -1,6 +1,7 @@
 """The samples of the package's modules and of its page, and the page's tables."""
 import doctest
 import importlib
+import inspect
 import pkgutil
 import re
 import subprocess
@@ -62,6 +63,31 @@ def test_doctests(name):
 def test_package_doctests():
     """So do those of the package."""
     assert doctest.testmod(deomigal).failed == 0
+
+
+def public_in(name, found, module):
+    """The public classes and functions of a module or of a class that the package defines, by their names."""
+    for member, value in vars(found).items():
+        if isinstance(value, property):
+            value = value.fget
+        elif isinstance(value, (classmethod, staticmethod)):
+            value = value.__func__
+        if not member.startswith("_") and (inspect.isclass(value) or inspect.isfunction(value)) and value.__module__ == module:
+            yield f"{name}.{member}", value
+            if inspect.isclass(value):
+                yield from public_in(f"{name}.{member}", value, module)
+
+
+@pytest.mark.parametrize("name", sorted(name for name in MODULES if not name.startswith("_")))
+def test_docstrings(name):
+    """Each public name has a docstring, or one of a class above it."""
+    if name in FRAMEWORKS:
+        pytest.importorskip(name)
+    if name == "django":
+        importlib.import_module("django_site")
+    module = importlib.import_module(f"deomigal.{name}")
+    assert module.__doc__
+    assert [name for name, value in public_in(name, module, module.__name__) if not value.__doc__] == []
 
 
 def reason_of(test):

@@ -58,26 +58,26 @@ class RequestsTests(unittest.TestCase):
     def test_set_cookie_on_301(self):
         """test_set_cookie_on_301: what the response that redirects sets is in the session."""
         self.set_by_redirect(b"foo=bar; Path=/")
-        self.assertEqual(self.session.cookies["foo"], "bar")
+        assert self.session.cookies["foo"] == "bar"
 
     def test_cookie_sent_on_redirect(self):
         """test_cookie_sent_on_redirect: the request that a redirect makes sends the session's cookies."""
         self.set_by_redirect(b"foo=bar; Path=/")
         self.servers.answers = {SHOP + "redirect": (302, [(b"Location", b"/get")])}
         self.session.get(SHOP + "redirect")
-        self.assertEqual(self.sent(), b"foo=bar")
+        assert self.sent() == b"foo=bar"
 
     def test_cookie_removed_on_expire(self):
         """test_cookie_removed_on_expire: a cookie that is set again with an expiry of 1970 is no longer there."""
         self.set_by_redirect(b"foo=bar; Path=/")
         self.servers.texts = [b"foo=deleted; Path=/; expires=Thu, 01-Jan-1970 00:00:01 GMT"]
         self.session.get(SHOP + "expire")
-        self.assertNotIn("foo", self.session.cookies)
+        assert "foo" not in self.session.cookies
 
     def test_cookie_quote_wrapped(self):
         """test_cookie_quote_wrapped: quotes around a value stay."""
         self.set_by_redirect(b'foo="bar:baz"; Path=/')
-        self.assertEqual(self.session.cookies["foo"], '"bar:baz"')
+        assert self.session.cookies["foo"] == '"bar:baz"'
 
     @not_shared(NO_CALLER)
     def test_cookie_persists_via_api(self):
@@ -96,7 +96,7 @@ class RequestsTests(unittest.TestCase):
     def test_request_cookies_not_persisted(self):
         """test_request_cookies_not_persisted: what the caller passes for a request isn't in the session afterwards."""
         self.session.get(SHOP, cookies={"foo": "baz"})
-        self.assertFalse(self.session.cookies)
+        assert not self.session.cookies
 
     def test_generic_cookiejar_works(self):
         """test_generic_cookiejar_works: another jar as the session's is sent, and stays. (Here its cookie has a host.)"""
@@ -104,7 +104,7 @@ class RequestsTests(unittest.TestCase):
         session.trust_env, session.cookies = False, jar
         self.agent.read(SHOP, "foo=bar; Path=/")
         session.get(SHOP)
-        self.assertEqual((self.sent(), session.cookies), (b"foo=bar", jar))
+        assert (self.sent(), session.cookies) == (b"foo=bar", jar)
         session.close()
 
     def test_param_cookiejar_works(self):
@@ -113,7 +113,7 @@ class RequestsTests(unittest.TestCase):
         with requests.Session() as session:
             session.trust_env = False
             session.get(SHOP, cookies=CookieJar(self.agent))
-        self.assertEqual(self.sent(), b"foo=bar")
+        assert self.sent() == b"foo=bar"
 
     def test_cookielib_cookiejar_on_redirect(self):
         """test_cookielib_cookiejar_on_redirect: a prepared request's jar is copied at a redirect, and the copy gets the
@@ -126,19 +126,19 @@ class RequestsTests(unittest.TestCase):
             session.trust_env = False
             session.cookies.set("cookie", "tasty", domain="shop.example")
             response = session.send(prepared)
-        self.assertIs(prepared._cookies, jar)
-        self.assertIsInstance(response.request._cookies, CookieJar)
-        self.assertEqual({each.name: each.value for each in response.request._cookies}, {"foo": "bar", "cookie": "tasty"})
-        self.assertEqual([cookie.name for cookie in self.agent], ["foo"])
+        assert prepared._cookies is jar
+        assert isinstance(response.request._cookies, CookieJar)
+        assert {each.name: each.value for each in response.request._cookies} == {"foo": "bar", "cookie": "tasty"}
+        assert [cookie.name for cookie in self.agent] == ["foo"]
 
     def test_cookie_parameters(self):
         """test_cookie_parameters: a cookie that is set with `secure`, a domain and `HttpOnly` has them."""
         jar = self.session.cookies
         jar.set("some_cookie", "some_value", secure=True, domain="test.com", rest={"HttpOnly": True})
-        self.assertEqual((len(jar), "some_cookie" in jar), (1, True))
+        assert (len(jar), "some_cookie" in jar) == (1, True)
         cookie, = jar
-        self.assertEqual((cookie.name, cookie.value, cookie.secure), ("some_cookie", "some_value", True))
-        self.assertEqual((cookie.domain, cookie.has_nonstandard_attr("HttpOnly")), (".test.com", True))
+        assert (cookie.name, cookie.value, cookie.secure) == ("some_cookie", "some_value", True)
+        assert (cookie.domain, cookie.has_nonstandard_attr("HttpOnly")) == (".test.com", True)
 
     def filled(self):
         """The session's jar with two cookies."""
@@ -150,28 +150,28 @@ class RequestsTests(unittest.TestCase):
     def test_cookie_as_dict_keeps_len(self):
         """test_cookie_as_dict_keeps_len: as a dict a jar has the same cookies."""
         jar = self.filled()
-        self.assertEqual({len(jar), len(dict(jar)), len(dict(jar.iteritems())), len(dict(jar.items()))}, {2})
+        assert {len(jar), len(dict(jar)), len(dict(jar.iteritems())), len(dict(jar.items()))} == {2}
 
     def test_cookie_as_dict_keeps_items(self):
         """test_cookie_as_dict_keeps_items: with their values."""
         jar = self.filled()
         for found in (dict(jar), dict(jar.iteritems()), dict(jar.items())):
-            self.assertEqual(found, {"some_cookie": "some_value", "some_cookie1": "some_value1"})
+            assert found == {"some_cookie": "some_value", "some_cookie1": "some_value1"}
 
     def test_cookie_as_dict_keys(self):
         """test_cookie_as_dict_keys: `keys` can be walked twice."""
         keys = self.filled().keys()
-        self.assertEqual(list(keys), list(keys))
+        assert list(keys) == list(keys)
 
     def test_cookie_as_dict_values(self):
         """test_cookie_as_dict_values: and so can `values`."""
         values = self.filled().values()
-        self.assertEqual(list(values), list(values))
+        assert list(values) == list(values)
 
     def test_cookie_as_dict_items(self):
         """test_cookie_as_dict_items: and so can `items`."""
         items = self.filled().items()
-        self.assertEqual(list(items), list(items))
+        assert list(items) == list(items)
 
     def test_cookie_duplicate_names_different_domains(self):
         """test_cookie_duplicate_names_different_domains: two hosts have a cookie of one name, found by the domain.
@@ -179,10 +179,10 @@ class RequestsTests(unittest.TestCase):
         jar = self.session.cookies
         jar.set("some_cookie", "one", domain="test1.com")
         jar.set("some_cookie", "two", domain="test2.com")
-        self.assertIn("some_cookie", jar)
-        self.assertEqual(len(list(jar.items())), 2)
-        self.assertEqual(jar.get("some_cookie", domain=".test2.com"), "two")
-        with self.assertRaises(CookieConflictError):
+        assert "some_cookie" in jar
+        assert len(list(jar.items())) == 2
+        assert jar.get("some_cookie", domain=".test2.com") == "two"
+        with pytest.raises(CookieConflictError):
             jar.get("some_cookie")
 
     def test_cookie_duplicate_names_raises_cookie_conflict_error(self):
@@ -190,7 +190,7 @@ class RequestsTests(unittest.TestCase):
         jar = self.session.cookies
         jar.set("some_cookie", "one", path="/one", domain="test.com")
         jar.set("some_cookie", "two", path="/two", domain="test.com")
-        with self.assertRaises(CookieConflictError):
+        with pytest.raises(CookieConflictError):
             jar.get("some_cookie")
 
     @not_shared(NO_POLICY)
@@ -206,8 +206,8 @@ class RequestsTests(unittest.TestCase):
         prepared = requests.Request("GET", SHOP, cookies=CookieJar(self.agent)).prepare()
         other = prepared.copy()
         shown = [[(each.name, each.value, each.domain) for each in one._cookies] for one in (prepared, other)]
-        self.assertEqual(shown[0], [("foo", "bar", "shop.example")])
-        self.assertEqual(shown[0], shown[1])
+        assert shown[0] == [("foo", "bar", "shop.example")]
+        assert shown[0] == shown[1]
 
     def test_DIGEST_AUTH_SETS_SESSION_COOKIES(self):
         """test_DIGEST_AUTH_SETS_SESSION_COOKIES: what a 401 sets is in the session, and sent with the answer to it."""
@@ -215,13 +215,13 @@ class RequestsTests(unittest.TestCase):
         fields = [(b"Set-Cookie", b"fake=fake_value"), (b"WWW-Authenticate", challenge)]
         self.servers.answers = {SHOP + "digest": (401, fields)}
         self.session.get(SHOP + "digest", auth=requests.auth.HTTPDigestAuth("user", "pass"))
-        self.assertEqual(self.session.cookies["fake"], "fake_value")
-        self.assertEqual(self.sent(), b"fake=fake_value")
+        assert self.session.cookies["fake"] == "fake_value"
+        assert self.sent() == b"fake=fake_value"
 
     def test_DIGEST_AUTH_RETURNS_COOKIE(self):
         """test_DIGEST_AUTH_RETURNS_COOKIE: a response has the cookies that it sets."""
         self.servers.texts = [b"fake=fake_value"]
-        self.assertEqual(self.session.get(SHOP).cookies["fake"], "fake_value")
+        assert self.session.get(SHOP).cookies["fake"] == "fake_value"
 
 
 class More(unittest.TestCase):
@@ -230,13 +230,13 @@ class More(unittest.TestCase):
     def test_without_a_host(self):
         """A cookie without a host isn't stored."""
         session = session_of(Agent())
-        with self.assertRaisesRegex(ValueError, "all hosts"):
+        with pytest.raises(ValueError, match="all hosts"):
             session.cookies["foo"] = "bar"
-        with self.assertRaisesRegex(ValueError, "all hosts"):
+        with pytest.raises(ValueError, match="all hosts"):
             session.cookies.set_cookie(create_cookie("foo", "bar"))
-        self.assertEqual(len(session.cookies), 0)
+        assert len(session.cookies) == 0
         session.cookies["foo"] = None
-        with self.assertRaises(KeyError):
+        with pytest.raises(KeyError):
             session.cookies["foo"]
 
     def test_other_adapters(self):
@@ -244,23 +244,23 @@ class More(unittest.TestCase):
         session = session_of()
         session.cookies.set("a", "1", domain="shop.example")
         prepared = session.prepare_request(requests.Request("GET", SHOP))
-        self.assertNotIn("Cookie", prepared.headers)
+        assert "Cookie" not in prepared.headers
 
     def test_copy(self):
         """A copy has an agent of its own: to clear it leaves the jar, and each cookie is as it was."""
         agent = Agent(per_domain=7, clock=lambda: 2_000_000_000)
         for text in ("a=1; Domain=shop.example; Secure; Max-Age=60", "b=2\tx; HttpOnly; SameSite=Strict", "=c", "__Host-d=4; Path=/; Secure"):
-            self.assertIsNone(agent.read("https://shop.example/x/y", text))
+            assert agent.read("https://shop.example/x/y", text) is None
         agent.read("https://127.0.0.1/", "e=5")
         agent.read("https://localhost/", "f=6")
         jar = CookieJar(agent)
         for other in (jar.copy(), copy.copy(jar)):
-            self.assertEqual(list(other.agent), list(agent))
-            self.assertEqual(other.agent.limits, (7, 3000))
+            assert list(other.agent) == list(agent)
+            assert other.agent.limits == (7, 3000)
             other.clear()
-            self.assertEqual((len(other), len(agent)), (0, 6))
+            assert (len(other), len(agent)) == (0, 6)
 
     def test_policy(self):
         """A policy isn't taken."""
-        with self.assertRaises(TypeError):
+        with pytest.raises(TypeError):
             CookieJar(Agent()).set_policy(DefaultCookiePolicy())

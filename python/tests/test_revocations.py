@@ -74,31 +74,31 @@ class Stores:
 
     def test_revoked(self):
         """What is revoked is, and nothing else."""
-        revocations = self.made()
-        self.assertIs(revocations.is_revoked(ANN), False)
+        revocations = self.new_store()
+        assert revocations.is_revoked(ANN) is False
         revocations.revoke(ANN, self.now + HOUR)
-        self.assertEqual([revocations.is_revoked(id) for id in (ANN, BO)], [True, False])
+        assert [revocations.is_revoked(id) for id in (ANN, BO)] == [True, False]
 
     def test_twice(self):
         """Of two seconds the later one counts, whichever comes first."""
         for order in ((1, 2), (2, 1), (2, 2)):
-            revocations, id = self.made(), os.urandom(16)
+            revocations, id = self.new_store(), os.urandom(16)
             for hours in order:
                 revocations.revoke(id, self.now + hours * HOUR)
-            self.assertEqual(self.until(revocations, id), self.now + 2 * HOUR)
+            assert self.until(revocations, id) == self.now + 2 * HOUR
 
     def test_no_ids(self):
         """What has no sixteen bytes is no id."""
-        revocations = self.made()
+        revocations = self.new_store()
         for id, error in ((b"", ValueError), (bytes(15), ValueError), (bytes(17), ValueError), ("x" * 16, TypeError)):
-            with self.assertRaises(error):
+            with pytest.raises(error):
                 revocations.is_revoked(id)
-            with self.assertRaises(error):
+            with pytest.raises(error):
                 revocations.revoke(id, self.now + HOUR)
 
     def test_threads(self):
         """Threads share it."""
-        revocations, ids, found = self.made(), [os.urandom(16) for _ in range(80)], []
+        revocations, ids, found = self.new_store(), [os.urandom(16) for _ in range(80)], []
 
         def revoke(first):
             for id in ids[first::8]:
@@ -110,22 +110,22 @@ class Stores:
             thread.start()
         for thread in threads:
             thread.join()
-        self.assertEqual(found, [True] * 80)
-        self.assertTrue(all(map(revocations.is_revoked, ids)))
+        assert found == [True] * 80
+        assert all(map(revocations.is_revoked, ids))
 
     def test_sessions(self):
         """A session that was revoked opens in no copy of its cookie, and another one does."""
-        sessions = Sessions([KEY], "s", HOUR, HOUR, revocations=self.made())
+        sessions = Sessions([KEY], "s", HOUR, HOUR, revocations=self.new_store())
         first = sessions.start(self.now)
         copies, other = [sessions.save(first)], sessions.save(sessions.start(self.now))
         for later in (1, 2):
             again = sessions.open(pair_of(copies[-1]), self.now + later)
-            self.assertEqual(again.id, first.id)
+            assert again.id == first.id
             copies.append(sessions.save(again))
         sessions.revoke(again)
         for text in copies:
-            self.assertTrue(sessions.open(pair_of(text), self.now + 2).is_new)
-        self.assertFalse(sessions.open(pair_of(other), self.now + 2).is_new)
+            assert sessions.open(pair_of(text), self.now + 2).is_new
+        assert not sessions.open(pair_of(other), self.now + 2).is_new
 
 
 class MemoryFacts(Stores, unittest.TestCase):
@@ -133,7 +133,7 @@ class MemoryFacts(Stores, unittest.TestCase):
 
     now = NOON
 
-    def made(self):
+    def new_store(self):
         return MemoryRevocations()
 
     def until(self, revocations, id):
@@ -141,11 +141,11 @@ class MemoryFacts(Stores, unittest.TestCase):
 
     def test_forgotten(self):
         """Those are forgotten whose second isn't after that time."""
-        revocations = self.made()
+        revocations = self.new_store()
         for id, until in ((ANN, NOON), (BO, NOON + 1)):
             revocations.revoke(id, until)
         revocations.forget(NOON)
-        self.assertEqual([revocations.is_revoked(id) for id in (ANN, BO)], [False, True])
+        assert [revocations.is_revoked(id) for id in (ANN, BO)] == [False, True]
 
 
 class SqliteFacts(Stores, unittest.TestCase):
@@ -158,7 +158,7 @@ class SqliteFacts(Stores, unittest.TestCase):
         self.addCleanup(shutil.rmtree, self.folder)
         self.path = self.folder / "revoked"
 
-    def made(self, **words):
+    def new_store(self, **words):
         return SqliteRevocations(self.path, **words)
 
     def rows(self):
@@ -169,36 +169,36 @@ class SqliteFacts(Stores, unittest.TestCase):
         return max(until for found, until in self.rows() if found == id)
 
     def sessions(self):
-        return Sessions([KEY], "s", HOUR, HOUR, revocations=self.made(timeout=0.2))
+        return Sessions([KEY], "s", HOUR, HOUR, revocations=self.new_store(timeout=0.2))
 
     def refused(self):
         """Whether a session is refused by name, and not taken for none."""
         sessions = self.sessions()
         text = sessions.save(sessions.start(NOON))
-        with self.assertRaises(RevocationsError):
+        with pytest.raises(RevocationsError):
             sessions.open(pair_of(text), NOON)
 
     def test_table(self):
         """The table is the one that the Rattle crate session_revocations reads."""
-        self.made().revoke(ANN, NOON)
+        self.new_store().revoke(ANN, NOON)
         with contextlib.closing(sqlite3.connect(self.path)) as connection:
-            made = connection.execute("SELECT sql FROM sqlite_master WHERE type = 'table'").fetchall()
+            new_store = connection.execute("SELECT sql FROM sqlite_master WHERE type = 'table'").fetchall()
             modes = [connection.execute(f"PRAGMA {name}").fetchone() for name in ("journal_mode", "integrity_check")]
-        self.assertEqual((made, modes), ([(TABLE,)], [("wal",), ("ok",)]))
+        assert (new_store, modes) == ([(TABLE,)], [("wal",), ("ok",)])
 
     def test_again(self):
         """Another opening of the file has what was revoked, and a second revocation adds no row."""
         for _ in range(2):
-            self.made().revoke(ANN, NOON)
-        self.assertEqual((self.made().is_revoked(ANN), self.rows()), (True, [(ANN, NOON)]))
+            self.new_store().revoke(ANN, NOON)
+        assert (self.new_store().is_revoked(ANN), self.rows()) == (True, [(ANN, NOON)])
 
     def test_forgotten(self):
         """Those are forgotten whose second isn't after that time."""
-        revocations = self.made()
+        revocations = self.new_store()
         for id, until in ((ANN, NOON), (BO, NOON + 1), (ANN, NOON - 5)):
             revocations.revoke(id, until)
         revocations.forget(NOON + 0.9)
-        self.assertEqual(self.rows(), [(BO, NOON + 1)])
+        assert self.rows() == [(BO, NOON + 1)]
 
     def test_processes(self):
         """Processes that make the file and revoke the same sessions at once, 20 times, each find them revoked, once
@@ -213,23 +213,23 @@ class SqliteFacts(Stores, unittest.TestCase):
                 process.start()
             for process in processes:
                 process.join()
-            self.assertEqual([process.exitcode for process in processes], [0] * 4)
-            self.assertEqual(self.rows(), sorted((id, NOON) for id in ids))
+            assert [process.exitcode for process in processes] == [0] * 4
+            assert self.rows() == sorted((id, NOON) for id in ids)
 
     def test_fork(self):
         """A process that was forked has a connection of its own."""
-        revocations = self.made()
+        revocations = self.new_store()
         revocations.revoke(ANN, NOON)
-        self.assertIsNone(in_process(revocations.revoke, BO, NOON))
-        self.assertTrue(revocations.is_revoked(BO))
+        assert in_process(revocations.revoke, BO, NOON) is None
+        assert revocations.is_revoked(BO)
 
     def test_kill(self):
         """What was revoked stays so if the process is killed at once."""
         words = f"import os, sys; from deomigal.revocations import SqliteRevocations; r = SqliteRevocations({str(self.path)!r})"
         words += f"; r.revoke({ANN!r}, {NOON}); os.kill(os.getpid(), 9)"
         done = subprocess.run([sys.executable, "-c", words])
-        self.assertEqual(done.returncode, -9)
-        self.assertTrue(self.made().is_revoked(ANN))
+        assert done.returncode == -9
+        assert self.new_store().is_revoked(ANN)
 
     def test_other_tables(self):
         """A database with other tables, or with another form of this one, is refused."""
@@ -243,14 +243,14 @@ class SqliteFacts(Stores, unittest.TestCase):
             self.path.unlink(missing_ok=True)
             with contextlib.closing(sqlite3.connect(self.path)) as connection:
                 connection.executescript(words)
-            with self.assertRaises(RevocationsError, msg=words):
-                self.made()
+            with pytest.raises(RevocationsError):
+                self.new_store()
 
     def test_no_database(self):
         """A file that is no database is refused, and so is a folder, or a file in a folder that isn't there."""
         self.path.write_bytes(b"no database" * 1000)
         for path in (self.path, self.folder, self.folder / "none/revoked"):
-            with self.assertRaises(RevocationsError):
+            with pytest.raises(RevocationsError):
                 SqliteRevocations(path)
 
     def test_damaged(self):
@@ -262,26 +262,26 @@ class SqliteFacts(Stores, unittest.TestCase):
         sessions.revocations.close()
         data = self.path.read_bytes()
         self.path.write_bytes(data[:4096] + os.urandom(len(data) - 4096))
-        with self.assertRaises(RevocationsError):
+        with pytest.raises(RevocationsError):
             sessions.open(pair_of(text), NOON)
 
     def test_read_only(self):
         """A file that can't be written is refused when it is opened."""
-        self.made().close()
+        self.new_store().close()
         for path in self.folder.iterdir():
             path.chmod(0o444)
         self.folder.chmod(0o555)
         if os.geteuid() == 0:
-            self.assertEqual(in_process(as_nobody, SqliteRevocations, self.path), "RevocationsError")
+            assert in_process(as_nobody, SqliteRevocations, self.path) == "RevocationsError"
         else:
-            self.assertEqual(in_process(SqliteRevocations, self.path), "RevocationsError")
+            assert in_process(SqliteRevocations, self.path) == "RevocationsError"
         self.folder.chmod(0o755)
 
     def test_full_disk(self):
         """On a disk that is full a revocation fails by name, and what was revoked before stays so."""
-        self.made().revoke(ANN, NOON)
-        self.assertEqual(in_process(with_full_disk, self.path), "RevocationsError")
-        self.assertTrue(self.made().is_revoked(ANN))
+        self.new_store().revoke(ANN, NOON)
+        assert in_process(with_full_disk, self.path) == "RevocationsError"
+        assert self.new_store().is_revoked(ANN)
 
     def test_locked(self):
         """A file that another process holds is waited for up to the limit, and then the call fails by name."""
@@ -290,9 +290,9 @@ class SqliteFacts(Stores, unittest.TestCase):
         with contextlib.closing(sqlite3.connect(self.path, isolation_level=None)) as other:
             other.execute("BEGIN EXCLUSIVE")
             begun = time.monotonic()
-            with self.assertRaises(RevocationsError):
+            with pytest.raises(RevocationsError):
                 sessions.revoke(opened)
-            self.assertLess(time.monotonic() - begun, 2)
+            assert time.monotonic() - begun < 2
         sessions.revoke(opened)
 
 
@@ -331,7 +331,7 @@ class RedisFacts(Stores, unittest.TestCase):
         self.server.wait()
         self.client.close()
 
-    def made(self):
+    def new_store(self):
         return RedisRevocations(self.client)
 
     def until(self, revocations, id):
@@ -339,32 +339,32 @@ class RedisFacts(Stores, unittest.TestCase):
 
     def test_kill(self):
         """What was revoked stays so if the server is killed. While it is away no session is opened."""
-        sessions = Sessions([KEY], "s", HOUR, HOUR, revocations=self.made())
+        sessions = Sessions([KEY], "s", HOUR, HOUR, revocations=self.new_store())
         revoked, other = (sessions.open(pair_of(sessions.save(sessions.start()))) for _ in range(2))
         sessions.revoke(revoked)
         self.end()
         for opened in (revoked, other):
-            with self.assertRaises(RevocationsError):
+            with pytest.raises(RevocationsError):
                 sessions.open(opened.header)
-            with self.assertRaises(RevocationsError):
+            with pytest.raises(RevocationsError):
                 sessions.revoke(opened)
         self.begin()
         sessions.revocations.client = self.client
-        self.assertTrue(sessions.open(revoked.header).is_new)
-        self.assertFalse(sessions.open(other.header).is_new)
+        assert sessions.open(revoked.header).is_new
+        assert not sessions.open(other.header).is_new
 
     def test_hangs(self):
         """A server that hangs is waited for up to the client's limit."""
-        sessions = Sessions([KEY], "s", HOUR, HOUR, revocations=self.made())
+        sessions = Sessions([KEY], "s", HOUR, HOUR, revocations=self.new_store())
         text = sessions.save(sessions.start())
         self.server.send_signal(signal.SIGSTOP)
         begun = time.monotonic()
         try:
-            with self.assertRaises(RevocationsError):
+            with pytest.raises(RevocationsError):
                 sessions.open(pair_of(text))
         finally:
             self.server.send_signal(signal.SIGCONT)
-        self.assertLess(time.monotonic() - begun, 5)
+        assert time.monotonic() - begun < 5
 
 
 class RevocationFacts(unittest.TestCase):
@@ -374,65 +374,65 @@ class RevocationFacts(unittest.TestCase):
         self.store = MemoryRevocations()
         self.sessions = Sessions([KEY], "s", HOUR, 60, revocations=self.store)
 
-    def kept(self, now=NOON, **texts):
+    def saved_session(self, now=NOON, **texts):
         """A session that was saved and is opened again."""
-        made = self.sessions.start(now)
-        made.update(texts)
-        return self.sessions.open(pair_of(self.sessions.save(made)), now)
+        new_store = self.sessions.start(now)
+        new_store.update(texts)
+        return self.sessions.open(pair_of(self.sessions.save(new_store)), now)
 
     def test_id(self):
         """An id has sixteen bytes, stays when the session is saved, and is another one once it is renewed."""
-        opened = self.kept()
-        self.assertEqual((type(opened.id), len(opened.id)), (bytes, 16))
+        opened = self.saved_session()
+        assert (type(opened.id), len(opened.id)) == (bytes, 16)
         again = self.sessions.open(pair_of(self.sessions.save(opened)), NOON)
-        self.assertEqual(again.id, opened.id)
+        assert again.id == opened.id
         again.renew()
-        self.assertNotEqual(again.id, opened.id)
-        self.assertEqual(self.sessions.open(pair_of(self.sessions.save(again)), NOON).id, again.id)
-        self.assertEqual(len({self.kept().id for _ in range(100)}), 100)
+        assert again.id != opened.id
+        assert self.sessions.open(pair_of(self.sessions.save(again)), NOON).id == again.id
+        assert len({self.saved_session().id for _ in range(100)}) == 100
 
     def test_until(self):
         """A session is revoked until its lifetime ends."""
-        opened = self.sessions.open(self.kept(NOON).header, NOON + 5)
+        opened = self.sessions.open(self.saved_session(NOON).header, NOON + 5)
         self.sessions.revoke(opened)
-        self.assertEqual(self.store.until, {opened.id: NOON + HOUR})
+        assert self.store.until == {opened.id: NOON + HOUR}
 
     def test_renewed(self):
         """What was renewed is revoked with the copies of before."""
-        opened = self.kept()
+        opened = self.saved_session()
         before, first = opened.header, opened.id
         opened.renew()
         after = pair_of(self.sessions.save(opened))
         self.sessions.revoke(opened)
-        self.assertEqual(set(self.store.until), {first, opened.id})
+        assert set(self.store.until) == {first, opened.id}
         for header in (before, after):
-            self.assertTrue(self.sessions.open(header, NOON).is_new)
+            assert self.sessions.open(header, NOON).is_new
 
     def test_unsaved(self):
         """A session that was never saved has no cookie, and isn't kept as revoked."""
         self.sessions.revoke(self.sessions.start(NOON))
-        self.assertEqual(self.store.until, {})
+        assert self.store.until == {}
 
     def test_planted(self):
         """A revoked cookie that another host planted doesn't hide a good one, before it or after it."""
-        planted, good = [self.kept(user="mallory") for _ in range(3)], self.kept(user="ann")
+        planted, good = [self.saved_session(user="mallory") for _ in range(3)], self.saved_session(user="ann")
         for opened in planted:
             self.sessions.revoke(opened)
         texts = [opened.header for opened in planted]
         for place in range(4):
             header = b"; ".join([*texts[:place], good.header, *texts[place:]])
             found = self.sessions.open(header, NOON)
-            self.assertEqual((found["user"], found.id), ("ann", good.id))
+            assert (found["user"], found.id) == ("ann", good.id)
             saved = self.sessions.open(pair_of(self.sessions.save(found)), NOON)
-            self.assertEqual((saved["user"], saved.id), ("ann", good.id))
-        self.assertTrue(self.sessions.open(b"; ".join(texts), NOON).is_new)
+            assert (saved["user"], saved.id) == ("ann", good.id)
+        assert self.sessions.open(b"; ".join(texts), NOON).is_new
 
     def test_in_flight(self):
         """What a request saves that was under way at the logout doesn't open."""
-        opened = self.kept(user="ann")
+        opened = self.saved_session(user="ann")
         under_way = self.sessions.open(opened.header, NOON)
         self.sessions.revoke(opened)
-        self.assertTrue(self.sessions.open(pair_of(self.sessions.save(under_way)), NOON).is_new)
+        assert self.sessions.open(pair_of(self.sessions.save(under_way)), NOON).is_new
 
     def test_errors(self):
         """Whatever a look-up raises refuses the session by name, and so does what isn't True or False."""
@@ -440,23 +440,23 @@ class RevocationFacts(unittest.TestCase):
         errors = (OSError(), TimeoutError(), ValueError(), KeyError(), MemoryError(), RevocationsError(), CookieError())
         for error in errors:
             sessions = Sessions([KEY], "s", HOUR, 60, revocations=Failing(error))
-            with self.assertRaises(RevocationsError):
+            with pytest.raises(RevocationsError):
                 sessions.open(text, NOON)
-            with self.assertRaises(RevocationsError):
-                sessions.revoke(self.kept())
-            self.assertTrue(sessions.open("s=junk", NOON).is_new)
+            with pytest.raises(RevocationsError):
+                sessions.revoke(self.saved_session())
+            assert sessions.open("s=junk", NOON).is_new
         for wrong in (None, 0, 1, "", [], asyncio.Future):
             self.store.is_revoked = lambda id: wrong
-            with self.assertRaises(RevocationsError):
+            with pytest.raises(RevocationsError):
                 self.sessions.open(text, NOON)
 
     def test_none(self):
         """Without revocations a session can't be revoked, which is an error."""
         sessions = Sessions([KEY], "s", HOUR, 60)
-        with self.assertRaises(RevocationsError):
+        with pytest.raises(RevocationsError):
             sessions.revoke(sessions.start(NOON))
         for wrong in (1, "revoked", object()):
-            with self.assertRaises(TypeError):
+            with pytest.raises(TypeError):
                 Sessions([KEY], "s", HOUR, 60, revocations=wrong)
 
 
@@ -486,20 +486,20 @@ class WsgiFacts(unittest.TestCase):
         """After a logout no copy of the cookie opens."""
         cookie = pair_of(self.ask("/login")[1])
         self.ask("/", cookie)
-        self.assertIn("Max-Age=0", self.ask("/logout", cookie)[1])
+        assert "Max-Age=0" in self.ask("/logout", cookie)[1]
         self.ask("/", cookie)
-        self.assertEqual(self.seen, ["ann", "ann", None, None])
+        assert self.seen == ["ann", "ann", None, None]
 
     def test_broken(self):
         """If the store fails, the answer is 503, and the application isn't called."""
         cookie = pair_of(self.ask("/login")[1])
         self.store.is_broken = True
-        self.assertEqual([self.ask(path, cookie) for path in ("/", "/logout")], [("503", None)] * 2)
-        self.assertEqual(self.ask("/"), ("200", None))
+        assert [self.ask(path, cookie) for path in ("/", "/logout")] == [("503", None)] * 2
+        assert self.ask("/") == ("200", None)
         self.store.is_broken = False
         self.store.revoke = Failing(OSError()).revoke
-        self.assertEqual(self.ask("/logout", cookie), ("503", None))
-        self.assertEqual(self.seen, ["ann", None])
+        assert self.ask("/logout", cookie) == ("503", None)
+        assert self.seen == ["ann", None]
 
 
 class AsgiFacts(unittest.TestCase):
@@ -537,18 +537,18 @@ class AsgiFacts(unittest.TestCase):
         """After a logout no copy of the cookie opens."""
         cookie = pair_of(self.answer("/login")[1])
         self.answer("/", cookie)
-        self.assertIn("Max-Age=0", self.answer("/logout", cookie)[1])
+        assert "Max-Age=0" in self.answer("/logout", cookie)[1]
         self.answer("/", cookie)
-        self.assertEqual(self.seen, ["ann", "ann", None, None])
+        assert self.seen == ["ann", "ann", None, None]
 
     def test_broken(self):
         """If the store fails, the answer is 503, and the application isn't called. A websocket is closed."""
         cookie = pair_of(self.answer("/login")[1])
         self.store.is_broken = True
-        self.assertEqual([self.answer(path, cookie) for path in ("/", "/logout")], [(503, "")] * 2)
-        self.assertEqual(self.ask("/", cookie, "websocket"), [{"type": "websocket.close", "code": 1013}])
-        self.assertEqual(self.answer("/"), (200, ""))
+        assert [self.answer(path, cookie) for path in ("/", "/logout")] == [(503, "")] * 2
+        assert self.ask("/", cookie, "websocket") == [{"type": "websocket.close", "code": 1013}]
+        assert self.answer("/") == (200, "")
         self.store.is_broken = False
         self.store.revoke = Failing(OSError()).revoke
-        self.assertEqual(self.answer("/logout", cookie), (503, ""))
-        self.assertEqual(self.seen, ["ann", None])
+        assert self.answer("/logout", cookie) == (503, "")
+        assert self.seen == ["ann", None]

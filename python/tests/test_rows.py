@@ -154,7 +154,7 @@ def agent_step(agent, step):
         (agent.core.evict if word == b"evict" else agent.core.trim)(*numbers)
     elif word == b"remove":
         name, domain, path = (text.decode() for text in texts)
-        is_found = agent.remove(_agent.KeptCookie(name, "", domain, path, None, None, numbers[0] == 1, False, False))
+        is_found = agent.remove(_agent.AgentCookie(name, "", domain, path, None, None, numbers[0] == 1, False, False))
         return "DONE" if is_found else "NOT_FOUND", 0, b""
     elif word == b"cookie":
         kept = list(agent.core.cookies(numbers[1]))[numbers[0]]

@@ -7,6 +7,7 @@ import unittest
 from inspect import isclass
 
 import deomigal
+import pytest
 from deomigal import Agent, Jar, Session, Sessions, Tokens, errors, explain
 from deomigal.errors import TooLarge
 
@@ -80,6 +81,7 @@ OTHERS = [
     lambda: Sessions(["x" * 64], "session", 60, 60),
     lambda: Sessions([KEY], "session", "60", 60),
     lambda: Sessions([KEY], "session", 60, 1.5),
+    lambda: Sessions([KEY], "session", datetime.timedelta(hours=1), 60),
     lambda: SITE.open("", "1"),
     lambda: SITE.open("", []),
     lambda: SITE.start("1"),
@@ -100,6 +102,28 @@ OTHERS = [
 ]
 
 
+@pytest.mark.parametrize("number", range(len(CALLS)))
+def test_wrong(number):
+    """A wrong type raises `TypeError` before a megabyte is allocated."""
+    call, words, places = CALLS[number]
+    tracemalloc.start()
+    for place in map(int, places):
+        for wrong in WRONG:
+            tracemalloc.reset_peak()
+            before = tracemalloc.get_traced_memory()[0]
+            with pytest.raises(TypeError):
+                call(*words[:place], wrong, *words[place + 1 :])
+            assert tracemalloc.get_traced_memory()[1] - before < 10**6, (place, wrong)
+    tracemalloc.stop()
+
+
+@pytest.mark.parametrize("number", range(len(OTHERS)))
+def test_others(number):
+    """So do wrong types of other kinds."""
+    with pytest.raises(TypeError):
+        OTHERS[number]()
+
+
 class TypeFacts(unittest.TestCase):
     """Facts about wrong types."""
 
@@ -115,63 +139,42 @@ class TypeFacts(unittest.TestCase):
         missing = [
             value for value in public if callable(value) and value not in tried and not issubclass_of(value, Exception)
         ]
-        self.assertEqual(missing, [])
-
-    def test_wrong(self):
-        """A wrong type raises `TypeError` before a megabyte is allocated."""
-        tracemalloc.start()
-        for call, words, places in CALLS:
-            for place in map(int, places):
-                for wrong in WRONG:
-                    tracemalloc.reset_peak()
-                    before = tracemalloc.get_traced_memory()[0]
-                    with self.assertRaises(TypeError, msg=(call, place, wrong)):
-                        call(*words[:place], wrong, *words[place + 1 :])
-                    self.assertLess(tracemalloc.get_traced_memory()[1] - before, 10**6, (call, place, wrong))
-        tracemalloc.stop()
-
-    def test_others(self):
-        """So do wrong types of other kinds."""
-        for number, call in enumerate(OTHERS):
-            with self.assertRaises(TypeError, msg=number):
-                call()
+        assert missing == []
 
     def test_names_only(self):
         """`repr` of a session shows names and no values, and that of how a site keeps them no key."""
         session = SITE.start()
         session["user"] = "ann"
-        self.assertEqual(repr(session), "<Session ['user']>")
-        self.assertNotIn(repr(KEY)[2:-1], repr(SITE) + repr(vars(SITE)))
+        assert repr(session) == "<Session ['user']>"
+        assert repr(KEY)[2:-1] not in repr(SITE) + repr(vars(SITE))
 
     def test_copies(self):
         """A session has copies of its own, and is pickled."""
         session = SITE.open(SITE.save(filled("ann")).partition(";")[0])
         for copied in (copy.copy(session), copy.deepcopy(session), pickle.loads(pickle.dumps(session))):
-            self.assertEqual((dict(copied), copied.started, copied.place), ({"user": "ann"}, session.started, 0))
+            assert (dict(copied), copied.started, copied.place) == ({"user": "ann"}, session.started, 0)
             copied["user"] = "bo"
-            self.assertEqual(session["user"], "ann")
-            self.assertEqual(SITE.open(SITE.save(copied).partition(";")[0])["user"], "bo")
+            assert session["user"] == "ann"
+            assert SITE.open(SITE.save(copied).partition(";")[0])["user"] == "bo"
 
     def test_no_copies(self):
         """What holds memory or keys of the library has none, and says so."""
         with Jar("a=1") as jar:
             for value in (jar, SITE, AGENT):
                 for make in (copy.copy, copy.deepcopy, pickle.dumps):
-                    with self.assertRaisesRegex(TypeError, "can't be copied or pickled"):
+                    with pytest.raises(TypeError, match="can't be copied or pickled"):
                         make(value)
-            self.assertEqual(jar["a"], "1")
+            assert jar["a"] == "1"
 
     def test_errors(self):
         """An error is pickled with its number, and its text has no value of the session."""
-        with self.assertRaises(TooLarge) as found:
+        with pytest.raises(TooLarge) as found:
             SITE.save(filled("secret" * 1000))
-        copied = pickle.loads(pickle.dumps(found.exception))
-        self.assertEqual(
-            (type(copied), copied.size, str(copied)), (TooLarge, found.exception.size, str(found.exception))
-        )
-        self.assertNotIn("secret", str(copied))
+        copied = pickle.loads(pickle.dumps(found.value))
+        assert (type(copied), copied.size, str(copied)) == (TooLarge, found.value.size, str(found.value))
+        assert "secret" not in str(copied)
         for error in errors.ERRORS.values():
-            self.assertIsInstance(pickle.loads(pickle.dumps(error("words"))), error)
+            assert isinstance(pickle.loads(pickle.dumps(error("words"))), error)
 
 
 def filled(user):

@@ -189,6 +189,50 @@ def test_explain():
     assert explain.explain("https://a.example/x/", b"v\xff; Path=y").startswith("stored: =v\ufffd; for a.example only; path /x;")
 
 
+# Seconds that C would take for others, and what is no second.
+NO_SECONDS = (-1, -(2**64) + NOW, 2**64, 2**64 + NOW, 2**65, 1e30, float("inf"), float("nan"))
+
+
+@pytest.mark.parametrize("now", NO_SECONDS)
+def test_now(now):
+    """A time before 1970, or from 2^64 seconds after it on, is refused where it enters."""
+    tokens, sessions = deomigal.Tokens([KEY], "reset", 3600), deomigal.Sessions([KEY], "s", 3600, 3600)
+    token, cookie = tokens.make("ann", NOW), sessions.save(sessions.start(NOW))
+    uses = [
+        lambda: tokens.make("ann", now), lambda: tokens.read(token, now), lambda: sessions.start(now),
+        lambda: sessions.open(cookie, now), lambda: sessions.end(now),
+    ]
+    with deomigal.Agent(b"", clock=lambda: now) as agent:
+        uses += [
+            lambda: agent.read("https://a.example/", "a=1; Max-Age=5"), lambda: agent.header("https://a.example/"),
+            lambda: len(agent),
+        ]
+        for number, use in enumerate(uses):
+            with pytest.raises(errors.NoDate):
+                use()
+                pytest.fail(f"use {number}")
+
+
+def test_moments():
+    """So is a date before 1970, for an agent and an explanation."""
+    for moment in (datetime.datetime(1, 1, 1), datetime.datetime(1969, 12, 31, 23, 59, 59)):
+        with deomigal.Agent(b"") as agent, pytest.raises(errors.NoDate):
+            agent.read("https://a.example/", "a=1; Max-Age=5", moment)
+        with pytest.raises(errors.NoDate):
+            explain.verdict("https://a.example/", "a=1", now=moment)
+
+
+def test_surrogate():
+    """A text with a lone surrogate has no UTF-8, and can't be saved."""
+    sessions = deomigal.Sessions([KEY], "s", 3600, 3600)
+    for name, text in (("a", "\ud800"), ("\ud800", "a")):
+        for compress in (False, True):
+            sessions.compress, session = compress, sessions.start(NOW)
+            session[name] = text
+            with pytest.raises(errors.NotUtf8):
+                sessions.save(session)
+
+
 def closed():
     """A jar that is closed."""
     with deomigal.Jar() as jar:
