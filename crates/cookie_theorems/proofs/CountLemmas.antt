@@ -1,11 +1,11 @@
 -- What counts at a request and what it revokes, where the same is revoked.
-use Rattle.std.proofs.Common.{◌≡◌, ◌⊎◌, inl, inr, ℕ, List, [], ◌∷◌, Option, Some, None, Result, Ok, Err, IfOk, OnOk, option_map, refl, sym, ap, ◌∙◌}
+use Rattle.std.proofs.Common.{◌≡◌, ◌⊎◌, inl, inr, ℕ, List, [], ◌∷◌, Option, Some, None, Result, Ok, Err, IfOk, OnOk, option_map, refl, sym, ap, subst, ◌∙◌, arith}
 use Rattle.std.proofs.lemmas.Option.{none-some, same_Some}
+use Rattle.std.specs.List.{AllZip}
 use Rattle.jiff.specs.Types.{DateTime}
 use Rattle.cookie.specs.Originals.{field_cookies}
 use Rattle.cookie_session.specs.Revocations.{AreSame, IsRevoked, IsRevokedToo, end_of}
 use Rattle.cookie_session.specs.Session.{SessionState}
-use Rattle.cookie_session.specs.Sessions.{OpensUnrevoked}
 use Rattle.cookie_session.specs.declared.sessions.Sessions.{Sessions}
 use Rattle.login_core.specs.Answers.{HasSession}
 use Rattle.login_core.specs.declared.login_site.LoginSite.{LoginSite}
@@ -13,8 +13,8 @@ use Rattle.login_core.specs.declared.page.Page.{Page}
 use Rattle.login_core.specs.declared.refusal.Refusal.{Refusal}
 use Rattle.login_core.specs.declared.routes.Route.{Route}
 use Rattle.login_core.specs.declared.routes.Route.TheVariants.{Home, LogIn, LogOut}
-use Rattle.cookie_theorems.specs.Browsing.{ArePages}
-use Rattle.cookie_theorems.specs.Standing.{Counts, CountsOfField, Standing, after_request, revoked_after, route_asked, standing_of}
+use Rattle.cookie_theorems.specs.Browsing.{ArePages, EndsCopies, GreetsAnother, IsByAnother}
+use Rattle.cookie_theorems.specs.Standing.{Counts, CountsOfField, Standing, after_request, ended, revoked_after, route_asked, standing_of}
 use Rattle.cookie_theorems.specs.declared.sender.Sender.{Sender}
 use Rattle.cookie_theorems.specs.declared.sender.Sender.TheVariants.{Client, Other}
 use Rattle.cookie_theorems.specs.declared.timed_request.TimedRequest.{TimedRequest}
@@ -70,15 +70,69 @@ pages_alike Keeps site [] [] standing old new same are = tt
 pages_alike Keeps site [] (page ∷ pages) standing old new same are = absurd are
 pages_alike Keeps site (request ∷ requests) [] standing old new same are = absurd are
 pages_alike Keeps site (request ∷ requests) (page ∷ pages) standing old new same are =
-    let (counting, id, counts, shows, rest) = are in
+    let (counting, id, counts, shows, ends, rest) = are in
     let route = route_asked request in (
       counting,
       id,
       counts_alike old new same site.sessions request.time request.sender standing counting counts,
       shows,
+      ends,
       pages_alike Keeps site requests pages (after_request site id request counting standing) (revoked_after Keeps site.sessions route counting old)
           (revoked_after Keeps site.sessions route counting new) (revoked_alike Keeps site.sessions route counting old new same) rest,
     )
+
+-- ---- no copy greets
+
+-- what is revoked stays so
+stays_revoked : (Keeps : Type 0) (sessions : Sessions) (route : Result Route Refusal) (counting : Option Standing) (set : Set) (id : List ℕ)
+    → IsRevoked set id → IsRevoked (revoked_after Keeps sessions route counting set) id
+stays_revoked Keeps sessions (Ok Home) counting set id is = is
+stays_revoked Keeps sessions (Ok LogIn) counting set id is = is
+stays_revoked Keeps sessions (Ok LogOut) None set id is = is
+stays_revoked Keeps sessions (Ok LogOut) (Some current) set id is = inr is
+stays_revoked Keeps sessions (Err refusal) counting set id is = is
+
+-- what counts has another id
+greets_another : (set : Set) (sessions : Sessions) (time : DateTime) (sender : Sender) (standing counting : Option Standing) → Counts (IsRevoked set) sessions time sender standing counting
+    → (gone : List ℕ) → IsRevoked set gone → (current : Standing) → counting ≡ Some current → (user : List ℕ) → current.user ≡ Some user
+    → IsByAnother sessions gone time user sender
+greets_another set sessions time Client standing counting counts gone revoked current is user named = tt
+greets_another set sessions time (Other field) standing counting counts gone revoked current is user named =
+    let (place, session, opens, tells) = (counts current).0 is in (
+      place,
+      session,
+      (opens.earlier, opens.later, opens.cookie, opens.split, opens.opens),
+      ap (λ (s : Standing). s.user) tells ∙ named,
+      λ same. opens.unrevoked (subst (λ id. set id 0) (sym same) revoked),
+    )
+
+no_copy : (Keeps : Type 0) (site : LoginSite) (gone : List ℕ) (requests : List TimedRequest) (pages : List Page) (standing : Option Standing) (set : Set) → IsRevoked set gone
+    → ArePages Keeps site set standing requests pages → AllZip (GreetsAnother site gone) requests pages
+no_copy Keeps site gone [] [] standing set revoked are = tt
+no_copy Keeps site gone [] (page ∷ pages) standing set revoked are = absurd are
+no_copy Keeps site gone (request ∷ requests) [] standing set revoked are = absurd are
+no_copy Keeps site gone (request ∷ requests) (page ∷ pages) standing set revoked are =
+    let (counting, id, counts, shows, ends, rest) = are in
+    let route = route_asked request in (
+      λ user greets.
+          let (current, is, named) = ((shows.shows.greets user).0 greets).1 in
+          greets_another set site.sessions request.time request.sender standing counting counts gone revoked current is user named,
+      no_copy Keeps site gone requests pages (after_request site id request counting standing) (revoked_after Keeps site.sessions route counting set)
+          (stays_revoked Keeps site.sessions route counting set gone revoked) rest,
+    )
+
+-- the session that a logout ended is revoked
+ended_revoked : (Keeps : Type 0) (sessions : Sessions) (current : Standing) (set : Set) → Keeps → IsRevoked (ended Keeps sessions current set) current.id
+ended_revoked Keeps sessions current set keeps = inl (keeps, refl, omega arith)
+
+-- so after a logout none greets
+pub ends_copies : (Keeps : Type 0) (site : LoginSite) (route : Result Route Refusal) (counting : Option Standing) (requests : List TimedRequest) (pages : List Page) (standing : Option Standing) (set : Set)
+    → ArePages Keeps site (revoked_after Keeps site.sessions route counting set) standing requests pages → EndsCopies Keeps site route counting requests pages
+ends_copies Keeps site route counting requests pages standing set are keeps current out is =
+    let there : ArePages Keeps site (ended Keeps site.sessions current set) standing requests pages =
+    subst (λ c. ArePages Keeps site (revoked_after Keeps site.sessions (Ok LogOut) c set) standing requests pages) is
+    (subst (λ r. ArePages Keeps site (revoked_after Keeps site.sessions r counting set) standing requests pages) out are) in
+    no_copy Keeps site current.id requests pages standing (ended Keeps site.sessions current set) (ended_revoked Keeps site.sessions current set keeps) there
 
 -- ---- what an answered request revoked
 

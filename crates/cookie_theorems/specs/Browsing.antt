@@ -1,7 +1,13 @@
 -- What the pages show, one request after the other, of a client and of whoever else sends requests.
-use Rattle.std.specs.Prelude.{◌≡◌, ◌≢◌, ◌↔◌, ℕ, List, [], ◌∷◌, Option, Some, None, Result, Ok, Err, option_map, string_bytes, if◌then◌else◌}
+use Rattle.std.specs.Prelude.{◌≡◌, ◌≢◌, ◌↔◌, ℕ, List, [], ◌∷◌, Option, Some, None, Result, Ok, Err, codes, option_map, string_bytes, if◌then◌else◌}
+use Rattle.std.specs.FinMap.{get}
+use Rattle.std.specs.List.{AllZip}
+use Rattle.jiff.specs.Types.{DateTime}
 use Rattle.cookie.specs.Normal.{IsUncut}
+use Rattle.cookie.specs.Originals.{field_cookies}
 use Rattle.cookie_session.specs.Revocations.{IsRevoked}
+use Rattle.cookie_session.specs.Session.{SessionState}
+use Rattle.cookie_session.specs.Sessions.{OpensOne}
 use Rattle.cookie_session.specs.declared.sessions.Sessions.{Sessions}
 use Rattle.login_core.specs.Forms.{credentials_of}
 use Rattle.login_core.specs.Pages.{greeted}
@@ -15,6 +21,8 @@ use Rattle.login_core.specs.declared.routes.Route.{Route}
 use Rattle.login_core.specs.declared.routes.Route.TheVariants.{Home, LogIn, LogOut}
 use Rattle.login_core.specs.declared.user.User.{User}
 use Rattle.cookie_theorems.specs.Standing.{Counts, Standing, after_request, revoked_after, route_asked}
+use Rattle.cookie_theorems.specs.declared.sender.Sender.{Sender}
+use Rattle.cookie_theorems.specs.declared.sender.Sender.TheVariants.{Client, Other}
 use Rattle.cookie_theorems.specs.declared.timed_request.TimedRequest.{TimedRequest}
 
 -- a home page, whatever it shows
@@ -67,6 +75,27 @@ pub record IsPage (site : LoginSite) (counting : Option Standing) (request : Tim
   -- it shows what the standing that counts has to show
   pub shows : Shows (route_asked request) counting page
 
+-- a request at this time greets the user by a session of another id, if somebody else sends it: by one that is open in
+-- the field's cookies
+abbrev pub IsByAnother : Sessions → List ℕ → DateTime → List ℕ → Sender → Type 0
+IsByAnother sessions gone time user Client = Unit {0}
+IsByAnother sessions gone time user (Other field) =
+    (place : ℕ) × (session : SessionState)
+    × OpensOne sessions (field_cookies field.now) time place session
+    × (get session.texts (codes "user") ≡ Some user) × (session.id ≢ gone)
+
+-- no copy of a cookie of the session with this id greets
+abbrev pub GreetsAnother : LoginSite → List ℕ → TimedRequest → Page → Type 0
+GreetsAnother site gone request page = (user : List ℕ) → greeted page ≡ Some user
+    → IsByAnother site.sessions gone request.time user request.sender
+
+-- After a logout no copy greets: none of the pages after it, if the store keeps what is revoked.
+abbrev pub EndsCopies : Type 0 → LoginSite → Result Route Refusal → Option Standing
+    → List TimedRequest → List Page → Type 0
+EndsCopies Keeps site route counting requests pages = Keeps → (current : Standing)
+    → route ≡ Ok LogOut → counting ≡ Some current
+    → AllZip (GreetsAnother site current.id) requests pages
+
 -- The pages of the requests, one for each, while the client stands so and these sessions are revoked before the first. A
 -- session that a request of the client starts has some id.
 abbrev pub ArePages : Type 0 → LoginSite → (List ℕ → ℕ → Type 0) → Option Standing
@@ -78,6 +107,7 @@ ArePages Keeps site set standing (request ∷ requests) (page ∷ pages) =
     (counting : Option Standing) × (id : List ℕ)
     × Counts (IsRevoked set) site.sessions request.time request.sender standing counting
     × IsPage site counting request page
+    × EndsCopies Keeps site (route_asked request) counting requests pages
     × ArePages Keeps site
     (revoked_after Keeps site.sessions (route_asked request) counting set)
     (after_request site id request counting standing) requests pages

@@ -27,12 +27,12 @@ use std::hash::RandomState;
 /// nothing at first, sends the cookies that it holds (RFC 6265 5.4), and reads the cookies of each of its responses (5.3).
 /// Somebody else sends the others, with any `Cookie` fields, so also with copies of the client's cookies.
 ///
-/// The home page greets the client's user exactly if the last login or logout of the client that was accepted was that
-/// user's login, isn't in a later second than the request, neither the lifetime nor the idle time is over, and the session
-/// isn't revoked. It greets somebody else exactly as the session has it that is open and not revoked in the first cookie of
-/// the field in which one is. A logout revokes the session that counts, whoever sends it. After that no copy of its cookie
-/// greets, nor does the cookie itself. No other page greets. The message of a login or a logout is shown on the first home
-/// page after it at such a time, and once. The times may come in any order.
+/// The home page greets the client's user exactly if the client's last accepted login or logout was that user's login, and
+/// still counts. It counts from its second on, within the lifetime and the idle time, unless its session is revoked. The
+/// page greets somebody else by the session that is open and not revoked in the first cookie of the field in which one is.
+/// No other page greets. The message of a login or a logout is shown on the client's first home page after it at such a
+/// time, and once. A logout revokes the session that counts, whoever sends it. After that no copy of its cookie greets.
+/// The times may come in any order.
 ///
 /// The site's cookie must have a name, and no `;` in its path and its domain. What is revoked must be kept, or nothing may
 /// ever be revoked, as with `NeverRevoked`: then a copy greets until the session's limits.

@@ -1,4 +1,4 @@
-use Rattle.std.proofs.Common.{◌≡◌, inl, inr, Err, refl}
+use Rattle.std.proofs.Common.{inl, inr, Err, refl}
 use Rattle.cookie_session.specs.Revocations.{IsRevoked}
 use Rattle.cookie_session.specs.Session.{SessionState}
 use Rattle.login_core.specs.Answers.{Ends, LogsOut}

@@ -6,8 +6,8 @@ use Rattle.cookie.specs.Jar.{name_cmp}
 use Rattle.login_core.specs.declared.page.Page.{Page}
 use Rattle.cookie_theorems.specs.Browsing.{ArePages}
 use Rattle.cookie_theorems.specs.Holding.{AreHeld}
-use Rattle.cookie_theorems.specs.Standing.{revoked_after, route_asked, standing_of}
-use Rattle.cookie_theorems.proofs.CountLemmas.{pages_alike}
+use Rattle.cookie_theorems.specs.Standing.{after_request, revoked_after, route_asked, standing_of}
+use Rattle.cookie_theorems.proofs.CountLemmas.{ends_copies, pages_alike}
 use Rattle.cookie_theorems.proofs.RevokingLemmas.{same_back}
 use Rattle.cookie_theorems.proofs.browse.browse.Goals as goal
 
@@ -47,10 +47,15 @@ loop-request-preserved g c =
       λ can kept steady.
           let (held, holds, more) = c.loop-request.invariant.1 can (c.send.ensures.kept kept) steady in
           let answered = c.in_ok-page.ensures.answered can kept steady held holds in
-          let after = revoked_after keeps site.sessions (route_asked request) answered.counting old in (
+          let route = route_asked request in
+          let after = revoked_after keeps site.sessions route answered.counting old in (
             answered.later,
             answered.holds,
             λ rest h.
+                let standing = after_request site answered.id request answered.counting (option_map standing_of held) in
+                let follow : ArePages keeps site after standing later rest =
+                subst (λ s. ArePages keeps site after s later rest) answered.stands
+                (pages_alike keeps site later rest (option_map standing_of answered.later) new after (same_back after new answered.revoked) h) in
                 subst (λ items. ArePages keeps site start None requests (items ++ rest)) (sym c.in_ok-push.ensures.items)
                 (subst (ArePages keeps site start None requests) (sym (append_assoc pages (page ∷ []) rest))
                 (more (page ∷ rest)
@@ -59,8 +64,8 @@ loop-request-preserved g c =
                   answered.id,
                   answered.counts,
                   answered.shows,
-                  subst (λ standing. ArePages keeps site after standing later rest) answered.stands
-                      (pages_alike keeps site later rest (option_map standing_of answered.later) new after (same_back after new answered.revoked) h),
+                  ends_copies keeps site route answered.counting later rest standing old follow,
+                  follow,
                 )))),
           ),
     )

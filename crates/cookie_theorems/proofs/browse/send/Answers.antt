@@ -1,4 +1,4 @@
-use Rattle.std.proofs.Common.{◌≡◌, [], option_map, sym, ap, subst}
+use Rattle.std.proofs.Common.{[], option_map, sym, ap, subst}
 use Rattle.std.proofs.lemmas.Result.{IfOk-weaker}
 use Rattle.cookie_session.specs.Revocations.{IsRevoked}
 use Rattle.cookie_session.specs.Seconds.{second_of}
