@@ -13,7 +13,6 @@ use Rattle.cookie_client.specs.Calls.{IsFitCall, IsKnownChange}
 use Rattle.cookie_client.specs.Client.{Values, after_texts}
 use Rattle.cookie_client.proofs.AgreementLemmas.{agreement}
 use Rattle.cookie_session.specs.Seconds.{second_of}
-use Rattle.cookie_session.specs.Revocations.{none_revoked}
 use Rattle.cookie_session.specs.Session.{SessionState, seen_at}
 use Rattle.cookie_session.specs.Sessions.{HoldsOne, IsClosed, IsOpen, IsStored, LivesAt, saved_cookie, site_cookies}
 use Rattle.cookie_session.specs.declared.sessions.Sessions.{Sessions}
@@ -37,19 +36,19 @@ one_first : (only cookie : Record) (earlier later : List Record) → only ∷ []
 one_first only cookie [] later e = cc
 one_first only cookie (c ∷ earlier) later e = absurd (no_first cookie earlier later (cc))
 
--- the session that is found in the cookies that the client sends is the one that it holds, if that lives
-pub finds : (sessions : Sessions) (value : Option (List ℕ)) (holds : Option SessionState) → AreHeld sessions value holds → (cookies : List Record)
+-- the session that is found in the cookies that the client sends is the one that it holds, if that lives and isn't revoked
+pub finds : (IsRevoked : List ℕ → Type 0) (sessions : Sessions) (value : Option (List ℕ)) (holds : Option SessionState) → AreHeld sessions value holds → (cookies : List Record)
     → site_cookies sessions cookies ≡ option_to_list (option_map (plain sessions.cookie.now.fields.name) value) → (now : DateTime) (found : Option SessionState)
-    → HasSession none_revoked sessions cookies now found → IsFound sessions now holds found
-finds sessions None None are cookies is now found has session = (
+    → HasSession IsRevoked sessions cookies now found → IsFound IsRevoked sessions now holds found
+finds IsRevoked sessions None None are cookies is now found has session = (
   λ e.
       let first = ((has.exact session).0 e).1 in
       absurd (no_first first.cookie first.earlier first.later (sym is ∙ first.split)),
   λ h. absurd (none-some session h.0),
 )
-finds sessions None (Some other) are cookies is now found has session = absurd are
-finds sessions (Some value) None are cookies is now found has session = absurd are
-finds sessions (Some value) (Some other) are cookies is now found has session =
+finds IsRevoked sessions None (Some other) are cookies is now found has session = absurd are
+finds IsRevoked sessions (Some value) None are cookies is now found has session = absurd are
+finds IsRevoked sessions (Some value) (Some other) are cookies is now found has session =
     let cookie : Record = plain sessions.cookie.now.fields.name value in
     let opens : (time : DateTime) → LivesAt sessions time other → IsOpen sessions (Some cookie) time 0 other =
     λ time lives. are.stored cookie refl time lives in (
@@ -58,7 +57,7 @@ finds sessions (Some value) (Some other) are cookies is now found has session =
           let first = there.1 in
           let same : first.cookie ≡ cookie = one_first cookie first.cookie first.earlier first.later (sym is ∙ first.split) in
           let once : HoldsOne sessions (Some cookie) = subst (λ c. HoldsOne sessions (Some c)) same (has.once there.0 session first) in
-          (ap Some (once are.lived.0 now 0 there.0 other session (opens are.lived.0 are.lived.1) (subst (λ c. IsOpen sessions (Some c) now there.0 session) same first.opens)), first.opens.lives),
+          (ap Some (once are.lived.0 now 0 there.0 other session (opens are.lived.0 are.lived.1) (subst (λ c. IsOpen sessions (Some c) now there.0 session) same first.opens)), first.opens.lives, first.unrevoked),
       λ h.
           let same : other ≡ session = same_Some other session h.0 in
           (has.exact session).1 (
@@ -68,9 +67,9 @@ finds sessions (Some value) (Some other) are cookies is now found has session =
               cookie = cookie;
               later = [];
               split = is;
-              closed = All-nil (IsClosed none_revoked sessions now);
+              closed = All-nil (IsClosed IsRevoked sessions now);
               opens = subst (λ s. IsOpen sessions (Some cookie) now 0 s) same (opens now (subst (LivesAt sessions now) (sym same) h.1));
-              unrevoked = λ never. never;
+              unrevoked = h.2;
             },
           ),
     )

@@ -1,5 +1,6 @@
 pub mod AgentHeaderLemmas
 pub mod AlikeLemmas
+pub mod CountLemmas
 pub mod ExchangeLemmas
 pub mod FailLemmas
 pub mod FollowLemmas

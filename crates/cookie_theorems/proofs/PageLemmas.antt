@@ -1,5 +1,5 @@
 -- What a page shows for the session that was found, and the standing after it.
-use Rattle.std.proofs.Common.{◌≡◌, ◌↔◌, ℕ, Bool, true, false, cond, List, Option, Some, None, Result, Ok, Err, is_some, option_map, refl, sym, ap, subst, ◌∙◌, codes}
+use Rattle.std.proofs.Common.{◌≡◌, ◌↔◌, ℕ, Bool, true, false, cond, List, [], Option, Some, None, Result, Ok, Err, is_some, option_map, refl, sym, ap, subst, ◌∙◌, codes}
 use Rattle.std.proofs.lemmas.Option.{none-some, same_Some}
 use Rattle.std.specs.Bool.{MatchBool}
 use Rattle.std.specs.FinMap.{FinMap, empty, get, insert, remove, get-empty}
@@ -26,8 +26,7 @@ use Rattle.login_core.specs.declared.routes.Route.TheVariants.{Home, LogIn, LogO
 use Rattle.login_core.specs.declared.user.User.{User}
 use Rattle.login_core.specs.declared.visitor.Visitor.{Visitor}
 use Rattle.cookie_theorems.specs.Browsing.{IsHomeOf, IsHomePage, IsPageOf, Shows, login_page, told}
-use Rattle.cookie_theorems.specs.Holding.{standing_of}
-use Rattle.cookie_theorems.specs.Standing.{Standing, after_form, after_route, begun, shown, standing_at}
+use Rattle.cookie_theorems.specs.Standing.{Standing, after_form, after_route, begun, shown, standing_of}
 
 -- ---- what a page shows
 
@@ -122,26 +121,26 @@ shown_stands visitor second session =
     counted_at (is_some visitor.user) (decimal visitor.visits) texts (codes "user") refl ∙ get_removed session.texts (codes "notice") (codes "user") in
     let notice : get (counted visitor texts) (codes "notice") ≡ None =
     counted_at (is_some visitor.user) (decimal visitor.visits) texts (codes "notice") refl ∙ get_removed session.texts (codes "notice") (codes "notice") in
-    λ i. record { user = user i; notice = notice i; started = session.started; seen = second }
+    λ i. record { id = session.id; user = user i; notice = notice i; started = session.started; seen = second }
 
 -- the session of a login tells that it began
-logged_in_stands : (id : List ℕ) (now : DateTime) (user : List ℕ) → standing_of (seen_at (second_of now) (logged_in id now user)) ≡ begun (second_of now) (Some user) (codes "You are logged in.")
+logged_in_stands : (id : List ℕ) (now : DateTime) (user : List ℕ) → standing_of (seen_at (second_of now) (logged_in id now user)) ≡ begun id (second_of now) (Some user) (codes "You are logged in.")
 logged_in_stands id now user =
     let message : List ℕ = codes "You are logged in." in
     let first : Texts = insert empty (codes "user") user in
     let named : get (insert first (codes "notice") message) (codes "user") ≡ Some user =
     get_inserted first (codes "notice") message (codes "user") ∙ get_inserted empty (codes "user") user (codes "user") in
     let notice : get (insert first (codes "notice") message) (codes "notice") ≡ Some message = get_inserted first (codes "notice") message (codes "notice") in
-    λ i. record { user = named i; notice = notice i; started = second_of now; seen = second_of now }
+    λ i. record { id = id; user = named i; notice = notice i; started = second_of now; seen = second_of now }
 
 -- and so does that of a logout
-logged_out_stands : (id : List ℕ) (now : DateTime) → standing_of (seen_at (second_of now) (logged_out id now)) ≡ begun (second_of now) None (codes "You are logged out.")
+logged_out_stands : (id : List ℕ) (now : DateTime) → standing_of (seen_at (second_of now) (logged_out id now)) ≡ begun id (second_of now) None (codes "You are logged out.")
 logged_out_stands id now =
     let message : List ℕ = codes "You are logged out." in
     let named : get (insert {K = List ℕ} empty (codes "notice") message) (codes "user") ≡ None =
     get_inserted empty (codes "notice") message (codes "user") ∙ get-empty name_cmp (codes "user") in
     let notice : get (insert empty (codes "notice") message) (codes "notice") ≡ Some message = get_inserted empty (codes "notice") message (codes "notice") in
-    λ i. record { user = named i; notice = notice i; started = second_of now; seen = second_of now }
+    λ i. record { id = id; user = named i; notice = notice i; started = second_of now; seen = second_of now }
 
 -- what the saved session tells is the standing after the request
 abbrev Stands : DateTime → Option SessionState → Option SessionState → Option Standing → Type 0
@@ -160,25 +159,25 @@ home_stands now visitor held None saved none = unsaved now held saved none
 home_stands now visitor held (Some session) saved some =
     was_saved now held saved (shown_session visitor session) (shown (second_of now) (standing_of session)) some (shown_stands visitor (second_of now) session)
 
+-- the session that a request started has an id
 form_stands : (IsDrawn : List ℕ → Type 0) (users : List User) (credentials : Option (List ℕ × List ℕ)) (now : DateTime) (held : Option SessionState) (page : Page) (saved : Option SessionState)
-    → LogsIn IsDrawn users credentials now page saved → Stands now held saved (after_form users (second_of now) credentials (option_map standing_of held))
-form_stands IsDrawn users None now held page saved plans = unsaved now held saved plans.1
+    → LogsIn IsDrawn users credentials now page saved
+    → (id : List ℕ) × Stands now held saved (after_form users id (second_of now) credentials (option_map standing_of held))
+form_stands IsDrawn users None now held page saved plans = ([], unsaved now held saved plans.1)
 form_stands IsDrawn users (Some (user, password)) now held page saved plans = by (is_known user password users) plans
   where
     by : (b : Bool) → MatchBool b (Moves IsDrawn (λ id. logged_in id now user) page saved) (Refuses Forbidden page saved)
-        → Stands now held saved (cond b (Some (begun (second_of now) (Some user) (codes "You are logged in."))) (option_map standing_of held))
-    by true moves = was_saved now held saved (logged_in moves.1 now user) _ moves.3 (logged_in_stands moves.1 now user)
-    by false refuses = unsaved now held saved refuses.1
+        → (id : List ℕ) × Stands now held saved (cond b (Some (begun id (second_of now) (Some user) (codes "You are logged in."))) (option_map standing_of held))
+    by true moves = (moves.1, was_saved now held saved (logged_in moves.1 now user) _ moves.3 (logged_in_stands moves.1 now user))
+    by false refuses = ([], unsaved now held saved refuses.1)
 
 pub saved_stands : (IsDrawn : List ℕ → Type 0) (site : LoginSite) (route : Result Route Refusal) (form : List ℕ) (now : DateTime) (held found : Option SessionState) (page : Page) (saved : Option SessionState)
-    → standing_at site.sessions (second_of now) (option_map standing_of held) ≡ option_map standing_of found
     → Plans IsDrawn site.users.now route (credentials_of form) now found page saved
-    → Stands now held saved (after_route site (second_of now) form route (option_map standing_of held))
-saved_stands IsDrawn site (Ok Home) form now held found page saved counts plans =
+    → (id : List ℕ) × Stands now held saved (after_route site id (second_of now) form route (option_map standing_of found) (option_map standing_of held))
+saved_stands IsDrawn site (Ok Home) form now held found page saved plans =
     let (visitor, is, page_is, saved_is) = plans in
-    home_stands now visitor held found saved saved_is
-    ∙ ap (λ o. option_or (option_map (shown (second_of now)) o) (option_map standing_of held)) (sym counts)
-saved_stands IsDrawn site (Ok LogIn) form now held found page saved counts plans = form_stands IsDrawn site.users.now (credentials_of form) now held page saved plans
-saved_stands IsDrawn site (Ok LogOut) form now held found page saved counts plans =
-    was_saved now held saved (logged_out plans.1 now) _ plans.3 (logged_out_stands plans.1 now)
-saved_stands IsDrawn site (Err refusal) form now held found page saved counts plans = unsaved now held saved plans.1
+    ([], home_stands now visitor held found saved saved_is)
+saved_stands IsDrawn site (Ok LogIn) form now held found page saved plans = form_stands IsDrawn site.users.now (credentials_of form) now held page saved plans
+saved_stands IsDrawn site (Ok LogOut) form now held found page saved plans =
+    (plans.1, was_saved now held saved (logged_out plans.1 now) _ plans.3 (logged_out_stands plans.1 now))
+saved_stands IsDrawn site (Err refusal) form now held found page saved plans = ([], unsaved now held saved plans.1)

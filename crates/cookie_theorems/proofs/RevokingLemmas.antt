@@ -65,7 +65,7 @@ module _ (old new : Set) (same : AreSame old new) (site : Sessions) (now : DateT
   closed_alike : (cookie : Record) → IsClosed (IsRevoked old) site now cookie → IsClosed (IsRevoked new) site now cookie
   closed_alike cookie closed place s is = closed place s (is.0, λ gone. is.1 ((same s.id 0).1 gone))
 
-  first_alike : (cookies : List Record) (place : ℕ) (s : SessionState)
+  pub first_alike : (cookies : List Record) (place : ℕ) (s : SessionState)
       → OpensUnrevoked (IsRevoked old) site cookies now place s → OpensUnrevoked (IsRevoked new) site cookies now place s
   first_alike cookies place s first = record {
     earlier = first.earlier;

@@ -1,5 +1,5 @@
 -- The standing that a session tells: whether it counts, and what comes of it.
-use Rattle.std.proofs.Common.{◌≡◌, ◌↔◌, ℕ, suc, ◌+◌, Bool, true, false, ◌&&◌, cond, Option, Some, None, option_map, refl, sym, ap, subst, ◌∙◌}
+use Rattle.std.proofs.Common.{◌≡◌, ◌↔◌, ℕ, suc, ◌+◌, Bool, true, false, ◌&&◌, cond, List, Option, Some, None, option_map, refl, sym, ap, subst, ◌∙◌}
 use Rattle.std.proofs.lemmas.Bool.{and_parts, leb-true, ltb-true, le-leb}
 use Rattle.std.proofs.lemmas.Option.{none-some, same_Some}
 use Rattle.jiff.specs.Types.{DateTime}
@@ -7,8 +7,7 @@ use Rattle.cookie_session.specs.Seconds.{second_of}
 use Rattle.cookie_session.specs.Session.{SessionState}
 use Rattle.cookie_session.specs.Sessions.{LivesAt}
 use Rattle.cookie_session.specs.declared.sessions.Sessions.{Sessions}
-use Rattle.cookie_theorems.specs.Holding.{standing_of}
-use Rattle.cookie_theorems.specs.Standing.{is_within, standing_at}
+use Rattle.cookie_theorems.specs.Standing.{CountsOfClient, Standing, is_within, standing_at, standing_of}
 
 -- ---- the limits
 
@@ -36,23 +35,45 @@ lives_within sessions now session is =
       used = ltb-true second (session.seen + sessions.idle) rest.1;
     }
 
--- the session that was found is the one that was held, if it lives
-abbrev pub IsFound : Sessions → DateTime → Option SessionState → Option SessionState → Type 0
-IsFound sessions now held found = (session : SessionState) → (found ≡ Some session) ↔ ((held ≡ Some session) × LivesAt sessions now session)
+-- the session that was found is the one that was held, if it lives and isn't revoked
+abbrev pub IsFound : (List ℕ → Type 0) → Sessions → DateTime → Option SessionState → Option SessionState → Type 0
+IsFound IsRevoked sessions now held found = (session : SessionState)
+    → (found ≡ Some session) ↔ ((held ≡ Some session) × LivesAt sessions now session × ¬ IsRevoked session.id)
 
--- so it tells the standing that counts
-pub found_stands : (sessions : Sessions) (now : DateTime) (held found : Option SessionState) → IsFound sessions now held found
-    → standing_at sessions (second_of now) (option_map standing_of held) ≡ option_map standing_of found
-found_stands sessions now None None is = refl
-found_stands sessions now None (Some session) is = absurd (none-some session ((is session).0 refl).0)
-found_stands sessions now (Some session) found is = by (is_within sessions (second_of now) (standing_of session)) refl found is
+-- a standing within its limits is that of a session that lives
+lives_there : (sessions : Sessions) (now : DateTime) (held : Option SessionState) (current : Standing)
+    → standing_at sessions (second_of now) (option_map standing_of held) ≡ Some current
+    → (session : SessionState) × (held ≡ Some session) × LivesAt sessions now session × (standing_of session ≡ current)
+lives_there sessions now None current is = absurd (none-some current is)
+lives_there sessions now (Some session) current is = by (is_within sessions (second_of now) (standing_of session)) refl is
   where
-    by : (b : Bool) → is_within sessions (second_of now) (standing_of session) ≡ b → (found : Option SessionState) → IsFound sessions now (Some session) found
-        → cond b (Some (standing_of session)) None ≡ option_map standing_of found
-    by true within found is = ap (option_map standing_of) (sym ((is session).1 (refl, lives_within sessions now session within)))
-    by false over None is = refl
-    by false over (Some other) is =
-        let there = (is other).0 refl in
-        let same : session ≡ other = same_Some session other there.0 in
-        let clash : false ≡ true = sym over ∙ within_lives sessions now session (subst (LivesAt sessions now) (sym same) there.1) in
-        cc
+    by : (b : Bool) → is_within sessions (second_of now) (standing_of session) ≡ b → cond b (Some (standing_of session)) None ≡ Some current
+        → (other : SessionState) × (Some session ≡ Some other) × LivesAt sessions now other × (standing_of other ≡ current)
+    by true within is = (session, refl, lives_within sessions now session within, same_Some (standing_of session) current is)
+    by false over is = absurd (none-some current is)
+
+-- and such a session tells one
+there_lives : (sessions : Sessions) (now : DateTime) (session : SessionState) → LivesAt sessions now session
+    → standing_at sessions (second_of now) (Some (standing_of session)) ≡ Some (standing_of session)
+there_lives sessions now session lives = ap (λ b. cond b (Some (standing_of session)) None) (within_lives sessions now session lives)
+
+-- the session that tells it
+told_by : (found : Option SessionState) (current : Standing) → option_map standing_of found ≡ Some current
+    → (session : SessionState) × (found ≡ Some session) × (standing_of session ≡ current)
+told_by None current is = absurd (none-some current is)
+told_by (Some session) current is = (session, refl, same_Some (standing_of session) current is)
+
+-- so the session that was found tells what counts
+pub found_counts : (IsRevoked : List ℕ → Type 0) (sessions : Sessions) (now : DateTime) (held found : Option SessionState) → IsFound IsRevoked sessions now held found
+    → CountsOfClient IsRevoked sessions now (option_map standing_of held) (option_map standing_of found)
+found_counts IsRevoked sessions now held found is current = (
+  λ e.
+      let (session, found_is, tells) = told_by found current e in
+      let (held_is, lives, valid) = (is session).0 found_is in (
+        ap (λ h. standing_at sessions (second_of now) (option_map standing_of h)) held_is ∙ there_lives sessions now session lives ∙ ap Some tells,
+        subst (λ (s : Standing). ¬ IsRevoked s.id) tells valid,
+      ),
+  λ h.
+      let (session, held_is, lives, tells) = lives_there sessions now held current h.0 in
+      ap (option_map standing_of) ((is session).1 (held_is, lives, subst (λ (s : Standing). ¬ IsRevoked s.id) (sym tells) h.1)) ∙ ap Some tells,
+)

@@ -1,7 +1,13 @@
--- What the pages of a client show, one request after the other.
-use Rattle.std.specs.Prelude.{◌≡◌, ◌≢◌, ◌↔◌, ℕ, List, [], ◌∷◌, Option, Some, None, Result, Ok, Err, option_map, string_bytes, if◌then◌else◌}
+-- What the pages show, one request after the other, of a client and of whoever else sends requests.
+use Rattle.std.specs.Prelude.{◌≡◌, ◌≢◌, ◌↔◌, ℕ, List, [], ◌∷◌, Option, Some, None, Result, Ok, Err, codes, option_map, string_bytes, if◌then◌else◌}
+use Rattle.std.specs.FinMap.{get}
+use Rattle.std.specs.List.{AllZip}
+use Rattle.jiff.specs.Types.{DateTime}
 use Rattle.cookie.specs.Normal.{IsUncut}
-use Rattle.cookie_session.specs.Seconds.{second_of}
+use Rattle.cookie.specs.Originals.{field_cookies}
+use Rattle.cookie_session.specs.Revocations.{IsRevoked}
+use Rattle.cookie_session.specs.Session.{SessionState}
+use Rattle.cookie_session.specs.Sessions.{OpensOne}
 use Rattle.cookie_session.specs.declared.sessions.Sessions.{Sessions}
 use Rattle.login_core.specs.Forms.{credentials_of}
 use Rattle.login_core.specs.Pages.{greeted}
@@ -14,7 +20,9 @@ use Rattle.login_core.specs.declared.refusal.Refusal.TheVariants.{BadRequest, Fo
 use Rattle.login_core.specs.declared.routes.Route.{Route}
 use Rattle.login_core.specs.declared.routes.Route.TheVariants.{Home, LogIn, LogOut}
 use Rattle.login_core.specs.declared.user.User.{User}
-use Rattle.cookie_theorems.specs.Standing.{Standing, after_request, route_asked, standing_at}
+use Rattle.cookie_theorems.specs.Standing.{Counts, Standing, after_request, revoked_after, route_asked}
+use Rattle.cookie_theorems.specs.declared.sender.Sender.{Sender}
+use Rattle.cookie_theorems.specs.declared.sender.Sender.TheVariants.{Client, Other}
 use Rattle.cookie_theorems.specs.declared.timed_request.TimedRequest.{TimedRequest}
 
 -- a home page, whatever it shows
@@ -59,23 +67,50 @@ pub record Shows (route : Result Route Refusal) (standing : Option Standing) (pa
   pub tells : (notice : List ℕ) → (told page ≡ Some notice)
       ↔ IsHomeOf route standing (λ current. current.notice ≡ Some notice)
 
--- The page of a request, of a client that stands so before it.
-pub record IsPage (site : LoginSite) (standing : Option Standing) (request : TimedRequest)
+-- The page of a request at which this counts, if anything does.
+pub record IsPage (site : LoginSite) (counting : Option Standing) (request : TimedRequest)
     (page : Page) : Type 0 where
   -- it is the page that was asked for, or says why there is none
   pub is : IsPageOf site.users.now request.form.now (route_asked request) page
   -- it shows what the standing that counts has to show
-  pub shows : Shows (route_asked request)
-      (standing_at site.sessions (second_of request.time) standing) page
+  pub shows : Shows (route_asked request) counting page
 
--- the pages of the requests, one for each, of a client that stands so before the first
-abbrev pub ArePages : LoginSite → Option Standing → List TimedRequest → List Page → Type 0
-ArePages site standing [] [] = Unit {0}
-ArePages site standing [] (page ∷ pages) = ⊥
-ArePages site standing (request ∷ requests) [] = ⊥
-ArePages site standing (request ∷ requests) (page ∷ pages) =
-    IsPage site standing request page
-    × ArePages site (after_request site request standing) requests pages
+-- a request at this time greets the user by a session of another id, if somebody else sends it: by one that is open in
+-- the field's cookies
+abbrev pub IsByAnother : Sessions → List ℕ → DateTime → List ℕ → Sender → Type 0
+IsByAnother sessions gone time user Client = Unit {0}
+IsByAnother sessions gone time user (Other field) =
+    (place : ℕ) × (session : SessionState)
+    × OpensOne sessions (field_cookies field.now) time place session
+    × (get session.texts (codes "user") ≡ Some user) × (session.id ≢ gone)
+
+-- no copy of a cookie of the session with this id greets
+abbrev pub GreetsAnother : LoginSite → List ℕ → TimedRequest → Page → Type 0
+GreetsAnother site gone request page = (user : List ℕ) → greeted page ≡ Some user
+    → IsByAnother site.sessions gone request.time user request.sender
+
+-- After a logout no copy greets: none of the pages after it, if the store keeps what is revoked.
+abbrev pub EndsCopies : Type 0 → LoginSite → Result Route Refusal → Option Standing
+    → List TimedRequest → List Page → Type 0
+EndsCopies Keeps site route counting requests pages = Keeps → (current : Standing)
+    → route ≡ Ok LogOut → counting ≡ Some current
+    → AllZip (GreetsAnother site current.id) requests pages
+
+-- The pages of the requests, one for each, while the client stands so and these sessions are revoked before the first. A
+-- session that a request of the client starts has some id.
+abbrev pub ArePages : Type 0 → LoginSite → (List ℕ → ℕ → Type 0) → Option Standing
+    → List TimedRequest → List Page → Type 0
+ArePages Keeps site set standing [] [] = Unit {0}
+ArePages Keeps site set standing [] (page ∷ pages) = ⊥
+ArePages Keeps site set standing (request ∷ requests) [] = ⊥
+ArePages Keeps site set standing (request ∷ requests) (page ∷ pages) =
+    (counting : Option Standing) × (id : List ℕ)
+    × Counts (IsRevoked set) site.sessions request.time request.sender standing counting
+    × IsPage site counting request page
+    × EndsCopies Keeps site (route_asked request) counting requests pages
+    × ArePages Keeps site
+    (revoked_after Keeps site.sessions (route_asked request) counting set)
+    (after_request site id request counting standing) requests pages
 
 -- the site's cookie has a name, and no `;` in its path and its domain
 pub record CanBrowse (sessions : Sessions) : Type 0 where

@@ -1,7 +1,12 @@
--- How a client stands with the site, and what a request changes of that.
-use Rattle.std.specs.Prelude.{ℕ, ◌+◌, ◌&&◌, Bool, List, Option, Some, None, Result, Ok, Err, nat_le, nat_lt, codes, option_map, if◌then◌else◌}
+-- How a client stands with the site, and what a request changes of that and of what is revoked.
+use Rattle.std.specs.Prelude.{◌≡◌, ◌↔◌, ◌⊎◌, ◌≤◌, ℕ, ◌+◌, ◌&&◌, Bool, List, Option, Some, None, Result, Ok, Err, min, nat_le, nat_lt, codes, option_map, if◌then◌else◌}
+use Rattle.std.specs.FinMap.{get}
 use Rattle.std.specs.Option.{option_or}
+use Rattle.jiff.specs.Types.{DateTime}
+use Rattle.cookie.specs.Originals.{field_cookies}
 use Rattle.cookie_session.specs.Seconds.{second_of}
+use Rattle.cookie_session.specs.Session.{SessionState}
+use Rattle.cookie_session.specs.Sessions.{OpensUnrevoked}
 use Rattle.cookie_session.specs.declared.sessions.Sessions.{Sessions}
 use Rattle.login_core.specs.Forms.{credentials_of}
 use Rattle.login_core.specs.Routes.{route_of}
@@ -11,15 +16,31 @@ use Rattle.login_core.specs.declared.refusal.Refusal.{Refusal}
 use Rattle.login_core.specs.declared.routes.Route.{Route}
 use Rattle.login_core.specs.declared.routes.Route.TheVariants.{Home, LogIn, LogOut}
 use Rattle.login_core.specs.declared.user.User.{User}
+use Rattle.cookie_theorems.specs.declared.sender.Sender.{Sender}
+use Rattle.cookie_theorems.specs.declared.sender.Sender.TheVariants.{Client, Other}
 use Rattle.cookie_theorems.specs.declared.timed_request.TimedRequest.{TimedRequest}
 
--- who is logged in, the message that waits to be shown, the second of the login or logout, and the second in which the
--- site last saved the session
+-- the id of the session, who is logged in, the message that waits to be shown, the second of the login or logout, and the
+-- second in which the site last saved the session
 pub record Standing : Type 0 where
+  pub id : List ℕ
   pub user : Option (List ℕ)
   pub notice : Option (List ℕ)
   pub started : ℕ
   pub seen : ℕ
+
+-- the standing that a session tells
+abbrev pub standing_of : SessionState → Standing
+standing_of session =
+    record {
+      id = session.id;
+      user = get session.texts (codes "user");
+      notice = get session.texts (codes "notice");
+      started = session.started;
+      seen = session.seen;
+    }
+
+-- ---- what counts
 
 -- it has begun by this second, and neither limit is over: at its end a limit is over (RFC 7519 4.1.4)
 abbrev pub is_within : Sessions → ℕ → Standing → Bool
@@ -28,49 +49,109 @@ is_within sessions now standing =
     && (nat_lt now (standing.started + sessions.lifetime)
     && nat_lt now (standing.seen + sessions.idle))
 
--- the standing that counts in this second, if one does
+-- the standing that is within its limits in this second, if it is
 abbrev pub standing_at : Sessions → ℕ → Option Standing → Option Standing
 standing_at sessions now None = None
 standing_at sessions now (Some standing) =
     if is_within sessions now standing then Some standing else None
 
--- a login or a logout was accepted: nothing of before counts
-abbrev pub begun : ℕ → Option (List ℕ) → List ℕ → Standing
-begun now user notice =
-    record { user = user; notice = Some notice; started = now; seen = now }
+-- Of the client that stands so, exactly that counts which is within its limits, if its session isn't revoked.
+abbrev pub CountsOfClient : (List ℕ → Type 0) → Sessions → DateTime → Option Standing
+    → Option Standing → Type 0
+CountsOfClient IsRevoked sessions time standing counting = (current : Standing)
+    → (counting ≡ Some current)
+    ↔ ((standing_at sessions (second_of time) standing ≡ Some current) × ¬ IsRevoked current.id)
+
+-- Of a `Cookie` field exactly the session counts that is open and not revoked in the first of its cookies in which one
+-- is.
+abbrev pub CountsOfField : (List ℕ → Type 0) → Sessions → DateTime → List ℕ → Option Standing
+    → Type 0
+CountsOfField IsRevoked sessions time field counting = (current : Standing)
+    → (counting ≡ Some current)
+    ↔ ((place : ℕ) × (session : SessionState)
+    × OpensUnrevoked IsRevoked sessions (field_cookies field) time place session
+    × (standing_of session ≡ current))
+
+-- what counts at a request of this sender, if anything, while the client stands so
+abbrev pub Counts : (List ℕ → Type 0) → Sessions → DateTime → Sender → Option Standing
+    → Option Standing → Type 0
+Counts IsRevoked sessions time Client standing counting =
+    CountsOfClient IsRevoked sessions time standing counting
+Counts IsRevoked sessions time (Other field) standing counting =
+    CountsOfField IsRevoked sessions time field.now counting
+
+-- ---- what comes after
+
+-- a login or a logout was accepted, and a session with this id started: nothing of before counts
+abbrev pub begun : List ℕ → ℕ → Option (List ℕ) → List ℕ → Standing
+begun id now user notice =
+    record { id = id; user = user; notice = Some notice; started = now; seen = now }
 
 -- the home page was shown: its message is gone, and the idle time counts from now
 abbrev pub shown : ℕ → Standing → Standing
 shown now standing = record standing { notice = None; seen = now }
 
 -- after the home page was asked for
-abbrev pub after_home : Sessions → ℕ → Option Standing → Option Standing
-after_home sessions now standing =
-    option_or (option_map (shown now) (standing_at sessions now standing)) standing
+abbrev pub after_home : ℕ → Option Standing → Option Standing → Option Standing
+after_home now counting standing = option_or (option_map (shown now) counting) standing
 
 -- after a form to log in: it is accepted if it names a user with the right password
-abbrev pub after_form : List User → ℕ → Option (List ℕ × List ℕ) → Option Standing → Option Standing
-after_form users now None standing = standing
-after_form users now (Some (user, password)) standing =
+abbrev pub after_form : List User → List ℕ → ℕ → Option (List ℕ × List ℕ) → Option Standing
+    → Option Standing
+after_form users id now None standing = standing
+after_form users id now (Some (user, password)) standing =
     if is_known user password users
-    then Some (begun now (Some user) (codes "You are logged in."))
+    then Some (begun id now (Some user) (codes "You are logged in."))
     else standing
 
--- after a page was asked for, with this form; a request that is refused changes nothing
-abbrev pub after_route : LoginSite → ℕ → List ℕ → Result Route Refusal → Option Standing
-    → Option Standing
-after_route site now form (Ok Home) standing = after_home site.sessions now standing
-after_route site now form (Ok LogIn) standing =
-    after_form site.users.now now (credentials_of form) standing
-after_route site now form (Ok LogOut) standing =
-    Some (begun now None (codes "You are logged out."))
-after_route site now form (Err refusal) standing = standing
+-- after the client asked for a page with this form, of what counts and how it stands; a session that starts has this id,
+-- and a request that is refused changes nothing
+abbrev pub after_route : LoginSite → List ℕ → ℕ → List ℕ → Result Route Refusal → Option Standing
+    → Option Standing → Option Standing
+after_route site id now form (Ok Home) counting standing = after_home now counting standing
+after_route site id now form (Ok LogIn) counting standing =
+    after_form site.users.now id now (credentials_of form) standing
+after_route site id now form (Ok LogOut) counting standing =
+    Some (begun id now None (codes "You are logged out."))
+after_route site id now form (Err refusal) counting standing = standing
+
+-- the client's own request changes how it stands, and no other one does
+abbrev pub of_sender : Sender → Option Standing → Option Standing → Option Standing
+of_sender Client own standing = own
+of_sender (Other field) own standing = standing
 
 -- the page that a request asks for, or why there is none
 abbrev pub route_asked : TimedRequest → Result Route Refusal
 route_asked request = route_of request.method.now request.path.now
 
 -- after a request
-abbrev pub after_request : LoginSite → TimedRequest → Option Standing → Option Standing
-after_request site request standing =
-    after_route site (second_of request.time) request.form.now (route_asked request) standing
+abbrev pub after_request : LoginSite → List ℕ → TimedRequest → Option Standing → Option Standing
+    → Option Standing
+after_request site id request counting standing =
+    of_sender request.sender
+    (after_route site id (second_of request.time) request.form.now (route_asked request)
+    counting standing)
+    standing
+
+-- ---- what is revoked
+
+-- once this session is revoked too, until its lifetime ends, if the store keeps what is revoked
+abbrev pub ended : Type 0 → Sessions → Standing → (List ℕ → ℕ → Type 0) → List ℕ → ℕ → Type 0
+ended Keeps sessions current set id second =
+    (Keeps × (id ≡ current.id)
+    × (second ≤ min (current.started + sessions.lifetime) 18446744073709551615))
+    ⊎ set id second
+
+-- after a request: a logout, whoever sends it, revokes the session that counts
+abbrev pub revoked_after : Type 0 → Sessions → Result Route Refusal → Option Standing
+    → (List ℕ → ℕ → Type 0) → List ℕ → ℕ → Type 0
+revoked_after Keeps sessions (Ok Home) counting set = set
+revoked_after Keeps sessions (Ok LogIn) counting set = set
+revoked_after Keeps sessions (Ok LogOut) None set = set
+revoked_after Keeps sessions (Ok LogOut) (Some current) set = ended Keeps sessions current set
+revoked_after Keeps sessions (Err refusal) counting set = set
+
+-- A store keeps what is revoked, or no session is ever revoked there, as in `NeverRevoked`.
+abbrev pub KeepsOrNever : {Store : Type 0} → Type 0 → (Store → List ℕ → ℕ → Type 0) → Type 0
+KeepsOrNever {Store} Keeps revoked_until =
+    Keeps ⊎ ((store : Store) (id : List ℕ) (second : ℕ) → ¬ revoked_until store id second)

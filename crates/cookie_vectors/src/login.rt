@@ -5,8 +5,8 @@ use crate::sessions::{Revoked, Site};
 use crate::sources::{Sevens, hash_keys};
 use crate::step::{Answer, Player, Step};
 use cookie_session::NeverRevoked;
-use cookie_theorems::TimedRequest;
 use cookie_theorems::browse::browse;
+use cookie_theorems::{Sender, TimedRequest};
 use jiff::civil::DateTime;
 use login_core::{
     AnswerError, IDLE, LIFETIME, LoginSite, Page, Request, Response, User, Visitor, answer, html,
@@ -118,6 +118,18 @@ impl Logins {
             Err(refusal) => step.printed(refusal),
         }
     }
+
+    // What the pages of eight requests show. A list of requests can't be made one by one here.
+    fn browse(&mut self, step: Step<'_>) -> Answer {
+        let requests = [0, 1, 2, 3, 4, 5, 6, 7].map(|place| request(step, place));
+        let (alloc, state, mut rng) = (step.alloc, self.state, Sevens { left: 224 });
+        let (site, never) = (login_site(&self.site, &self.users), &mut NeverRevoked);
+        let pages = match &mut self.revoked {
+            Some(revoked) => browse(alloc, state, &site, &requests, &mut rng, revoked),
+            None => browse(alloc, state, &site, &requests, &mut rng, never),
+        };
+        all_shown(step, &pages.ok()?)
+    }
 }
 
 impl Player for Logins {
@@ -126,7 +138,7 @@ impl Player for Logins {
             "request" => self.request(step),
             "log_in_long" => self.log_in_long(step),
             "between" | "field" => part(step, &self.text),
-            "browse" => { browsed(step, self.state, &login_site(&self.site, &self.users)) }
+            "browse" => self.browse(step),
             "generator" | "revoked" | "plain" | "home" => self.change(step),
             _ => self.site.answer(step),
         }
@@ -190,24 +202,27 @@ fn part(step: Step<'_>, whole: &str) -> Answer {
 }
 
 // The request in this place, of words such as `1799 GET /` or `1800 POST /login user=ann`, at that number of seconds
-// after the first.
+// after the first. With a fifth word it is somebody else's, with this `Cookie` field.
 fn request(step: Step<'_>, place: usize) -> TimedRequest<'_> {
     let words = step.words.split(" | ").nth(place).unwrap_or("");
-    let mut words = words.splitn(4, ' ');
+    let mut words = words.splitn(5, ' ');
     let seconds = words.next().unwrap_or("");
     TimedRequest {
         time: after(seconds).unwrap_or(DateTime::MIN),
         method: words.next().unwrap_or(""),
         path: words.next().unwrap_or(""),
         form: words.next().unwrap_or("").as_bytes(),
+        sender: match words.next() {
+            Some(field) => Sender::Other(field.as_bytes()),
+            None => Sender::Client,
+        },
     }
 }
 
-// What the pages of eight requests show. A list of requests can't be made one by one here.
-fn browsed(step: Step<'_>, state: RandomState, site: &LoginSite<'_>) -> Answer {
-    let requests = [0, 1, 2, 3, 4, 5, 6, 7].map(|place| request(step, place));
-    let (mut rng, mut texts) = (Sevens { left: 224 }, Vec::new(step.alloc));
-    for page in &browse(step.alloc, state, site, &requests, &mut rng).ok()? {
+// What the pages show.
+fn all_shown(step: Step<'_>, pages: &[Page]) -> Answer {
+    let mut texts = Vec::new(step.alloc);
+    for page in pages {
         let text = match shown(page) {
             (user, Some(notice)) => format!(in step.alloc; "{user}: {notice}"),
             (user, None) => String::from_str(step.alloc, user),

@@ -1,0 +1,164 @@
+-- What counts at a request and what it revokes, where the same is revoked.
+use Rattle.std.proofs.Common.{◌≡◌, ◌⊎◌, inl, inr, ℕ, List, [], ◌∷◌, Option, Some, None, Result, Ok, Err, IfOk, OnOk, option_map, refl, sym, ap, subst, ◌∙◌, arith}
+use Rattle.std.proofs.lemmas.Option.{none-some, same_Some}
+use Rattle.std.specs.List.{AllZip}
+use Rattle.jiff.specs.Types.{DateTime}
+use Rattle.cookie.specs.Originals.{field_cookies}
+use Rattle.cookie_session.specs.Revocations.{AreSame, IsRevoked, IsRevokedToo, end_of}
+use Rattle.cookie_session.specs.Session.{SessionState}
+use Rattle.cookie_session.specs.declared.sessions.Sessions.{Sessions}
+use Rattle.login_core.specs.Answers.{HasSession}
+use Rattle.login_core.specs.declared.login_site.LoginSite.{LoginSite}
+use Rattle.login_core.specs.declared.page.Page.{Page}
+use Rattle.login_core.specs.declared.refusal.Refusal.{Refusal}
+use Rattle.login_core.specs.declared.routes.Route.{Route}
+use Rattle.login_core.specs.declared.routes.Route.TheVariants.{Home, LogIn, LogOut}
+use Rattle.cookie_theorems.specs.Browsing.{ArePages, EndsCopies, GreetsAnother, IsByAnother}
+use Rattle.cookie_theorems.specs.Standing.{Counts, CountsOfField, Standing, after_request, ended, revoked_after, route_asked, standing_of}
+use Rattle.cookie_theorems.specs.declared.sender.Sender.{Sender}
+use Rattle.cookie_theorems.specs.declared.sender.Sender.TheVariants.{Client, Other}
+use Rattle.cookie_theorems.specs.declared.timed_request.TimedRequest.{TimedRequest}
+use Rattle.cookie_theorems.proofs.RevokingLemmas.{first_alike, same_back}
+
+abbrev Set : Type 1
+Set = List ℕ → ℕ → Type 0
+
+-- the session that was found counts for the field
+pub field_counts : (IsGone : List ℕ → Type 0) (sessions : Sessions) (now : DateTime) (field : List ℕ) (found : Option SessionState)
+    → HasSession IsGone sessions (field_cookies field) now found → CountsOfField IsGone sessions now field (option_map standing_of found)
+field_counts IsGone sessions now field None has current = (
+  λ e. absurd (none-some current e),
+  λ h. absurd (none-some h.1 ((has.exact h.1).1 (h.0, h.2))),
+)
+field_counts IsGone sessions now field (Some session) has current = (
+  λ e.
+      let there = (has.exact session).0 refl in
+      (there.0, session, there.1, same_Some (standing_of session) current e),
+  λ h. ap (option_map standing_of) ((has.exact h.1).1 (h.0, h.2)) ∙ ap Some h.3,
+)
+
+-- it counts alike
+pub counts_alike : (old new : Set) → AreSame old new → (sessions : Sessions) (time : DateTime) (sender : Sender) (standing counting : Option Standing)
+    → Counts (IsRevoked old) sessions time sender standing counting → Counts (IsRevoked new) sessions time sender standing counting
+counts_alike old new same sessions time Client standing counting counts = λ current. (
+  λ e. let there = (counts current).0 e in (there.0, λ gone. there.1 ((same current.id 0).0 gone)),
+  λ h. (counts current).1 (h.0, λ gone. h.1 ((same current.id 0).1 gone)),
+)
+counts_alike old new same sessions time (Other field) standing counting counts = λ current. (
+  λ e.
+      let there = (counts current).0 e in
+      (there.0, there.1, first_alike old new same sessions time (field_cookies field.now) there.0 there.1 there.2, there.3),
+  λ h. (counts current).1 (h.0, h.1, first_alike new old (same_back old new same) sessions time (field_cookies field.now) h.0 h.1 h.2, h.3),
+)
+
+-- and the same is revoked after it
+pub revoked_alike : (Keeps : Type 0) (sessions : Sessions) (route : Result Route Refusal) (counting : Option Standing) (old new : Set) → AreSame old new
+    → AreSame (revoked_after Keeps sessions route counting old) (revoked_after Keeps sessions route counting new)
+revoked_alike Keeps sessions (Ok Home) counting old new same = same
+revoked_alike Keeps sessions (Ok LogIn) counting old new same = same
+revoked_alike Keeps sessions (Ok LogOut) None old new same = same
+revoked_alike Keeps sessions (Ok LogOut) (Some current) old new same = λ id second. (
+  λ is. elim is [ inl here ↦ inl here | inr before ↦ inr ((same id second).0 before) ],
+  λ is. elim is [ inl here ↦ inl here | inr before ↦ inr ((same id second).1 before) ],
+)
+revoked_alike Keeps sessions (Err refusal) counting old new same = same
+
+-- so the pages are the same
+pub pages_alike : (Keeps : Type 0) (site : LoginSite) (requests : List TimedRequest) (pages : List Page) (standing : Option Standing) (old new : Set) → AreSame old new
+    → ArePages Keeps site old standing requests pages → ArePages Keeps site new standing requests pages
+pages_alike Keeps site [] [] standing old new same are = tt
+pages_alike Keeps site [] (page ∷ pages) standing old new same are = absurd are
+pages_alike Keeps site (request ∷ requests) [] standing old new same are = absurd are
+pages_alike Keeps site (request ∷ requests) (page ∷ pages) standing old new same are =
+    let (counting, id, counts, shows, ends, rest) = are in
+    let route = route_asked request in (
+      counting,
+      id,
+      counts_alike old new same site.sessions request.time request.sender standing counting counts,
+      shows,
+      ends,
+      pages_alike Keeps site requests pages (after_request site id request counting standing) (revoked_after Keeps site.sessions route counting old)
+          (revoked_after Keeps site.sessions route counting new) (revoked_alike Keeps site.sessions route counting old new same) rest,
+    )
+
+-- ---- no copy greets
+
+-- what is revoked stays so
+stays_revoked : (Keeps : Type 0) (sessions : Sessions) (route : Result Route Refusal) (counting : Option Standing) (set : Set) (id : List ℕ)
+    → IsRevoked set id → IsRevoked (revoked_after Keeps sessions route counting set) id
+stays_revoked Keeps sessions (Ok Home) counting set id is = is
+stays_revoked Keeps sessions (Ok LogIn) counting set id is = is
+stays_revoked Keeps sessions (Ok LogOut) None set id is = is
+stays_revoked Keeps sessions (Ok LogOut) (Some current) set id is = inr is
+stays_revoked Keeps sessions (Err refusal) counting set id is = is
+
+-- what counts has another id
+greets_another : (set : Set) (sessions : Sessions) (time : DateTime) (sender : Sender) (standing counting : Option Standing) → Counts (IsRevoked set) sessions time sender standing counting
+    → (gone : List ℕ) → IsRevoked set gone → (current : Standing) → counting ≡ Some current → (user : List ℕ) → current.user ≡ Some user
+    → IsByAnother sessions gone time user sender
+greets_another set sessions time Client standing counting counts gone revoked current is user named = tt
+greets_another set sessions time (Other field) standing counting counts gone revoked current is user named =
+    let (place, session, opens, tells) = (counts current).0 is in (
+      place,
+      session,
+      (opens.earlier, opens.later, opens.cookie, opens.split, opens.opens),
+      ap (λ (s : Standing). s.user) tells ∙ named,
+      λ same. opens.unrevoked (subst (λ id. set id 0) (sym same) revoked),
+    )
+
+no_copy : (Keeps : Type 0) (site : LoginSite) (gone : List ℕ) (requests : List TimedRequest) (pages : List Page) (standing : Option Standing) (set : Set) → IsRevoked set gone
+    → ArePages Keeps site set standing requests pages → AllZip (GreetsAnother site gone) requests pages
+no_copy Keeps site gone [] [] standing set revoked are = tt
+no_copy Keeps site gone [] (page ∷ pages) standing set revoked are = absurd are
+no_copy Keeps site gone (request ∷ requests) [] standing set revoked are = absurd are
+no_copy Keeps site gone (request ∷ requests) (page ∷ pages) standing set revoked are =
+    let (counting, id, counts, shows, ends, rest) = are in
+    let route = route_asked request in (
+      λ user greets.
+          let (current, is, named) = ((shows.shows.greets user).0 greets).1 in
+          greets_another set site.sessions request.time request.sender standing counting counts gone revoked current is user named,
+      no_copy Keeps site gone requests pages (after_request site id request counting standing) (revoked_after Keeps site.sessions route counting set)
+          (stays_revoked Keeps site.sessions route counting set gone revoked) rest,
+    )
+
+-- the session that a logout ended is revoked
+ended_revoked : (Keeps : Type 0) (sessions : Sessions) (current : Standing) (set : Set) → Keeps → IsRevoked (ended Keeps sessions current set) current.id
+ended_revoked Keeps sessions current set keeps = inl (keeps, refl, omega arith)
+
+-- so after a logout none greets
+pub ends_copies : (Keeps : Type 0) (site : LoginSite) (route : Result Route Refusal) (counting : Option Standing) (requests : List TimedRequest) (pages : List Page) (standing : Option Standing) (set : Set)
+    → ArePages Keeps site (revoked_after Keeps site.sessions route counting set) standing requests pages → EndsCopies Keeps site route counting requests pages
+ends_copies Keeps site route counting requests pages standing set are keeps current out is =
+    let there : ArePages Keeps site (ended Keeps site.sessions current set) standing requests pages =
+    subst (λ c. ArePages Keeps site (revoked_after Keeps site.sessions (Ok LogOut) c set) standing requests pages) is
+    (subst (λ r. ArePages Keeps site (revoked_after Keeps site.sessions r counting set) standing requests pages) out are) in
+    no_copy Keeps site current.id requests pages standing (ended Keeps site.sessions current set) (ended_revoked Keeps site.sessions current set keeps) there
+
+-- ---- what an answered request revoked
+
+module _ (Keeps : Type 0) (sessions : Sessions) (old new : Set) where
+  -- a logout revoked the session that was found, and any other request none
+  pub revokes_found : (route : Result Route Refusal) (found : Option SessionState)
+      → Keeps ⊎ ((id : List ℕ) (second : ℕ) → ¬ old id second × ¬ new id second)
+      → (Keeps → (session : SessionState) → route ≡ Ok LogOut → found ≡ Some session → IsRevokedToo session.id (end_of sessions.lifetime session) old new)
+      → (((session : SessionState) → route ≡ Ok LogOut → ¬ (found ≡ Some session)) → AreSame old new)
+      → AreSame (revoked_after Keeps sessions route (option_map standing_of found) old) new
+  revokes_found (Ok Home) found can revoked same = same (λ session is. cc)
+  revokes_found (Ok LogIn) found can revoked same = same (λ session is. cc)
+  revokes_found (Ok LogOut) None can revoked same = same (λ session is. none-some session)
+  revokes_found (Ok LogOut) (Some session) (inl keeps) revoked same = λ id second.
+      let too = revoked keeps session refl refl id second in (
+        λ is. elim (too.0 is) [ inl here ↦ inl (keeps, here.0, here.1) | inr before ↦ inr before ],
+        λ is. elim is [ inl here ↦ too.1 (inl (here.1, here.2)) | inr before ↦ too.1 (inr before) ],
+      )
+  revokes_found (Ok LogOut) (Some session) (inr never) revoked same = λ id second. (
+    λ is. absurd ((never id second).1 is),
+    λ is. elim is [ inl here ↦ (revoked here.0 session refl refl id second).1 (inl (here.1, here.2)) | inr before ↦ absurd ((never id second).0 before) ],
+  )
+  revokes_found (Err refusal) found can revoked same = same (λ session is. cc)
+
+-- what holds of a value, and what else holds if there is one
+pub both_ok : {T E K Q : Type 0} (result : Result T E) (P R : T → Type 0) → ((value : T) → P value → (K → Q) → R value) → IfOk result P → (K → OnOk result Q)
+    → IfOk result R
+both_ok (Ok value) P R then is on = then value is on
+both_ok (Err error) P R then is on = tt
