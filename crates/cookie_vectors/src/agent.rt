@@ -3,9 +3,10 @@ use crate::browsing::{context_of, limits, outcome, site_of};
 use crate::jar_calls::{after, calls_of, moment, test_key};
 use crate::jars::looks;
 use crate::step::{Answer, Player, Step};
-use cookie::CookieJar;
+use cookie::{CookieJar, Key};
 use cookie_agent::{Agent, Limits, SavedForm, Scope, Site, Store, StoredCookie, Verdict};
 use cookie_browser::Suffixes;
+use cookie_client::JarCall;
 use cookie_theorems::visits::{visit, visits};
 use cookie_theorems::{AgentRequest, Plan, Visited};
 use jiff::civil::DateTime;
@@ -81,31 +82,43 @@ impl<'r> Agents<'r> {
         step.shown(saved.text.get(28..)?)
     }
 
-    // Makes requests of a new agent, each of words such as `0 http://example.com/ | add a=1`. Returns the headers.
+    // Makes four requests of a new agent, each of words such as `0 http://example.com/ | add a=1`. Returns the headers.
     fn visits(&self, step: Step<'_>) -> Answer {
-        let (alloc, key) = (step.alloc, test_key());
-        let mut parts = Vec::new(alloc);
-        for words in step.words.split(" || ") {
-            let (front, calls) = step.with_words(words).halves();
-            let (seconds, url) = front.words.split_once(' ')?;
-            let part = (
-                site_of(alloc, url)?,
-                calls_of(&key, calls)?,
-                after(seconds)?,
-            );
-            parts.push(part).ok()?;
+        let key = test_key();
+        self.visits_under(step, &key)
+    }
+
+    fn visits_under<'k>(&self, step: Step<'k>, key: &'k Key) -> Answer {
+        let alloc = step.alloc;
+        let parts = parts_of(step, key)?;
+        match parts.as_slice() {
+            [one, two, three, four] => {
+                let requests = [
+                    AgentRequest {
+                        site: &one.site,
+                        calls: one.calls.as_slice(),
+                        moment: one.moment,
+                    },
+                    AgentRequest {
+                        site: &two.site,
+                        calls: two.calls.as_slice(),
+                        moment: two.moment,
+                    },
+                    AgentRequest {
+                        site: &three.site,
+                        calls: three.calls.as_slice(),
+                        moment: three.moment,
+                    },
+                    AgentRequest {
+                        site: &four.site,
+                        calls: four.calls.as_slice(),
+                        moment: four.moment,
+                    },
+                ];
+                headers_of(step, &visits(alloc, self.suffixes, &requests, &[]).ok()?)
+            }
+            _ => None,
         }
-        let mut requests = Vec::new(alloc);
-        for part in &parts {
-            let (site, calls, moment) = (&part.0, part.1.as_slice(), part.2);
-            let request = AgentRequest {
-                site,
-                calls,
-                moment,
-            };
-            requests.push(request).ok()?;
-        }
-        headers_of(step, &visits(alloc, self.suffixes, &requests, &[]).ok()?)
     }
 
     // Makes a request with these calls, each of which has to be accepted.
@@ -228,6 +241,37 @@ fn place_of(step: Step<'_>, verdict: Verdict) -> Answer {
         Verdict::Stored(cookie) => place(step, &scope_of(step, &cookie)?),
         Verdict::Refused(refusal) => step.refused(&refusal),
     }
+}
+
+// A request of a row: its site, the calls on its jar, and its time.
+#[derive(Drop)]
+struct Asked<'k> {
+    site: Site,
+    calls: Vec<JarCall<'k>>,
+    moment: DateTime,
+}
+
+// The requests of the words, each as `0 http://example.com/ | add a=1`.
+fn parts_of<'k>(step: Step<'k>, key: &'k Key) -> Option<Vec<Asked<'k>>> {
+    let mut parts = Vec::new(step.alloc);
+    for words in step.words.split(" || ") {
+        let part = part_of(step.with_words(words), key)?;
+        parts.push(part).ok()?;
+    }
+    Some(parts)
+}
+
+fn part_of<'k>(step: Step<'k>, key: &'k Key) -> Option<Asked<'k>> {
+    let (front, calls) = step.halves();
+    let (seconds, url) = front.words.split_once(' ')?;
+    let site = site_of(step.alloc, url)?;
+    let calls = calls_of(key, calls)?;
+    let moment = after(seconds)?;
+    Some(Asked {
+        site,
+        calls,
+        moment,
+    })
 }
 
 // The headers of requests whose calls are all accepted.
