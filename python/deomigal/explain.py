@@ -236,7 +236,7 @@ def partition_of(text: bytes, is_secure: bool) -> bytes:
 @functools.lru_cache(maxsize=1)
 def suffix_list() -> tuple[str, bytes]:
     """Which list of public suffixes there is, and its text: Debian's, or the project's own, or an empty one."""
-    own = "the list of 2023-02-09 that comes with cookie_explain"
+    own = "the list of 2026-10-07 that comes with cookie_explain"
     for path, title in ((pathlib.Path(DEBIAN), DEBIAN), *((path, own) for path in COPIES)):
         try:
             return title, path.read_bytes()

@@ -32,7 +32,7 @@ fn list_at(rt: &HostRuntime, path: &str, title: &str) -> Result<Option<SuffixLis
 
 // The list that comes with the program, if it is there.
 fn own_list(rt: &HostRuntime) -> Result<Option<SuffixList>> {
-    let title = "the list of 2023-02-09 that comes with cookie_explain";
+    let title = "the list of 2026-10-07 that comes with cookie_explain";
     let Ok(program) = env::current_exe(rt) else {
         return Ok(None);
     };
