@@ -16,6 +16,7 @@ pub mod GraphicLemmas
 pub mod HeaderLemmas
 pub mod JoinLemmas
 pub mod LawLemmas
+pub mod NamePrefixLemmas
 pub mod NormalFormLemmas
 pub mod NormalLemmas
 pub mod OffsetLemmas
