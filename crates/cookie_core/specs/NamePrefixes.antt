@@ -11,12 +11,14 @@ use Rattle.cookie_core.specs.declared.guards.Guards.{Guards}
 
 -- each prefix, in the order in which they are tested
 unfoldable pub enforced_prefixes : List EnforcedPrefix
-enforced_prefixes = enforced.Secure ∷ enforced.Host ∷ []
+enforced_prefixes = enforced.Secure ∷ enforced.Host ∷ enforced.Http ∷ enforced.HostHttp ∷ []
 
 -- its text
 abbrev pub prefix_text : EnforcedPrefix → List ℕ
 prefix_text enforced.Secure = codes "__Secure-"
 prefix_text enforced.Host = codes "__Host-"
+prefix_text enforced.Http = codes "__Http-"
+prefix_text enforced.HostHttp = codes "__Host-Http-"
 
 -- what it requires of a cookie
 abbrev pub required : EnforcedPrefix → Guards
@@ -24,6 +26,10 @@ required enforced.Secure =
     record { is_secure = true; is_http_only = false; is_host_bound = false }
 required enforced.Host =
     record { is_secure = true; is_http_only = false; is_host_bound = true }
+required enforced.Http =
+    record { is_secure = true; is_http_only = true; is_host_bound = false }
+required enforced.HostHttp =
+    record { is_secure = true; is_http_only = true; is_host_bound = true }
 
 -- ---- the rule
 

@@ -13,9 +13,18 @@ pub enum EnforcedPrefix {
     Secure,
     /// `__Host-` requires `Secure`, no `Domain`, and the path `/`.
     Host,
+    /// `__Http-` requires `Secure` and `HttpOnly`.
+    Http,
+    /// `__Host-Http-` requires what `__Host-` does, and `HttpOnly`.
+    HostHttp,
 }
 
-const PREFIXES: [EnforcedPrefix; 2] = [EnforcedPrefix::Secure, EnforcedPrefix::Host];
+const PREFIXES: [EnforcedPrefix; 4] = [
+    EnforcedPrefix::Secure,
+    EnforcedPrefix::Host,
+    EnforcedPrefix::Http,
+    EnforcedPrefix::HostHttp,
+];
 
 impl EnforcedPrefix {
     /// Its text.
@@ -25,6 +34,8 @@ impl EnforcedPrefix {
         match self {
             EnforcedPrefix::Secure => "__Secure-",
             EnforcedPrefix::Host => "__Host-",
+            EnforcedPrefix::Http => "__Http-",
+            EnforcedPrefix::HostHttp => "__Host-Http-",
         }
     }
 
@@ -40,6 +51,15 @@ impl EnforcedPrefix {
         match self {
             EnforcedPrefix::Secure => secure,
             EnforcedPrefix::Host => Guards {
+                is_host_bound: true,
+                ..secure
+            },
+            EnforcedPrefix::Http => Guards {
+                is_http_only: true,
+                ..secure
+            },
+            EnforcedPrefix::HostHttp => Guards {
+                is_http_only: true,
                 is_host_bound: true,
                 ..secure
             },
@@ -65,25 +85,24 @@ impl EnforcedPrefix {
     pub fn unmet(name: &[u8], guards: Guards) -> Option<EnforcedPrefix>
         ensures { result ≡ spec.unmet_prefix name.now guards }
     {
-        EnforcedPrefix::all()
-            .iter()
-            .copied()
-            .find(|prefix| prefix.begins(name) && !guards.cover(prefix.required()))
+        EnforcedPrefix::all().iter().copied().find(|prefix| prefix.begins(name)
+            && !guards.cover(prefix.required()))
     }
 
     /// Whether a prefix of the name requires `HttpOnly`.
     pub fn need_http_only(name: &[u8]) -> bool
         ensures { result ≡ spec.needs_http_only name.now }
     {
-        EnforcedPrefix::all()
-            .iter()
-            .any(|prefix| prefix.begins(name) && prefix.required().is_http_only)
+        EnforcedPrefix::all().iter().any(|prefix| prefix.begins(name)
+            && prefix.required().is_http_only)
     }
 
     /// Whether the text begins with one of the prefixes.
     pub fn any_begins(text: &[u8]) -> bool
         ensures { result ≡ spec.has_any_prefix text.now }
     {
-        EnforcedPrefix::all().iter().any(|prefix| prefix.begins(text))
+        EnforcedPrefix::all()
+            .iter()
+            .any(|prefix| prefix.begins(text))
     }
 }
