@@ -29,6 +29,7 @@ pub mod PrefixLemmas
 pub mod ReadingLemmas
 pub mod SentHeaderLemmas
 pub mod SentNameLemmas
+pub mod ShownLemmas
 pub mod SpanLemmas
 pub mod SplitLemmas
 pub mod TrimLemmas
