@@ -20,6 +20,7 @@ from .errors import error_of
 STEPS = (
     "ControlCharacter", "TooLong", "Empty", "NonAsciiDomain", "PublicSuffix", "ForeignDomain", "InsecureConnection",
     "OverlaysSecure", "CrossSite", "NoneWithoutSecure", "SecurePrefix", "HostPrefix", "NamelessPrefix",
+    "HttpPrefix",
 )
 # The last second that has a date, since 1970.
 LAST = 253402300799

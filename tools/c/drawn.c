@@ -793,7 +793,7 @@ static void play_agent(drawing *d, int call) {
         cookie_agent_reading reading = cookie_agent_read(agent, list, &request, IN(made), now);
         status = reading.status;
         look(d, call, status, 0, starved);
-        if (reading.refusal > 13 || (status != COOKIE_DONE && reading.refusal != 0))
+        if (reading.refusal > 14 || (status != COOKIE_DONE && reading.refusal != 0))
             fault(d, call, "a step that there isn't");
         look_at_handle(d, call, status, d->has_list[j], COOKIE_NO_SUFFIXES, 0);
         first = S(NO_SUFFIXES);

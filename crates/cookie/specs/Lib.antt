@@ -39,6 +39,7 @@ pub use Rattle.cookie_core.specs.Laws
 pub use Rattle.cookie_core.specs.Layout
 pub use Rattle.cookie_core.specs.Lending
 pub use Rattle.cookie_core.specs.Memory
+pub use Rattle.cookie_core.specs.NamePrefixes
 pub use Rattle.cookie_core.specs.Normal
 pub use Rattle.cookie_core.specs.ParseError
 pub use Rattle.cookie_core.specs.Permanent

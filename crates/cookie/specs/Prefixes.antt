@@ -1,9 +1,9 @@
 -- Cookies whose names have a prefix (RFC 6265bis 4.1.3).
-use Rattle.std.specs.Prelude.{◌≡◌, ◌++◌, ◌&&◌, ◌||◌, not, true, false, ℕ, Bool, List, Option, Some, None, codes, length, take, drop, option_map, if◌then◌else◌}
+use Rattle.std.specs.Prelude.{◌≡◌, ◌++◌, Bool, true, false, Option, Some, None, codes, length, refl, take, drop, option_map, if◌then◌else◌}
 use Rattle.std.specs.Str.{bytes_eq}
+use Rattle.cookie_core.specs.NamePrefixes.{needs_http_only, prefix_text}
 use Rattle.cookie_core.specs.Record.{Record, RawForms, CookieView}
-use Rattle.cookie_core.specs.SentNames.{begins_in_any_case}
-use Rattle.cookie_core.specs.Text.{is_true, is_unset}
+use Rattle.cookie_core.specs.declared.enforced_prefix.EnforcedPrefix.TheVariants as enforced
 use Rattle.cookie.specs.Jar.{Name, JarState, view}
 
 -- the cookie with the prefix before its name
@@ -52,7 +52,7 @@ IsConforming conformed = (cookie : Record) → conformed (conformed cookie) ≡ 
 
 -- what stands before the name of a cookie for secure connections
 abbrev pub secure_prefix : Name
-secure_prefix = codes "__Secure-"
+secure_prefix = prefix_text enforced.Secure
 
 -- a cookie for secure connections
 abbrev pub secure_cookie : Record → Record
@@ -60,29 +60,32 @@ secure_cookie cookie = record cookie { secure = Some true }
 
 -- what stands before the name of a cookie that is bound to its host
 abbrev pub host_prefix : Name
-host_prefix = codes "__Host-"
+host_prefix = prefix_text enforced.Host
 
--- a cookie for secure connections, for the whole of the host that set it and for no other
+-- a cookie for secure connections, for the whole of the host that set it and for no other, and kept from scripts if its
+-- name requires that
 abbrev pub host_bound : Record → Record
-host_bound cookie = record cookie { secure = Some true; path = Some (codes "/"); domain = None }
+host_bound cookie =
+    record cookie {
+      secure = Some true;
+      path = Some (codes "/");
+      domain = None;
+      http_only = if needs_http_only cookie.name then Some true else cookie.http_only;
+    }
+
+-- binding it to its host twice is binding it once
+pub host_bound-twice : IsConforming host_bound
+host_bound-twice cookie = by (needs_http_only cookie.name)
+  where
+    by : (needs : Bool)
+        → record (host_bound cookie) {
+          http_only = if needs then Some true else if needs then Some true else cookie.http_only;
+        } ≡ record (host_bound cookie) {
+          http_only = if needs then Some true else cookie.http_only;
+        }
+    by true = refl
+    by false = refl
 
 -- what such a cookie lends: its path and its domain are no longer parts of the text that it was read from
 abbrev pub host_bound_raw : CookieView → RawForms
 host_bound_raw cookie = record cookie.raw { path = None; domain = None }
-
--- ---- what a browser asks of a cookie by its name (RFC 6265bis 4.1.3 and 5.7, steps 20 and 21)
-
--- the cookie's path is set, and is `/`
-abbrev pub is_root : Option (List ℕ) → Bool
-is_root None = false
-is_root (Some path) = bytes_eq path (codes "/")
-
--- what a browser asks of a name that begins with `__Secure-`
-abbrev pub meets_secure : Record → Bool
-meets_secure cookie = not (begins_in_any_case secure_prefix cookie.name) || is_true cookie.secure
-
--- what a browser asks of a name that begins with `__Host-`
-abbrev pub meets_host : Record → Bool
-meets_host cookie =
-    not (begins_in_any_case host_prefix cookie.name)
-    || (is_true cookie.secure && (is_unset cookie.domain && is_root cookie.path))

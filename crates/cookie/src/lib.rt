@@ -25,9 +25,9 @@ mod texts_error;
 pub use attribute_value::{fits_field, is_attribute_value};
 pub use child::{ChildJar, Storing};
 pub use cookie_core::{
-    Attributes, Builder, Cookie, CookieBuilder, DateText, Display, EncodedText, Expiration, Layout,
-    MOST_BYTES, ParseError, SameSite, Span, SplitCookies, begins_in_any_case, days_after, encode,
-    is_escaped, is_named_as_sent, read_date, trim_wsp,
+    Attributes, Builder, Cookie, CookieBuilder, DateText, Display, EncodedText, EnforcedPrefix,
+    Expiration, Guards, Layout, MOST_BYTES, ParseError, SameSite, Span, SplitCookies,
+    begins_in_any_case, days_after, encode, is_escaped, is_named_as_sent, read_date, trim_wsp,
 };
 pub use cookie_crypt::are_equal;
 pub use error::Error;

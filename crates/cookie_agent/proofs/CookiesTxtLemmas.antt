@@ -25,7 +25,7 @@ use Rattle.cookie_browser.specs.declared.enforcement.Enforcement.TheVariants as 
 use Rattle.cookie_agent.specs.CookiesTxt.{cookie_line, cookie_of, domain_field, expiry_seconds, fields_of, flag_of, flag_text, has_fields, head_line, http_only_mark, is_carried, is_field_byte, is_one_field, line_of, line_of_fields, line_read, read_line, seconds_from_1970, split_fields, txt_cookie}
 use Rattle.cookie_agent.specs.CookiesTxtCode.{carried_seconds, cookie_as, line_at}
 use Rattle.cookie_agent.specs.Saved.{is_persistent, lines_of, saved}
-use Rattle.cookie_agent.specs.Storable.{is_domain, is_domain_byte, is_received_pair, is_storable, meets_prefixes, meets_same_site}
+use Rattle.cookie_agent.specs.Storable.{is_domain, is_domain_byte, is_received_pair, is_storable, meets_name_prefix, meets_same_site}
 use Rattle.cookie_agent.specs.declared.saved.cookies_txt.Fields.{Fields}
 use Rattle.cookie_agent.specs.declared.saved.cookies_txt.Kind.{Kind}
 use Rattle.cookie_agent.specs.declared.saved.line.Line.{Line}
@@ -240,7 +240,7 @@ read_fields now cookie h =
     let n = h.seconds in
     let read = txt_cookie now cookie in
     let has : has_fields read ≡ true =
-    keeps (is_received_pair cookie.name cookie.value) (is_domain cookie.domain) _ (meets_prefixes cookie) (meets_same_site cookie) _ h.fields in
+    keeps (is_received_pair cookie.name cookie.value) (is_domain cookie.domain) _ (meets_name_prefix cookie) (meets_same_site cookie) _ h.fields in
     let whole : seconds_of_digits (decimal (unwrap_or (expiry_seconds cookie.expiry) 0)) ≡ Some n =
     ap (λ e. seconds_of_digits (decimal (unwrap_or e 0))) h.expiry ∙ seconds_of-decimal n h.small in
     let made : cookie_of now cookie.is_http_only (domain_field cookie) (not cookie.is_host_only) cookie.path cookie.is_secure_only n cookie.name cookie.value ≡ read =

@@ -1,5 +1,5 @@
 -- What is stored under a name with the prefix `__Host-`, and what is left of stored cookies later.
-use Rattle.std.proofs.Common.{◌≡◌, ℕ, ℤ, ◌≤ℤ◌, ◌&&◌, ◌||◌, not, Bool, true, false, cond, List, [], ◌∷◌, codes, map, Option, Some, None, Ok, Err, refl, sym, ap, ◌∙◌, All, inl, arith}
+use Rattle.std.proofs.Common.{◌≡◌, ℕ, ℤ, ◌≤ℤ◌, ◌&&◌, ◌||◌, not, Bool, true, false, cond, List, [], ◌∷◌, codes, map, Option, Some, None, Ok, Err, option_map, refl, sym, ap, ◌∙◌, All, inl, arith}
 use Rattle.std.proofs.lemmas.Bool.{and_parts, false≢true}
 use Rattle.std.proofs.lemmas.List.Elements.{All-head, All-tail, filter_agree}
 use Rattle.std.proofs.lemmas.Slice.Eq.{bytes_eq-Decides}
@@ -9,11 +9,14 @@ use Rattle.std.specs.Str.{bytes_eq}
 use Rattle.jiff.specs.Types.{DateTime}
 use Rattle.jiff.specs.Words.{civil_nanos}
 use Rattle.jiff.proofs.SpanFacts.{signed_arith}
+use Rattle.cookie_core.specs.NamePrefixes.{has_any_prefix, unmet_prefix}
+use Rattle.cookie_core.proofs.NamePrefixLemmas.{host_absent, host_met}
 use Rattle.cookie_browser.specs.Received.{ReceivedView, received}
 use Rattle.cookie_browser.specs.Request.{RequestView}
-use Rattle.cookie_browser.specs.Storage.{CookieStore, KeptView, asked_domain, has_host_prefix, has_secure_prefix, is_same_cookie, is_sent, kept_as, kept_with, lasting, lasts, meets_host_prefix, or_next_refusal, refusal_by_connection, refusal_by_domain, refusal_by_prefix, refused_if, unless_refused, verdict, verdict_on}
+use Rattle.cookie_browser.specs.Storage.{CookieStore, KeptView, asked_domain, guards_of, has_host_prefix, is_same_cookie, is_sent, kept_as, kept_with, lasting, lasts, or_next_refusal, prefix_refusal, refusal_by_connection, refusal_by_domain, refusal_by_prefix, refused_if, unless_refused, verdict, verdict_on}
 use Rattle.cookie_browser.specs.Suffixes.{Rule}
 use Rattle.cookie_browser.specs.declared.refusal.Refusal.{Refusal}
+use Rattle.cookie_browser.specs.declared.refusal.Refusal.TheVariants as refusal
 use Rattle.cookie_browser.proofs.AcceptLemmas.{refusal_anywhere}
 use Rattle.cookie_agent.specs.Sent.{accessed}
 use Rattle.cookie_agent.proofs.OrderLemmas.{filter-map}
@@ -119,6 +122,18 @@ second_holds true true e f = refl
 second_holds true false e f = absurd (false≢true (sym f))
 second_holds false b e f = absurd (false≢true e)
 
+not_mapped : {X : Type 0} (f : X → Refusal) (o : Option X) → option_map f o ≡ None → o ≡ None
+not_mapped f None e = refl
+not_mapped f (Some x) e = cc
+
+-- the steps on prefixes refuse nothing
+pub prefixes_met : (v : ReceivedView) (new : KeptView) → refusal_by_prefix v new ≡ None
+    → (unmet_prefix v.name (guards_of v new) ≡ None) × (bytes_eq v.name [] && has_any_prefix v.value ≡ false)
+unfolding refusal_by_prefix
+prefixes_met v new e =
+    let both = both_none (option_map prefix_refusal (unmet_prefix v.name (guards_of v new))) _ e in
+    (not_mapped prefix_refusal (unmet_prefix v.name (guards_of v new)) both.0, (not_refused (bytes_eq v.name [] && has_any_prefix v.value) refusal.NamelessPrefix _ both.1).0)
+
 pub record IsHostSet (s : RequestView) (k : KeptView) : Type 0 where
   pub secure : s.is_secure ≡ true
   pub host_only : k.is_host_only ≡ true
@@ -126,16 +141,14 @@ pub record IsHostSet (s : RequestView) (k : KeptView) : Type 0 where
   pub path : k.path ≡ codes "/"
 
 host_set : (rules : List Rule) (s : RequestView) (t : DateTime) (store : CookieStore) (v : ReceivedView) (k : KeptView) → IsStoredBy rules s t store v k → has_host_prefix k.name ≡ true → IsHostSet s k
-unfolding refusal_by_connection refusal_by_prefix
+unfolding refusal_by_connection
 host_set rules s t store v k is prefixed =
     let new : KeptView = kept_as rules s t v in
     let first = both_none (refusal_by_domain rules s v) (or_next_refusal (refusal_by_connection s store new) (refusal_by_prefix v new)) is.accepted in
     let second = both_none (refusal_by_connection s store new) (refusal_by_prefix v new) first.1 in
     let insecure = (not_refused (new.is_secure_only && not s.is_secure) _ _ second.0).0 in
-    let prefix = (not_refused (has_host_prefix v.name && not (meets_host_prefix v new)) _ _ (not_refused (has_secure_prefix v.name && not new.is_secure_only) _ _ second.1).1).0 in
     let named : has_host_prefix v.name ≡ true = ap (λ (c : KeptView). has_host_prefix c.name) is.same ∙ prefixed in
-    let meets = second_holds (has_host_prefix v.name) (meets_host_prefix v new) named prefix in
-    let one = and_parts new.is_secure_only _ meets in
+    let one = host_met v.name (guards_of v new) (prefixes_met v new second.1).0 named in
     let two = and_parts new.is_host_only _ one.1 in
     let three = and_parts v.attributes.has_path (bytes_eq new.path (codes "/")) two.1 in
     record {
@@ -147,19 +160,12 @@ host_set rules s t store v k is prefixed =
 
 -- without a name its value has no such prefix
 pub no_hidden_prefix : (rules : List Rule) (s : RequestView) (t : DateTime) (store : CookieStore) (v : ReceivedView) (k : KeptView) → IsStoredBy rules s t store v k → v.name ≡ [] → has_host_prefix v.value ≡ false
-unfolding refusal_by_connection refusal_by_prefix
 no_hidden_prefix rules s t store v k is nameless =
     let new : KeptView = kept_as rules s t v in
     let first = both_none (refusal_by_domain rules s v) (or_next_refusal (refusal_by_connection s store new) (refusal_by_prefix v new)) is.accepted in
     let second = both_none (refusal_by_connection s store new) (refusal_by_prefix v new) first.1 in
-    let third = (not_refused (has_host_prefix v.name && not (meets_host_prefix v new)) _ _ (not_refused (has_secure_prefix v.name && not new.is_secure_only) _ _ second.1).1).1 in
-    let hidden = (not_refused (bytes_eq v.name [] && (has_secure_prefix v.value || has_host_prefix v.value)) _ _ third).0 in
-    neither (has_secure_prefix v.value) (has_host_prefix v.value)
-    (sym (ap (λ b. b && (has_secure_prefix v.value || has_host_prefix v.value)) ((bytes_eq-Decides v.name []).1 nameless)) ∙ hidden)
-  where
-    neither : (a b : Bool) → (a || b) ≡ false → b ≡ false
-    neither true b e = absurd (false≢true (sym e))
-    neither false b e = e
+    host_absent v.value
+    (sym (ap (λ b. b && has_any_prefix v.value) ((bytes_eq-Decides v.name []).1 nameless)) ∙ (prefixes_met v new second.1).1)
 
 pub verdict_host_set : (rules : List Rule) (s : RequestView) (t : DateTime) (store : CookieStore) (text : List ℕ) (k : KeptView) → verdict rules s t store text ≡ Ok k → has_host_prefix k.name ≡ true → IsHostSet s k
 verdict_host_set rules s t store text k e prefixed = by (received text) e

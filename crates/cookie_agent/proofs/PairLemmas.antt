@@ -1,15 +1,15 @@
 -- A browser that receives a printed text receives the name and the value, whatever the attributes hold.
-use Rattle.std.proofs.Common.{◌≡◌, ℕ, Bool, true, false, cond, List, ◌∷◌, ◌++◌, length, codes, nat_lt, Option, Some, None, option_map, Ok, Err, refl, sym, ap, ◌∙◌, ◌+◌}
+use Rattle.std.proofs.Common.{◌≡◌, ℕ, Bool, true, false, cond, List, [], ◌∷◌, ◌++◌, length, codes, nat_lt, Option, Some, None, Ok, Err, refl, sym, ap, ◌∙◌, ◌+◌}
 use Rattle.std.specs.List.{list_any}
 use Rattle.cookie_core.specs.Escapes.{escape}
 use Rattle.cookie_core.specs.Pieces.{Lacks}
 use Rattle.cookie_core.specs.Record.{Record}
-use Rattle.cookie_core.specs.SameSite.{same_site_text}
-use Rattle.cookie_core.specs.Text.{attribute_text, attributes_text, cookie_text, expiry_text, flag_text, is_true, prints_secure, seconds_text}
+use Rattle.cookie_core.specs.Text.{ShownAttribute, Flag, Valued, shown_text, shown_texts, scope_attributes, place_attributes, lifetime_attributes, attribute_text, attributes_text, cookie_text, flag_text}
 use Rattle.cookie_core.specs.Walk.{behind}
 use Rattle.cookie_core.proofs.ByteLemmas.{is_other, all-weaker, Lacks-from_test}
 use Rattle.cookie_core.proofs.EscapeTextLemmas.{is_token, escape_is_tokens, token_is_other_61}
 use Rattle.cookie_core.proofs.NormalFormLemmas.{escaped_pair, escaped_pair-apart, cookie_text-pair}
+use Rattle.cookie_core.proofs.ShownLemmas.{shown_texts-all}
 use Rattle.cookie_browser.specs.Bytes.{cut}
 use Rattle.cookie_browser.specs.Received.{ReceivedView, attributes_of, is_control, received, received_name_value, received_pair}
 use Rattle.cookie_browser.specs.declared.refusal.Refusal.TheVariants as refusal
@@ -32,13 +32,15 @@ rest_attribute : (label : List ℕ) (o : Option (List ℕ)) → IsRest (attribut
 rest_attribute label (Some value) = (Some (label ++ value), refl)
 rest_attribute label None = (None, refl)
 
+rest_shown : (attributes : List ShownAttribute) → IsRest (shown_texts attributes)
+rest_shown = shown_texts-all IsRest (None, refl) rest-append by
+  where
+    by : (attribute : ShownAttribute) → IsRest (shown_text attribute)
+    by (Flag word is_shown) = rest_flag word is_shown
+    by (Valued label value) = rest_attribute label value
+
 rest_attributes : (r : Record) → IsRest (attributes_text r)
-rest_attributes r =
-    let flags = rest-append _ _ (rest_flag (codes " Partitioned") (is_true r.partitioned)) (rest_flag (codes " Secure") (prints_secure r)) in
-    let scope = rest-append _ _ (rest_flag (codes " HttpOnly") (is_true r.http_only)) (rest-append _ _ (rest_attribute (codes " SameSite=") (option_map same_site_text r.same_site)) flags) in
-    let place = rest-append _ _ (rest_attribute (codes " Path=") r.path) (rest_attribute (codes " Domain=") r.domain) in
-    let lifetime = rest-append _ _ (rest_attribute (codes " Max-Age=") (option_map seconds_text r.max_age)) (rest_attribute (codes " Expires=") (expiry_text r.expires)) in
-    rest-append _ _ scope (rest-append _ _ place lifetime)
+rest_attributes r = rest-append _ _ (rest_shown (scope_attributes r)) (rest-append _ _ (rest_shown (place_attributes r)) (rest_shown (lifetime_attributes r)))
 
 escape_lacks_equals : (t : List ℕ) → Lacks 61 (escape t)
 escape_lacks_equals t = Lacks-from_test 61 (escape t) (all-weaker is_token (is_other 61) token_is_other_61 (escape t) (escape_is_tokens t))

@@ -1,5 +1,5 @@
 -- What the jars of prefixes store, and what removes it, is stored as its name asks for.
-use Rattle.std.proofs.Common.{◌≡◌, ℕ, ◌+◌, ◌≤◌, ◌&&◌, ◌||◌, not, Bool, true, false, List, [], codes, length, None, refl, ap, ◌∙◌, arith}
+use Rattle.std.proofs.Common.{◌≡◌, ℕ, ◌+◌, ◌≤◌, ◌&&◌, ◌||◌, not, Bool, true, false, List, [], codes, cond, length, Some, None, option_map, refl, sym, ap, ◌∙◌, arith}
 use Rattle.std.proofs.lemmas.Bool.{false≢true}
 use Rattle.std.proofs.lemmas.Slice.Eq.{bytes_eq-Decides}
 use Rattle.std.proofs.lemmas.Str.{IsUtf8-nil}
@@ -9,16 +9,20 @@ use Rattle.jiff.specs.Types.{DateTime}
 use Rattle.jiff.proofs.SpanFacts.{signed_arith}
 use Rattle.cookie.specs.Escapes.{escape}
 use Rattle.cookie.specs.Normal.{IsNamed}
-use Rattle.cookie.specs.Prefixes.{conforming_cookie, host_prefix, host_bound, secure_prefix, secure_cookie}
+use Rattle.cookie.specs.Prefixes.{conforming_cookie, host_prefix, host_bound, prefixed_cookie, secure_prefix, secure_cookie}
 use Rattle.cookie.specs.Record.{Record}
 use Rattle.cookie.specs.Removal.{removal}
 use Rattle.cookie.proofs.EscapeTextLemmas.{escape_some, escape-nil}
+use Rattle.cookie.specs.Text.{is_true}
 use Rattle.cookie_core.proofs.ByteLemmas.{Lacks-from_test}
+use Rattle.cookie_core.proofs.NamePrefixLemmas.{bound_meets, needs-escaped}
+use Rattle.cookie_core.specs.NamePrefixes.{has_any_prefix, unmet_prefix}
 use Rattle.cookie_core.specs.Wsp.{trim_wsp}
 use Rattle.cookie_browser.specs.Printed.{IsPlainValue, IsReceivable, printed_as}
 use Rattle.cookie_browser.specs.Request.{RequestView}
-use Rattle.cookie_browser.specs.Storage.{KeptView, crosses, first_refusal, has_host_prefix, has_secure_prefix, is_site_bound, kept_as, refusal_by_connection, refusal_by_domain, refusal_by_prefix, unless_refused, verdict_on}
+use Rattle.cookie_browser.specs.Storage.{KeptView, crosses, first_refusal, guards_of, is_site_bound, kept_as, or_next_refusal, prefix_refusal, refusal_by_connection, refusal_by_domain, refusal_by_prefix, refused_if, unless_refused, verdict_on}
 use Rattle.cookie_browser.specs.Suffixes.{Rule}
+use Rattle.cookie_browser.specs.declared.refusal.Refusal.TheVariants as refusal
 use Rattle.cookie_browser.proofs.PrintedLemmas.{received_printed}
 use Rattle.cookie_agent.specs.Prefixes.{AreHostBound, AreSecured, IsAtHome, IsHostBound, IsSecured}
 
@@ -61,12 +65,25 @@ module _ (rules : List Rule) (site : RequestView) (home : IsAtHome site) (now : 
   abbrev new : KeptView
   new = kept_as rules site now (printed_as (host_bound cookie))
 
+  named : bytes_eq (escape cookie.name) [] ≡ false
+  named = not_empty (escape cookie.name) (escape_some cookie.name h.name)
+
+  met : unmet_prefix (escape cookie.name) (guards_of (printed_as (host_bound cookie)) new) ≡ None
+  met =
+      bound_meets (escape cookie.name) (guards_of (printed_as (host_bound cookie)) new) refl refl
+      (λ e. ap (λ b. is_true (cond b (Some true) cookie.http_only)) (sym (needs-escaped cookie.name h.cookie.name) ∙ e))
+
+  prefixed : refusal_by_prefix (printed_as (host_bound cookie)) new ≡ None
+  unfolding refusal_by_prefix
+  prefixed =
+      ap (λ o. or_next_refusal (option_map prefix_refusal o) (refused_if (bytes_eq (escape cookie.name) [] && has_any_prefix (escape cookie.value)) refusal.NamelessPrefix None)) met
+      ∙ ap (λ b. refused_if (b && has_any_prefix (escape cookie.value)) refusal.NamelessPrefix None) named
+
   accepted : first_refusal rules site [] (printed_as (host_bound cookie)) new ≡ None
-  unfolding refusal_by_domain refusal_by_connection refusal_by_prefix
+  unfolding refusal_by_domain refusal_by_connection
   accepted =
-      let named : bytes_eq (escape cookie.name) [] ≡ false = not_empty (escape cookie.name) (escape_some cookie.name h.name) in
       let near : crosses site new ≡ false = ap (λ b. is_site_bound new.same_site && b) (near_enough site.is_same_site site.is_top_level home.near) ∙ and_false (is_site_bound new.same_site) in
-      rw (named, home.secure, near, and_false (not (is_site_bound new.same_site)), and_false (has_secure_prefix (escape cookie.name)), and_false (has_host_prefix (escape cookie.name))) refl
+      rw (named, home.secure, near, and_false (not (is_site_bound new.same_site)), prefixed) refl
 
   pub bound_stored : IsHostBound rules site now (host_bound cookie)
   bound_stored =
@@ -80,9 +97,9 @@ module _ (rules : List Rule) (site : RequestView) (home : IsAtHome site) (now : 
 
 pub all_host_bound : (rules : List Rule) (site : RequestView) → AreHostBound rules site
 all_host_bound rules site home now cookie h size =
-    let stored : Record = conforming_cookie host_prefix host_bound cookie in (
-      bound_stored rules site home now stored h size,
-      λ moment. bound_stored rules site home now (removal moment stored) (named_removal moment stored h) (short_removal stored.name stored.value size),
+    let named : Record = prefixed_cookie host_prefix cookie in (
+      bound_stored rules site home now named h size,
+      λ moment. bound_stored rules site home now (removal moment named) (named_removal moment (host_bound named) h) (short_removal named.name named.value size),
     )
 
 -- ---- `__Secure-`

@@ -4,11 +4,13 @@ use Rattle.std.specs.Prelude.{ℕ, ◌+◌, ◌==◌, ◌&&◌, ◌||◌, not, n
 use Rattle.std.specs.Char.{to_ascii_lowercase}
 use Rattle.std.specs.List.{list_all, starts_with}
 use Rattle.std.specs.Str.{bytes_eq}
+use Rattle.cookie_core.specs.NamePrefixes.{has_any_prefix, meets_prefixes}
 use Rattle.cookie_core.specs.Separators.{equals_sign, semicolon}
 use Rattle.cookie_core.specs.Size.{most_bytes}
 use Rattle.cookie_core.specs.Wsp.{trim_wsp}
+use Rattle.cookie_core.specs.declared.guards.Guards.{Guards}
 use Rattle.cookie_browser.specs.Received.{is_control}
-use Rattle.cookie_browser.specs.Storage.{KeptView, has_host_prefix, has_secure_prefix, is_site_bound}
+use Rattle.cookie_browser.specs.Storage.{KeptView, is_site_bound}
 
 -- a byte that a received name or value can have: no control character but a tab, and no `;`
 abbrev pub is_received_byte : ℕ → Bool
@@ -45,26 +47,22 @@ is_domain (byte ∷ bytes) =
 
 -- ---- prefixes (Cookie Name Prefixes)
 
--- what `__Host-` requires
-abbrev pub is_host_bound : KeptView → Bool
-is_host_bound cookie =
-    cookie.is_secure_only && (cookie.is_host_only && bytes_eq cookie.path (codes "/"))
-
-abbrev pub meets_secure_prefix : KeptView → Bool
-meets_secure_prefix cookie = not (has_secure_prefix cookie.name) || cookie.is_secure_only
-
-abbrev pub meets_host_prefix : KeptView → Bool
-meets_host_prefix cookie = not (has_host_prefix cookie.name) || is_host_bound cookie
+-- what the cookie has of that which prefixes require
+abbrev pub guards_of : KeptView → Guards
+guards_of cookie =
+    record {
+      is_secure = cookie.is_secure_only;
+      is_http_only = cookie.is_http_only;
+      is_host_bound = cookie.is_host_only && bytes_eq cookie.path (codes "/");
+    }
 
 -- it has a name, or its value begins with no prefix
 abbrev pub meets_nameless_prefix : KeptView → Bool
-meets_nameless_prefix cookie =
-    not (length cookie.name == 0)
-    || not (has_secure_prefix cookie.value || has_host_prefix cookie.value)
+meets_nameless_prefix cookie = not (length cookie.name == 0) || not (has_any_prefix cookie.value)
 
-abbrev pub meets_prefixes : KeptView → Bool
-meets_prefixes cookie =
-    meets_secure_prefix cookie && (meets_host_prefix cookie && meets_nameless_prefix cookie)
+abbrev pub meets_name_prefix : KeptView → Bool
+meets_name_prefix cookie =
+    meets_prefixes cookie.name (guards_of cookie) && meets_nameless_prefix cookie
 
 -- ---- the cookie
 
@@ -78,4 +76,4 @@ is_storable cookie =
     is_received_pair cookie.name cookie.value
     && (is_domain cookie.domain
     && (starts_with eqb cookie.path (codes "/")
-    && (meets_prefixes cookie && meets_same_site cookie)))
+    && (meets_name_prefix cookie && meets_same_site cookie)))

@@ -26,7 +26,9 @@ refusal_text refusal.SecurePrefix = codes "the prefix __Secure- needs Secure: se
 refusal_text refusal.HostPrefix =
     codes "the prefix __Host- needs Secure, Path=/ and no Domain: set them so"
 refusal_text refusal.NamelessPrefix =
-    codes "a value without a name begins with __Secure- or __Host-: set a name"
+    codes "a value without a name begins with a prefix of names: set a name"
+refusal_text refusal.HttpPrefix =
+    codes "the prefix __Http- or __Host-Http- needs Secure and HttpOnly: set both over https"
 
 -- the title of the section
 abbrev pub refusal_section : Refusal → List ℕ

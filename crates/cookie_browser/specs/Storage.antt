@@ -1,12 +1,12 @@
 -- What a received cookie is stored as, or the step that refuses it (RFC 6265bis, Storage Model), and what is sent
 -- (Retrieval Algorithm).
-use Rattle.std.specs.Prelude.{ℕ, ℤ, pos, ◌+ℤ◌, ◌*ℤ◌, int_lt, ◌&&◌, ◌||◌, not, Bool, true, false, nat_lt, List, [], ◌∷◌, codes, eqb, filter, Option, Some, None, Result, Ok, Err, if◌then◌else◌}
+use Rattle.std.specs.Prelude.{ℕ, ℤ, pos, ◌+ℤ◌, ◌*ℤ◌, int_lt, ◌&&◌, ◌||◌, not, Bool, true, false, nat_lt, List, [], ◌∷◌, codes, eqb, filter, Option, Some, None, Result, Ok, Err, option_map, if◌then◌else◌}
 use Rattle.std.specs.List.{list_all, list_any, starts_with}
 use Rattle.std.specs.Str.{bytes_eq, str_to_ascii_lowercase}
 use Rattle.jiff.specs.Types.{DateTime}
 use Rattle.jiff.specs.Words.{civil_nanos}
 use Rattle.cookie_core.specs.Record.{without_leading_dot}
-use Rattle.cookie_core.specs.SentNames.{begins_in_any_case}
+use Rattle.cookie_core.specs.NamePrefixes.{has_any_prefix, has_prefix, required, unmet_prefix}
 use Rattle.cookie_browser.specs.Received.{AttributesView, ReceivedView, age_limit, received}
 use Rattle.cookie_browser.specs.Request.{RequestView, folder_of, is_in_domain, is_under_path}
 use Rattle.cookie_browser.specs.Suffixes.{Rule, is_public_suffix}
@@ -14,6 +14,9 @@ use Rattle.cookie_browser.specs.declared.enforcement.Enforcement.{Enforcement}
 use Rattle.cookie_browser.specs.declared.enforcement.Enforcement.TheVariants as enforcement
 use Rattle.cookie_browser.specs.declared.refusal.Refusal.{Refusal}
 use Rattle.cookie_browser.specs.declared.refusal.Refusal.TheVariants as refusal
+use Rattle.cookie_core.specs.declared.enforced_prefix.EnforcedPrefix.{EnforcedPrefix}
+use Rattle.cookie_core.specs.declared.enforced_prefix.EnforcedPrefix.TheVariants as enforced
+use Rattle.cookie_core.specs.declared.guards.Guards.{Guards}
 
 -- a stored cookie; its expiry and its last access are times in UTC, in nanoseconds, and one without an expiry lasts for
 -- the session
@@ -125,18 +128,27 @@ abbrev pub is_site_bound : Enforcement → Bool
 is_site_bound enforcement.None = false
 is_site_bound _ = true
 
--- the text begins with a prefix of names, in any ASCII case (Cookie Name Prefixes)
-abbrev pub has_secure_prefix : List ℕ → Bool
-has_secure_prefix text = begins_in_any_case (codes "__Secure-") text
-
+-- the text begins with `__Host-`, in any ASCII case (Cookie Name Prefixes)
 abbrev pub has_host_prefix : List ℕ → Bool
-has_host_prefix text = begins_in_any_case (codes "__Host-") text
+has_host_prefix text = has_prefix enforced.Host text
 
--- what `__Host-` requires: secure-only, host-only, and a `Path` attribute that comes to `/` (Cookie Name Prefixes)
-abbrev pub meets_host_prefix : ReceivedView → KeptView → Bool
-meets_host_prefix cookie new =
-    new.is_secure_only
-    && (new.is_host_only && (cookie.attributes.has_path && bytes_eq new.path (codes "/")))
+-- what the cookie has of that which prefixes require. It is host bound if it is host-only, and has a `Path` attribute
+-- that comes to `/` (Cookie Name Prefixes)
+abbrev pub guards_of : ReceivedView → KeptView → Guards
+guards_of cookie new =
+    record {
+      is_secure = new.is_secure_only;
+      is_http_only = new.is_http_only;
+      is_host_bound = new.is_host_only
+          && (cookie.attributes.has_path && bytes_eq new.path (codes "/"));
+    }
+
+-- the refusal of a cookie that lacks what the prefix requires
+abbrev pub prefix_refusal : EnforcedPrefix → Refusal
+prefix_refusal prefix =
+    if (required prefix).is_http_only then refusal.HttpPrefix
+    else if (required prefix).is_host_bound then refusal.HostPrefix
+    else refusal.SecurePrefix
 
 -- the refusal if the test holds, and else the later one
 abbrev pub refused_if : Bool → Refusal → Option Refusal → Option Refusal
@@ -180,13 +192,11 @@ refusal_by_connection request store new =
 -- the steps on prefixes
 unfoldable pub refusal_by_prefix : ReceivedView → KeptView → Option Refusal
 refusal_by_prefix cookie new =
-    refused_if (has_secure_prefix cookie.name && not new.is_secure_only) refusal.SecurePrefix
-    (refused_if (has_host_prefix cookie.name && not (meets_host_prefix cookie new))
-    refusal.HostPrefix
-    (refused_if (bytes_eq cookie.name []
-    && (has_secure_prefix cookie.value || has_host_prefix cookie.value))
+    or_next_refusal
+    (option_map prefix_refusal (unmet_prefix cookie.name (guards_of cookie new)))
+    (refused_if (bytes_eq cookie.name [] && has_any_prefix cookie.value)
     refusal.NamelessPrefix
-    None))
+    None)
 
 -- the first step that refuses the cookie, if one does
 abbrev pub first_refusal : List Rule → RequestView → CookieStore → ReceivedView → KeptView

@@ -36,8 +36,11 @@ pub enum Refusal {
     /// The name begins with `__Host-`, and the cookie lacks `Secure`, lacks a `Path`, has a path other than `/`, or has
     /// a domain (Storage Model).
     HostPrefix,
-    /// There is no name, and the value begins with `__Secure-` or `__Host-` (Storage Model).
+    /// There is no name, and the value begins with a prefix, as `__Host-` (Storage Model).
     NamelessPrefix,
+    /// The name begins with a prefix that requires `HttpOnly`, and the cookie lacks `HttpOnly` or something else that
+    /// the prefix requires (Storage Model).
+    HttpPrefix,
 }
 
 impl Refusal {
@@ -67,7 +70,9 @@ impl Refusal {
             Refusal::HostPrefix =>
                 "the prefix __Host- needs Secure, Path=/ and no Domain: set them so",
             Refusal::NamelessPrefix =>
-                "a value without a name begins with __Secure- or __Host-: set a name",
+                "a value without a name begins with a prefix of names: set a name",
+            Refusal::HttpPrefix =>
+                "the prefix __Http- or __Host-Http- needs Secure and HttpOnly: set both over https",
         }
     }
 

@@ -1,7 +1,8 @@
 //! Which step of a browser refuses a cookie (RFC 6265bis, Storage Model).
-ghost use Rattle.std.specs.Prelude.{◌≡◌, ◌&&◌, ◌||◌, not, [], map};
+ghost use Rattle.std.specs.Prelude.{◌≡◌, ◌&&◌, not, [], codes, map};
 ghost use Rattle.std.specs.List.{list_any};
 ghost use Rattle.std.specs.Str.{bytes_eq};
+ghost use Rattle.cookie_core.specs.NamePrefixes.{has_any_prefix};
 ghost use Rattle.cookie_browser.specs.PrintedStored.{IsPrintedSent, IsPrintedStored};
 ghost use Rattle.cookie_browser.specs.Storage as spec;
 ghost use Rattle.cookie_browser.specs.Storage.{CookieStore};
@@ -14,7 +15,7 @@ use crate::received::Received;
 use crate::refusal::Refusal;
 use crate::request::{BrowserRequest, is_in_domain};
 use crate::suffixes::Suffixes;
-use cookie_core::begins_in_any_case;
+use cookie_core::{EnforcedPrefix, Guards};
 
 pub(crate) fn is_site_bound(enforcement: Enforcement) -> bool
     ensures { result ≡ spec.is_site_bound enforcement }
@@ -26,18 +27,6 @@ fn is_ascii(text: &[u8]) -> bool
     ensures { result ≡ spec.is_ascii text.now }
 {
     text.iter().all(|&byte| byte < 128)
-}
-
-fn has_secure_prefix(text: &[u8]) -> bool
-    ensures { result ≡ spec.has_secure_prefix text.now }
-{
-    begins_in_any_case(b"__Secure-", text)
-}
-
-fn has_host_prefix(text: &[u8]) -> bool
-    ensures { result ≡ spec.has_host_prefix text.now }
-{
-    begins_in_any_case(b"__Host-", text)
 }
 
 fn is_empty_pair(received: &Received<'_>) -> bool
@@ -66,13 +55,35 @@ fn is_foreign(request: &BrowserRequest<'_>, domain: &[u8]) -> bool
     !domain.is_empty() && !is_in_domain(request.host, request.is_address, domain)
 }
 
-fn meets_host_prefix(received: &Received<'_>, new: &KeptCookie<'_>) -> bool
-    ensures { result ≡ spec.meets_host_prefix (received_view received.now) (kept_view new.now) }
+// What the cookie has of that which prefixes require.
+fn guards_of(received: &Received<'_>, new: &KeptCookie<'_>) -> Guards
+    ensures { result ≡ spec.guards_of (received_view received.now) (kept_view new.now) }
 {
-    new.is_secure_only
-        && new.is_host_only
-        && received.attributes.has_path
-        && new.path == b"/".as_slice()
+    Guards {
+        is_secure: new.is_secure_only,
+        is_http_only: new.is_http_only,
+        is_host_bound: is_host_bound(received, new),
+    }
+}
+
+fn is_host_bound(received: &Received<'_>, new: &KeptCookie<'_>) -> bool
+    ensures { result ≡ (new.now.is_host_only && (received.now.attributes.has_path
+        && bytes_eq new.now.path.now (codes "/"))) }
+{
+    new.is_host_only && received.attributes.has_path && new.path == b"/".as_slice()
+}
+
+fn prefix_refusal(prefix: EnforcedPrefix) -> Refusal
+    ensures { result ≡ spec.prefix_refusal prefix }
+{
+    let required = prefix.required();
+    if required.is_http_only {
+        Refusal::HttpPrefix
+    } else if required.is_host_bound {
+        Refusal::HostPrefix
+    } else {
+        Refusal::SecurePrefix
+    }
 }
 
 // The steps from an empty pair to a domain that the host isn't in.
@@ -176,11 +187,8 @@ fn is_bare_none(new: &KeptCookie<'_>) -> bool
 fn refused_by_prefix(received: &Received<'_>, new: &KeptCookie<'_>) -> Option<Refusal>
     ensures { result ≡ spec.refusal_by_prefix (received_view received.now) (kept_view new.now) }
 {
-    if lacks_secure(received, new) {
-        return Some(Refusal::SecurePrefix);
-    }
-    if lacks_host(received, new) {
-        return Some(Refusal::HostPrefix);
+    if let Some(prefix) = EnforcedPrefix::unmet(received.name, guards_of(received, new)) {
+        return Some(prefix_refusal(prefix));
     }
     if is_nameless_prefix(received) {
         return Some(Refusal::NamelessPrefix);
@@ -188,27 +196,11 @@ fn refused_by_prefix(received: &Received<'_>, new: &KeptCookie<'_>) -> Option<Re
     None
 }
 
-fn lacks_secure(received: &Received<'_>, new: &KeptCookie<'_>) -> bool
-    ensures { result ≡ (spec.has_secure_prefix received.now.name.now
-        && not new.now.is_secure_only) }
-{
-    has_secure_prefix(received.name) && !new.is_secure_only
-}
-
-fn lacks_host(received: &Received<'_>, new: &KeptCookie<'_>) -> bool
-    ensures { result ≡ (spec.has_host_prefix received.now.name.now
-        && not (spec.meets_host_prefix (received_view received.now) (kept_view new.now))) }
-{
-    has_host_prefix(received.name) && !meets_host_prefix(received, new)
-}
-
 fn is_nameless_prefix(received: &Received<'_>) -> bool
     ensures { result ≡ (bytes_eq received.now.name.now []
-        && (spec.has_secure_prefix received.now.value.now
-        || spec.has_host_prefix received.now.value.now)) }
+        && has_any_prefix received.now.value.now) }
 {
-    received.name.is_empty()
-        && (has_secure_prefix(received.value) || has_host_prefix(received.value))
+    received.name.is_empty() && EnforcedPrefix::any_begins(received.value)
 }
 
 /// Returns the first step that refuses a received cookie, or `None` if none does (RFC 6265bis, Storage Model). An

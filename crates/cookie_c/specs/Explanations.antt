@@ -55,6 +55,7 @@ refusal_code refusal.NoneWithoutSecure = 10
 refusal_code refusal.SecurePrefix = 11
 refusal_code refusal.HostPrefix = 12
 refusal_code refusal.NamelessPrefix = 13
+refusal_code refusal.HttpPrefix = 14
 
 -- the number of the enforcement: the number of the rule with its name (`same_site_code`)
 abbrev pub enforcement_code : Enforcement → ℕ

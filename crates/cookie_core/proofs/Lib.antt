@@ -16,6 +16,7 @@ pub mod GraphicLemmas
 pub mod HeaderLemmas
 pub mod JoinLemmas
 pub mod LawLemmas
+pub mod NamePrefixLemmas
 pub mod NormalFormLemmas
 pub mod NormalLemmas
 pub mod OffsetLemmas
@@ -28,6 +29,7 @@ pub mod PrefixLemmas
 pub mod ReadingLemmas
 pub mod SentHeaderLemmas
 pub mod SentNameLemmas
+pub mod ShownLemmas
 pub mod SpanLemmas
 pub mod SplitLemmas
 pub mod TrimLemmas

@@ -1,13 +1,12 @@
 -- What a printed cookie is read as, whatever its path, its domain and its expiry hold (RFC 6265 5.2).
-use Rattle.std.proofs.Common.{◌≡◌, true, false, codes, ℕ, ℤ, pos, List, [], ◌∷◌, ◌++◌, Some, None, option_map, refl, sym, ap, subst, ◌∙◌}
+use Rattle.std.proofs.Common.{◌≡◌, true, false, ℕ, ℤ, pos, List, [], ◌∷◌, ◌++◌, Some, None, option_map, refl, sym, ap, subst, ◌∙◌}
 use Rattle.std.proofs.lemmas.Option.{none-some, same_Some}
 use Rattle.cookie_core.specs.Attributes.{IsPair, IsLastSet, SetsAttributes}
 use Rattle.cookie_core.specs.CookieOf.{record_in, cookie_of}
 use Rattle.cookie_core.specs.Normal.{whole_age, IsNamed, IsUncut, IsExpiryReadBack}
 use Rattle.cookie_core.specs.Escapes.{escape}
 use Rattle.cookie_core.specs.Record.{Record, IsCookie}
-use Rattle.cookie_core.specs.SameSite.{same_site_text}
-use Rattle.cookie_core.specs.Text.{is_true, prints_secure, seconds_text, expiry_text, scope_text, place_text, lifetime_text, attributes_text, cookie_text}
+use Rattle.cookie_core.specs.Text.{ShownAttribute, Flag, Valued, shown_text, shown_texts, scope_attributes, place_attributes, lifetime_attributes, lifetime_text, attributes_text, cookie_text}
 use Rattle.cookie_core.specs.Walk.{before_rest}
 use Rattle.cookie_core.specs.declared.attributes.Key.TheVariants as key
 use Rattle.cookie_core.specs.declared.parse_error.ParseError.TheVariants as refusal
@@ -16,32 +15,28 @@ use Rattle.cookie_core.proofs.ExpiryTextLemmas.{read_expiry-is}
 use Rattle.cookie_core.proofs.NormalFormLemmas.{escaped_pair, escaped_pair-apart, escaped_pair-pair, cookie_text-pair, Reads-printed, uncut_form}
 use Rattle.cookie_core.proofs.PartLemmas.{max_age_part, expires_part, read_record}
 use Rattle.cookie_core.proofs.ReadingLemmas.{IsLastSet-behind, IsLastSet-or, Reads-empty_name}
-use Rattle.cookie_core.proofs.PieceWalkLemmas.{HasPieces, HasPieces-append, HasPieces-flag, HasPieces-attribute, Any}
+use Rattle.cookie_core.proofs.ShownLemmas.{shown_texts-all}
+use Rattle.cookie_core.proofs.PieceWalkLemmas.{HasPieces, HasPieces-nil, HasPieces-append, HasPieces-flag, HasPieces-attribute, Any}
 
 any_append : (a b : List ℕ) → HasPieces Any a → HasPieces Any b → HasPieces Any (a ++ b)
 any_append a b h k = HasPieces-append Any Any Any (λ ps qs p q. tt) a b h k
 
-any_scope : (r : Record) → HasPieces Any (scope_text r)
-any_scope r =
-    any_append _ _ (HasPieces-flag (codes " HttpOnly") (is_true r.http_only)) (any_append _ _ (HasPieces-attribute (codes " SameSite=") (option_map same_site_text r.same_site)) (any_append _ _ (HasPieces-flag (codes " Partitioned") (is_true r.partitioned)) (HasPieces-flag (codes " Secure") (prints_secure r))))
-
-any_place : (r : Record) → HasPieces Any (place_text r)
-any_place r =
-    any_append _ _ (HasPieces-attribute (codes " Path=") r.path) (HasPieces-attribute (codes " Domain=") r.domain)
-
-any_lifetime : (r : Record) → HasPieces Any (lifetime_text r)
-any_lifetime r =
-    any_append _ _ (HasPieces-attribute (codes " Max-Age=") (option_map seconds_text r.max_age)) (HasPieces-attribute (codes " Expires=") (expiry_text r.expires))
+any_shown : (attributes : List ShownAttribute) → HasPieces Any (shown_texts attributes)
+any_shown = shown_texts-all (HasPieces Any) (HasPieces-nil Any tt) any_append by
+  where
+    by : (attribute : ShownAttribute) → HasPieces Any (shown_text attribute)
+    by (Flag word is_shown) = HasPieces-flag word is_shown
+    by (Valued label value) = HasPieces-attribute label value
 
 -- the attributes of any cookie are pieces
 any_pieces : (r : Record) → HasPieces Any (attributes_text r)
-any_pieces r = any_append _ _ (any_scope r) (any_append _ _ (any_place r) (any_lifetime r))
+any_pieces r = any_append _ _ (any_shown (scope_attributes r)) (any_append _ _ (any_shown (place_attributes r)) (any_shown (lifetime_attributes r)))
 
 -- what holds of the last pieces holds of all
 HasPieces-behind : (P : List (List ℕ) → Type 0) → ((ps qs : List (List ℕ)) → P qs → P (ps ++ qs)) → (r : Record) → HasPieces P (lifetime_text r) → HasPieces P (attributes_text r)
 HasPieces-behind P f r h =
     let more = λ (a b : List ℕ) (k : HasPieces Any a) (l : HasPieces P b). HasPieces-append Any P P (λ ps qs p q. f ps qs q) a b k l in
-    more _ _ (any_scope r) (more _ _ (any_place r) h)
+    more _ _ (any_shown (scope_attributes r)) (more _ _ (any_shown (place_attributes r)) h)
 
 -- the pieces of the age and the expiry set the age, where it is set
 age_pieces : (r : Record) (age : ℤ) → IsNamed r → r.max_age ≡ Some age → HasPieces (λ ps. IsLastSet key.MaxAge ps (Some (whole_age age))) (lifetime_text r)

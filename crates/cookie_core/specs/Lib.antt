@@ -15,6 +15,7 @@ pub mod Laws
 pub mod Layout
 pub mod Lending
 pub mod Memory
+pub mod NamePrefixes
 pub mod Normal
 pub mod OwnedCode
 pub mod ParseError

@@ -1,10 +1,11 @@
 -- The text of a cookie (RFC 6265 4.1.1, RFC 6265bis 4.1.1).
-use Rattle.std.specs.Prelude.{ℕ, ℤ, pos, int_div, Bool, true, false, ◌&&◌, ◌||◌, List, [], ◌++◌, Option, Some, None, option_map, codes, if◌then◌else◌}
+use Rattle.std.specs.Prelude.{ℕ, ℤ, pos, int_div, Bool, true, false, ◌&&◌, ◌||◌, List, [], ◌∷◌, ◌++◌, Option, Some, None, option_map, codes, if◌then◌else◌}
 use Rattle.std.specs.Fmt.{signed_decimal}
 use Rattle.cookie_date.specs.Text.{moment_text}
 use Rattle.cookie_core.specs.Escapes.{printed_form}
 use Rattle.cookie_core.specs.Record.{Record}
 use Rattle.cookie_core.specs.SameSite.{same_site_text}
+use Rattle.cookie_core.specs.Separators.{semicolon}
 use Rattle.cookie_core.specs.declared.same_site.SameSite.{SameSite}
 use Rattle.cookie_core.specs.declared.same_site.SameSite.TheVariants as same_site
 use Rattle.cookie_core.specs.declared.expiration.Expiration.{Expiration}
@@ -50,24 +51,53 @@ abbrev pub expiry_text : Option Expiration → Option (List ℕ)
 expiry_text (Some (expiration.DateTime moment)) = Some (moment_text moment)
 expiry_text _ = None
 
+-- an attribute as it is printed after a `;`: a flag, if it is shown, or a label and its value, if it has one
+pub data ShownAttribute : Type 0 where
+  Flag : List ℕ → Bool → ShownAttribute
+  Valued : List ℕ → Option (List ℕ) → ShownAttribute
+
+-- its text
+abbrev pub shown_text : ShownAttribute → List ℕ
+shown_text (Flag word is_shown) = flag_text (semicolon ∷ word) is_shown
+shown_text (Valued label value) = attribute_text (semicolon ∷ label) value
+
+-- their texts, one after the other
+abbrev pub shown_texts : List ShownAttribute → List ℕ
+shown_texts [] = []
+shown_texts (attribute ∷ []) = shown_text attribute
+shown_texts (attribute ∷ next ∷ attributes) =
+    shown_text attribute ++ shown_texts (next ∷ attributes)
+
 -- which requests the cookie goes with
-abbrev pub scope_text : Record → List ℕ
-scope_text cookie =
-    flag_text (codes "; HttpOnly") (is_true cookie.http_only)
-    ++ (attribute_text (codes "; SameSite=") (option_map same_site_text cookie.same_site)
-    ++ (flag_text (codes "; Partitioned") (is_true cookie.partitioned)
-    ++ flag_text (codes "; Secure") (prints_secure cookie)))
+abbrev pub scope_attributes : Record → List ShownAttribute
+scope_attributes cookie =
+    Flag (codes " HttpOnly") (is_true cookie.http_only)
+    ∷ Valued (codes " SameSite=") (option_map same_site_text cookie.same_site)
+    ∷ Flag (codes " Partitioned") (is_true cookie.partitioned)
+    ∷ Flag (codes " Secure") (prints_secure cookie)
+    ∷ []
 
 -- where it is sent
-abbrev pub place_text : Record → List ℕ
-place_text cookie =
-    attribute_text (codes "; Path=") cookie.path ++ attribute_text (codes "; Domain=") cookie.domain
+abbrev pub place_attributes : Record → List ShownAttribute
+place_attributes cookie =
+    Valued (codes " Path=") cookie.path ∷ Valued (codes " Domain=") cookie.domain ∷ []
 
 -- how long it is kept
+abbrev pub lifetime_attributes : Record → List ShownAttribute
+lifetime_attributes cookie =
+    Valued (codes " Max-Age=") (option_map seconds_text cookie.max_age)
+    ∷ Valued (codes " Expires=") (expiry_text cookie.expires)
+    ∷ []
+
+-- the text of each
+abbrev pub scope_text : Record → List ℕ
+scope_text cookie = shown_texts (scope_attributes cookie)
+
+abbrev pub place_text : Record → List ℕ
+place_text cookie = shown_texts (place_attributes cookie)
+
 abbrev pub lifetime_text : Record → List ℕ
-lifetime_text cookie =
-    attribute_text (codes "; Max-Age=") (option_map seconds_text cookie.max_age)
-    ++ attribute_text (codes "; Expires=") (expiry_text cookie.expires)
+lifetime_text cookie = shown_texts (lifetime_attributes cookie)
 
 -- the attributes of a cookie, in order
 abbrev pub attributes_text : Record → List ℕ

@@ -1,5 +1,6 @@
 -- The text of a cookie whose path and domain can stand in a field is UTF-8 and a field value (RFC 9110 5.5).
-use Rattle.std.proofs.Common.{◌≡◌, Bool, true, false, ℕ, ℤ, arith, codes, List, [], ◌++◌, Option, Some, None, option_map, IfSome, IsTrue, refl}
+use Rattle.std.proofs.Common.{◌≡◌, Bool, true, false, ℕ, ℤ, arith, codes, List, [], ◌∷◌, ◌++◌, Option, Some, None, option_map, IfSome, IsTrue, refl}
+use Rattle.std.proofs.lemmas.Bool.{and_parts}
 use Rattle.std.proofs.lemmas.Bool.Decides.{nat_tests}
 use Rattle.std.proofs.lemmas.List.Elements.{All-append, All-weaker}
 use Rattle.std.proofs.lemmas.Str.{IsUtf8-append}
@@ -14,7 +15,7 @@ use Rattle.cookie.specs.AttributeValues.{FitsField, IsAttributeValue, is_attribu
 use Rattle.cookie.specs.Escapes.{escape}
 use Rattle.cookie.specs.Record.{IsCookie, Record}
 use Rattle.cookie.specs.SameSite.{same_site_text}
-use Rattle.cookie.specs.Text.{attribute_text, attributes_text, scope_text, place_text, lifetime_text, cookie_text, expiry_text, flag_text, is_true, prints_secure, seconds_text}
+use Rattle.cookie.specs.Text.{ShownAttribute, Flag, Valued, shown_text, shown_texts, scope_attributes, place_attributes, lifetime_attributes, attribute_text, attributes_text, scope_text, place_text, lifetime_text, cookie_text, expiry_text, flag_text, seconds_text}
 use Rattle.cookie.specs.Types.{AtDateTime, Expiration, Lax, NoSameSite, SameSite, Session, Strict}
 use Rattle.cookie.proofs.AgeTextLemmas.{age_is_tokens}
 use Rattle.cookie.proofs.ByteLemmas.{all-weaker}
@@ -26,6 +27,11 @@ token_is_shown b h = grind (arith, nat_tests)
 
 date_byte_is_shown : (b : ℕ) → is_date_byte b ≡ true → is_visible_or_blank b ≡ true
 date_byte_is_shown b h = grind (arith, nat_tests)
+
+-- what an attribute begins with
+abbrev word_of : ShownAttribute → List ℕ
+word_of (Flag word is_shown) = 59 ∷ word
+word_of (Valued label value) = 59 ∷ label
 
 -- what holds of joined texts and of visible ASCII holds of a cookie's text, if it holds of the path and the domain
 module _ (P : List ℕ → Type 0) (join : (a b : List ℕ) → P a → P b → P (a ++ b)) (shown : (t : List ℕ) → IsVisibleAscii t → P t) where
@@ -61,27 +67,32 @@ module _ (P : List ℕ → Type 0) (join : (a b : List ℕ) → P a → P b → 
   expiry (Some Session) = tt
   expiry None = tt
 
+  -- of the values that are shown
+  abbrev Values : List ShownAttribute → Type 0
+  Values [] = Unit {0}
+  Values (Flag word is_shown ∷ attributes) = Values attributes
+  Values (Valued label value ∷ attributes) = IfSome value P × Values attributes
+
+  one : (attribute : ShownAttribute) (later : List ShownAttribute) → list_all is_visible_or_blank (word_of attribute) ≡ true → Values (attribute ∷ later)
+      → P (shown_text attribute) × Values later
+  one (Flag word is_shown) later h values = (flag (59 ∷ word) is_shown (written (59 ∷ word) h), values)
+  one (Valued label value) later h (k, values) = (attribute (59 ∷ label) value (written (59 ∷ label) h) k, values)
+
+  texts : (attributes : List ShownAttribute) → list_all (λ attribute. list_all is_visible_or_blank (word_of attribute)) attributes ≡ true → Values attributes → P (shown_texts attributes)
+  texts [] h values = written [] refl
+  texts (a ∷ []) h values = (one a [] (and_parts _ _ h).0 values).0
+  texts (a ∷ b ∷ more) h values =
+      let first = one a (b ∷ more) (and_parts _ _ h).0 values in
+      join (shown_text a) (shown_texts (b ∷ more)) first.0 (texts (b ∷ more) (and_parts _ _ h).1 first.1)
+
   scope : (r : Record) → P (scope_text r)
-  scope r =
-      let secure : List ℕ = flag_text (codes "; Secure") (prints_secure r) in
-      let partitioned : List ℕ = flag_text (codes "; Partitioned") (is_true r.partitioned) ++ secure in
-      let to_site : List ℕ = attribute_text (codes "; SameSite=") (option_map same_site_text r.same_site) ++ partitioned in
-      join (flag_text (codes "; HttpOnly") (is_true r.http_only)) to_site (flag (codes "; HttpOnly") (is_true r.http_only) (written (codes "; HttpOnly") refl))
-      (join (attribute_text (codes "; SameSite=") (option_map same_site_text r.same_site)) partitioned (attribute (codes "; SameSite=") (option_map same_site_text r.same_site) (written (codes "; SameSite=") refl) (same_site r.same_site))
-      (join (flag_text (codes "; Partitioned") (is_true r.partitioned)) secure (flag (codes "; Partitioned") (is_true r.partitioned) (written (codes "; Partitioned") refl))
-      (flag (codes "; Secure") (prints_secure r) (written (codes "; Secure") refl))))
+  scope r = texts (scope_attributes r) refl (same_site r.same_site, tt)
 
   place : (r : Record) → IfSome r.path P → IfSome r.domain P → P (place_text r)
-  place r path domain =
-      join (attribute_text (codes "; Path=") r.path) (attribute_text (codes "; Domain=") r.domain)
-      (attribute (codes "; Path=") r.path (written (codes "; Path=") refl) path)
-      (attribute (codes "; Domain=") r.domain (written (codes "; Domain=") refl) domain)
+  place r path domain = texts (place_attributes r) refl (path, (domain, tt))
 
   lifetime : (r : Record) → IfSome r.max_age IsDurationNanos → P (lifetime_text r)
-  lifetime r known =
-      join (attribute_text (codes "; Max-Age=") (option_map seconds_text r.max_age)) (attribute_text (codes "; Expires=") (expiry_text r.expires))
-      (attribute (codes "; Max-Age=") (option_map seconds_text r.max_age) (written (codes "; Max-Age=") refl) (age r.max_age known))
-      (attribute (codes "; Expires=") (expiry_text r.expires) (written (codes "; Expires=") refl) (expiry r.expires))
+  lifetime r known = texts (lifetime_attributes r) refl (age r.max_age known, (expiry r.expires, tt))
 
   attributes : (r : Record) → IfSome r.max_age IsDurationNanos → IfSome r.path P → IfSome r.domain P → P (attributes_text r)
   attributes r known path domain =

@@ -1,37 +1,23 @@
-//! What a browser requires of a cookie by its name (RFC 6265bis 4.1.3 and 5.7, steps 20 and 21).
-ghost use Rattle.std.specs.Prelude.{◌≡◌, string_bytes};
-ghost use Rattle.cookie.specs.Prefixes.{meets_host, meets_secure};
-ghost use Rattle.cookie.specs.SentNames.{begins_in_any_case};
-ghost use Rattle.cookie_session.specs.Sessions.{meets_prefix};
+//! What a browser requires of a cookie by its name (RFC 6265bis, Cookie Name Prefixes).
+ghost use Rattle.std.specs.Prelude.{◌≡◌};
+ghost use Rattle.cookie_session.specs.Sessions.{guards_of, meets_prefix};
 
-use cookie::prefix::{Host, NamePrefix, Prefix, Secure};
-use cookie::{Cookie, begins_in_any_case};
+use cookie::{Cookie, EnforcedPrefix, Guards};
 
 // Whether the cookie has what a browser requires of its name.
 pub(crate) fn meets_prefix(cookie: &Cookie<'_>) -> bool
     ensures { result ≡ meets_prefix cookie.now.fields }
 {
-    meets_secure(cookie) && meets_host(cookie)
+    EnforcedPrefix::unmet(cookie.name().as_bytes(), guards_of(cookie)).is_none()
 }
 
-// Whether it is for secure connections, if its name begins with `__Secure-`.
-fn meets_secure(cookie: &Cookie<'_>) -> bool
-    ensures { result ≡ meets_secure cookie.now.fields }
+// What the cookie has of that which prefixes require.
+fn guards_of(cookie: &Cookie<'_>) -> Guards
+    ensures { result ≡ guards_of cookie.now.fields }
 {
-    !begins(&Secure::PREFIX, cookie.name()) || cookie.secure() == Some(true)
-}
-
-// Whether it is also bound to its host, with the path `/`, if its name begins with `__Host-`.
-fn meets_host(cookie: &Cookie<'_>) -> bool
-    ensures { result ≡ meets_host cookie.now.fields }
-{
-    !begins(&Host::PREFIX, cookie.name())
-        || cookie.secure() == Some(true) && cookie.domain().is_none() && cookie.path() == Some("/")
-}
-
-// Whether the name begins with the prefix, in any ASCII case.
-fn begins(prefix: &NamePrefix, name: &str) -> bool
-    ensures { result ≡ begins_in_any_case prefix.now name.now }
-{
-    begins_in_any_case(prefix.as_str().as_bytes(), name.as_bytes())
+    Guards {
+        is_secure: cookie.secure() == Some(true),
+        is_http_only: cookie.http_only() == Some(true),
+        is_host_bound: cookie.domain().is_none() && cookie.path() == Some("/"),
+    }
 }

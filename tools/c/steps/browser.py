@@ -12,7 +12,7 @@ from sessions import FIRST
 
 LIST = b"com\nco.uk\ngithub.io\n*.ck\n!www.ck\n"
 REFUSALS = """ControlCharacter TooLong Empty NonAsciiDomain PublicSuffix ForeignDomain InsecureConnection OverlaysSecure
-CrossSite NoneWithoutSecure SecurePrefix HostPrefix NamelessPrefix""".split()
+CrossSite NoneWithoutSecure SecurePrefix HostPrefix NamelessPrefix HttpPrefix""".split()
 CONTEXTS = {"get": [1, 1], "link": [0, 1], "frame": [0, 0]}
 
 

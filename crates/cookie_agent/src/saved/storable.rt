@@ -1,12 +1,12 @@
 //! Whether a user agent could have stored a cookie (RFC 6265bis, Storage Model).
-ghost use Rattle.std.specs.Prelude.{◌≡◌};
+ghost use Rattle.std.specs.Prelude.{◌≡◌, ◌&&◌, codes};
 ghost use Rattle.std.specs.List.{list_all};
+ghost use Rattle.std.specs.Str.{bytes_eq};
 ghost use Rattle.cookie_browser.specs.RefusedCode.{kept_view};
-ghost use Rattle.cookie_browser.specs.Storage.{has_host_prefix, has_secure_prefix};
 ghost use Rattle.cookie_agent.specs.Storable as spec;
 
 use cookie_browser::{Enforcement, KeptCookie};
-use cookie_core::{MOST_BYTES, begins_in_any_case, trim_wsp};
+use cookie_core::{EnforcedPrefix, Guards, MOST_BYTES, trim_wsp};
 
 // Whether a received name or value can have the byte.
 fn is_received_byte(byte: u8) -> bool
@@ -71,48 +71,34 @@ fn is_domain(text: &[u8]) -> bool
     }
 }
 
-fn has_secure_prefix(text: &[u8]) -> bool
-    ensures { result ≡ has_secure_prefix text.now }
+// What the cookie has of that which prefixes require.
+fn guards_of(cookie: &KeptCookie<'_>) -> Guards
+    ensures { result ≡ spec.guards_of (kept_view cookie.now) }
 {
-    begins_in_any_case(b"__Secure-", text)
+    Guards {
+        is_secure: cookie.is_secure_only,
+        is_http_only: cookie.is_http_only,
+        is_host_bound: is_host_bound(cookie),
+    }
 }
 
-fn has_host_prefix(text: &[u8]) -> bool
-    ensures { result ≡ has_host_prefix text.now }
-{
-    begins_in_any_case(b"__Host-", text)
-}
-
-// Whether the cookie is as `__Host-` requires.
 fn is_host_bound(cookie: &KeptCookie<'_>) -> bool
-    ensures { result ≡ spec.is_host_bound (kept_view cookie.now) }
+    ensures { result ≡ (cookie.now.is_host_only && bytes_eq cookie.now.path.now (codes "/")) }
 {
-    cookie.is_secure_only && cookie.is_host_only && cookie.path == b"/".as_slice()
-}
-
-fn meets_secure_prefix(cookie: &KeptCookie<'_>) -> bool
-    ensures { result ≡ spec.meets_secure_prefix (kept_view cookie.now) }
-{
-    !has_secure_prefix(cookie.name) || cookie.is_secure_only
-}
-
-fn meets_host_prefix(cookie: &KeptCookie<'_>) -> bool
-    ensures { result ≡ spec.meets_host_prefix (kept_view cookie.now) }
-{
-    !has_host_prefix(cookie.name) || is_host_bound(cookie)
+    cookie.is_host_only && cookie.path == b"/".as_slice()
 }
 
 // Whether it has a name, or its value begins with no prefix.
 fn meets_nameless_prefix(cookie: &KeptCookie<'_>) -> bool
     ensures { result ≡ spec.meets_nameless_prefix (kept_view cookie.now) }
 {
-    !cookie.name.is_empty() || !(has_secure_prefix(cookie.value) || has_host_prefix(cookie.value))
+    !cookie.name.is_empty() || !EnforcedPrefix::any_begins(cookie.value)
 }
 
-fn meets_prefixes(cookie: &KeptCookie<'_>) -> bool
-    ensures { result ≡ spec.meets_prefixes (kept_view cookie.now) }
+fn meets_name_prefix(cookie: &KeptCookie<'_>) -> bool
+    ensures { result ≡ spec.meets_name_prefix (kept_view cookie.now) }
 {
-    meets_secure_prefix(cookie) && meets_host_prefix(cookie) && meets_nameless_prefix(cookie)
+    EnforcedPrefix::unmet(cookie.name, guards_of(cookie)).is_none() && meets_nameless_prefix(cookie)
 }
 
 // Whether `SameSite=None` has the `Secure` that it requires.
@@ -129,6 +115,6 @@ pub(crate) fn is_storable(cookie: &KeptCookie<'_>) -> bool
     is_received_pair(cookie.name, cookie.value)
         && is_domain(cookie.domain)
         && cookie.path.starts_with(b"/")
-        && meets_prefixes(cookie)
+        && meets_name_prefix(cookie)
         && meets_same_site(cookie)
 }

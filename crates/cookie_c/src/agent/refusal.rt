@@ -53,6 +53,7 @@ fn refusal_at(number: u32) -> Option<Refusal>
         11 => Some(Refusal::SecurePrefix),
         12 => Some(Refusal::HostPrefix),
         13 => Some(Refusal::NamelessPrefix),
+        14 => Some(Refusal::HttpPrefix),
         _ => None,
     }
 }

@@ -197,6 +197,7 @@ pub(crate) fn code_of(refusal: Refusal) -> u32
         Refusal::SecurePrefix => 11,
         Refusal::HostPrefix => 12,
         Refusal::NamelessPrefix => 13,
+        Refusal::HttpPrefix => 14,
     }
 }
 
