@@ -10,7 +10,7 @@ use Rattle.cookie.specs.Sealing.{IsSealingOf}
 use Rattle.cookie.specs.Walk.{Walks}
 use Rattle.cookie_session.specs.Seconds.{second_of}
 use Rattle.cookie_session.specs.Session.{SessionState}
-use Rattle.cookie_session.specs.Sessions.{IsOpen, IsStored}
+use Rattle.cookie_session.specs.Sessions.{IsStored, OpensFirst}
 use Rattle.cookie_session.specs.declared.sessions.Sessions.{Sessions}
 
 -- the cookie that the response sets or drops at a name
@@ -41,11 +41,12 @@ IsLoggedIn site jar now user =
     × (get session.texts (codes "user") ≡ Some user)
     × IsStored site (view jar site.cookie.now.fields.name) session
 
--- a session that was open is stored with the user, its other texts, another id, and its start now
-abbrev pub KeepsTexts : Sessions → JarState → JarState → DateTime → List ℕ → Type 0
-KeepsTexts site before after now user =
+-- the session that is open in the request's cookies is stored with the user, its other texts, another id, and its start
+-- now
+abbrev pub KeepsTexts : Sessions → List Record → JarState → DateTime → List ℕ → Type 0
+KeepsTexts site cookies after now user =
     (place : ℕ) (session : SessionState)
-    → IsOpen site (view before site.cookie.now.fields.name) now place session
+    → OpensFirst site cookies now place session
     → (id : List ℕ) × IsStored site (view after site.cookie.now.fields.name) (record {
       id = id;
       started = second_of now;

@@ -1,5 +1,5 @@
 //! A request's handler that changes the session by the request's action.
-use cookie::CookieJar;
+use cookie::{Cookie, CookieJar};
 use cookie_session::{SessionError, Sessions, Visit};
 use jiff::civil::DateTime;
 use rand_core::TryRng;
@@ -13,16 +13,18 @@ pub enum Action<'a> {
     LogOut,
 }
 
-/// Opens the session, changes it by the action at the time `now` in UTC, and saves it if it must be saved.
+/// Opens the session in the request's cookies, changes it by the action at the time `now` in UTC, and saves it if it must be saved.
 pub fn act<R: TryRng>(
     alloc: Global,
     sessions: &Sessions<'_>,
+    cookies: &[Cookie<'static>],
     jar: &mut CookieJar,
     action: Action<'_>,
     now: DateTime,
     rng: &mut R,
 ) -> Result<(), SessionError> {
-    let mut visit = Visit::of(alloc, sessions.open(alloc, jar, now)?, now, rng)?;
+    let opened = sessions.open(alloc, cookies, now)?;
+    let mut visit = Visit::of(alloc, opened, now, rng)?;
     match action {
         Action::None => {}
         Action::LogIn(user) => {

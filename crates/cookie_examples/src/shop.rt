@@ -8,7 +8,7 @@ mod theme;
 pub mod visits;
 
 use anyhow::Result;
-use cookie::CookieJar;
+use cookie::{CookieJar, field_cookies};
 use cookie_session::{Sessions, Visit};
 use jiff::civil::DateTime;
 use rand_core::TryRng;
@@ -25,23 +25,11 @@ pub fn answer<R: TryRng>(
     now: DateTime,
     rng: &mut R,
 ) -> Result<Response> {
-    let jar = CookieJar::with_hasher(alloc, state);
-    let mut jar = jar.with_field(request.cookies)?;
-    visit(alloc, sessions, &mut jar, request, now, rng)
-}
-
-// Answers with the session of the request, or with a new one.
-fn visit<R: TryRng>(
-    alloc: Global,
-    sessions: &Sessions<'_>,
-    jar: &mut CookieJar,
-    request: &Request<'_>,
-    now: DateTime,
-    rng: &mut R,
-) -> Result<Response> {
-    let opened = sessions.open_field(alloc, request.cookies, now)?;
+    let cookies = field_cookies(alloc, request.cookies)?;
+    let opened = sessions.open(alloc, &cookies, now)?;
+    let mut jar = CookieJar::with_hasher(alloc, state).with_cookies(cookies)?;
     let mut visit = Visit::of(alloc, opened, now, rng)?;
-    respond(alloc, sessions, jar, &mut visit, request, now, rng)
+    respond(alloc, sessions, &mut jar, &mut visit, request, now, rng)
 }
 
 fn respond<R: TryRng>(

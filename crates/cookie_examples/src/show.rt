@@ -99,10 +99,10 @@ fn print_login(
     rng: &mut StdRng,
 ) -> Result<()> {
     let mut jar = CookieJar::new(rt.alloc());
-    handler::handle(rt.alloc(), sessions, &mut jar, Some("ann"), now, rng)?;
+    handler::handle(rt.alloc(), sessions, &[], &mut jar, Some("ann"), now, rng)?;
     print_delta(rt, &jar)?;
     print_visitor(rt, sessions, &jar, now)?;
-    handler::handle(rt.alloc(), sessions, &mut jar, None, now, rng)?;
+    handler::handle(rt.alloc(), sessions, &[], &mut jar, None, now, rng)?;
     print_visitor(rt, sessions, &jar, now)?;
     print_logout(rt, sessions, now)
 }
@@ -110,7 +110,7 @@ fn print_login(
 // A server takes `SqliteRevocations` of the crate `session_revocations`.
 fn print_logout(rt: &HostRuntime, sessions: &Sessions<'_>, now: DateTime) -> Result<()> {
     let mut jar = CookieJar::new(rt.alloc());
-    let is_out = logout::log_out(rt.alloc(), sessions, &mut jar, b"", now, &mut NeverRevoked);
+    let is_out = logout::log_out(rt.alloc(), sessions, &[], &mut jar, now, &mut NeverRevoked);
     println!(rt; "logged out: {}", is_out.is_ok())?;
     Ok(())
 }
@@ -121,7 +121,7 @@ fn print_visitor(
     jar: &CookieJar,
     now: DateTime,
 ) -> Result<()> {
-    match sessions.open(rt.alloc(), jar, now)? {
+    match sessions.open_jar(rt.alloc(), jar, now)? {
         Some(opened) => println!(rt; "logged in: {}", opened.session.get("user").unwrap_or(""))?,
         None => println!(rt; "logged in: nobody")?,
     }
@@ -147,7 +147,7 @@ fn print_action(
     rng: &mut StdRng,
 ) -> Result<()> {
     let mut jar = CookieJar::new(rt.alloc());
-    acting::act(rt.alloc(), sessions, &mut jar, action, now, rng)?;
+    acting::act(rt.alloc(), sessions, &[], &mut jar, action, now, rng)?;
     print_counts(rt, &jar)
 }
 

@@ -9,8 +9,8 @@ use Rattle.std.specs.Str.{bytes_eq}
 use Rattle.jiff.specs.Types.{DateTime}
 use Rattle.cookie.specs.Jar.{Name, empty_jar, name_cmp, overlay, view}
 use Rattle.cookie.specs.Memory.{Gives}
-use Rattle.cookie.specs.Originals.{field_cookies, first_of_name, jar_for}
-use Rattle.cookie.specs.Record.{CookieView, Record}
+use Rattle.cookie.specs.Originals.{first_of_name, with_originals}
+use Rattle.cookie.specs.Record.{Record}
 use Rattle.cookie.proofs.OriginalLemmas.{has_first, same_delta}
 use Rattle.cookie_session.specs.Revocations.{none_revoked}
 use Rattle.cookie_session.specs.Session.{SessionState}
@@ -21,10 +21,6 @@ use Rattle.cookie_session.proofs.SessionLemmas.{opened}
 
 same_heads : (a b : Record) (xs ys : List Record) → a ∷ xs ≡ b ∷ ys → (a ≡ b) × (xs ≡ ys)
 same_heads a b xs ys e = (cc, cc)
-
--- the cookies that are tried are the field's
-pub cookies_are : (tried read : List CookieView) (cookies : List Record) → tried ≡ read → map (λ c. c.fields) read ≡ cookies → map (λ c. c.fields) tried ≡ cookies
-cookies_are tried read cookies same are = ap (map (λ (c : CookieView). c.fields)) same ∙ are
 
 module _ (site : Sessions) (cookies : List Record) (i : ℕ) (cookie : Record) (below : i < length cookies) (is : cookie ≡ get_or cookies i cookie)
     (same : bytes_eq site.cookie.now.fields.name cookie.name ≡ true) where
@@ -197,26 +193,26 @@ module _ (site : Sessions) (now : DateTime) where
             unrevoked = first.unrevoked;
           }
 
-  -- what the jar of a field has under a name is the first cookie of the name
-  shown_first : (field : List ℕ) (name : Name) → view (jar_for field) name ≡ first_of_name name (field_cookies field)
-  shown_first field name =
-      let cookies = field_cookies field in
-      ap (λ d. overlay (get d name) (get (jar_for field).originals name)) (same_delta cookies empty_jar)
-      ∙ ap (λ e. overlay e (get (jar_for field).originals name)) (get-empty name_cmp name)
+  -- what the jar of these cookies has under a name is the first that has the name
+  shown_first : (cookies : List Record) (name : Name) → view (with_originals cookies empty_jar) name ≡ first_of_name name cookies
+  shown_first cookies name =
+      let jar = with_originals cookies empty_jar in
+      ap (λ d. overlay (get d name) (get jar.originals name)) (same_delta cookies empty_jar)
+      ∙ ap (λ e. overlay e (get jar.originals name)) (get-empty name_cmp name)
       ∙ (has_first cookies empty_jar).originals name
       ∙ ap (λ o. option_or o (first_of_name name cookies)) (get-empty name_cmp name)
 
-  -- so a session that is open in the jar of a field is open in the first cookie that opens
-  jar_opens : (field : List ℕ) (place : ℕ) (s : SessionState) → IsOpen site (view (jar_for field) site.cookie.now.fields.name) now place s
-      → OpensFirst site (field_cookies field) now place s
-  jar_opens field place s is =
-      first_opens (field_cookies field) place s
-      (subst (λ o. IsOpen site o now place s) (shown_first field site.cookie.now.fields.name) is)
+  -- so a session that is open in their jar is open in the first cookie that opens
+  jar_opens : (cookies : List Record) (place : ℕ) (s : SessionState) → IsOpen site (view (with_originals cookies empty_jar) site.cookie.now.fields.name) now place s
+      → OpensFirst site cookies now place s
+  jar_opens cookies place s is =
+      first_opens cookies place s (subst (λ o. IsOpen site o now place s) (shown_first cookies site.cookie.now.fields.name) is)
 
   -- and is the one that is found
-  pub jar_found : {E : Type 0} (refusal : E) (result : Result (Option Opened) E) (field : List ℕ)
-      → Gives refusal result (λ answer. (place : ℕ) (s : SessionState) → (answer ≡ Some (opened s place)) ↔ OpensFirst site (field_cookies field) now place s)
-      → Gives refusal result (λ answer. (place : ℕ) (s : SessionState) → IsOpen site (view (jar_for field) site.cookie.now.fields.name) now place s
+  pub jar_found : {E : Type 0} (refusal : E) (result : Result (Option Opened) E) (cookies : List Record)
+      → Gives refusal result (λ answer. (place : ℕ) (s : SessionState) → (answer ≡ Some (opened s place)) ↔ OpensFirst site cookies now place s)
+      → Gives refusal result (λ answer. (place : ℕ) (s : SessionState)
+      → IsOpen site (view (with_originals cookies empty_jar) site.cookie.now.fields.name) now place s
       → answer ≡ Some (opened s place))
-  jar_found refusal (Ok answer) field answers = λ place s is. (answers place s).1 (jar_opens field place s is)
-  jar_found refusal (Err error) field answers = answers
+  jar_found refusal (Ok answer) cookies answers = λ place s is. (answers place s).1 (jar_opens cookies place s is)
+  jar_found refusal (Err error) cookies answers = answers

@@ -1,6 +1,6 @@
 //! Opening and revoking sessions that can be revoked.
 ghost use Rattle.std.specs.Prelude.{◌≡◌, ◌≢◌, ◌↔◌, ℕ, Some, Err, IfOk, OnErr, OnOk, map};
-ghost use Rattle.cookie.specs.Originals.{field_cookies, first_of_name};
+ghost use Rattle.cookie.specs.Originals.{first_of_name};
 ghost use Rattle.cookie_session.specs.Revocations.{AreSame, IsRevoked, IsRevokedToo, end_of};
 ghost use Rattle.cookie_session.specs.Session.{SessionState};
 ghost use Rattle.cookie_session.specs.Sessions.{HoldsOne, IsOpen, IsOpenUnrevoked, OpensNone, OpensOne, OpensUnrevoked};
@@ -11,72 +11,23 @@ use crate::opened::Opened;
 use crate::revocations::Revocations;
 use crate::session::Session;
 use crate::sessions::Sessions;
-use cookie::{Cookie, field_cookies};
+use cookie::Cookie;
 use jiff::civil::DateTime;
 use std::alloc::Global;
 
 impl<'a> Sessions<'a> {
-    /// Opens the session of a request, as `open_field` does, unless it is revoked: of several cookies of the site's
-    /// name the first counts in which a session is open that isn't revoked. It looks up only the ids of sessions that
-    /// are open. Returns `None` if there is no such session.
+    /// Opens the session of a request, as `open` does, unless it is revoked: of several cookies of the site's name the
+    /// first counts in which a session is open that isn't revoked. It looks up only the ids of sessions that are open.
+    /// Returns `None` if there is no such session.
     ///
     /// Fails if a session can't be looked up, or if out of memory. Refuse the request then. With no session open in the
-    /// field only out of memory is possible, since the store isn't asked.
-    ///
-    /// ```
-    /// let opened = sessions.open_unrevoked(alloc, field, now, &mut revocations)?;
-    /// ```
-    pub fn open_unrevoked<R: Revocations>(
-        &self,
-        alloc: Global,
-        field: &[u8],
-        now: DateTime,
-        revocations: &mut R,
-    ) -> Result<Option<Opened>, OpenError<R::Error>>
-        ensures answers { R.is_kept revocations.new → IfOk result (λ answer.
-            (place : ℕ) (s : SessionState)
-            → (answer ≡ Some (record { session = s; place = place }))
-            ↔ OpensUnrevoked (IsRevoked (R.revoked_until revocations.old)) self.now
-            (field_cookies field.now) now place s) }
-
-        // Whatever the look-up says, only a session opens that is open in one of the cookies.
-        ensures sealed { IfOk result (λ answer. (place : ℕ) (s : SessionState)
-            → answer ≡ Some (record { session = s; place = place })
-            → OpensOne self.now (field_cookies field.now) now place s) }
-
-        // The cookie that opens holds no other session, whatever the time.
-        ensures once { R.is_kept revocations.new → IfOk result (λ _. (place : ℕ) (s : SessionState)
-            → (first : OpensUnrevoked (IsRevoked (R.revoked_until revocations.old)) self.now
-            (field_cookies field.now) now place s)
-            → HoldsOne self.now (Some first.cookie)) }
-
-        // The first cookie of the name holds one session at most, whether one is open or not.
-        ensures first { IfOk result (λ _. HoldsOne self.now
-            (first_of_name self.now.cookie.now.fields.name (field_cookies field.now))) }
-
-        // With no session open in the cookies the store isn't asked.
-        ensures unasked { OpensNone self.now (field_cookies field.now) now
-            → (revocations.new ≡ revocations.old)
-            × ((error : R.Error) → result ≢ Err (refusal.Revocations error)) }
-
-        // It revokes nothing.
-        ensures same { R.is_kept revocations.new
-            → AreSame (R.revoked_until revocations.old) (R.revoked_until revocations.new) }
-        ensures kept { R.is_kept revocations.new → R.is_kept revocations.old }
-    {
-        let cookies = field_cookies(alloc, field)?;
-        self.open_first_unrevoked(alloc, &cookies, now, revocations)
-    }
-
-    /// Opens the session of a request, as `open_unrevoked` does, for cookies that were read already.
-    ///
-    /// Fails if a session can't be looked up, or if out of memory. Refuse the request then.
+    /// cookies only out of memory is possible, since the store isn't asked.
     ///
     /// ```
     /// let cookies = cookie::field_cookies(alloc, field)?;
-    /// let opened = sessions.open_first_unrevoked(alloc, &cookies, now, &mut revocations)?;
+    /// let opened = sessions.open_unrevoked(alloc, &cookies, now, &mut revocations)?;
     /// ```
-    pub fn open_first_unrevoked<R: Revocations>(
+    pub fn open_unrevoked<R: Revocations>(
         &self,
         alloc: Global,
         cookies: &[Cookie<'static>],

@@ -1,8 +1,8 @@
 //! The sessions of a site.
 ghost use Rattle.std.specs.Prelude.{◌≡◌, ◌↔◌, ◌⊎◌, ◌<◌, ◌≤◌, ◌-◌, ◌+◌, min, true, ℕ, List, Some, Err, IfErr, IfOk, IfSome, OnOk, OnErr, alloc_error, length, map, string_bytes};
-ghost use Rattle.cookie.specs.Jar.{Add, Remove, after, view};
+ghost use Rattle.cookie.specs.Jar.{Add, Remove, after, empty_jar, view};
 ghost use Rattle.cookie.specs.Memory.{Gives};
-ghost use Rattle.cookie.specs.Originals.{field_cookies, first_of_name, jar_for};
+ghost use Rattle.cookie.specs.Originals.{first_of_name, with_originals};
 ghost use Rattle.cookie.specs.Record.{IsCookie};
 ghost use Rattle.cookie.specs.Keys.{encryption_half};
 ghost use Rattle.cookie.specs.Sealing.{IsNonce};
@@ -25,7 +25,7 @@ use crate::session::Session;
 use crate::session_error::SessionError;
 use crate::session_text::read_session;
 use crate::size::browser_length;
-use cookie::{Cookie, CookieJar, JarError, MOST_BYTES, field_cookies};
+use cookie::{Cookie, CookieJar, JarError, MOST_BYTES};
 use jiff::SignedDuration;
 use jiff::civil::DateTime;
 use rand_core::TryRng;
@@ -50,83 +50,16 @@ pub struct Sessions<'a> {
 
 impl<'a> Sessions<'a> {
     /// Opens the session of a request, at the time `now` in UTC, and returns it with the place of the key that opened
-    /// it. It is the session whose text was encrypted in the cookie of the site's name, under a key of the ring, if the
-    /// session lives. Returns `None` if there is no such session.
+    /// it. `cookies` are the request's, as [`cookie::field_cookies`] reads them. Of those that have the site's name the
+    /// first in which a session is open counts. So no cookie that another host set can hide an open session. Returns
+    /// `None` if no session is open.
+    ///
+    /// The same list makes the request's jar, by [`CookieJar::with_cookies`], so the field is read once. A site that
+    /// revokes sessions calls `open_unrevoked`.
     ///
     /// Fails only if out of memory.
-    /// Example: `handle` in crates/cookie_examples/src/handler.rt.
+    /// Example: `answer` in crates/cookie_examples/src/shop.rt.
     pub fn open(
-        &self,
-        alloc: Global,
-        jar: &CookieJar,
-        now: DateTime,
-    ) -> Result<Option<Opened>, AllocError>
-        ensures answers { Gives alloc_error result (λ answer.
-            (place : ℕ) (s : SessionState)
-            → (answer ≡ Some (record { session = s; place = place }))
-            ↔ IsOpen self.now (view jar.now self.now.cookie.now.fields.name) now place s) }
-
-        // A cookie holds one session at most, whatever the time.
-        ensures once { IfOk result (λ _.
-            HoldsOne self.now (view jar.now self.now.cookie.now.fields.name)) }
-    {
-        match jar.get(self.cookie.name()) {
-            Some(cookie) => self.open_cookie(alloc, cookie, now),
-            None => Ok(None),
-        }
-    }
-
-    /// Opens the session of a request, at the time `now` in UTC, and returns it with the place of the key that opened
-    /// it. `field` is the request's `Cookie` field, which is read as by `cookie::field_cookies`. Of several cookies of
-    /// the site's name the first in which a session is open counts. So no cookie that another host set can hide an open
-    /// session. If `open` finds a session in the field's jar, this is the same. Returns `None` if no session is open.
-    ///
-    /// Fails only if out of memory.
-    ///
-    /// ```
-    /// let opened = sessions.open_field(alloc, b"session=junk; session=BwcHBwcHBwcHBw..", now)?;
-    /// ```
-    pub fn open_field(
-        &self,
-        alloc: Global,
-        field: &[u8],
-        now: DateTime,
-    ) -> Result<Option<Opened>, AllocError>
-        ensures answers { Gives alloc_error result (λ answer.
-            (place : ℕ) (s : SessionState)
-            → (answer ≡ Some (record { session = s; place = place }))
-            ↔ OpensFirst self.now (field_cookies field.now) now place s) }
-
-        // The cookie that opens holds no other session, whatever the time.
-        ensures once { IfOk result (λ _. (place : ℕ) (s : SessionState)
-            → (first : OpensFirst self.now (field_cookies field.now) now place s)
-            → HoldsOne self.now (Some first.cookie)) }
-
-        // The first cookie of the name holds one session at most, whether one is open or not.
-        ensures first { IfOk result (λ _. HoldsOne self.now
-            (first_of_name self.now.cookie.now.fields.name (field_cookies field.now))) }
-
-        // The session that is open in the field's jar, if there is one, is the one that is found.
-        ensures jar { Gives alloc_error result (λ answer.
-            (place : ℕ) (s : SessionState)
-            → IsOpen self.now (view (jar_for field.now) self.now.cookie.now.fields.name)
-            now place s
-            → answer ≡ Some (record { session = s; place = place })) }
-    {
-        let cookies = field_cookies(alloc, field)?;
-        self.open_first(alloc, &cookies, now)
-    }
-
-    /// Opens the session of a request, as `open_field` does, for cookies that were read already: of those that have the
-    /// site's name the first in which a session is open counts. Returns `None` if no session is open.
-    ///
-    /// Fails only if out of memory.
-    ///
-    /// ```
-    /// let cookies = cookie::field_cookies(alloc, field)?;
-    /// let opened = sessions.open_first(alloc, &cookies, now)?;
-    /// ```
-    pub fn open_first(
         &self,
         alloc: Global,
         cookies: &[Cookie<'static>],
@@ -145,11 +78,48 @@ impl<'a> Sessions<'a> {
         // The first cookie of the name holds one session at most, whether one is open or not.
         ensures first { IfOk result (λ _. HoldsOne self.now
             (first_of_name self.now.cookie.now.fields.name (map (λ c. c.fields) cookies.now))) }
+
+        // The session that is open in the jar of these cookies, if there is one, is the one that is found.
+        ensures jar { Gives alloc_error result (λ answer.
+            (place : ℕ) (s : SessionState)
+            → IsOpen self.now (view (with_originals (map (λ c. c.fields) cookies.now) empty_jar)
+            self.now.cookie.now.fields.name) now place s
+            → answer ≡ Some (record { session = s; place = place })) }
     {
-        match self.open_first_unrevoked(alloc, cookies, now, &mut NeverRevoked) {
+        match self.open_unrevoked(alloc, cookies, now, &mut NeverRevoked) {
             Ok(found) => Ok(found),
             Err(OpenError::OutOfMemory) => Err(AllocError),
             Err(OpenError::Revocations(never)) => match never {},
+        }
+    }
+
+    /// Opens the session that a jar has under the site's name, such as one that `save` has just put there. It is the
+    /// session whose text was encrypted in that cookie, under a key of the ring, if the session lives. Returns `None` if
+    /// there is no such session.
+    ///
+    /// Don't open a request by it: a jar has each name once, so a cookie that another host set can hide the session.
+    /// `open` looks at all cookies of the name.
+    ///
+    /// Fails only if out of memory.
+    /// Example: `print_visitor` in crates/cookie_examples/src/show.rt.
+    pub fn open_jar(
+        &self,
+        alloc: Global,
+        jar: &CookieJar,
+        now: DateTime,
+    ) -> Result<Option<Opened>, AllocError>
+        ensures answers { Gives alloc_error result (λ answer.
+            (place : ℕ) (s : SessionState)
+            → (answer ≡ Some (record { session = s; place = place }))
+            ↔ IsOpen self.now (view jar.now self.now.cookie.now.fields.name) now place s) }
+
+        // A cookie holds one session at most, whatever the time.
+        ensures once { IfOk result (λ _.
+            HoldsOne self.now (view jar.now self.now.cookie.now.fields.name)) }
+    {
+        match jar.get(self.cookie.name()) {
+            Some(cookie) => self.open_cookie(alloc, cookie, now),
+            None => Ok(None),
         }
     }
 

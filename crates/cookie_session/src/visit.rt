@@ -18,7 +18,7 @@ use std::marker::Model;
 /// [`Sessions::save_if_needed`] sends no cookie that nobody needs. Contracts see it as a `VisitState`.
 ///
 /// ```
-/// let opened = sessions.open_field(alloc, field, now)?;
+/// let opened = sessions.open(alloc, &cookies, now)?;
 /// let mut visit = Visit::of(alloc, opened, now, &mut rng)?;
 /// visit.set("theme", "dark")?;
 /// sessions.save_if_needed(alloc, &mut jar, &visit, now, &mut rng)?;
@@ -45,8 +45,8 @@ impl Model for Visit {
 }
 
 impl Visit {
-    /// The session that was found open, or a new one that starts at the time `now` in UTC. Pass in what a call such as
-    /// [`Sessions::open_field`] or [`Sessions::open_unrevoked`] returned. Only a new session draws its id from `rng`,
+    /// The session that was found open, or a new one that starts at the time `now` in UTC. Pass in what
+    /// [`Sessions::open`] or [`Sessions::open_unrevoked`] returned. Only a new session draws its id from `rng`,
     /// which must be a cryptographic generator.
     ///
     /// Fails only with `Generator`, if the draw failed.

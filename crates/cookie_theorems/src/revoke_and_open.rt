@@ -8,6 +8,7 @@ ghost use Rattle.cookie_session.specs.Session.{SessionState};
 ghost use Rattle.cookie_theorems.specs.Revoking.{AreAnswers, AreBefore, AreInOrder, AreLeft, HaveLifetime, IsAmong, IsAnswer, IsOther, IsRevokedToEnd, OpensOther, left_after, revoked_too};
 
 use crate::site_request::SiteRequest;
+use cookie::field_cookies;
 use cookie_session::{OpenError, Opened, Revocations, Session, Sessions, second_of};
 use std::alloc::Global;
 
@@ -149,6 +150,23 @@ fn open_one<R: Revocations>(
     if let Err(error) = revocations.forget(second_of(request.time)) {
         return Err(OpenError::Revocations(error));
     }
+    open_request(alloc, request, revocations)
+}
+
+// Opens the session of the request.
+fn open_request<R: Revocations>(
+    alloc: Global,
+    request: &SiteRequest<'_>,
+    revocations: &mut R,
+) -> Result<Option<Opened>, OpenError<R::Error>>
+    ensures answers { R.is_kept revocations.new → IfOk result
+        (IsAnswer (R.revoked_until revocations.old) request.now) }
+    ensures sealed { IfOk result (IsAmong request.now) }
+    ensures same { R.is_kept revocations.new
+        → AreSame (R.revoked_until revocations.old) (R.revoked_until revocations.new) }
+    ensures kept { R.is_kept revocations.new → R.is_kept revocations.old }
+{
+    let cookies = field_cookies(alloc, request.field)?;
     let sessions = &request.sessions;
-    sessions.open_unrevoked(alloc, request.field, request.time, revocations)
+    sessions.open_unrevoked(alloc, &cookies, request.time, revocations)
 }

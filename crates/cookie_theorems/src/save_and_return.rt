@@ -71,7 +71,7 @@ pub fn save_and_return<R: TryRng>(
     play(alloc, jar, calls)?;
     sessions.save(alloc, jar, session, now, rng)?;
     let next = next_jar(alloc, client, jar, pick, now)?;
-    let answer = sessions.open(alloc, &next, later)?;
+    let answer = sessions.open_jar(alloc, &next, later)?;
     Ok(answer)
 }
 

@@ -79,6 +79,6 @@ pub fn save_over_headers<R: TryRng>(
     play(alloc, jar, calls)?;
     sessions.save(alloc, jar, session, now, rng)?;
     let carried = carry(alloc, jar, client, now)?;
-    let opened = sessions.open(alloc, &carried.next, later)?;
+    let opened = sessions.open_jar(alloc, &carried.next, later)?;
     Ok(Returned { carried, opened })
 }

@@ -11,7 +11,7 @@ use crate::jars::Jars;
 use crate::sources::Sevens;
 use crate::step::{Answer, Player, Step};
 use browser::Browser;
-use cookie::{Cookie, CookieJar};
+use cookie::{Cookie, CookieJar, field_cookies};
 use cookie_browser::Suffixes;
 use cookie_client::{Client, JarCall};
 use cookie_session::{NeverRevoked, Opened, Revocations, Session, Tokens, second_of};
@@ -236,10 +236,10 @@ impl<'s> Visitors<'s> {
     // Opens the session of a `Cookie` field, unless it is revoked.
     fn open_field(&mut self, step: Step<'_>) -> Answer {
         let (alloc, now, sessions) = (step.alloc, self.now, self.site.sessions());
-        let field = step.bytes()?;
+        let cookies = field_cookies(alloc, &step.bytes()?).ok()?;
         let opened = match &mut self.revoked {
-            Some(revoked) => sessions.open_unrevoked(alloc, &field, now, revoked),
-            None => Ok(sessions.open_field(alloc, &field, now).ok()?),
+            Some(revoked) => sessions.open_unrevoked(alloc, &cookies, now, revoked),
+            None => Ok(sessions.open(alloc, &cookies, now).ok()?),
         };
         match opened {
             Ok(opened) => self.take(step, opened),
@@ -251,7 +251,7 @@ impl<'s> Visitors<'s> {
     fn open(&mut self, step: Step<'_>) -> Answer {
         let (alloc, now, sessions) = (step.alloc, self.now, self.site.sessions());
         let opened = match step.call {
-            "open" => sessions.open(alloc, &self.jars.jar, now),
+            "open" => sessions.open_jar(alloc, &self.jars.jar, now),
             _ => {
                 let site = site_of(alloc, step.words)?;
                 open_for_agent(alloc, &sessions, &self.browser.agent, &site, now)

@@ -2,7 +2,7 @@
 #![tactic(auto)]
 
 use anyhow::{Context, Result};
-use cookie::{Cookie, CookieBuilder, CookieJar, Key, SameSite};
+use cookie::{Cookie, CookieBuilder, CookieJar, Key, SameSite, field_cookies};
 use cookie_session::{KeyRing, Sessions, Visit};
 use jiff::Timestamp;
 use jiff::civil::DateTime;
@@ -96,7 +96,8 @@ fn respond(
 fn answer(rt: &HostRuntime, sessions: &Sessions<'_>) -> Result<()> {
     let now = Offset::UTC.to_datetime(Timestamp::now(rt)?);
     let field = variable(rt, "HTTP_COOKIE")?;
-    let opened = sessions.open_field(rt.alloc(), field.as_bytes(), now)?;
+    let cookies = field_cookies(rt.alloc(), field.as_bytes())?;
+    let opened = sessions.open(rt.alloc(), &cookies, now)?;
     let mut visit = Visit::of(rt.alloc(), opened, now, &mut SysRng::new(rt))?;
     respond(rt, sessions, &mut visit, now)
 }

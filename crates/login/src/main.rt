@@ -8,6 +8,7 @@ mod revoked;
 mod users;
 
 use anyhow::Result;
+use cookie::field_cookies;
 use cookie_session::{KeyRing, NeverRevoked, Sessions};
 use gateway::Gateway;
 use jiff::civil::DateTime;
@@ -45,10 +46,8 @@ fn respond<'s>(
     let now = clock::now(rt)?;
     if let Some(path) = database {
         // A request without an open session needs no look-up, and an open of the database is slow.
-        if sessions
-            .open_field(rt.alloc(), request.cookies, now)?
-            .is_some()
-        {
+        let cookies = field_cookies(rt.alloc(), request.cookies)?;
+        if sessions.open(rt.alloc(), &cookies, now)?.is_some() {
             return respond_looking_up(rt, path, &site, &request, now);
         }
     }

@@ -1,13 +1,14 @@
 -- Whom an answer greets, and how a call fails that saves a session.
-use Rattle.std.proofs.Common.{◌≡◌, ◌↔◌, ◌⊎◌, inl, inr, OnErr, ℕ, List, Bool, true, false, Option, Some, None, Result, Ok, Err, IfOk, codes, refl, sym, ap, subst, ◌∙◌}
+use Rattle.std.proofs.Common.{◌≡◌, ◌↔◌, ◌⊎◌, inl, inr, OnErr, OnOk, ℕ, List, Bool, true, false, Option, Some, None, Result, Ok, Err, IfOk, codes, map, refl, sym, ap, subst, ◌∙◌}
 use Rattle.std.proofs.lemmas.Option.{none-some, same_Some}
 use Rattle.std.specs.Bool.{MatchBool}
 use Rattle.std.specs.FinMap.{get}
 use Rattle.std.specs.Result.{IsErrAnd}
 use Rattle.jiff.specs.Types.{DateTime}
+use Rattle.cookie.specs.Jar.{JarState, empty_jar}
 use Rattle.cookie.specs.Memory.{Gives}
-use Rattle.cookie.specs.Originals.{first_of_name}
-use Rattle.cookie.specs.Record.{Record}
+use Rattle.cookie.specs.Originals.{first_of_name, with_originals}
+use Rattle.cookie.specs.Record.{CookieView, Record}
 use Rattle.cookie.specs.declared.texts_error.TextsError.{TextsError}
 use Rattle.cookie.specs.declared.texts_error.TextsError.TheVariants as unprinted
 use Rattle.cookie_session.specs.Session.{SessionState}
@@ -77,6 +78,16 @@ module _ (IsRevoked : List ℕ → Type 0) (sessions : Sessions) (cookies : List
     once = once;
     first = first;
   }
+
+-- what isn't there
+pub none_found : (found : Option SessionState) → ((s : SessionState) → ¬ (found ≡ Some s)) → found ≡ None
+none_found None never = refl
+none_found (Some s) never = absurd (never s refl)
+
+-- the jar of the cookies that were read
+pub jar_is : (read : List CookieView) (cookies : List Record) (old new : JarState) → map (λ c. c.fields) read ≡ cookies → old ≡ empty_jar
+    → new ≡ with_originals (map (λ c. c.fields) read) old → new ≡ with_originals cookies empty_jar
+jar_is read cookies old new are empty made = made ∙ ap (with_originals (map (λ c. c.fields) read)) empty ∙ ap (λ cs. with_originals cs empty_jar) are
 
 -- ---- whom an answer greets
 
@@ -207,6 +218,11 @@ ends_or_same (Err refusal) found Has Ends Same exact ends same = inl (same (λ s
 pub on_err : {T E P : Type 0} (r : Result T E) → P → OnErr r P
 on_err (Ok t) p = tt
 on_err (Err e) p = p
+
+-- and after an answer
+pub on_ok : {T E P : Type 0} (r : Result T E) → P → OnOk r P
+on_ok (Ok t) p = p
+on_ok (Err e) p = tt
 
 -- ---- how a call fails
 

@@ -1,14 +1,15 @@
 //! What the site answers a request.
-ghost use Rattle.std.specs.Prelude.{◌≡◌, ◌↔◌, ◌⊎◌, ℕ, List, Option, IfOk, OnErr, OnOk, Err, Some, false, map, option_map, string_bytes, true};
+ghost use Rattle.std.specs.Prelude.{◌≡◌, ◌≢◌, ◌↔◌, ◌⊎◌, ℕ, List, Option, IfOk, OnErr, OnOk, Err, Some, false, map, option_map, string_bytes, true};
 ghost use Rattle.cookie.specs.AttributeValues.{AllFitFields};
 ghost use Rattle.cookie.specs.DeltaTexts.{AreDeltaTextsOnce};
 ghost use Rattle.cookie.specs.Jar.{JarState};
 ghost use Rattle.cookie.specs.Originals.{jar_for};
 ghost use Rattle.cookie_session.specs.Revocations.{AreSame, IsRevoked};
 ghost use Rattle.cookie_session.specs.Session.{SessionState};
+ghost use Rattle.cookie_session.specs.Sessions.{OpensNone};
 ghost use Rattle.cookie_session.specs.declared.session_error.SessionError.{SessionError as SessionRefusal};
 ghost use Rattle.cookie_session.specs.declared.session_error.SessionError.TheVariants as refusal;
-ghost use Rattle.login_core.specs.Answers.{Draws, Ends, FailsFor, HasUser, IsGreeted, IsPlan, LogsOut, Saves, starts};
+ghost use Rattle.login_core.specs.Answers.{Draws, Ends, FailsFor, HasUser, IsGreeted, IsPlan, LogsOut, Saves, cookies_of, starts};
 ghost use Rattle.login_core.specs.Pages.{greeted};
 ghost use Rattle.login_core.specs.declared.answer_error.AnswerError.TheVariants as failure;
 ghost use Rattle.login_core.specs.declared.page.Page.{Page};
@@ -23,7 +24,7 @@ use cookie::CookieJar;
 use cookie_session::{Revocations, Session, SessionError, Sessions};
 use jiff::civil::DateTime;
 use rand_core::TryRng;
-use std::alloc::{AllocError, Global};
+use std::alloc::Global;
 use std::hash::RandomState;
 
 /// Answers a request at the time `now` in UTC. The keys of `state` were drawn, so that nobody can choose names that
@@ -86,6 +87,10 @@ pub fn answer<G: TryRng, R: Revocations>(
         × ¬ (AllFitFields jar.delta) }
     ensures unsure { result ≡ Err failure.Revocations → R.Error }
 
+    // With no session open in the request's cookies the store isn't asked.
+    ensures unasked { OpensNone site.now.sessions (cookies_of request.now) now
+        → (revocations.new ≡ revocations.old) × (result ≢ Err failure.Revocations) }
+
     // Only a request that starts or saves a session draws from the generator.
     ensures undrawn { R.is_kept revocations.new → starts site.now request.now ≡ false
         → ((page : Page) (saved : Option SessionState)
@@ -116,16 +121,9 @@ pub fn answer<G: TryRng, R: Revocations>(
     ensures kept { R.is_kept revocations.new → R.is_kept revocations.old }
 {
     let found = find_session(alloc, site, request, now, revocations)?;
-    let plan = make_plan(alloc, site.users, request, found, now, rng)?;
-    let mut jar = request_jar(alloc, state, request.cookies)?;
+    let plan = make_plan(alloc, site.users, request, found.session, now, rng)?;
+    let mut jar = CookieJar::with_hasher(alloc, state).with_cookies(found.cookies)?;
     respond(alloc, &site.sessions, &mut jar, plan, now, rng)
-}
-
-// The jar of the request's cookies.
-fn request_jar(alloc: Global, state: RandomState, field: &[u8]) -> Result<CookieJar, AllocError>
-    ensures { IfOk result (λ jar. jar ≡ jar_for field.now) }
-{
-    CookieJar::with_hasher(alloc, state).with_field(field)
 }
 
 // The page, and the texts of what was saved.

@@ -1,37 +1,42 @@
 //! The session that a request has, and its end at a logout.
-ghost use Rattle.std.specs.Prelude.{◌≡◌, ◌⊎◌, ℕ, IfErr, IfOk, None, Ok, OnErr, OnOk, Some, option_map};
-ghost use Rattle.cookie.specs.Originals.{field_cookies};
+ghost use Rattle.std.specs.Prelude.{◌≡◌, ◌≢◌, ◌⊎◌, ℕ, Err, IfErr, IfOk, None, Ok, OnErr, OnOk, Some, map, option_map};
 ghost use Rattle.cookie_session.specs.Revocations.{AreSame, IsRevoked, IsRevokedToo, end_of};
 ghost use Rattle.cookie_session.specs.Session.{SessionState};
-ghost use Rattle.cookie_session.specs.Sessions.{OpensOne};
+ghost use Rattle.cookie_session.specs.Sessions.{OpensNone, OpensOne};
 ghost use Rattle.cookie_session.specs.declared.session_error.SessionError.TheVariants as refusal;
 ghost use Rattle.login_core.specs.Answers.{Ends, HasSession, LogsOut, cookies_of, route_for};
 ghost use Rattle.login_core.specs.declared.answer_error.AnswerError.TheVariants as failure;
 ghost use Rattle.login_core.specs.declared.routes.Route.TheVariants as routes;
 
 use crate::answer_error::AnswerError;
+use crate::found::Found;
 use crate::login_site::LoginSite;
 use crate::request::Request;
 use crate::routes::{Route, find_route};
+use cookie::{Cookie, field_cookies};
 use cookie_session::{OpenError, Revocations, Session, SessionError, Sessions};
 use jiff::civil::DateTime;
 use std::alloc::Global;
 
-// The session that the request has, if it has one. A logout revokes it.
+// The request's cookies, and the session that it has, if it has one. A logout revokes it.
 pub(crate) fn find_session<R: Revocations>(
     alloc: Global,
     site: &LoginSite<'_>,
     request: &Request<'_>,
     now: DateTime,
     revocations: &mut R,
-) -> Result<Option<Session>, AnswerError>
-    ensures finds { R.is_kept revocations.new → IfOk result
-        (HasSession (IsRevoked (R.revoked_until revocations.old)) site.now.sessions
-        (cookies_of request.now) now) }
-    ensures sealed { IfOk result (λ found. (session : SessionState) → found ≡ Some session
+) -> Result<Found, AnswerError>
+    ensures read { IfOk result (λ found.
+        map (λ c. c.fields) found.cookies.items ≡ cookies_of request.now) }
+    ensures finds { R.is_kept revocations.new → IfOk result (λ found.
+        HasSession (IsRevoked (R.revoked_until revocations.old)) site.now.sessions
+        (cookies_of request.now) now found.session) }
+    ensures sealed { IfOk result (λ found. (session : SessionState) → found.session ≡ Some session
         → (place : ℕ) × OpensOne site.now.sessions (cookies_of request.now) now place session) }
     ensures fails { IfErr result (λ why. (why ≡ failure.Session refusal.OutOfMemory)
         ⊎ ((why ≡ failure.Revocations) × R.Error)) }
+    ensures unasked { OpensNone site.now.sessions (cookies_of request.now) now
+        → (revocations.new ≡ revocations.old) × (result ≢ Err failure.Revocations) }
     ensures revoked { R.is_kept revocations.new → R.can_revoke
         → OnOk result ((session : SessionState)
         → LogsOut (IsRevoked (R.revoked_until revocations.old)) site.now request.now now session
@@ -45,31 +50,34 @@ pub(crate) fn find_session<R: Revocations>(
         (AreSame (R.revoked_until revocations.old) (R.revoked_until revocations.new)) }
     ensures kept { R.is_kept revocations.new → R.is_kept revocations.old }
 {
-    let found = open_session(alloc, &site.sessions, request.cookies, now, revocations)?;
-    revoke_at_logout(&site.sessions, request, found.as_ref(), revocations)?;
-    Ok(found)
+    let cookies = field_cookies(alloc, request.cookies)?;
+    let session = open_session(alloc, &site.sessions, &cookies, now, revocations)?;
+    revoke_at_logout(&site.sessions, request, session.as_ref(), revocations)?;
+    Ok(Found { cookies, session })
 }
 
-// The session that is open and not revoked in the first of the field's cookies in which one is, if there is one.
+// The session that is open and not revoked in the first of these cookies in which one is, if there is one.
 fn open_session<R: Revocations>(
     alloc: Global,
     sessions: &Sessions<'_>,
-    field: &[u8],
+    cookies: &[Cookie<'static>],
     now: DateTime,
     revocations: &mut R,
 ) -> Result<Option<Session>, AnswerError>
     ensures finds { R.is_kept revocations.new → IfOk result
         (HasSession (IsRevoked (R.revoked_until revocations.old)) sessions.now
-        (field_cookies field.now) now) }
+        (map (λ c. c.fields) cookies.now) now) }
     ensures sealed { IfOk result (λ found. (session : SessionState) → found ≡ Some session
-        → (place : ℕ) × OpensOne sessions.now (field_cookies field.now) now place session) }
+        → (place : ℕ) × OpensOne sessions.now (map (λ c. c.fields) cookies.now) now place session) }
     ensures fails { IfErr result (λ why. (why ≡ failure.Session refusal.OutOfMemory)
         ⊎ ((why ≡ failure.Revocations) × R.Error)) }
+    ensures unasked { OpensNone sessions.now (map (λ c. c.fields) cookies.now) now
+        → (revocations.new ≡ revocations.old) × (result ≢ Err failure.Revocations) }
     ensures same { R.is_kept revocations.new
         → AreSame (R.revoked_until revocations.old) (R.revoked_until revocations.new) }
     ensures kept { R.is_kept revocations.new → R.is_kept revocations.old }
 {
-    match sessions.open_unrevoked(alloc, field, now, revocations) {
+    match sessions.open_unrevoked(alloc, cookies, now, revocations) {
         Ok(Some(opened)) => Ok(Some(opened.session)),
         Ok(None) => Ok(None),
         Err(OpenError::OutOfMemory) => Err(AnswerError::Session(SessionError::OutOfMemory)),
@@ -96,6 +104,8 @@ fn revoke_at_logout<R: Revocations>(
     ensures err { R.is_kept revocations.new → OnErr result
         (AreSame (R.revoked_until revocations.old) (R.revoked_until revocations.new)) }
     ensures fails { IfErr result (λ why. (why ≡ failure.Revocations) × R.Error) }
+    ensures unasked { option_map (λ s. s.now) found.entry ≡ None
+        → (revocations.new ≡ revocations.old) × (result ≢ Err failure.Revocations) }
     ensures kept { R.is_kept revocations.new → R.is_kept revocations.old }
 {
     let Some(session) = found else {

@@ -7,6 +7,7 @@ mod answer_error;
 mod decision;
 mod finding;
 mod form;
+mod found;
 mod login_site;
 mod markup;
 mod page;

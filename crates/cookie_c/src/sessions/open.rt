@@ -14,6 +14,7 @@ use super::time::time_at;
 use super::{Session, Sessions};
 use crate::handle::content::Content;
 use crate::status::Status;
+use cookie::field_cookies;
 use cookie_session::{OpenError, Opened};
 use jiff::civil::DateTime;
 use std::alloc::{AllocError, Global};
@@ -139,7 +140,8 @@ fn find(
         (Finds (Contains revoked.entry.ids.now) sessions.now (field_cookies header.now) time) }
 {
     let mut revoked = revoked;
-    match sessions.open_unrevoked(alloc, header, time, &mut revoked) {
+    let cookies = field_cookies(alloc, header)?;
+    match sessions.open_unrevoked(alloc, &cookies, time, &mut revoked) {
         Ok(found) => Ok(found),
         Err(OpenError::OutOfMemory) => Err(AllocError),
         Err(OpenError::Revocations(never)) => match never {},

@@ -1,4 +1,4 @@
-use Rattle.std.proofs.Common.{◌≡◌, ℕ, List, IfSome, codes, sym, ap, subst, ◌∙◌}
+use Rattle.std.proofs.Common.{◌≡◌, ℕ, List, IfSome, codes, map, sym, ap, subst, ◌∙◌}
 use Rattle.std.specs.FinMap.{get, insert}
 use Rattle.std.specs.Option.{option_copied}
 use Rattle.cookie.specs.Jar.{view}
@@ -42,7 +42,7 @@ returns-clause-keeps g c =
     let set : SessionState = c.set.new.self in
     let before : SessionState = c.match-branch-3.session in
     let site = c.args.sessions.now in
-    subst (λ o. IfSome (option_copied o) (λ name. KeepsTexts site c.args.jar.now c.save.new.jar c.args.now name)) (sym c.in-Some.is) (λ place session opens. (
+    subst (λ o. IfSome (option_copied o) (λ name. KeepsTexts site (map (λ k. k.fields) c.args.cookies.now) c.save.new.jar c.args.now name)) (sym c.in-Some.is) (λ place session opens. (
       renewed.id,
       stored_parts (IsStored site (view c.save.new.jar site.cookie.now.fields.name)) (second_of c.args.now) (codes "user") c.in-Some.user.now set renewed before session
           c.in_ok-set.ensures.ok c.in_ok-renew.ensures.renewed

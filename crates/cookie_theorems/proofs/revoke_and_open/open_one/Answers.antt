@@ -10,9 +10,9 @@ pub returns-clause-answers : goal.returns-clause-answers
 returns-clause-answers g c kept =
     let set = g.R.Revocations.revoked_until in
     let old = set c.forget.new.self in
-    let new = set c.open_unrevoked.new.revocations in
-    IfOk-weaker c.open_unrevoked.result (IsAnswer old c.args.request.now) (IsAnswer new c.args.request.now)
-    (λ answer is. answer_alike old new (c.open_unrevoked.ensures.same kept) c.args.request.now answer is) (c.open_unrevoked.ensures.answers kept)
+    let new = set c.open_request.new.revocations in
+    IfOk-weaker c.open_request.result (IsAnswer old c.args.request.now) (IsAnswer new c.args.request.now)
+    (λ answer is. answer_alike old new (c.open_request.ensures.same kept) c.args.request.now answer is) (c.open_request.ensures.answers kept)
 
 pub returns-clause-forgotten : goal.returns-clause-forgotten
 returns-clause-forgotten g c kept =
@@ -20,8 +20,8 @@ returns-clause-forgotten g c kept =
     let old = set c.args.revocations.now in
     let now = second_of c.args.request.now.time in
     let forgotten : AreForgotten now old (set c.forget.new.self) =
-    subst (λ n. AreForgotten n old (set c.forget.new.self)) c.second_of.ensures.value (c.in_default.ensures.forgotten (c.open_unrevoked.ensures.kept kept)) in
-    on_ok c.open_unrevoked.result (same_then (left_at now old) (set c.forget.new.self) (set c.open_unrevoked.new.revocations) forgotten (c.open_unrevoked.ensures.same kept))
+    subst (λ n. AreForgotten n old (set c.forget.new.self)) c.second_of.ensures.value (c.in_default.ensures.forgotten (c.open_request.ensures.kept kept)) in
+    on_ok c.open_request.result (same_then (left_at now old) (set c.forget.new.self) (set c.open_request.new.revocations) forgotten (c.open_request.ensures.same kept))
 
 pub returns-clause-err : goal.returns-clause-err
 returns-clause-err g c kept =
@@ -29,5 +29,5 @@ returns-clause-err g c kept =
     let old = set c.args.revocations.now in
     let now = second_of c.args.request.now.time in
     let forgotten : AreForgotten now old (set c.forget.new.self) =
-    subst (λ n. AreForgotten n old (set c.forget.new.self)) c.second_of.ensures.value (c.in_default.ensures.forgotten (c.open_unrevoked.ensures.kept kept)) in
-    on_err c.open_unrevoked.result (inr (same_then (left_at now old) (set c.forget.new.self) (set c.open_unrevoked.new.revocations) forgotten (c.open_unrevoked.ensures.same kept)))
+    subst (λ n. AreForgotten n old (set c.forget.new.self)) c.second_of.ensures.value (c.in_default.ensures.forgotten (c.open_request.ensures.kept kept)) in
+    on_err c.open_request.result (inr (same_then (left_at now old) (set c.forget.new.self) (set c.open_request.new.revocations) forgotten (c.open_request.ensures.same kept)))

@@ -1,6 +1,5 @@
-use Rattle.std.proofs.Common.{Some, ap, subst, ◌∙◌}
+use Rattle.std.proofs.Common.{Some, ap, map, subst, ◌∙◌}
 use Rattle.std.proofs.lemmas.Option.{same_Some}
-use Rattle.cookie.specs.Originals.{field_cookies}
 use Rattle.cookie_session.specs.Revocations.{IsRevoked}
 use Rattle.cookie_session.specs.Session.{SessionState}
 use Rattle.login_core.proofs.AnswerLemmas.{OpensAs, has_none, has_some, opened}
@@ -10,7 +9,7 @@ pub returns-in-Ok-Some-clause-finds : goal.returns-in-Ok-Some-clause-finds
 returns-in-Ok-Some-clause-finds g c kept =
     let Is = IsRevoked (g.R.Revocations.revoked_until c.args.revocations.now) in
     let sessions = c.args.sessions.now in
-    let cookies = field_cookies c.args.field.now in
+    let cookies = map (λ k. k.fields) c.args.cookies.now in
     let opens = c.in-Ok-Some.ensures in
     has_some Is sessions cookies c.args.now c.in-Ok-Some.opened (subst (OpensAs Is sessions cookies c.args.now) c.in-Ok-Some.field-0-is (opens.answers kept)) (opens.once kept) opens.first
 
@@ -26,6 +25,6 @@ pub returns-in-Ok-None-clause-finds : goal.returns-in-Ok-None-clause-finds
 returns-in-Ok-None-clause-finds g c kept =
     let Is = IsRevoked (g.R.Revocations.revoked_until c.args.revocations.now) in
     let sessions = c.args.sessions.now in
-    let cookies = field_cookies c.args.field.now in
+    let cookies = map (λ k. k.fields) c.args.cookies.now in
     let opens = c.in-Ok-None.ensures in
     has_none Is sessions cookies c.args.now (subst (OpensAs Is sessions cookies c.args.now) c.in-Ok-None.field-0-is (opens.answers kept)) (opens.once kept) opens.first

@@ -1,15 +1,13 @@
-use Rattle.std.proofs.Common.{◌≡◌, ◌↔◌, ℕ, Some, alloc_error, option_map, sym, ap, subst, ◌∙◌}
-use Rattle.cookie.specs.Jar.{view}
-use Rattle.cookie.specs.Memory.{Gives}
-use Rattle.cookie_session.specs.Session.{SessionState}
-use Rattle.cookie_session.specs.Sessions.{IsOpen}
+use Rattle.std.proofs.Common.{Ok, alloc_error, map}
+use Rattle.cookie_session.proofs.FirstLemmas.{jar_found}
 use Rattle.cookie_session.proofs.sessions.Sessions.open.Goals as goal
 
-pub returns-in-Some-clause-answers : goal.returns-in-Some-clause-answers
-returns-in-Some-clause-answers c =
-    let site = c.args.self.now in
-    let jar = c.args.jar.now in
-    let stored : view jar site.cookie.now.fields.name ≡ Some c.in-Some.cookie.now.fields =
-    ap (view jar) (sym c.name.ensures) ∙ sym c.get.ensures ∙ ap (option_map (λ k. k.now.fields)) c.in-Some.is in
-    subst (λ o. Gives alloc_error c.open_cookie.result (λ answer. (place : ℕ) (s : SessionState)
-    → (answer ≡ Some (record { session = s; place = place })) ↔ IsOpen site o c.args.now place s)) (sym stored) c.open_cookie.ensures.answers
+pub returns-in-Ok-clause-answers : goal.returns-in-Ok-clause-answers
+returns-in-Ok-clause-answers c = c.in-Ok.ensures.answers tt
+
+pub returns-in-Ok-clause-once : goal.returns-in-Ok-clause-once
+returns-in-Ok-clause-once c = c.in-Ok.ensures.once tt
+
+pub returns-in-Ok-clause-jar : goal.returns-in-Ok-clause-jar
+returns-in-Ok-clause-jar c =
+    jar_found c.args.self.now c.args.now alloc_error (Ok c.in-Ok.found) (map (λ k. k.fields) c.args.cookies.now) (returns-in-Ok-clause-answers c)

@@ -2,7 +2,7 @@ use Rattle.std.proofs.Common.{◌≡◌, All, map, take}
 use Rattle.cookie.specs.Originals.{first_of_name}
 use Rattle.cookie_session.specs.Revocations.{AreSame, IsRevoked}
 use Rattle.cookie_session.specs.Sessions.{HoldsOne, IsClosed, OpensNone, site_cookies}
-use Rattle.cookie_session.proofs.sessions.Sessions.open_first_unrevoked.Given as goal
+use Rattle.cookie_session.proofs.sessions.Sessions.open_unrevoked.Given as goal
 
 -- nothing was revoked, no session but revoked ones is open in the cookies so far that have the site's name, the first
 -- of these holds one at most, and if none is open in any the store is as it was
