@@ -45,7 +45,7 @@ def enter_all() -> None:
 
 
 def leave_all() -> None:
-    """Leaves each, in the parent and in the child. A fork that Python wasn't told of entered none."""
+    """Leaves each, in the parent and in the child. A fork that Python doesn't know of entered none."""
     locks = held[::-1]
     held.clear()
     for lock in locks:

@@ -10,7 +10,6 @@ from __future__ import annotations
 import contextlib
 import os
 import pathlib
-import random
 import sqlite3
 import time
 import weakref
@@ -121,7 +120,7 @@ class Connection(Lock):
     def open(self) -> sqlite3.Connection:
         """Opens it, if it isn't open."""
         if self.opened is not None and self.process != os.getpid():
-            # Of a fork that Python wasn't told of the child leaves the parent's connection as it is.
+            # After a fork that Python doesn't know of, the child leaves the parent's connection as it is.
             LEFT.append(self.opened)
             self.opened = None
         if self.opened is None:
@@ -215,23 +214,27 @@ class SqliteRevocations:
         self.path, self.timeout = os.path.abspath(path), timeout
         self.connections = [Connection(self.path, timeout) for _ in range(CONNECTIONS)]
         weakref.finalize(self, close_all, self.connections)
-        with self.as_error():
+        with as_revocations_error(f"the file {self.path} of revoked sessions"):
             if create:
                 connect(self.path, timeout, create).close()
-            # Without it another file could get the number of one that is gone. To close it leaves SQLite's locks as they are.
+            # As long as it is open, no other file has this one's number. To close it leaves SQLite's locks as they are.
             self.file = os.open(self.path, PATH_ONLY)
             weakref.finalize(self, os.close, self.file)
-            self.perform("SELECT 1 FROM revoked LIMIT 0")
+            self.read("SELECT 1 FROM revoked LIMIT 0")
         # A process that forks before its first request has none to close.
         self.close()
 
-    def as_error(self) -> contextlib.AbstractContextManager[None]:
-        """Raises what is raised within as `RevocationsError`, with the path."""
-        return as_revocations_error(f"the file {self.path} of revoked sessions")
+    def read(self, statement: str, *values: Any) -> list[Any]:
+        """The rows of a statement that only reads."""
+        return self.perform(self.connections, statement, *values)
 
-    def perform(self, statement: str, *values: Any) -> list[Any]:
-        """The rows of a statement, which is a transaction, if the file is still at its path afterwards."""
-        with self.as_error(), self.free_connection() as connection:
+    def write(self, statement: str, *values: Any) -> None:
+        """Makes a statement, which is a transaction. The first connection is left to those that read: they wait for none."""
+        self.perform(self.connections[1:], statement, *values)
+
+    def perform(self, connections: list[Connection], statement: str, *values: Any) -> list[Any]:
+        """The rows of a statement by one of the connections, if the file is still at its path afterwards."""
+        with as_revocations_error(f"the file {self.path} of revoked sessions"), self.free_one(connections) as connection:
             try:
                 if connection.opened is None:
                     self.check_file()
@@ -244,11 +247,11 @@ class SqliteRevocations:
                 raise
 
     @contextlib.contextmanager
-    def free_connection(self) -> Iterator[Connection]:
-        """A connection that no other thread uses."""
-        free = next((one for one in self.connections if one.inner.acquire(False)), None)
+    def free_one(self, connections: list[Connection]) -> Iterator[Connection]:
+        """A connection that no other thread uses. Waits for the first if there is none."""
+        free = next((one for one in connections if one.inner.acquire(False)), None)
         if free is None:
-            free = random.choice(self.connections)
+            free = connections[0]
             if not free.inner.acquire(timeout=self.timeout):
                 raise TimeoutError(f"no connection was free for {self.timeout} seconds")
         try:
@@ -263,21 +266,21 @@ class SqliteRevocations:
 
     def is_revoked(self, id: bytes) -> bool:
         """Whether the session with this id is revoked."""
-        return bool(self.perform("SELECT 1 FROM revoked WHERE id = ? LIMIT 1", id_of(id)))
+        return bool(self.read("SELECT 1 FROM revoked WHERE id = ? LIMIT 1", id_of(id)))
 
     def revoke(self, id: bytes, until: int) -> None:
         """Revokes the session with this id until that second, or a later one."""
         statement = "INSERT INTO revoked SELECT ?, ? WHERE NOT EXISTS (SELECT 1 FROM revoked WHERE id = ? AND until >= ?)"
-        self.perform(statement, id_of(id), until, id, until)
+        self.write(statement, id_of(id), until, id, until)
 
     def forget(self, now: float) -> None:
         """Forgets each session whose second isn't after `now`, in transactions of at most some 50 ms. Between them it
         waits as long, so that others write."""
         last, count = -(2**63), 100
         batch = "SELECT max(rowid) FROM (SELECT rowid FROM revoked WHERE rowid > ? ORDER BY rowid LIMIT ?)"
-        while (end := self.perform(batch, last, count)[0][0]) is not None:
+        while (end := self.read(batch, last, count)[0][0]) is not None:
             begun = time.monotonic()
-            self.perform("DELETE FROM revoked WHERE rowid > ? AND rowid <= ? AND until <= ?", last, end, int(now))
+            self.write("DELETE FROM revoked WHERE rowid > ? AND rowid <= ? AND until <= ?", last, end, int(now))
             seconds, last = time.monotonic() - begun, end
             count = max(1, count // 2) if seconds > LONGEST / 3 else 2 * count if seconds < LONGEST / 10 else count
             time.sleep(seconds)

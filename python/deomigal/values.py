@@ -30,7 +30,7 @@ ASCII_CODER = json.JSONEncoder(separators=(",", ":"))
 
 def log_failure(error: RevocationsError) -> None:
     """Logs why a request is answered with status 503."""
-    LOG.error("a request is answered with status 503: %s", error, exc_info=error)
+    LOG.error("a request is answered with status 503: %s", error)
 
 
 def pack(data: bytes) -> dict[str, str]:

@@ -17,6 +17,7 @@ from .values import UNAVAILABLE, UNAVAILABLE_FIELDS, CookieSession, Middleware, 
 __all__ = ["CookieSession", "SessionMiddleware", "session_of"]
 # The session's name in the environment.
 KEY = "deomigal.session"
+Start = Callable[..., Any]
 
 
 def session_of(environ: Mapping[str, Any]) -> CookieSession:
@@ -29,7 +30,7 @@ class SessionMiddleware(Middleware):
     `TooLarge` there, the application may start another response with `sys.exc_info()`, which saves nothing if it does so
     again. Else `too_large` answers, if it is given."""
 
-    def __call__(self, environ: dict[str, Any], start_response: Callable[..., Any]) -> Iterable[bytes]:
+    def __call__(self, environ: dict[str, Any], start_response: Start) -> Iterable[bytes]:
         is_begun = False
 
         def start_with_cookie(status: str, headers: list[tuple[str, str]], *error: Any) -> Any:
@@ -52,9 +53,7 @@ class SessionMiddleware(Middleware):
         is_whole = hasattr(pages, "__len__") or type(pages) is environ.get("wsgi.file_wrapper")
         return pages if is_begun and is_whole else self.watched(pages, environ, start_response)
 
-    def watched(
-        self, pages: Iterable[bytes], environ: dict[str, Any], start_response: Callable[..., Any]
-    ) -> Iterator[bytes]:
+    def watched(self, pages: Iterable[bytes], environ: dict[str, Any], start_response: Start) -> Iterator[bytes]:
         """The pages of an application that may fail when one of them is taken, such as a generator."""
         try:
             yield from pages
@@ -64,9 +63,7 @@ class SessionMiddleware(Middleware):
             if hasattr(pages, "close"):
                 pages.close()
 
-    def answer(
-        self, error: Exception, environ: dict[str, Any], start_response: Callable[..., Any]
-    ) -> Iterable[bytes]:
+    def answer(self, error: Exception, environ: dict[str, Any], start_response: Start) -> Iterable[bytes]:
         """Answers a request in the place of the application. If its response was sent, this raises the error again."""
         failure = sys.exc_info()
 

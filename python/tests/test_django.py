@@ -320,7 +320,7 @@ class EngineFacts(SimpleTestCase):
             with mock.patch("time.time", lambda: NOON), self.assertLogs("deomigal") as logs:
                 found = [client.get(path) for path in paths]
         assert not any(response.status_code == 503 and response.cookies for response in found)
-        return [response.status_code for response in found], [record.exc_info[1].__cause__ for record in logs.records]
+        return [response.status_code for response in found], ["the store is" in line for line in logs.output]
 
     def test_failures_elsewhere(self):
         """The status is 503 also if a middleware uses the session, or Django's protection of forms, or an error page, and
@@ -333,7 +333,7 @@ class EngineFacts(SimpleTestCase):
             {"view": swallow},
         ):
             statuses, causes = self.answers(["/", "/flush"], DEOMIGAL_REVOCATIONS=Broken(), **words)
-            assert (statuses, [type(cause) for cause in causes]) == ([503] * 2, [OSError] * 2), words
+            assert (statuses, causes) == ([503] * 2, [True] * 2), words
 
     def test_failures_at_no_page(self):
         """So it is at a path without a page, if something uses the session there."""

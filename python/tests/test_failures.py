@@ -34,9 +34,7 @@ class Failures:
         """Each answer 503 is logged once, with its cause."""
         answer, records = self.broken()
         assert answer[:2] == (503, "")
-        record, = records
-        assert CAUSE in record.getMessage()
-        assert isinstance(record.exc_info[1].__cause__, OSError)
+        assert [CAUSE in record.getMessage() for record in records] == [True]
 
     def test_not_logged(self):
         """No other answer is."""

@@ -126,8 +126,7 @@ class FlaskFacts(unittest.TestCase):
             with unittest.mock.patch.object(self.store, "revoke", Failing(OSError()).revoke):
                 with self.assertLogs("deomigal", logging.ERROR) as revoked:
                     self.ask("/logout", cookie)
-            records = [*looked_up.records, *revoked.records]
-            assert [type(record.exc_info[1].__cause__) for record in records] == [OSError] * 2
+            assert ["OSError" in line for line in [*looked_up.output, *revoked.output]] == [True] * 2
 
     def test_without_init_app(self):
         """Without `init_app` too no view is called."""

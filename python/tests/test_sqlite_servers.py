@@ -7,6 +7,7 @@ import subprocess
 import sys
 import tempfile
 import threading
+import time
 import unittest
 from concurrent.futures import ThreadPoolExecutor
 from pathlib import Path
@@ -175,6 +176,20 @@ class SqliteServerFacts(unittest.TestCase):
         """So have sixteen clients of a worker of gevent."""
         pytest.importorskip("gevent")
         assert int(play(GREENLETS, self.path)[0]) <= 8
+
+    def test_look_ups_while_logouts_wait(self):
+        """While another process writes, logouts wait and look-ups don't."""
+        store = SqliteRevocations(self.path, timeout=1)
+        with contextlib.closing(sqlite3.connect(self.path, isolation_level=None)) as other:
+            other.execute("BEGIN IMMEDIATE")
+            with ThreadPoolExecutor(8) as threads:
+                logouts = [threads.submit(store.revoke, os.urandom(16), LATER) for _ in range(8)]
+                time.sleep(0.1)
+                begun = time.monotonic()
+                assert not any(store.is_revoked(ANN) for _ in range(20))
+                assert time.monotonic() - begun < 0.5
+                assert [type(logout.exception()) for logout in logouts] == [RevocationsError] * 8
+        assert not store.is_revoked(ANN)
 
     def test_deleted(self):
         """If the file is gone, or another one is there, each call fails, and nobody is taken for not revoked."""
