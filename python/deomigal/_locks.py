@@ -27,21 +27,26 @@ class Lock:
 
 
 LOCKS: weakref.WeakSet[Lock] = weakref.WeakSet()
-LOCKS_LOCK = threading.RLock()
+LOCKS_LOCK, FORKS = threading.RLock(), threading.RLock()
 # Those that the thread which forks is in.
 held: list[Any] = []
 
 
 def enter_all() -> None:
-    """Enters each lock."""
-    LOCKS_LOCK.acquire()
-    held.append(LOCKS_LOCK)
-    locks = list(LOCKS)
-    for lock in locks:
-        lock.inner.acquire()
-        held.append(lock.inner)
-    for lock in locks:
-        lock.before_fork()
+    """Enters each lock. As long as it waits for one, others may make new ones."""
+    FORKS.acquire()
+    entered: set[Lock] = set()
+    while True:
+        LOCKS_LOCK.acquire()
+        new = set(LOCKS) - entered
+        if not new:
+            break
+        LOCKS_LOCK.release()
+        for lock in new:
+            lock.inner.acquire()
+            lock.before_fork()
+        entered |= new
+    held.extend([FORKS, LOCKS_LOCK, *(lock.inner for lock in entered)])
 
 
 def leave_all() -> None:

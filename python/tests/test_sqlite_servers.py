@@ -60,6 +60,25 @@ for _ in range(40):
 print(count)
 os._exit(0)
 """
+# Forks while a thread that is in a lock makes another one.
+NESTED = """
+import os, threading, time
+from deomigal._locks import Lock
+outer, is_in = Lock(), threading.Event()
+def enter():
+    with outer:
+        is_in.set()
+        time.sleep(0.2)
+        Lock()
+thread = threading.Thread(target=enter)
+thread.start()
+is_in.wait()
+if os.fork():
+    thread.join()
+    print(os.wait()[1])
+with outer:
+    pass
+"""
 # How many files of the store a worker of gevent has open under sixteen clients.
 GREENLETS = """
 import gevent.monkey
@@ -102,7 +121,7 @@ def play(script, path, *options, python=sys.executable):
     folders = os.pathsep.join(map(str, (Path(deomigal.__file__).parent.parent, Path(__file__).parent)))
     command = [python, *options, "-c", script, path]
     environment = {**os.environ, "PYTHONPATH": folders}
-    done = subprocess.run(command, capture_output=True, text=True, env=environment, timeout=300)
+    done = subprocess.run(command, capture_output=True, text=True, env=environment, timeout=60)
     assert (done.returncode, done.stderr) == (0, ""), done.stderr
     return done.stdout.split()
 
@@ -147,6 +166,21 @@ class SqliteServerFacts(unittest.TestCase):
     def test_forks_with_threads(self):
         """A fork while eight threads open sessions leaves no child that hangs."""
         assert play(THREADS, self.path, "-W", "ignore") == ["40"]
+
+    def test_fork_beside_a_new_lock(self):
+        """A fork waits for a thread that is in a lock, which may make another lock meanwhile."""
+        assert play(NESTED, self.path, "-W", "ignore") == ["0"]
+
+    def test_older_file(self):
+        """A file that 0.3.0 made is taken over, also with several seconds of an id."""
+        table = "CREATE TABLE revoked (id BLOB NOT NULL, until INTEGER NOT NULL, PRIMARY KEY (id, until)) STRICT"
+        with contextlib.closing(sqlite3.connect(self.path)) as connection, connection:
+            connection.execute("PRAGMA journal_mode = WAL")
+            connection.execute(table)
+            connection.executemany("INSERT INTO revoked VALUES (?, ?)", [(ANN, NOON), (ANN, LATER), (BO, NOON)])
+        store = SqliteRevocations(self.path, create=False)
+        store.forget(NOON)
+        assert [store.is_revoked(id) for id in (ANN, BO)] == [True, False]
 
     def test_no_connection_from_the_start(self):
         """A store that was made and not used has no connection that a fork could carry along."""
