@@ -174,8 +174,11 @@ def open_connection(path: str, timeout: float, create: bool) -> sqlite3.Connecti
 
 def rows(connection: sqlite3.Connection, statement: str, *values: Any) -> list[Any]:
     """The rows of a statement. Its transaction ends with its cursor, which PyPy doesn't close by itself."""
-    with contextlib.closing(connection.execute(statement, values)) as cursor:
+    cursor = connection.execute(statement, values)
+    try:
         return cursor.fetchall()
+    finally:
+        cursor.close()
 
 
 def tables(connection: sqlite3.Connection) -> list[str]:
@@ -218,8 +221,9 @@ class SqliteRevocations:
             if create:
                 connect(self.path, timeout, create).close()
             # As long as it is open, no other file has this one's number. To close it leaves SQLite's locks as they are.
-            self.file = os.open(self.path, PATH_ONLY)
-            weakref.finalize(self, os.close, self.file)
+            file = os.open(self.path, PATH_ONLY)
+            weakref.finalize(self, os.close, file)
+            self.found = os.fstat(file)
             self.read("SELECT 1 FROM revoked LIMIT 0")
         # A process that forks before its first request has none to close.
         self.close()
@@ -234,34 +238,34 @@ class SqliteRevocations:
 
     def perform(self, connections: list[Connection], statement: str, *values: Any) -> list[Any]:
         """The rows of a statement by one of the connections, if the file is still at its path afterwards."""
-        with as_revocations_error(f"the file {self.path} of revoked sessions"), self.free_one(connections) as connection:
-            try:
-                if connection.opened is None:
-                    self.check_file()
-                found = rows(connection.open(), statement, *values)
-                self.check_file()
-                return found
-            except BaseException:
-                # It may be one to another file.
-                connection.close()
-                raise
-
-    @contextlib.contextmanager
-    def free_one(self, connections: list[Connection]) -> Iterator[Connection]:
-        """A connection that no other thread uses. Waits for the first if there is none."""
-        free = next((one for one in connections if one.inner.acquire(False)), None)
-        if free is None:
-            free = connections[0]
-            if not free.inner.acquire(timeout=self.timeout):
-                raise TimeoutError(f"no connection was free for {self.timeout} seconds")
+        connection = self.free_one(connections)
         try:
-            yield free
+            if connection.opened is None:
+                self.check_file()
+            found = rows(connection.open(), statement, *values)
+            self.check_file()
+            return found
+        except BaseException as error:
+            # It may be one to another file.
+            connection.close()
+            if not isinstance(error, Exception):
+                raise
+            raise RevocationsError(f"the file {self.path} of revoked sessions: {error!r}") from error
         finally:
-            free.inner.release()
+            connection.inner.release()
+
+    def free_one(self, connections: list[Connection]) -> Connection:
+        """Enters a connection that no other thread is in. Waits for the first if there is none."""
+        for connection in connections:
+            if connection.inner.acquire(False):
+                return connection
+        if not connections[0].inner.acquire(timeout=self.timeout):
+            raise RevocationsError(f"no connection to the file {self.path} was free for {self.timeout} seconds")
+        return connections[0]
 
     def check_file(self) -> None:
         """Raises an error if the file at the path isn't the one that was opened first."""
-        if not os.path.samestat(os.stat(self.path), os.fstat(self.file)):
+        if not os.path.samestat(os.stat(self.path), self.found):
             raise FileNotFoundError("another file is at its path")
 
     def is_revoked(self, id: bytes) -> bool:

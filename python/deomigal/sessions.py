@@ -232,11 +232,12 @@ class Sessions(Uncopied):
     def ask(self, call: tuple[Any, ...]) -> Any:
         """What this call of the revocations returns. Raises `RevocationsError` for whatever it raises."""
         name, *words = call
-        function = getattr(self.revocations, name)
-        if inspect.iscoroutinefunction(function):
-            raise TypeError(f"{name} of these revocations is a coroutine: await aopen and arevoke")
         with as_revocations_error(f"{name} of the revocations failed"):
-            return function(*words)
+            found = getattr(self.revocations, name)(*words)
+        if inspect.iscoroutine(found):
+            found.close()
+            raise TypeError(f"{name} of these revocations is a coroutine: await aopen and arevoke")
+        return found
 
     async def ask_async(self, call: tuple[Any, ...]) -> Any:
         """The same, awaited."""
