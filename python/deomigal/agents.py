@@ -7,13 +7,13 @@ from __future__ import annotations
 import datetime
 import os
 import tempfile
-import threading
 import time
 from typing import Callable, Iterable, Iterator, NamedTuple
 
 from ._agent import JSON, NETSCAPE, Core, header_bytes
 from ._agent import AgentCookie as AgentCookie
 from ._library import Uncopied, bytes_of
+from ._locks import Lock
 from .addresses import Address, address_of
 from .dates import whole_second
 from .explain import Refusal, second_of, suffix_list
@@ -81,7 +81,7 @@ class Agent(Uncopied):
         # How many cookies were stored since the limits were looked at, and at how many it looks again.
         self.stored, self.enough = 0, min(self.limits)
         # Only one call at a time may use the handle.
-        self.lock = threading.Lock()
+        self.lock = Lock()
         self.core = Core(self.suffixes)
 
     def __enter__(self) -> Agent:

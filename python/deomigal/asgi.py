@@ -5,14 +5,15 @@
     app.add_middleware(SessionMiddleware, secret_key=SECRET_KEY, https_only=True)
 
 `request.session` is a dict as with Starlette's own middleware, whose arguments come first. `session_of(request)` is the
-same, with the type that has `renew`.
+same, with the type that has `renew`. The event loop doesn't wait for revocations: those whose calls are coroutines are
+awaited, such as `AsyncRedisRevocations`, and others are called in a worker thread. `await session.arevoke()` doesn't either.
 """
 from __future__ import annotations
 
 from typing import Any, Awaitable, Callable, Mapping, MutableMapping
 
-from .errors import RevocationsError
-from .values import UNAVAILABLE, UNAVAILABLE_FIELDS, CookieSession, Middleware, session_at
+from .errors import RevocationsError, TooLarge
+from .values import UNAVAILABLE, UNAVAILABLE_FIELDS, CookieSession, Middleware, log_failure, session_at
 
 __all__ = ["CookieSession", "SessionMiddleware", "session_of"]
 Message = MutableMapping[str, Any]
@@ -37,18 +38,24 @@ class SessionMiddleware(Middleware):
 
         async def send_with_cookie(message: Message) -> None:
             nonlocal is_begun
-            is_begun = True
             if message["type"] == "http.response.start":
                 message = {**message, "headers": [*message.get("headers", ()), *lines(self.fields(session, scope.get("session")))]}
+            is_begun = True
             await send(message)
 
         try:
-            session = scope["session"] = self.open_session(header)
+            session = scope["session"] = self.session_from(await self.sessions.aopen(header, self.clock()))
             await self.app(scope, receive, send_with_cookie)
-        except RevocationsError:
+        except RevocationsError as error:
             if is_begun:
                 raise
+            log_failure(error)
             await refuse(scope["type"], send)
+        except Exception as error:
+            # Starlette raises another one, if the application has a handler of this one.
+            if is_begun or self.too_large is None or TooLarge not in (type(error), type(error.__cause__)):
+                raise
+            await self.too_large(scope, receive, send)
 
 
 def lines(fields: list[tuple[str, str]]) -> list[tuple[bytes, bytes]]:

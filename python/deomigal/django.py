@@ -10,19 +10,21 @@ from __future__ import annotations
 
 import datetime
 import re
-import time
+import sys
 from typing import Any
 
 from django.conf import settings
+from django.contrib.auth.signals import user_logged_in
 from django.contrib.sessions.backends.base import SessionBase
 from django.contrib.sessions.middleware import SessionMiddleware as DjangoMiddleware
+from django.core.signals import got_request_exception
 from django.http import HttpResponse
 
 from .cookies import pairs, print_cookie
 from .errors import RevocationsError
 from .secrets import keys_of
 from .sessions import Session, Sessions
-from .values import UNAVAILABLE, UNAVAILABLE_FIELDS, pack, unpack
+from .values import UNAVAILABLE, UNAVAILABLE_FIELDS, log_failure, pack, unpack
 from .wsgi import header_in
 
 SALT = "deomigal.django"
@@ -67,14 +69,20 @@ def session_of(key: str) -> Session:
 
 
 class SessionStore(SessionBase):
-    """A session, whose key is the value of its cookie. `kept` is the session that it was opened from."""
+    """A session, whose key is the value of its cookie. `source` is the session that it was opened from. `failure` is why it
+    couldn't be opened, or the error of its revocations that no view answered."""
 
     source: Session | None = None
+    failure: RevocationsError | None = None
     _session_cache: dict[str, Any]
 
     def load(self) -> dict[str, Any]:
         """The values of the session, or none if the cookie holds no session that is open."""
-        self.source = session_of(self.session_key or "")
+        try:
+            self.source = session_of(self.session_key or "")
+        except RevocationsError as error:
+            self.failure = error
+            raise
         if not self.source.is_new:
             try:
                 values: dict[str, Any] = self.serializer().loads(unpack(self.source))
@@ -150,34 +158,66 @@ class SessionMiddleware(DjangoMiddleware):
         # Settings that no session could be saved with are refused now.
         site()
 
-    def process_request(self, request: Any) -> Any:
-        """Opens the session of the request, or answers with status 503."""
+    def __call__(self, request: Any) -> Any:
+        """The response, or one with status 503."""
+        try:
+            return super().__call__(request)
+        except RevocationsError as error:
+            return Unavailable(error)
+
+    async def __acall__(self, request: Any) -> Any:
+        """The same under ASGI."""
+        try:
+            return await super().__acall__(request)
+        except RevocationsError as error:
+            return Unavailable(error)
+
+    def process_request(self, request: Any) -> None:
+        """Opens the session of the request."""
         name = settings.SESSION_COOKIE_NAME
         keys = [value for found, value in pairs(header_in(request.META)) if found == name] or [""]
         # Of several the last counts if none is open, so that Django drops it.
-        try:
-            request.session = self.SessionStore(next((key for key in keys[:-1] if not session_of(key).is_new), keys[-1]))
-        except RevocationsError:
-            return Unavailable()
-        return None
+        request.session = self.SessionStore(next((key for key in keys[:-1] if not session_of(key).is_new), keys[-1]))
 
     def process_exception(self, request: Any, exception: Exception) -> Any:
         """Answers a view whose session couldn't be looked up, or not be revoked."""
-        return Unavailable() if isinstance(exception, RevocationsError) else None
+        return Unavailable(exception) if isinstance(exception, RevocationsError) else None
 
     def process_response(self, request: Any, response: Any) -> Any:
-        """Saves the session in the response."""
-        return response if isinstance(response, Unavailable) else super().process_response(request, response)
+        """Saves the session in the response. In the place of an error page that Django made of such an error, or of a page
+        that took the session for empty, this is the answer."""
+        if isinstance(response, Unavailable):
+            return response
+        failure = getattr(getattr(request, "session", None), "failure", None)
+        return Unavailable(failure) if failure else super().process_response(request, response)
 
 
 class Unavailable(HttpResponse):
     """The answer if it isn't known whether a session is revoked. No session is saved in it."""
 
-    def __init__(self) -> None:
+    def __init__(self, error: RevocationsError) -> None:
         super().__init__(UNAVAILABLE, status=503)
         for name, value in UNAVAILABLE_FIELDS:
             self[name] = value
+        log_failure(error)
 
+
+def cycle_at_login(request: Any, **_: Any) -> None:
+    """Starts the session anew at a login of the user whose session it is. At another one Django does."""
+    session = getattr(request, "session", None)
+    if isinstance(session, SessionStore) and session.source and not session.source.is_renewed:
+        session.cycle_key()
+
+
+def note_failure(request: Any, **_: Any) -> None:
+    """Notes an error of the revocations that left a middleware, before Django makes a page of it."""
+    error, session = sys.exc_info()[1], getattr(request, "session", None)
+    if isinstance(session, SessionStore) and isinstance(error, RevocationsError):
+        session.failure = error
+
+
+user_logged_in.connect(cycle_at_login)
+got_request_exception.connect(note_failure)
 
 if settings.configured:
     # Django's own middleware reads this file when the site starts.

@@ -7,181 +7,128 @@ class CookieError(ValueError):
 
     status = 0
 
+    def __init_subclass__(cls, status: int | None = None) -> None:
+        cls.status = cls.status if status is None else status
 
-class BufferTooShort(CookieError):
+
+class BufferTooShort(CookieError, status=1):
     """The text is longer than the buffer. The calls of this package choose their buffers, so none of them raises it."""
 
-    status = 1
 
-
-class OutOfMemory(CookieError, MemoryError):
+class OutOfMemory(CookieError, MemoryError, status=2):
     """Memory ran out."""
 
-    status = 2
 
-
-class NotUtf8(CookieError):
+class NotUtf8(CookieError, status=3):
     """A text isn't UTF-8."""
 
-    status = 3
 
-
-class KeyTooShort(CookieError):
+class KeyTooShort(CookieError, status=4):
     """The key has fewer than 64 bytes."""
 
-    status = 4
 
-
-class MasterTooShort(CookieError):
+class MasterTooShort(CookieError, status=5):
     """The master key has fewer than 32 bytes."""
 
-    status = 5
 
-
-class BadNonce(CookieError):
+class BadNonce(CookieError, status=6):
     """The nonce doesn't have twelve bytes, or the id of a session sixteen."""
 
-    status = 6
 
-
-class NotSigned(CookieError):
+class NotSigned(CookieError, status=7):
     """The value isn't signed under the key and the name. `verify` returns None instead."""
 
-    status = 7
 
-
-class NotSealed(CookieError):
+class NotSealed(CookieError, status=8):
     """The value isn't sealed under the key and the name. `open_sealed` returns None instead."""
 
-    status = 8
 
-
-class TooLong(CookieError):
+class TooLong(CookieError, status=9):
     """The name or the value is too long to be sealed (SP 800-38D 5.2.1.1)."""
 
-    status = 9
 
-
-class NoDate(CookieError):
+class NoDate(CookieError, status=10):
     """The text isn't a date, or there is no such date."""
 
-    status = 10
 
-
-class BadMoment(CookieError):
+class BadMoment(CookieError, status=11):
     """The time isn't a date of the year 100 or later."""
 
-    status = 11
 
-
-class BadLine(CookieError):
+class BadLine(CookieError, status=12):
     """A line isn't a call. `number` is the line's number, counted from 1."""
-
-    status = 12
 
     def __init__(self, *arguments: object, number: int = 0) -> None:
         super().__init__(*arguments)
         self.number = number
 
 
-class MissingPair(CookieError):
+class MissingPair(CookieError, status=13):
     """There is no `=` before the first `;`."""
 
-    status = 13
 
-
-class EmptyName(CookieError):
+class EmptyName(CookieError, status=14):
     """The name is empty."""
 
-    status = 14
 
-
-class BadEscape(CookieError):
+class BadEscape(CookieError, status=15):
     """The name or the value, decoded, isn't UTF-8."""
 
-    status = 15
 
-
-class NoPair(CookieError):
+class NoPair(CookieError, status=16):
     """The header has no more pairs."""
 
-    status = 16
 
-
-class NoJar(CookieError):
+class NoJar(CookieError, status=17):
     """The jar was freed."""
 
-    status = 17
 
-
-class NotFound(CookieError):
+class NotFound(CookieError, status=18):
     """The jar has no cookie of that name. `Jar.get` returns None instead."""
 
-    status = 18
 
-
-class BadAttribute(CookieError):
+class BadAttribute(CookieError, status=19):
     """An attribute has an undefined value."""
 
-    status = 19
 
-
-class NoSession(CookieError):
+class NoSession(CookieError, status=20):
     """The request has no open session. `Sessions.open` returns a new one instead."""
 
-    status = 20
 
-
-class BadPrefix(CookieError):
+class BadPrefix(CookieError, status=21):
     """The cookie lacks what a browser requires for the prefix of its name (RFC 6265bis 4.1.3)."""
 
-    status = 21
 
-
-class Over(CookieError):
+class Over(CookieError, status=22):
     """The session would be over as soon as it is saved. A limit is 0."""
 
-    status = 22
 
-
-class TooLarge(CookieError):
+class TooLarge(CookieError, status=23):
     """No browser would store the cookie (RFC 6265bis 5.7). `size` is the bytes of its name and value, above 4,096."""
-
-    status = 23
 
     def __init__(self, *arguments: object, size: int = 0) -> None:
         super().__init__(*arguments)
         self.size = size
 
 
-class InvalidValue(CookieError):
+class InvalidValue(CookieError, status=24):
     """A path or a domain holds a control character, such as a line break, or a `;` (RFC 6265 4.1.1)."""
 
-    status = 24
 
-
-class BadIds(CookieError):
+class BadIds(CookieError, status=25):
     """The ids of the revoked sessions don't have sixteen bytes each. No call of this package raises it."""
 
-    status = 25
 
-
-class NoSessions(CookieError):
+class NoSessions(CookieError, status=26):
     """The handle has no sessions of a site. No call of this package raises it."""
 
-    status = 26
 
-
-class NoSuffixes(CookieError):
+class NoSuffixes(CookieError, status=27):
     """The handle has no list of public suffixes. No call of this package raises it."""
 
-    status = 27
 
-
-class NoAgent(CookieError):
+class NoAgent(CookieError, status=28):
     """The handle has no user agent. No call of this package raises it."""
-
-    status = 28
 
 
 class RevocationsError(RuntimeError):

@@ -5,12 +5,12 @@ import ctypes
 import datetime
 import functools
 import pathlib
-import threading
 from typing import NamedTuple
 
 from ._library import (
     DONE, HANDLE, SECOND, SUFFIXES_FREE, SUFFIXES_NEW, TEXT, Place, bytes_of, declare, perform, handle_of,
 )
+from ._locks import Lock
 from .addresses import Address, address_of
 from .cookies import RULES
 from .dates import print_date, whole_second
@@ -73,7 +73,7 @@ class Suffixes:
     def __init__(self, text: bytes) -> None:
         self.handle = handle_of(self, SUFFIXES_FREE)
         # Only one call at a time may use the handle.
-        self.lock = threading.Lock()
+        self.lock = Lock()
         perform(SUFFIXES_NEW, text, self.handle)
 
 

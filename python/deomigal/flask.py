@@ -28,13 +28,15 @@ from .errors import RevocationsError
 from .revocations import Revocations
 from .secrets import keys_of
 from .sessions import Session, Sessions
-from .values import CODER, with_expiry
+from .values import CODER, log_failure, with_expiry
 
 # Where a request's environment has the session that was opened for it, since to read `flask.session` counts as its use; and
 # where the application's extensions have the interface.
 KEY = "deomigal.flask.session"
 # The types of values that don't change within.
 CONSTANT = (str, int, float, bool, bytes, type(None))
+# What Flask-Login keeps in the session for the end of a request: what to do with the cookie that remembers a user.
+REMEMBER = "_remember"
 
 
 class Unavailable(RevocationsError, ServiceUnavailable):
@@ -43,6 +45,7 @@ class Unavailable(RevocationsError, ServiceUnavailable):
     def __init__(self, error: RevocationsError) -> None:
         ServiceUnavailable.__init__(self, retry_after=1)
         self.args = error.args
+        log_failure(error)
 
 
 class FlaskSession(SecureCookieSession):
@@ -60,6 +63,8 @@ class FlaskSession(SecureCookieSession):
         self.serializer, self.opened, self.loaded = serializer, dict(source.texts), dict(values)
         # The texts that were saved last, and the cookie's text, or None if it was too large.
         self.saved: tuple[dict[str, str], str | None] | None = None
+        # Whether it couldn't be revoked. Then the browser keeps what it has.
+        self.is_failed = False
 
     def items(self) -> Any:
         """Its names and values. Flask's own doesn't count that as a use."""
@@ -107,12 +112,23 @@ class FlaskSession(SecureCookieSession):
 
     def revoke(self) -> None:
         """Revokes it, and then clears it. Call it at a logout: no copy of its cookie opens any more, whenever it was
-        saved. Raises `RevocationsError` if that can't be kept, or if the interface has no `revocations`."""
+        saved. Raises `RevocationsError` if that can't be kept, and `RuntimeError` if the interface has no `revocations`.
+        """
+        self.end()
+        is_forgotten = self.get(REMEMBER) == "clear"
+        self.clear()
+        if is_forgotten:
+            # So Flask-Login drops the cookie that would log the user in again.
+            self[REMEMBER] = "clear"
+
+    def end(self) -> None:
+        """Revokes it, and starts it anew with the same values."""
         try:
             self.sessions.revoke(self.source)
         except RevocationsError as error:
+            self.is_failed = True
             raise Unavailable(error) from error
-        self.clear()
+        self.renew()
 
     def check(self) -> None:
         """Raises `TooLarge` if no browser would store the session as it is now. It is checked so after each view, if
@@ -219,7 +235,7 @@ class SessionInterface(FlaskSessionInterface):
     `errorhandler(RevocationsError)`. With `compress` a session is saved compressed: see `deomigal.Sessions` for when not
     to.
 
-    With Flask-Login each login starts the session anew.
+    With Flask-Login each login starts the session anew, and with `revocations` each logout revokes it.
     """
 
     session_class = FlaskSession
@@ -239,7 +255,7 @@ class SessionInterface(FlaskSessionInterface):
         self.revocations, self.compress = revocations, compress
         # The last settings, and the sessions that they make.
         self.latest: tuple[Any, Sessions] | None = None
-        connect_to_logins(self.renew_at_login)
+        connect_to_logins(self.renew_at_login, self.end_at_logout)
 
     def init_app(self, app: Flask) -> None:
         """Has the application keep its sessions so, and check after each view that a browser would store what it left.
@@ -364,6 +380,8 @@ class SessionInterface(FlaskSessionInterface):
 
     def text_of(self, app: Flask, session: FlaskSession) -> str | None:
         """The text of the cookie that saves the session or has it dropped, or None."""
+        if session.is_failed:
+            return None
         if not session:
             return session.sessions.end(session.source.now) if session.modified else None
         if not self.should_set_cookie(app, session) or session.is_refused():
@@ -376,18 +394,25 @@ class SessionInterface(FlaskSessionInterface):
         if app.session_interface is self and isinstance(opened, FlaskSession):
             opened.renew()
 
+    def end_at_logout(self, app: Flask, **_: Any) -> None:
+        """Revokes the session at a logout, if this keeps the application's sessions and which are revoked."""
+        opened = opened_session()
+        if app.session_interface is self and isinstance(opened, FlaskSession) and self.revocations is not None:
+            opened.end()
+
 
 def opened_session() -> SessionMixin | None:
     """The session that was opened for the request, if any."""
     return cast("SessionMixin | None", flask.request.environ.get(KEY))
 
 
-def connect_to_logins(receiver: Callable[..., None]) -> None:
-    """Has it called at each login by Flask-Login, if that is installed, and blinker, which its signals need."""
+def connect_to_logins(login: Callable[..., None], logout: Callable[..., None]) -> None:
+    """Has them called at each login and logout by Flask-Login, if that is installed, and blinker, which its signals need."""
     try:
-        from flask_login import user_logged_in
+        from flask_login import user_logged_in, user_logged_out
 
-        user_logged_in.connect(receiver)
+        user_logged_in.connect(login)
+        user_logged_out.connect(logout)
     except (ImportError, RuntimeError):
         pass
 

@@ -2,7 +2,6 @@
 from __future__ import annotations
 
 import datetime
-import threading
 from typing import Iterator
 from urllib.parse import unquote
 
@@ -10,6 +9,7 @@ from ._library import (
     JAR_ADD, JAR_ADD_ORIGINALS, JAR_COOKIES, JAR_DELTA, JAR_FREE, JAR_GET, JAR_NEW, JAR_REMOVE_SCOPED, RUN, Uncopied,
     perform, bytes_from, handle_of, header_of, seeds, text_or_none,
 )
+from ._locks import Lock
 from .dates import print_date
 from .errors import NotFound
 
@@ -31,7 +31,7 @@ class Jar(Uncopied):
     def __init__(self, header: str | bytes | None = None) -> None:
         self.handle = handle_of(self, JAR_FREE)
         # Only one call at a time may use the handle.
-        self.lock = threading.Lock()
+        self.lock = Lock()
         originals = header_of(header)
         perform(JAR_NEW, *seeds(), self.handle)
         perform(JAR_ADD_ORIGINALS, self.handle, originals)

@@ -7,17 +7,28 @@ while. Whatever one of these raises, `Sessions` raises as `RevocationsError`, an
 """
 from __future__ import annotations
 
+import contextlib
 import os
+import pathlib
 import sqlite3
-import threading
 import time
-from typing import Any, Callable, Protocol, TypeVar
+import weakref
+from typing import Any, Iterable, Iterator, Protocol
 
+from ._locks import Lock
+from ._steps import Steps, run, run_async
 from .errors import RevocationsError
 
 ID_LENGTH = 16
 TABLE = "CREATE TABLE revoked (id BLOB NOT NULL, until INTEGER NOT NULL, PRIMARY KEY (id, until)) STRICT"
-T = TypeVar("T")
+# How many connections to an SQLite file a process has. Each has the file open and its log.
+CONNECTIONS = 3
+# How many seconds a transaction that forgets is to take at most.
+LONGEST = 0.05
+# Opens a path, but not its file. PyPy has no name for it.
+PATH_ONLY = getattr(os, "O_PATH", 0o10000000)
+# How many seconds longer Redis keeps a key, whose clock may be ahead.
+SLACK = 3600
 
 
 class Revocations(Protocol):
@@ -36,6 +47,16 @@ class Revocations(Protocol):
         """Forgets each session whose second isn't after `now`. It is over then."""
 
 
+class AsyncRevocations(Protocol):
+    """The same with calls that are coroutines, for `deomigal.asgi` and `Sessions.aopen`."""
+
+    async def is_revoked(self, id: bytes) -> bool:
+        """Whether the session with this id is revoked."""
+
+    async def revoke(self, id: bytes, until: int) -> None:
+        """Revokes the session with this id until that second, or a later one."""
+
+
 def id_of(id: bytes) -> bytes:
     """The id's bytes, or an error if it isn't an id."""
     if not isinstance(id, bytes):
@@ -43,6 +64,17 @@ def id_of(id: bytes) -> bytes:
     if len(id) != ID_LENGTH:
         raise ValueError(f"an id has {ID_LENGTH} bytes, and not {len(id)}")
     return id
+
+
+@contextlib.contextmanager
+def as_revocations_error(what: str) -> Iterator[None]:
+    """Raises what is raised within as `RevocationsError`."""
+    try:
+        yield
+    except RevocationsError:
+        raise
+    except Exception as error:
+        raise RevocationsError(f"{what}: {error!r}") from error
 
 
 class MemoryRevocations:
@@ -59,7 +91,7 @@ class MemoryRevocations:
     """
 
     def __init__(self) -> None:
-        self.lock = threading.Lock()
+        self.lock = Lock()
         self.until: dict[bytes, int] = {}
 
     def is_revoked(self, id: bytes) -> bool:
@@ -72,127 +104,198 @@ class MemoryRevocations:
             self.until[id_of(id)] = max(until, self.until.get(id, until))
 
     def forget(self, now: float) -> None:
-        """Forgets each session whose second isn\'t after `now`."""
+        """Forgets each session whose second isn't after `now`."""
         with self.lock:
             self.until = {id: until for id, until in self.until.items() if until > now}
 
 
-class SqliteRevocations:
-    """Keeps them in an SQLite file of their own. Threads and processes of one machine share it. A call waits for
-    another process for at most `timeout` seconds. What was revoked is on the disk when `revoke` returns.
+class Connection(Lock):
+    """A connection to an SQLite file, for one thread at a time. It is opened at a statement, and closed before a fork."""
 
-    An empty or missing file gets the table. Raises `RevocationsError` if the file can't be opened or written, isn't a
-    database, or has another table, and if this Python's SQLite is older than 3.37.
+    def __init__(self, path: str, timeout: float) -> None:
+        super().__init__()
+        self.path, self.timeout, self.process = path, timeout, 0
+        self.opened: sqlite3.Connection | None = None
+
+    def open(self) -> sqlite3.Connection:
+        """Opens it, if it isn't open."""
+        if self.opened is not None and self.process != os.getpid():
+            # After a fork that Python doesn't know of, the child leaves the parent's connection as it is.
+            LEFT.append(self.opened)
+            self.opened = None
+        if self.opened is None:
+            self.process, self.opened = os.getpid(), connect(self.path, self.timeout)
+        return self.opened
+
+    def close(self) -> None:
+        """Closes it, if this process opened it."""
+        with self:
+            if self.opened is not None and self.process == os.getpid():
+                self.opened.close()
+                self.opened = None
+
+    before_fork = close
+
+
+# Connections that a fork carried along.
+LEFT: list[sqlite3.Connection] = []
+
+
+def connect(path: str, timeout: float, create: bool = False) -> sqlite3.Connection:
+    """A new connection, over a file that has the table. SQLite doesn't wait for another process that switches a new file
+    to WAL at the same time, or closes it, so this does."""
+    end = time.monotonic() + timeout
+    while True:
+        try:
+            return open_connection(path, timeout, create)
+        except sqlite3.OperationalError as error:
+            if "locked" not in str(error) or time.monotonic() > end:
+                raise
+        time.sleep(0.01)
+
+
+def open_connection(path: str, timeout: float, create: bool) -> sqlite3.Connection:
+    """A new connection, over a file that has the table."""
+    uri = f"{pathlib.Path(path).as_uri()}?mode={'rwc' if create else 'rw'}"
+    connection = sqlite3.connect(uri, timeout=timeout, isolation_level=None, check_same_thread=False, uri=True)
+    try:
+        rows(connection, "PRAGMA journal_mode = WAL")
+        rows(connection, "PRAGMA synchronous = FULL")
+        if create and not tables(connection):
+            # Another process may make it meanwhile.
+            rows(connection, TABLE.replace("TABLE", "TABLE IF NOT EXISTS"))
+        if tables(connection) != [TABLE]:
+            raise RevocationsError("it has other tables than that of revoked sessions")
+    except BaseException:
+        connection.close()
+        raise
+    return connection
+
+
+def rows(connection: sqlite3.Connection, statement: str, *values: Any) -> list[Any]:
+    """The rows of a statement. Its transaction ends with its cursor, which PyPy doesn't close by itself."""
+    cursor = connection.execute(statement, values)
+    try:
+        return cursor.fetchall()
+    finally:
+        cursor.close()
+
+
+def tables(connection: sqlite3.Connection) -> list[str]:
+    """What made the tables, views, indexes and triggers of the file."""
+    return [" ".join(text.split()) for text, in rows(connection, "SELECT sql FROM sqlite_master WHERE sql NOT NULL")]
+
+
+def close_all(connections: Iterable[Connection]) -> None:
+    """Closes each connection."""
+    for connection in connections:
+        connection.close()
+
+
+class SqliteRevocations:
+    """Keeps them in an SQLite file of their own. Threads and processes of one machine share it. What was revoked is on the
+    disk when `revoke` returns. A call waits for at most `timeout` seconds for another process, and as long for one of the
+    three connections that a process has. A fork waits for the calls of other threads, and carries no connection along.
+
+    An empty or missing file gets the table, unless `create` is false. Raises `RevocationsError` if the file can't be
+    opened or written, isn't a database, or has another table, and if this Python's SQLite is older than 3.37. Each call
+    raises it if the file is gone from its path or another one is there, until it is back.
 
     >>> import tempfile
     >>> folder = tempfile.TemporaryDirectory()
     >>> revocations = SqliteRevocations(folder.name + "/revoked")
     >>> revocations.revoke(b"an id of 16 byte", until=1445412480)
-    >>> SqliteRevocations(folder.name + "/revoked").is_revoked(b"an id of 16 byte")
+    >>> SqliteRevocations(folder.name + "/revoked", create=False).is_revoked(b"an id of 16 byte")
     True
     >>> revocations.close()
     >>> folder.cleanup()
     """
 
-    def __init__(self, path: str | os.PathLike[str], timeout: float = 2.0) -> None:
+    def __init__(self, path: str | os.PathLike[str], timeout: float = 2.0, *, create: bool = True) -> None:
         if sqlite3.sqlite_version_info < (3, 37):
             raise RevocationsError(f"SQLite {sqlite3.sqlite_version} is older than 3.37, the first with STRICT tables")
-        self.path, self.timeout = os.fspath(path), timeout
-        # A connection is used by the thread and the process that made it.
-        self.local = threading.local()
-        self.with_connection(lambda connection: None)
+        self.path, self.timeout = os.path.abspath(path), timeout
+        self.connections = [Connection(self.path, timeout) for _ in range(CONNECTIONS)]
+        weakref.finalize(self, close_all, self.connections)
+        with as_revocations_error(f"the file {self.path} of revoked sessions"):
+            if create:
+                connect(self.path, timeout, create).close()
+            # As long as it is open, no other file has this one's number. To close it leaves SQLite's locks as they are.
+            file = os.open(self.path, PATH_ONLY)
+            weakref.finalize(self, os.close, file)
+            self.found = os.fstat(file)
+            self.read("SELECT 1 FROM revoked LIMIT 0")
+        # A process that forks before its first request has none to close.
+        self.close()
 
-    def with_connection(self, call: Callable[[sqlite3.Connection], T]) -> T:
-        """What the call returns for this thread's connection. An error of SQLite is one of these."""
+    def read(self, statement: str, *values: Any) -> list[Any]:
+        """The rows of a statement that only reads."""
+        return self.perform(self.connections, statement, *values)
+
+    def write(self, statement: str, *values: Any) -> None:
+        """Makes a statement, which is a transaction. The first connection is left to those that read: they wait for none."""
+        self.perform(self.connections[1:], statement, *values)
+
+    def perform(self, connections: list[Connection], statement: str, *values: Any) -> list[Any]:
+        """The rows of a statement by one of the connections, if the file is still at its path afterwards."""
+        connection = self.free_one(connections)
         try:
-            return call(self.connection())
-        except (sqlite3.Error, OverflowError) as error:
-            raise RevocationsError(f"the file {self.path} of revoked sessions: {error}") from error
-
-    def connection(self) -> sqlite3.Connection:
-        """The connection of this thread."""
-        opened: tuple[int, sqlite3.Connection] | None = getattr(self.local, "opened", None)
-        if opened is None or opened[0] != os.getpid():
-            self.local.opened = opened = (os.getpid(), self.connect())
-        return opened[1]
-
-    def connect(self) -> sqlite3.Connection:
-        """A new connection, over a file that has the table. SQLite doesn't wait for another process that switches a new
-        file to WAL at the same time, so this does."""
-        end = time.monotonic() + self.timeout
-        while True:
-            try:
-                return self.open_connection()
-            except sqlite3.OperationalError as error:
-                if "locked" not in str(error) or time.monotonic() > end:
-                    raise
-            time.sleep(0.01)
-
-    def open_connection(self) -> sqlite3.Connection:
-        """A new connection, over a file that has the table."""
-        connection = sqlite3.connect(self.path, timeout=self.timeout, isolation_level=None)
-        try:
-            connection.execute("PRAGMA journal_mode = WAL")
-            connection.execute("PRAGMA synchronous = FULL")
-            self.make_table(connection)
-        except BaseException:
+            if connection.opened is None:
+                self.check_file()
+            found = rows(connection.open(), statement, *values)
+            self.check_file()
+            return found
+        except BaseException as error:
+            # It may be one to another file.
             connection.close()
-            raise
-        return connection
-
-    def make_table(self, connection: sqlite3.Connection) -> None:
-        """Makes the table in an empty file. Refuses a file that has another one."""
-        if not self.tables(connection):
-            connection.execute("BEGIN IMMEDIATE")
-            try:
-                # Another process may have made it meanwhile.
-                if not self.tables(connection):
-                    connection.execute(TABLE)
-                connection.execute("COMMIT")
-            except BaseException:
-                connection.execute("ROLLBACK")
+            if not isinstance(error, Exception):
                 raise
-        if self.tables(connection) != [TABLE]:
-            raise RevocationsError(f"the file {self.path} has other tables than that of revoked sessions")
+            raise RevocationsError(f"the file {self.path} of revoked sessions: {error!r}") from error
+        finally:
+            connection.inner.release()
 
-    @staticmethod
-    def tables(connection: sqlite3.Connection) -> list[str]:
-        """What made the tables, views, indexes and triggers of the file."""
-        rows = connection.execute("SELECT sql FROM sqlite_master WHERE sql NOT NULL")
-        return [" ".join(text.split()) for text, in rows]
+    def free_one(self, connections: list[Connection]) -> Connection:
+        """Enters a connection that no other thread is in. Waits for the first if there is none."""
+        for connection in connections:
+            if connection.inner.acquire(False):
+                return connection
+        if not connections[0].inner.acquire(timeout=self.timeout):
+            raise RevocationsError(f"no connection to the file {self.path} was free for {self.timeout} seconds")
+        return connections[0]
+
+    def check_file(self) -> None:
+        """Raises an error if the file at the path isn't the one that was opened first."""
+        if not os.path.samestat(os.stat(self.path), self.found):
+            raise FileNotFoundError("another file is at its path")
 
     def is_revoked(self, id: bytes) -> bool:
         """Whether the session with this id is revoked."""
-        statement, id = "SELECT 1 FROM revoked WHERE id = ? LIMIT 1", id_of(id)
-        return self.with_connection(lambda connection: connection.execute(statement, [id]).fetchone() is not None)
+        return bool(self.read("SELECT 1 FROM revoked WHERE id = ? LIMIT 1", id_of(id)))
 
     def revoke(self, id: bytes, until: int) -> None:
         """Revokes the session with this id until that second, or a later one."""
-        statement = "INSERT INTO revoked SELECT ?1, ?2"
-        statement += " WHERE NOT EXISTS (SELECT 1 FROM revoked WHERE id = ?1 AND until >= ?2)"
-        id = id_of(id)
-        self.with_connection(lambda connection: connection.execute(statement, [id, until]))
+        statement = "INSERT INTO revoked SELECT ?, ? WHERE NOT EXISTS (SELECT 1 FROM revoked WHERE id = ? AND until >= ?)"
+        self.write(statement, id_of(id), until, id, until)
 
     def forget(self, now: float) -> None:
-        """Forgets each session whose second isn\'t after `now`."""
-        self.with_connection(lambda connection: connection.execute("DELETE FROM revoked WHERE until <= ?", [int(now)]))
+        """Forgets each session whose second isn't after `now`, in transactions of at most some 50 ms. Between them it
+        waits as long, so that others write."""
+        last, count = -(2**63), 100
+        batch = "SELECT max(rowid) FROM (SELECT rowid FROM revoked WHERE rowid > ? ORDER BY rowid LIMIT ?)"
+        while (end := self.read(batch, last, count)[0][0]) is not None:
+            begun = time.monotonic()
+            self.write("DELETE FROM revoked WHERE rowid > ? AND rowid <= ? AND until <= ?", last, end, int(now))
+            seconds, last = time.monotonic() - begun, end
+            count = max(1, count // 2) if seconds > LONGEST / 3 else 2 * count if seconds < LONGEST / 10 else count
+            time.sleep(seconds)
 
     def close(self) -> None:
-        """Closes the connection of this thread. The next call opens another one."""
-        opened: tuple[int, sqlite3.Connection] | None = getattr(self.local, "opened", None)
-        if opened is not None and opened[0] == os.getpid():
-            opened[1].close()
-        self.local.opened = None
+        """Closes the connections of this process. The next call opens another one."""
+        close_all(self.connections)
 
 
-class RedisRevocations:
-    """Keeps them in Redis or Valkey, so that the servers of many machines share them. `client` has redis-py's calls
-    `exists`, `set` with `nx` and `exat`, and `expireat` with `gt`, which Redis has from 7.0 on. Give it a time limit,
-    such as `redis.Redis(socket_timeout=2)`. Each key begins with `prefix`. Redis forgets it by its own clock.
-
-    Redis must keep what it was told: run it with `appendonly yes`, `appendfsync always` and
-    `maxmemory-policy noeviction`. What a primary hadn't yet copied to a replica is lost if the replica takes over.
-    """
+class RedisCommands:
+    """The commands of Redis for revoked sessions, as steps that are each a call of the client."""
 
     def __init__(self, client: Any, prefix: str = "revoked:") -> None:
         self.client, self.prefix = client, prefix
@@ -201,18 +304,70 @@ class RedisRevocations:
         """The key of the id in Redis."""
         return self.prefix + id_of(id).hex()
 
+    def looking_up(self, id: bytes) -> Steps[bool]:
+        """Looks up whether the session with this id is revoked."""
+        key = self.key(id)
+        return bool(outcome((yield lambda: self.client.exists(key)), 0, 1))
+
+    def revoking(self, id: bytes, until: int) -> Steps[None]:
+        """Revokes the session with this id until that second, or a later one. Between two commands the key may expire."""
+        key, end = self.key(id), until + SLACK
+        for _ in range(3):
+            if outcome((yield lambda: self.client.set(key, b"", nx=True, exat=end)), True, None):
+                return
+            if outcome((yield lambda: self.client.expireat(key, end, gt=True)), 0, 1):
+                return
+            # Of a key without an end it is -1, and of none -2.
+            expires = yield lambda: self.client.expiretime(key)
+            if isinstance(expires, int) and (expires == -1 or expires >= end):
+                return
+        raise RevocationsError("Redis doesn't keep the key of a revoked session")
+
+
+def called(command: Any) -> Any:
+    """What a command returns."""
+    return command()
+
+
+def outcome(found: Any, *known: Any) -> Any:
+    """What a command of Redis returned, which is one of these."""
+    if found not in known:
+        raise RevocationsError(f"Redis returned {found!r}")
+    return found
+
+
+class RedisRevocations(RedisCommands):
+    """Keeps them in Redis or Valkey, so that the servers of many machines share them. `client` has redis-py's calls
+    `exists`, `set` with `nx` and `exat`, `expireat` with `gt`, and `expiretime`, which Redis has from 7.0 on. Give it a
+    time limit, such as `redis.Redis(socket_timeout=2)`. Each key begins with `prefix`. Redis forgets it by its own clock,
+    an hour after its second.
+
+    Redis must keep what it was told: run it with `appendonly yes`, `appendfsync always` and
+    `maxmemory-policy noeviction`. What a primary hadn't yet copied to a replica is lost if the replica takes over.
+    """
+
     def is_revoked(self, id: bytes) -> bool:
         """Whether the session with this id is revoked."""
-        found = self.client.exists(self.key(id))
-        if found not in (0, 1):
-            raise RevocationsError(f"`exists` returned {found!r}, which is no number of keys")
-        return bool(found)
+        return run(self.looking_up(id), called)
 
     def revoke(self, id: bytes, until: int) -> None:
         """Revokes the session with this id until that second, or a later one."""
-        if not self.client.set(self.key(id), b"", nx=True, exat=until):
-            # It is revoked already: the later second counts.
-            self.client.expireat(self.key(id), until, gt=True)
+        run(self.revoking(id, until), called)
 
     def forget(self, now: float) -> None:
-        """Does nothing: Redis forgets each key in its second."""
+        """Does nothing: Redis forgets each key by itself."""
+
+
+class AsyncRedisRevocations(RedisCommands):
+    """The same with the client of `redis.asyncio`, for `deomigal.asgi` and `Sessions.aopen`."""
+
+    async def is_revoked(self, id: bytes) -> bool:
+        """Whether the session with this id is revoked."""
+        return await run_async(self.looking_up(id), called)
+
+    async def revoke(self, id: bytes, until: int) -> None:
+        """Revokes the session with this id until that second, or a later one."""
+        await run_async(self.revoking(id, until), called)
+
+    async def forget(self, now: float) -> None:
+        """Does nothing: Redis forgets each key by itself."""

@@ -2,10 +2,9 @@
 store the cookie."""
 from __future__ import annotations
 
-import contextlib
+import inspect
 import os
-import threading
-from typing import Any, Iterator, MutableMapping, Sequence
+from typing import Any, Iterator, MutableMapping, Sequence, Union
 from urllib.parse import parse_qsl, urlencode
 
 from ._library import (
@@ -13,14 +12,17 @@ from ._library import (
     SESSION_START, SESSION_TEXTS, SESSIONS_FREE, SESSIONS_NEW, Settings, Uncopied, arguments_of, perform, bytes_from, handle_of,
     header_of, ring_of,
 )
+from ._locks import Lock
+from ._steps import Steps, in_thread, run, run_async
 from .compression import expand, shorten
 from .cookies import print_cookie
 from .dates import whole_second
 from .errors import NoSession, NotUtf8, RevocationsError, error_of
-from .revocations import ID_LENGTH, Revocations
+from .revocations import ID_LENGTH, AsyncRevocations, Revocations, as_revocations_error
 
 # Room for a cookie that a browser stores, and for the texts in it.
 ROOM = 5000
+AnyRevocations = Union[Revocations, AsyncRevocations]
 
 
 class Session(MutableMapping[str, str]):
@@ -113,7 +115,8 @@ class Sessions(Uncopied):
     a path or a domain with a control character or a `;` with `InvalidValue`, and a limit past 32 bits with
     `OverflowError`.
 
-    With `revocations`, such as `SqliteRevocations`, `revoke` ends a session in each copy of its cookie.
+    With `revocations`, such as `SqliteRevocations`, `revoke` ends a session in each copy of its cookie. In a coroutine
+    await `aopen` and `arevoke`, so that others go on while it is looked up.
 
     With `compress` a session is saved compressed, if that is shorter. Then the length of its cookie, which encryption
     doesn't hide, tells of its texts: whoever chooses one of them and sees many lengths learns a secret beside it, byte
@@ -145,7 +148,7 @@ class Sessions(Uncopied):
         http_only: bool = True,
         same_site: str | None = "Lax",
         partitioned: bool = False,
-        revocations: Revocations | None = None,
+        revocations: AnyRevocations | None = None,
         compress: bool = False,
     ) -> None:
         ring = ring_of(keys)
@@ -162,7 +165,7 @@ class Sessions(Uncopied):
         ).encode()
         self.handle = handle_of(self, SESSIONS_FREE)
         # Only one call at a time may use the handle.
-        self.lock = threading.Lock()
+        self.lock = Lock()
         perform(SESSIONS_NEW, Settings(ring, len(ring), cookie, len(cookie), lifetime, idle), self.handle)
         self.save(self.start())
 
@@ -187,12 +190,21 @@ class Sessions(Uncopied):
         >>> sessions.open(cookie, now=1445414279).is_new, sessions.open(cookie, now=1445414280).is_new
         (False, True)
         """
+        return run(self.opening(header, now), self.ask)
+
+    async def aopen(self, header: str | bytes | None, now: float | None = None) -> Session:
+        """What `open` returns. Calls of the revocations that are coroutines are awaited, and others made in a worker
+        thread."""
+        return await run_async(self.opening(header, now), self.ask_async)
+
+    def opening(self, header: str | bytes | None, now: float | None) -> Steps[Session]:
+        """Opens the session in a request's header, and yields the calls of the revocations."""
         session = self.start(now)
         session.header = header_of(header)
         while (status := self.fill(session)) == DONE:
             facts = SESSION_DESCRIBE(session.handle)
             found = bytes(facts.id)
-            if not self.is_revoked(found):
+            if self.revocations is None or not is_true((yield "is_revoked", found)):
                 break
             # The next cookie of the name counts.
             session.revoked += found
@@ -217,20 +229,29 @@ class Sessions(Uncopied):
             status: int = SESSION_OPEN(*arguments_of(SESSION_OPEN, inputs))
         return status
 
-    def is_revoked(self, id: bytes) -> bool:
-        """Whether the session with this id is revoked. Raises `RevocationsError` for whatever the look-up raises."""
-        if self.revocations is None:
-            return False
-        with as_revocations_error("it can't be looked up whether a session is revoked"):
-            found = self.revocations.is_revoked(id)
-        if not isinstance(found, bool):
-            raise RevocationsError(f"is_revoked returns a bool, and not a value of the type {type(found).__name__}")
+    def ask(self, call: tuple[Any, ...]) -> Any:
+        """What this call of the revocations returns. Raises `RevocationsError` for whatever it raises."""
+        name, *words = call
+        with as_revocations_error(f"{name} of the revocations failed"):
+            found = getattr(self.revocations, name)(*words)
+        if inspect.iscoroutine(found):
+            found.close()
+            raise TypeError(f"{name} of these revocations is a coroutine: await aopen and arevoke")
         return found
+
+    async def ask_async(self, call: tuple[Any, ...]) -> Any:
+        """The same, awaited."""
+        name, *words = call
+        function = getattr(self.revocations, name)
+        with as_revocations_error(f"{name} of the revocations failed"):
+            if inspect.iscoroutinefunction(function):
+                return await function(*words)
+            return await in_thread(function, *words)
 
     def revoke(self, session: Session) -> None:
         """Revokes the session: no copy of its cookie opens any more, whenever it was saved. Call it at a logout, and
-        send what `end` returns. Without `revocations` it raises `RevocationsError`, and so it does if that can't be
-        kept: tell the user then that the logout failed.
+        send what `end` returns. Raises `RevocationsError` if that can't be kept: tell the user then that the logout
+        failed. Without `revocations` it raises `RuntimeError`.
 
         >>> from deomigal import derive_key
         >>> from deomigal.revocations import MemoryRevocations
@@ -242,11 +263,19 @@ class Sessions(Uncopied):
         >>> session.is_new, sessions.open(cookie).is_new
         (False, True)
         """
+        run(self.revoking(session), self.ask)
+
+    async def arevoke(self, session: Session) -> None:
+        """Does what `revoke` does. Calls of the revocations that are coroutines are awaited, and others made in a worker
+        thread."""
+        await run_async(self.revoking(session), self.ask_async)
+
+    def revoking(self, session: Session) -> Steps[None]:
+        """Revokes the session, and yields the calls of the revocations."""
         if self.revocations is None:
-            raise RevocationsError("these sessions can't be revoked: they have no revocations")
-        with as_revocations_error("a session can't be revoked"):
-            for id, started in list(session.starts.items()):
-                self.revocations.revoke(id, started + self.lifetime)
+            raise RuntimeError("these sessions can't be revoked: they are made without `revocations`")
+        for id, started in list(session.starts.items()):
+            yield "revoke", id, started + self.lifetime
 
     def save(self, session: Session) -> str:
         """The value of the `Set-Cookie` header that saves the session, encrypted under the newest key.
@@ -299,12 +328,8 @@ class Sessions(Uncopied):
             return bytes_from(SESSION_END, self.handle, whole_second(now)).decode()
 
 
-@contextlib.contextmanager
-def as_revocations_error(what: str) -> Iterator[None]:
-    """Raises what is raised within as `RevocationsError`."""
-    try:
-        yield
-    except RevocationsError:
-        raise
-    except Exception as error:
-        raise RevocationsError(f"{what}: {error!r}") from error
+def is_true(found: Any) -> bool:
+    """What a look-up returned. Raises `RevocationsError` if it isn't a bool."""
+    if not isinstance(found, bool):
+        raise RevocationsError(f"is_revoked returns a bool, and not a value of the type {type(found).__name__}")
+    return found

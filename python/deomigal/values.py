@@ -3,15 +3,16 @@ from __future__ import annotations
 
 import base64
 import json
+import logging
 import time
 from typing import TYPE_CHECKING, Any, Callable, Dict, Iterable, Iterator, Mapping, MutableMapping
 
 from .compression import MARKS
 from .dates import print_date
+from .errors import RevocationsError
 from .explain import date_after
-from .revocations import Revocations
 from .secrets import keys_of
-from .sessions import Session, Sessions
+from .sessions import AnyRevocations, Session, Sessions
 
 # The names of the one text that a session of values has: as it is, or in base64url.
 PLAIN, ENCODED = "j", "b"
@@ -20,10 +21,16 @@ EMPTY = b"{}"
 # What is answered if it can't be looked up whether a session is revoked (RFC 9110 15.6.4).
 UNAVAILABLE = b"Try again in a moment.\n"
 UNAVAILABLE_FIELDS = [("Content-Type", "text/plain"), ("Retry-After", "1")]
+LOG = logging.getLogger("deomigal")
 FORTNIGHT = 14 * 24 * 3600
 # How the values of a session are printed: as they are, or in ASCII, with escapes.
 CODER = json.JSONEncoder(separators=(",", ":"), ensure_ascii=False)
 ASCII_CODER = json.JSONEncoder(separators=(",", ":"))
+
+
+def log_failure(error: RevocationsError) -> None:
+    """Logs why a request is answered with status 503."""
+    LOG.error("a request is answered with status 503: %s", error)
 
 
 def pack(data: bytes) -> dict[str, str]:
@@ -160,13 +167,19 @@ class CookieSession(Mapped):
 
     def revoke(self) -> None:
         """Revokes it, and then clears it. Call it at a logout: no copy of its cookie opens any more, whenever it was
-        saved. Raises `RevocationsError` if that can't be kept, or if the middleware has no `revocations`."""
+        saved. Raises `RevocationsError` if that can't be kept, and `RuntimeError` if the middleware has no `revocations`.
+        """
         self.sessions.revoke(self.source)
+        self.clear()
+
+    async def arevoke(self) -> None:
+        """Does what `revoke` does, in a coroutine: others go on meanwhile."""
+        await self.sessions.arevoke(self.source)
         self.clear()
 
     def check(self) -> None:
         """Raises `TooLarge` if no browser would store the session as it is now. Else that is raised where the response
-        starts, and then the application can't answer it."""
+        starts."""
         data = self.json()
         if data not in (self.opened, EMPTY):
             self.save(data)
@@ -204,8 +217,9 @@ class Middleware:
     browser drops the cookie when it closes, and the session is over after 14 days. `refresh` is how many seconds after
     it was saved a session that was only read is saved again, by default a tenth of `idle`. Settings that no session
     could be saved with are refused at once. `revocations` keeps which sessions are revoked, by their `revoke`. If it
-    fails, the request is answered with status 503. With `compress` a session is saved compressed: see `Sessions` for
-    when not to.
+    fails, the request is answered with status 503, and the logger `deomigal` has the cause. `too_large` is another
+    application, which answers a request that raises `TooLarge` before its response has begun. With `compress` a session
+    is saved compressed: see `Sessions` for when not to.
     """
 
     def __init__(
@@ -226,13 +240,14 @@ class Middleware:
         idle: int | None = None,
         refresh: float | None = None,
         clock: Callable[[], float] = time.time,
-        revocations: Revocations | None = None,
+        revocations: AnyRevocations | None = None,
+        too_large: Callable[..., Any] | None = None,
         compress: bool = False,
     ) -> None:
         # Starlette's `Secret` shows its text only by `str`.
         newest: str | bytes = secret_key if isinstance(secret_key, bytes) else str(secret_key)
         lifetime = FORTNIGHT if max_age is None else max_age
-        self.app, self.clock, self.is_lasting = app, clock, max_age is not None
+        self.app, self.clock, self.is_lasting, self.too_large = app, clock, max_age is not None, too_large
         # Only with an idle time does a session need to be saved that was only read.
         self.refresh = idle / 10 if refresh is None and idle is not None else refresh
         self.sessions = Sessions(
@@ -241,9 +256,8 @@ class Middleware:
             partitioned=partitioned, revocations=revocations, compress=compress,
         )
 
-    def open_session(self, header: bytes) -> CookieSession:
-        """The session in the request's `Cookie` header, or a new one."""
-        source = self.sessions.open(header, self.clock())
+    def session_from(self, source: Session) -> CookieSession:
+        """The session of values in the session that was opened, or a new one."""
         if not source.is_new:
             try:
                 data = unpack(source)

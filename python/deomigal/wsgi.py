@@ -12,11 +12,12 @@ import sys
 from typing import Any, Callable, Iterable, Iterator, Mapping
 
 from .errors import RevocationsError, TooLarge
-from .values import UNAVAILABLE, UNAVAILABLE_FIELDS, CookieSession, Middleware, session_at
+from .values import UNAVAILABLE, UNAVAILABLE_FIELDS, CookieSession, Middleware, log_failure, session_at
 
 __all__ = ["CookieSession", "SessionMiddleware", "session_of"]
 # The session's name in the environment.
 KEY = "deomigal.session"
+Start = Callable[..., Any]
 
 
 def session_of(environ: Mapping[str, Any]) -> CookieSession:
@@ -27,9 +28,9 @@ def session_of(environ: Mapping[str, Any]) -> CookieSession:
 class SessionMiddleware(Middleware):
     """Keeps the session of a request in `environ["deomigal.session"]`, and saves it when the response starts. If it raises
     `TooLarge` there, the application may start another response with `sys.exc_info()`, which saves nothing if it does so
-    again."""
+    again. Else `too_large` answers, if it is given."""
 
-    def __call__(self, environ: dict[str, Any], start_response: Callable[..., Any]) -> Iterable[bytes]:
+    def __call__(self, environ: dict[str, Any], start_response: Start) -> Iterable[bytes]:
         is_begun = False
 
         def start_with_cookie(status: str, headers: list[tuple[str, str]], *error: Any) -> Any:
@@ -44,29 +45,38 @@ class SessionMiddleware(Middleware):
             return start_response(status, [*headers, *fields], *error)
 
         try:
-            session = environ[KEY] = self.open_session(header_in(environ))
+            session = environ[KEY] = self.session_from(self.sessions.open(header_in(environ), self.clock()))
             pages: Iterable[bytes] = self.app(environ, start_with_cookie)
-        except RevocationsError:
-            return refuse(start_response)
-        return pages if is_begun else late(pages, start_response)
+        except (RevocationsError, TooLarge) as error:
+            return self.answer(error, environ, start_response)
+        # What is sent as it is can't fail any more.
+        is_whole = hasattr(pages, "__len__") or type(pages) is environ.get("wsgi.file_wrapper")
+        return pages if is_begun and is_whole else self.watched(pages, environ, start_response)
 
+    def watched(self, pages: Iterable[bytes], environ: dict[str, Any], start_response: Start) -> Iterator[bytes]:
+        """The pages of an application that may fail when one of them is taken, such as a generator."""
+        try:
+            yield from pages
+        except (RevocationsError, TooLarge) as error:
+            yield from self.answer(error, environ, start_response)
+        finally:
+            if hasattr(pages, "close"):
+                pages.close()
 
-def refuse(start_response: Callable[..., Any]) -> list[bytes]:
-    """Answers a request whose session can't be looked up. In the place of a response that has begun, this raises the error
-    again."""
-    start_response("503 Service Unavailable", [*UNAVAILABLE_FIELDS], sys.exc_info())
-    return [UNAVAILABLE]
+    def answer(self, error: Exception, environ: dict[str, Any], start_response: Start) -> Iterable[bytes]:
+        """Answers a request in the place of the application. If its response was sent, this raises the error again."""
+        failure = sys.exc_info()
 
+        def start_again(status: str, headers: list[tuple[str, str]], *_: Any) -> Any:
+            return start_response(status, headers, failure)
 
-def late(pages: Iterable[bytes], start_response: Callable[..., Any]) -> Iterator[bytes]:
-    """The pages of an application that starts its response when the first of them is taken, such as a generator."""
-    try:
-        yield from pages
-    except RevocationsError:
-        yield from refuse(start_response)
-    finally:
-        if hasattr(pages, "close"):
-            pages.close()
+        if isinstance(error, RevocationsError):
+            start_again("503 Service Unavailable", [*UNAVAILABLE_FIELDS])
+            log_failure(error)
+            return [UNAVAILABLE]
+        if self.too_large is None:
+            raise error
+        return self.too_large(environ, start_again)  # type: ignore[no-any-return]
 
 
 def header_in(environ: Mapping[str, Any]) -> bytes:

@@ -1,5 +1,12 @@
 """What the tests share."""
+import contextlib
+import os
 import re
+import shutil
+import signal
+import subprocess
+import tempfile
+import time
 from pathlib import Path
 
 import pytest
@@ -72,6 +79,55 @@ def page(name):
     if not path.exists():
         pytest.skip(f"no {name} here")
     return path.read_text()
+
+
+class RedisServer:
+    """A server of Redis that keeps each write, over a socket in a folder."""
+
+    def __init__(self, folder):
+        self.folder, self.path = folder, os.path.join(folder, "socket")
+        self.start()
+
+    def start(self):
+        words = {"port": 0, "unixsocket": "socket", "dir": self.folder, "appendonly": "yes", "appendfsync": "always"}
+        options = [word for name, value in words.items() for word in (f"--{name}", str(value))]
+        Path(self.path).unlink(missing_ok=True)
+        self.process = subprocess.Popen(["redis-server", *options], stdout=subprocess.DEVNULL, cwd=self.folder)
+        import redis
+
+        for _ in range(200):
+            time.sleep(0.05)
+            # It reads its file first.
+            with contextlib.suppress(redis.ConnectionError):
+                if os.path.exists(self.path) and redis.Redis(unix_socket_path=self.path).ping():
+                    return
+
+    def kill(self):
+        self.process.kill()
+        self.process.wait()
+
+    @contextlib.contextmanager
+    def stopped(self):
+        """It hangs."""
+        self.process.send_signal(signal.SIGSTOP)
+        try:
+            yield
+        finally:
+            self.process.send_signal(signal.SIGCONT)
+
+
+@contextlib.contextmanager
+def redis_server():
+    """The path of its socket, and a server of Redis."""
+    pytest.importorskip("redis")
+    if not shutil.which("redis-server"):
+        pytest.skip("no redis-server")
+    with tempfile.TemporaryDirectory() as folder:
+        server = RedisServer(folder)
+        try:
+            yield server.path, server
+        finally:
+            server.kill()
 
 
 class Failing:

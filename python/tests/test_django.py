@@ -1,4 +1,5 @@
 """Facts about `deomigal.django`. tools/try-suites plays Django's own tests."""
+import asyncio
 import datetime
 import json
 from unittest import mock
@@ -11,14 +12,14 @@ pytest.importorskip("django")
 import django_site  # noqa: F401
 from deomigal import Sessions
 from deomigal import django as engine
-from deomigal.errors import BadPrefix, InvalidValue, MasterTooShort, TooLarge
+from deomigal.errors import BadPrefix, InvalidValue, MasterTooShort, RevocationsError, TooLarge
 from deomigal.revocations import MemoryRevocations
 from deomigal.secrets import derive_key
 from django.conf import settings
 from django.contrib.auth import login
 from django.contrib.auth.models import User
 from django.contrib.sessions.middleware import SessionMiddleware as DjangoMiddleware
-from django.http import JsonResponse
+from django.http import HttpResponse, JsonResponse
 from django.test import Client, RequestFactory, SimpleTestCase, override_settings
 from django.urls import re_path
 
@@ -61,6 +62,53 @@ class Broken(MemoryRevocations):
 class Full(MemoryRevocations):
     def revoke(self, id, until):
         raise OSError("the store is full")
+
+
+def swallow(request, *_, **__):
+    """Takes any error of the session for none."""
+    try:
+        request.session.get("user")
+    except Exception:
+        pass
+    return JsonResponse({})
+
+
+def told(request):
+    """Says itself that a logout failed."""
+    try:
+        request.session.flush()
+    except RevocationsError:
+        return HttpResponse("not logged out", status=500)
+    return HttpResponse("logged out")
+
+
+class Reading:
+    """A middleware that uses the session before the view."""
+
+    def __init__(self, get_response):
+        self.get_response = get_response
+
+    def __call__(self, request):
+        request.session.get("user")
+        return self.get_response(request)
+
+
+class ReadingView(Reading):
+    """One that uses it when the view is found."""
+
+    def __call__(self, request):
+        return self.get_response(request)
+
+    def process_view(self, request, *_):
+        request.session.get("user")
+
+
+class Flushing(Reading):
+    """One that logs out."""
+
+    def __call__(self, request):
+        request.session.flush()
+        return self.get_response(request)
 
 
 class EngineFacts(SimpleTestCase):
@@ -261,3 +309,69 @@ class EngineFacts(SimpleTestCase):
                             response = client.get(path, **({"HTTP_COOKIE": text} if text else {}))
                         assert response.status_code == status, (kind, path, save)
                         assert not (status == 503 and response.cookies), (kind, path)
+
+    def answers(self, paths, view=page, middleware=(), handler404=None, **words):
+        """The statuses and the logged causes of requests with a session, while the store fails."""
+        own, handlers = [*settings.MIDDLEWARE, *middleware], {"handler404": staticmethod(handler404)} if handler404 else {}
+        urls = type("Urls", (), {"urlpatterns": [re_path("^$|^flush$", view)], **handlers})
+        with override_settings(ROOT_URLCONF=urls, MIDDLEWARE=own, **words):
+            client = Client(raise_request_exception=False)
+            client.cookies["sessionid"] = self.cookie_set_by().partition("=")[2]
+            with mock.patch("time.time", lambda: NOON), self.assertLogs("deomigal") as logs:
+                found = [client.get(path) for path in paths]
+        assert not any(response.status_code == 503 and response.cookies for response in found)
+        return [response.status_code for response in found], ["the store is" in line for line in logs.output]
+
+    def test_failures_elsewhere(self):
+        """The status is 503 also if a middleware uses the session, or Django's protection of forms, or an error page, and
+        it is logged once each time with its cause."""
+        for words in (
+            {"middleware": ["test_django.Reading"]},
+            {"middleware": ["test_django.ReadingView"]},
+            {"middleware": ["django.middleware.csrf.CsrfViewMiddleware"], "CSRF_USE_SESSIONS": True},
+            {"SESSION_SAVE_EVERY_REQUEST": True},
+            {"view": swallow},
+        ):
+            statuses, causes = self.answers(["/", "/flush"], DEOMIGAL_REVOCATIONS=Broken(), **words)
+            assert (statuses, causes) == ([503] * 2, [True] * 2), words
+
+    def test_failures_at_no_page(self):
+        """So it is at a path without a page, if something uses the session there."""
+        for words in ({"middleware": ["test_django.Reading"]}, {"SESSION_SAVE_EVERY_REQUEST": True}, {"handler404": swallow}):
+            assert self.answers(["/none"], DEOMIGAL_REVOCATIONS=Broken(), **words)[0] == [503], words
+
+    def test_logout_in_a_middleware(self):
+        """A logout that fails in a middleware is 503 too. A view that answers the failure itself does so."""
+        full = {"DEOMIGAL_REVOCATIONS": Full()}
+        assert self.answers(["/"], middleware=["test_django.Flushing"], **full)[0] == [503]
+        with override_settings(ROOT_URLCONF=(re_path("", told),), **full), mock.patch("time.time", lambda: NOON):
+            client = Client()
+            client.cookies["sessionid"] = self.cookie_set_by().partition("=")[2]
+            response = client.get("/")
+            assert (response.status_code, response.content, dict(response.cookies)) == (500, b"not logged out", {})
+
+    def test_coroutine(self):
+        """A view that is a coroutine is answered so too."""
+        async def view(request):
+            return JsonResponse(dict(request.session.items()))
+
+        request = RequestFactory().get("/", HTTP_COOKIE=self.cookie_set_by())
+        for store, status in ((Broken(), 503), (MemoryRevocations(), 200)):
+            with override_settings(DEOMIGAL_REVOCATIONS=store), mock.patch("time.time", lambda: NOON):
+                assert asyncio.run(engine.SessionMiddleware(view)(request)).status_code == status
+
+    def test_login_again(self):
+        """A login of the user who is logged in starts the session anew, and no copy of before opens."""
+        request, store = RequestFactory().get("/"), MemoryRevocations()
+        with override_settings(DEOMIGAL_REVOCATIONS=store), mock.patch("time.time", lambda: NOON):
+            keys, ids = [""], []
+            for _ in range(2):
+                request.session = engine.SessionStore(keys[-1])
+                with mock.patch.object(User, "save"):
+                    login(request, User(pk=1, username="ann"), "django.contrib.auth.backends.ModelBackend")
+                request.session.save()
+                keys.append(request.session.session_key)
+                ids.append(request.session.source.id)
+            assert ids[0] != ids[1]
+            users = [self.ask("/", f"sessionid={key}")[0].get("_auth_user_id") for key in keys[1:]]
+            assert users == [None, "1"]

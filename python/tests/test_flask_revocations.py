@@ -1,5 +1,7 @@
 """Facts about Flask's sessions that can be revoked."""
+import logging
 import unittest
+import unittest.mock
 
 import pytest
 from deomigal.errors import RevocationsError
@@ -110,6 +112,22 @@ class FlaskFacts(unittest.TestCase):
         self.store.is_broken = True
         assert (self.ask("/", cookie)[0].status_code, self.ask("/", cookie)[0].text) == (529, "Come back")
 
+    def test_logged(self):
+        """Each failure is logged once, with its cause, whoever answers it."""
+        for handler in (None, lambda error: ("Come back", 529)):
+            self.app = flask_app(revocations=self.store)
+            if handler:
+                self.app.register_error_handler(RevocationsError, handler)
+            cookie = pair_of(self.ask("/login")[1])
+            self.store.is_broken = True
+            with self.assertLogs("deomigal", logging.ERROR) as looked_up:
+                self.ask("/", cookie)
+            self.store.is_broken = False
+            with unittest.mock.patch.object(self.store, "revoke", Failing(OSError()).revoke):
+                with self.assertLogs("deomigal", logging.ERROR) as revoked:
+                    self.ask("/logout", cookie)
+            assert ["OSError" in line for line in [*looked_up.output, *revoked.output]] == [True] * 2
+
     def test_without_init_app(self):
         """Without `init_app` too no view is called."""
         app, seen = flask_app(False, revocations=self.store), []
@@ -120,8 +138,74 @@ class FlaskFacts(unittest.TestCase):
         assert seen == []
 
     def test_none(self):
-        """Without revocations `revoke` is an error, and not a logout."""
+        """Without revocations `revoke` is an error of the program: neither a logout, nor a status 503."""
         app = flask_app()
         cookie = pair_of(self.ask("/login", app=app)[1])
         response, text = self.ask("/logout", cookie, app)
-        assert (response.status_code, text) == (503, None)
+        assert (response.status_code, text) == (500, None)
+
+
+class Logins(unittest.TestCase):
+    """Facts about Flask-Login's logouts."""
+
+    def setUp(self):
+        self.login = pytest.importorskip("flask_login", reason="no flask_login that fits this Werkzeug")
+        self.store = Breaking()
+        self.app = self.application(revocations=self.store)
+        self.client = self.app.test_client()
+
+    def application(self, **words):
+        app = flask.Flask(__name__)
+        app.config.update(SECRET_KEY=SECRET)
+        SessionInterface(clock=lambda: NOON, **words).init_app(app)
+        user = self.login.UserMixin()
+        user.id = "ann"
+        self.login.LoginManager(app).user_loader(lambda name: user)
+        log_out = self.login.logout_user
+        changes = {
+            "/login": lambda: (self.login.login_user(user, remember=True), session.update(theme="dark")),
+            "/first": lambda: (log_out(), session.revoke()),
+            "/last": lambda: (session.revoke(), log_out()),
+            "/only": lambda: log_out(),
+        }
+        for path, change in changes.items():
+            app.add_url_rule(path, path, lambda change=change: (change(), "")[1])
+        shown = lambda: {"user": self.login.current_user.is_authenticated, "theme": session.get("theme")}
+        app.add_url_rule("/", "show", shown)
+        return app
+
+    def log_in(self, client):
+        """The cookie of the session, of which the client has another copy."""
+        return pair_of(client.get("/login").headers.getlist("Set-Cookie")[-1])
+
+    def shown(self, cookie):
+        client = self.app.test_client(use_cookies=False)
+        return client.get("/", headers={"Cookie": cookie}).get_json()
+
+    def test_logout(self):
+        """`logout_user` before `revoke`, after it, or by itself: nobody is logged in, by the cookie that remembers the user
+        neither, nor by a copy of the session's. By itself it keeps the other values."""
+        for path, theme in (("/first", None), ("/last", None), ("/only", "dark")):
+            cookie = self.log_in(self.client)
+            assert cookie.startswith("session=")
+            assert self.shown(cookie) == {"user": True, "theme": "dark"}
+            assert self.client.get(path).status_code == 200
+            assert self.client.get("/").get_json() == {"user": False, "theme": theme}, path
+            assert self.shown(cookie) == {"user": False, "theme": None}, path
+
+    def test_logout_that_fails(self):
+        """If the logout can't be kept, the status is 503, and the browser keeps the session that it has."""
+        for path in ("/first", "/last", "/only"):
+            self.log_in(self.client)
+            with unittest.mock.patch.object(self.store, "revoke", Failing(OSError()).revoke):
+                response = self.client.get(path)
+            found = [pair_of(text).partition("=")[0] for text in response.headers.getlist("Set-Cookie")]
+            assert (response.status_code, "session" in found) == (503, False), path
+            assert self.client.get("/").get_json() == {"user": True, "theme": "dark"}, path
+
+    def test_without_a_store(self):
+        """Without revocations `logout_user` does what it does with Flask's own sessions."""
+        client = self.application().test_client()
+        self.log_in(client)
+        assert client.get("/only").status_code == 200
+        assert client.get("/").get_json() == {"user": False, "theme": "dark"}

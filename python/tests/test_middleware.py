@@ -13,7 +13,7 @@ from wsgiref.validate import validator
 import pytest
 from deomigal import Sessions
 from deomigal.asgi import SessionMiddleware, session_of
-from deomigal.errors import BadPrefix, InvalidValue, MasterTooShort, Over, TooLarge
+from deomigal.errors import BadPrefix, InvalidValue, MasterTooShort, Over, RevocationsError, TooLarge
 from deomigal.secrets import keys_of
 from deomigal.wsgi import SessionMiddleware as WsgiMiddleware
 from deomigal.wsgi import session_of as wsgi_session_of
@@ -470,7 +470,9 @@ class WsgiFacts(Wsgi, Shared, unittest.TestCase):
 
         def app(environ, start_response):
             try:
-                wsgi_session_of(environ).revoke() if environ.get("fails") else wsgi_session_of(environ).update(user="ann")
+                if environ.get("fails"):
+                    raise RevocationsError("the store is gone")
+                wsgi_session_of(environ).update(user="ann")
                 start_response("200 OK", [])
                 yield b"page"
             finally:

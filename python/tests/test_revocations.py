@@ -22,7 +22,7 @@ from deomigal.asgi import SessionMiddleware
 from deomigal.errors import CookieError, RevocationsError
 from deomigal.revocations import TABLE, MemoryRevocations, RedisRevocations, SqliteRevocations
 from deomigal.wsgi import SessionMiddleware as WsgiMiddleware
-from helpers import NOON, SECRET, Breaking, Failing, pair_of
+from helpers import NOON, SECRET, Breaking, Failing, pair_of, redis_server
 
 KEY = bytes(range(64))
 ANN, BO, EVE = (bytes([number]) * 16 for number in (1, 2, 3))
@@ -56,7 +56,7 @@ def with_full_disk(path):
     """Revokes many until the file can't grow, as on a full disk."""
     signal.signal(signal.SIGXFSZ, signal.SIG_IGN)
     revocations = SqliteRevocations(path)
-    size = os.path.getsize(path) + os.path.getsize(f"{path}-wal")
+    size = os.path.getsize(path) + 64 * 1024
     resource.setrlimit(resource.RLIMIT_FSIZE, (size, size))
     for number in range(10_000):
         revocations.revoke(number.to_bytes(16, "big"), NOON)
@@ -299,57 +299,35 @@ class SqliteFacts(Stores, unittest.TestCase):
 class RedisFacts(Stores, unittest.TestCase):
     """Facts about revocations in Redis, over a server that keeps each write."""
 
-    @classmethod
-    def setUpClass(cls):
-        cls.redis = pytest.importorskip("redis")
-        if not shutil.which("redis-server"):
-            pytest.skip("no redis-server")
-        cls.now = int(time.time())
-        cls.folder = tempfile.mkdtemp()
-        cls.addClassCleanup(shutil.rmtree, cls.folder, ignore_errors=True)
-
     def setUp(self):
-        self.begin()
-        self.addCleanup(self.end)
+        self.now = int(time.time())
+        running = redis_server()
+        self.path, self.server = running.__enter__()
+        self.addCleanup(running.__exit__, None, None, None)
+        import redis
 
-    def begin(self):
-        words = {"port": 0, "unixsocket": "socket", "dir": self.folder, "appendonly": "yes", "appendfsync": "always"}
-        options = [word for name, value in words.items() for word in (f"--{name}", str(value))]
-        socket = Path(self.folder, "socket")
-        socket.unlink(missing_ok=True)
-        self.server = subprocess.Popen(["redis-server", *options], stdout=subprocess.DEVNULL, cwd=self.folder)
-        self.client = self.redis.Redis(unix_socket_path=str(socket), socket_timeout=0.3)
-        for _ in range(200):
-            time.sleep(0.05)
-            # It reads its file first.
-            with contextlib.suppress(self.redis.ConnectionError):
-                if socket.exists() and self.client.ping():
-                    return
-
-    def end(self):
-        self.server.kill()
-        self.server.wait()
-        self.client.close()
+        self.client = redis.Redis(unix_socket_path=self.path, socket_timeout=0.3)
+        self.addCleanup(self.client.close)
 
     def new_store(self):
         return RedisRevocations(self.client)
 
     def until(self, revocations, id):
-        return round(self.client.pttl(revocations.key(id)) / 1000 + time.time())
+        """The second, which Redis keeps for an hour more: its clock may be ahead."""
+        return round(self.client.pttl(revocations.key(id)) / 1000 + time.time()) - HOUR
 
     def test_kill(self):
         """What was revoked stays so if the server is killed. While it is away no session is opened."""
         sessions = Sessions([KEY], "s", HOUR, HOUR, revocations=self.new_store())
         revoked, other = (sessions.open(pair_of(sessions.save(sessions.start()))) for _ in range(2))
         sessions.revoke(revoked)
-        self.end()
+        self.server.kill()
         for opened in (revoked, other):
             with pytest.raises(RevocationsError):
                 sessions.open(opened.header)
             with pytest.raises(RevocationsError):
                 sessions.revoke(opened)
-        self.begin()
-        sessions.revocations.client = self.client
+        self.server.start()
         assert sessions.open(revoked.header).is_new
         assert not sessions.open(other.header).is_new
 
@@ -357,14 +335,58 @@ class RedisFacts(Stores, unittest.TestCase):
         """A server that hangs is waited for up to the client's limit."""
         sessions = Sessions([KEY], "s", HOUR, HOUR, revocations=self.new_store())
         text = sessions.save(sessions.start())
-        self.server.send_signal(signal.SIGSTOP)
         begun = time.monotonic()
-        try:
-            with pytest.raises(RevocationsError):
-                sessions.open(pair_of(text))
-        finally:
-            self.server.send_signal(signal.SIGCONT)
+        with self.server.stopped(), pytest.raises(RevocationsError):
+            sessions.open(pair_of(text))
         assert time.monotonic() - begun < 5
+
+
+class Answers:
+    """A client of Redis that answers each command by what stands next for it, and keeps which there were."""
+
+    def __init__(self, **answers):
+        self.answers, self.commands = {name: list(found) for name, found in answers.items()}, []
+
+    def __getattr__(self, name):
+        def command(key, *words, **options):
+            self.commands.append((name, *(word for word in words if isinstance(word, int)), *options.items()))
+            return self.answers[name].pop(0)
+
+        return command
+
+
+class RedisCommandFacts(unittest.TestCase):
+    """Facts about what the commands of Redis return."""
+
+    def test_expires_between(self):
+        """If the key expires between two commands, the session is revoked anew."""
+        client = Answers(set=[None, True], expireat=[0], expiretime=[-2])
+        RedisRevocations(client).revoke(ANN, NOON)
+        end = ("exat", NOON + HOUR)
+        assert client.commands == [
+            ("set", ("nx", True), end), ("expireat", end[1], ("gt", True)), ("expiretime",), ("set", ("nx", True), end),
+        ]
+
+    def test_later(self):
+        """A key that ends later, or never, is kept."""
+        for expires in (NOON + HOUR, NOON + 2 * HOUR, -1):
+            client = Answers(set=[None], expireat=[0], expiretime=[expires])
+            RedisRevocations(client).revoke(ANN, NOON)
+            assert len(client.commands) == 3
+
+    def test_not_kept(self):
+        """A Redis that doesn't keep the key is an error, and so is an answer that the command doesn't have."""
+        for answers in (
+            {"set": [None] * 9, "expireat": [0] * 9, "expiretime": [-2] * 9},
+            {"set": [None] * 9, "expireat": [0] * 9, "expiretime": [NOON] * 9},
+            {"set": [None] * 9, "expireat": [0] * 9, "expiretime": [None] * 9},
+            {"set": [object()]}, {"set": [b"QUEUED"]}, {"set": [None], "expireat": [None]},
+        ):
+            with pytest.raises(RevocationsError):
+                RedisRevocations(Answers(**answers)).revoke(ANN, NOON)
+        for found in (2, None, "1", object()):
+            with pytest.raises(RevocationsError):
+                RedisRevocations(Answers(exists=[found])).is_revoked(ANN)
 
 
 class RevocationFacts(unittest.TestCase):
@@ -451,10 +473,11 @@ class RevocationFacts(unittest.TestCase):
                 self.sessions.open(text, NOON)
 
     def test_none(self):
-        """Without revocations a session can't be revoked, which is an error."""
+        """Without revocations a session can't be revoked, which is an error of the program, and not of a store."""
         sessions = Sessions([KEY], "s", HOUR, 60)
-        with pytest.raises(RevocationsError):
+        with pytest.raises(RuntimeError) as found:
             sessions.revoke(sessions.start(NOON))
+        assert not isinstance(found.value, RevocationsError)
         for wrong in (1, "revoked", object()):
             with pytest.raises(TypeError):
                 Sessions([KEY], "s", HOUR, 60, revocations=wrong)

@@ -1,9 +1,10 @@
 """Logs users out under load, while workers and the store are killed: tools/try-flask/run --revocations.
 
-Each client logs in, visits, keeps copies of its cookies, logs out, and later sends the copies again. Some requests are
-under way at the logout. A worker of two is killed every second. With Redis the server is killed too, and started again;
-with SQLite a process that is writing to the file. Once a logout was answered, no copy may be greeted; before, none may
-be unknown. An answer 503, or none of a worker that was killed, says nothing, and the client asks again.
+The workers are forked after the store is made. Each client logs in, visits, keeps copies of its cookies, logs out, and
+later sends the copies again. Some requests are under way at the logout. A worker of two is killed every second. With Redis
+the server is killed too, and started again; with SQLite a process that is writing to the file. Once a logout was answered,
+no copy may be greeted; before, none may be unknown. An answer 503, or none of a worker that was killed, says nothing, and
+the client asks again. At last SQLite's file is moved away, and Redis is stopped.
 """
 import contextlib
 import http.client
@@ -235,6 +236,23 @@ def all_right(clients):
     return copies and not wrong, "\n".join(wrong[:5])
 
 
+def play_gone(tool, python, folder, keys):
+    """While the file of SQLite is away, no session is taken for none, and none is opened, in any worker."""
+    store = Sqlite(python, folder / "away")
+    with tool.site_of(python, folder, keys, count=2, TRY_IDLE=tool.IDLE, TRY_REVOCATIONS=store.words):
+        cookie, revoked = tool.log_in("ann"), tool.log_in("bo")
+        tool.ask("/logout", revoked, "")
+        for what, put in (("moved away", lambda: None), ("replaced by an empty one", store.path.touch)):
+            store.path.rename(folder / "away/moved")
+            put()
+            found = [tool.ask("/", text)[0] for text in [cookie, revoked] * 50] + [tool.ask("/logout", cookie, "")[0]]
+            tool.check(f"while the file is {what}, 100 requests and a logout are answered with 503", set(found) == {503}, found)
+            tool.check("and a stranger with 200", tool.ask("/")[0] == 200)
+            (folder / "away/moved").rename(store.path)
+            tool.check("when it is back, the session is open", tool.greets(cookie, "ann"))
+            tool.check("and the revoked one isn't", not tool.greets(revoked, "bo"))
+
+
 def play_broken(tool, python, folder, keys):
     """While Redis is away, no session is taken for none, and none is opened."""
     store = Redis(python, folder / "away")
@@ -266,4 +284,5 @@ def play(tool, python, folder, seconds):
     (folder / "away").mkdir()
     for kind in (Sqlite, Redis):
         play_store(tool, python, folder, keys, kind(python, folder), seconds)
+    play_gone(tool, python, folder, keys)
     play_broken(tool, python, folder, keys)
