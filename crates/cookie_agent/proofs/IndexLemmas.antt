@@ -1,4 +1,4 @@
--- What a store knows of its cookies: their marks, and until when none is expired.
+-- What a store knows of its cookies: their hashes, and until when none is expired.
 use Rattle.std.proofs.Common.{◌≡◌, ℕ, ℤ, ◌<◌, ◌≤◌, ◌≤ℤ◌, ◌+◌, Bool, true, false, cond, [], ◌∷◌, ◌++◌, length, get_or, map, refl, sym, ap, ◌∙◌, All, arith, subst}
 use Rattle.std.proofs.Math.ListN.{set}
 use Rattle.std.proofs.lemmas.Bool.{and_right}
@@ -13,25 +13,25 @@ use Rattle.cookie_browser.specs.Request.{RequestView}
 use Rattle.cookie_browser.specs.Storage.{KeptView, CookieStore, is_same_cookie, is_sent, lasting, lasts}
 use Rattle.cookie_agent.specs.Sent.{accessed}
 use Rattle.cookie_agent.specs.Stored.{IsApart}
-use Rattle.cookie_agent.specs.StoredCode.{AreIndexed, IsFreshUntil, gives_place, mark_after, mark_of}
+use Rattle.cookie_agent.specs.StoredCode.{AreIndexed, IsFreshUntil, gives_place, hash_after, hash_of}
 use Rattle.cookie_agent.proofs.KeyLemmas.{alike}
 use Rattle.cookie_agent.proofs.PutLemmas.{apart-accessed, apart-filter}
 
--- ---- marks
+-- ---- hashes
 
--- the same cookies have one mark
-pub same_mark : (a b : KeptView) → is_same_cookie a b ≡ true → mark_of a ≡ mark_of b
-same_mark a b e =
+-- the same cookies have one hash
+pub same_hash : (a b : KeptView) → is_same_cookie a b ≡ true → hash_of a ≡ hash_of b
+same_hash a b e =
     let h = alike a b e in
-    ap (λ n. mark_after (mark_after 0 n) a.domain) h.name ∙ ap (mark_after (mark_after 0 b.name)) h.domain
+    ap (λ n. hash_after (hash_after 0 n) a.domain) h.name ∙ ap (hash_after (hash_after 0 b.name)) h.domain
 
--- a cookie with the mark of the one whose place it takes
-pub marks_stay : (store : CookieStore) (i : ℕ) (old new : KeptView) → i < length store → old ≡ get_or store i old → mark_of old ≡ mark_of new → map mark_of (set store i new) ≡ map mark_of store
-marks_stay store i old new below is same =
-    let marks = map mark_of store in
-    map-set mark_of store i new
-    ∙ ap (set marks i) (sym same ∙ ap mark_of is ∙ sym (get_or-map mark_of store i old 0 below))
-    ∙ set-get_or marks i 0
+-- a cookie with the hash of the one whose place it takes
+pub hashes_stay : (store : CookieStore) (i : ℕ) (old new : KeptView) → i < length store → old ≡ get_or store i old → hash_of old ≡ hash_of new → map hash_of (set store i new) ≡ map hash_of store
+hashes_stay store i old new below is same =
+    let hashes = map hash_of store in
+    map-set hash_of store i new
+    ∙ ap (set hashes i) (sym same ∙ ap hash_of is ∙ sym (get_or-map hash_of store i old 0 below))
+    ∙ set-get_or hashes i 0
 
 -- ---- expired cookies
 
@@ -59,16 +59,16 @@ front_fresh end (c ∷ front) back store is all =
 
 -- ---- an access changes neither
 
-accessed_mark : (site : RequestView) (now : DateTime) (c : KeptView) → mark_of (accessed site now c) ≡ mark_of c
-accessed_mark site now c = by (is_sent site now c)
+accessed_hash : (site : RequestView) (now : DateTime) (c : KeptView) → hash_of (accessed site now c) ≡ hash_of c
+accessed_hash site now c = by (is_sent site now c)
   where
-    by : (b : Bool) → mark_of (cond b (record c { last_access = civil_nanos now }) c) ≡ mark_of c
+    by : (b : Bool) → hash_of (cond b (record c { last_access = civil_nanos now }) c) ≡ hash_of c
     by true = refl
     by false = refl
 
-accessed_marks : (site : RequestView) (now : DateTime) (store : CookieStore) → map mark_of (map (accessed site now) store) ≡ map mark_of store
-accessed_marks site now [] = refl
-accessed_marks site now (c ∷ store) = (λ i. accessed_mark site now c i ∷ accessed_marks site now store i)
+accessed_hashes : (site : RequestView) (now : DateTime) (store : CookieStore) → map hash_of (map (accessed site now) store) ≡ map hash_of store
+accessed_hashes site now [] = refl
+accessed_hashes site now (c ∷ store) = (λ i. accessed_hash site now c i ∷ accessed_hashes site now store i)
 
 accessed_fresh : (site : RequestView) (now : DateTime) (end : ℤ) (c : KeptView) → IsFreshUntil end c → IsFreshUntil end (accessed site now c)
 accessed_fresh site now end c fresh = by (is_sent site now c)
@@ -77,20 +77,20 @@ accessed_fresh site now end c fresh = by (is_sent site now c)
     by true = fresh
     by false = fresh
 
-pub indexed-accessed : (site : RequestView) (now : DateTime) (store : CookieStore) (marks : _) (end : ℤ) → AreIndexed store marks end → AreIndexed (map (accessed site now) store) marks end
-indexed-accessed site now store marks end is =
+pub indexed-accessed : (site : RequestView) (now : DateTime) (store : CookieStore) (hashes : _) (end : ℤ) → AreIndexed store hashes end → AreIndexed (map (accessed site now) store) hashes end
+indexed-accessed site now store hashes end is =
     record {
       apart = apart-accessed site now store is.apart;
-      marks = is.marks ∙ sym (accessed_marks site now store);
+      hashes = is.hashes ∙ sym (accessed_hashes site now store);
       fresh = All-map (IsFreshUntil end) (accessed site now) store (All-weaker (IsFreshUntil end) (λ c. IsFreshUntil end (accessed site now c)) (λ c h. accessed_fresh site now end c h) store is.fresh);
     }
 
 -- ---- what a filter leaves
 
-pub indexed-left : (test : KeptView → Bool) (store left : CookieStore) (marks new : _) (end : ℤ) → left ≡ filter test store → new ≡ map mark_of left → AreIndexed store marks end → AreIndexed left new end
-indexed-left test store left marks new end is told all =
+pub indexed-left : (test : KeptView → Bool) (store left : CookieStore) (hashes new : _) (end : ℤ) → left ≡ filter test store → new ≡ map hash_of left → AreIndexed store hashes end → AreIndexed left new end
+indexed-left test store left hashes new end is told all =
     record {
       apart = subst IsApart (sym is) (apart-filter test store all.apart);
-      marks = told;
+      hashes = told;
       fresh = subst (λ (s : CookieStore). All (IsFreshUntil end) s) (sym is) (All-filter test (IsFreshUntil end) store all.fresh);
     }

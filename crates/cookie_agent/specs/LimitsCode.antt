@@ -62,7 +62,7 @@ abbrev pub Rises : {X : Type 0} → (X → X → Bool) → List X → Type 0
 Rises before [] = Unit {0}
 Rises before (x ∷ xs) = All (λ y. before y x ≡ false) xs × Rises before xs
 
--- what a cookie is counted by
+-- the group in which a cookie is counted: the cookies of its domain, or all
 abbrev pub group_of : Group → KeptView → Option (List ℕ)
 group_of Domain cookie = Some cookie.domain
 group_of Whole cookie = None

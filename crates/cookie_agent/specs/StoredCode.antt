@@ -42,15 +42,15 @@ IsFreshUntil end cookie =
     (now : DateTime) → int_lt (civil_nanos now) end ≡ true → lasts cookie.expiry now ≡ true
 
 -- a number of the bytes, after the number of others
-unfoldable pub mark_after : ℕ → List ℕ → ℕ
-mark_after mark bytes = fold (λ m byte. (m * 31 % 2 ^ 64 + byte) % 2 ^ 64) mark bytes
+unfoldable pub hash_after : ℕ → List ℕ → ℕ
+hash_after hash bytes = fold (λ m byte. (m * 31 % 2 ^ 64 + byte) % 2 ^ 64) hash bytes
 
 -- a number of the name and the domain
-abbrev pub mark_of : KeptView → ℕ
-mark_of cookie = mark_after (mark_after 0 cookie.name) cookie.domain
+abbrev pub hash_of : KeptView → ℕ
+hash_of cookie = hash_after (hash_after 0 cookie.name) cookie.domain
 
--- what a store knows of its cookies: no two are the same, these are their marks, and none is expired before the time
+-- what a store knows of its cookies: no two are the same, these are their hashes, and none is expired before the time
 pub record AreIndexed (cookies : CookieStore) (numbers : List ℕ) (fresh_until : ℤ) : Type 0 where
   pub apart : IsApart cookies
-  pub marks : numbers ≡ map mark_of cookies
+  pub hashes : numbers ≡ map hash_of cookies
   pub fresh : All (IsFreshUntil fresh_until) cookies

@@ -5,7 +5,7 @@ ghost use Rattle.cookie_browser.specs.Storage.{kept_with, lasting};
 ghost use Rattle.cookie_agent.specs.Limits.{IsWithin, trimmed};
 ghost use Rattle.cookie_agent.specs.Sent.{accessed};
 ghost use Rattle.cookie_agent.specs.Stored.{IsApart, is_named_in, is_of_domain, kept_with_each};
-ghost use Rattle.cookie_agent.specs.StoredCode.{AreIndexed, IsFreshUntil, gives_place, mark_of};
+ghost use Rattle.cookie_agent.specs.StoredCode.{AreIndexed, IsFreshUntil, gives_place, hash_of};
 
 use crate::in_turn::stored_in_turn;
 use crate::limits::Limits;
@@ -24,8 +24,8 @@ use std::marker::Model;
 pub struct Store {
     alloc: Global,
     cookies: Vec<StoredCookie>,
-    // The mark of each cookie, so that most of those which differ from a new one needn't be looked at.
-    marks: Vec<u64>,
+    // The hash of each cookie, so that most of those which differ from a new one needn't be looked at.
+    hashes: Vec<u64>,
     // Nanoseconds since 1970 before which no cookie is expired.
     fresh_until: i128,
 }
@@ -38,7 +38,7 @@ impl Model for Store {
 
     ghost view = { λ s. s.cookies.items };
 
-    ghost invariant = { λ s. AreIndexed s.cookies.items s.marks.items s.fresh_until };
+    ghost invariant = { λ s. AreIndexed s.cookies.items s.hashes.items s.fresh_until };
 }
 
 impl Store {
@@ -49,7 +49,7 @@ impl Store {
         Store {
             alloc,
             cookies: Vec::new(alloc),
-            marks: Vec::new(alloc),
+            hashes: Vec::new(alloc),
             fresh_until: i128::MAX,
         }
     }
@@ -69,12 +69,12 @@ impl Store {
         requires { IsApart cookies.items }
         ensures { IfOk result (λ store. store ≡ cookies.items) }
     {
-        let marks = marks_of(alloc, &cookies)?;
+        let hashes = hashes_of(alloc, &cookies)?;
         let fresh_until = fresh_until(&cookies);
         Ok(Store {
             alloc,
             cookies,
-            marks,
+            hashes,
             fresh_until,
         })
     }
@@ -89,7 +89,7 @@ impl Store {
         let mut all = copies(self.alloc, &self.cookies)?;
         push_lasting(&mut all, cookies, now)?;
         let cookies = stored_in_turn(self.alloc, all)?;
-        self.marks = marks_of(self.alloc, &cookies)?;
+        self.hashes = hashes_of(self.alloc, &cookies)?;
         self.fresh_until = fresh_until(&cookies);
         self.cookies = cookies;
         Ok(())
@@ -115,7 +115,7 @@ impl Store {
             .any(|cookie| cookie.is_named_in(name, scope));
         self.cookies
             .retain(|cookie| !cookie.is_named_in(name, scope));
-        renew(&mut self.marks, &self.cookies);
+        renew(&mut self.hashes, &self.cookies);
         found
     }
 
@@ -126,7 +126,7 @@ impl Store {
         ensures { self.new ≡ filter (λ cookie. not (is_of_domain domain.now cookie)) self.old }
     {
         self.cookies.retain(|cookie| !cookie.is_of_domain(domain));
-        renew(&mut self.marks, &self.cookies);
+        renew(&mut self.hashes, &self.cookies);
     }
 
     /// Removes all cookies.
@@ -134,14 +134,14 @@ impl Store {
         ensures { self.new ≡ [] }
     {
         self.cookies.clear();
-        self.marks.clear();
+        self.hashes.clear();
     }
 
     /// Drops the cookies that are expired at the time `now` in UTC.
     pub fn evict(&mut self, now: DateTime)
         ensures { self.new ≡ lasting now self.old }
     {
-        self.fresh_until = drop_expired(&mut self.cookies, &mut self.marks, self.fresh_until, now);
+        self.fresh_until = drop_expired(&mut self.cookies, &mut self.hashes, self.fresh_until, now);
     }
 
     /// Drops what is expired at the time `now` in UTC, and then the cookies above the limits, as RFC 6265bis orders
@@ -162,7 +162,7 @@ impl Store {
     {
         let places = places_within(self.alloc, &self.cookies, limits, now)?;
         keep(&mut self.cookies, &places);
-        renew(&mut self.marks, &self.cookies);
+        renew(&mut self.hashes, &self.cookies);
         self.fresh_until = fresh_until(&self.cookies);
         Ok(())
     }
@@ -186,8 +186,8 @@ impl Store {
         ensures err { OnErr result (self.new ≡ self.old) }
     {
         let fresh_until = sooner(self.fresh_until, cookie.fresh_until());
-        put_in_place(&mut self.cookies, &mut self.marks, cookie, now)?;
-        self.fresh_until = drop_expired(&mut self.cookies, &mut self.marks, fresh_until, now);
+        put_in_place(&mut self.cookies, &mut self.hashes, cookie, now)?;
+        self.fresh_until = drop_expired(&mut self.cookies, &mut self.hashes, fresh_until, now);
         Ok(())
     }
 
@@ -199,25 +199,25 @@ impl Store {
     }
 }
 
-// The marks of the cookies.
-fn marks_of(alloc: Global, cookies: &[StoredCookie]) -> Result<Vec<u64>, AllocError>
-    ensures { IfOk result (λ marks. marks.items ≡ map mark_of cookies.now) }
+// The hashes of the cookies.
+fn hashes_of(alloc: Global, cookies: &[StoredCookie]) -> Result<Vec<u64>, AllocError>
+    ensures { IfOk result (λ hashes. hashes.items ≡ map hash_of cookies.now) }
 {
-    let mut marks = Vec::new(alloc);
+    let mut hashes = Vec::new(alloc);
     for cookie in cookies {
-        marks.push(cookie.mark())?;
+        hashes.push(cookie.hash())?;
     }
-    Ok(marks)
+    Ok(hashes)
 }
 
-// Makes these the marks of the cookies that are left.
-fn renew(marks: &mut Vec<u64>, cookies: &[StoredCookie])
-    requires { length cookies.now ≤ length marks.now.items }
-    ensures { marks.new.items ≡ map mark_of cookies.now }
+// Makes these the hashes of the cookies that are left.
+fn renew(hashes: &mut Vec<u64>, cookies: &[StoredCookie])
+    requires { length cookies.now ≤ length hashes.now.items }
+    ensures { hashes.new.items ≡ map hash_of cookies.now }
 {
-    marks.truncate(cookies.len());
+    hashes.truncate(cookies.len());
     for index in 0..cookies.len() {
-        marks[index] = cookies[index].mark();
+        hashes[index] = cookies[index].hash();
     }
 }
 
@@ -243,21 +243,21 @@ fn fresh_until(cookies: &[StoredCookie]) -> i128
 // Drops the cookies that are expired. None is before the time `fresh_until`, nor are the others before the result.
 fn drop_expired(
     cookies: &mut Vec<StoredCookie>,
-    marks: &mut Vec<u64>,
+    hashes: &mut Vec<u64>,
     fresh_until: i128,
     now: DateTime,
 ) -> i128
-    requires marks { marks.now.items ≡ map mark_of cookies.now.items }
+    requires hashes { hashes.now.items ≡ map hash_of cookies.now.items }
     requires fresh { All (IsFreshUntil fresh_until) cookies.now.items }
     ensures cookies { cookies.new.items ≡ lasting now cookies.old.items }
-    ensures marks { marks.new.items ≡ map mark_of cookies.new.items }
+    ensures hashes { hashes.new.items ≡ map hash_of cookies.new.items }
     ensures fresh { All (IsFreshUntil result) cookies.new.items }
 {
     if nanos_of(now) < fresh_until {
         return fresh_until;
     }
     cookies.retain(|cookie| cookie.lasts(now));
-    renew(marks, cookies);
+    renew(hashes, cookies);
     self::fresh_until(cookies)
 }
 
@@ -274,47 +274,47 @@ fn access(cookies: &mut Vec<StoredCookie>, site: &Site, now: DateTime)
 // before.
 fn put_in_place(
     cookies: &mut Vec<StoredCookie>,
-    marks: &mut Vec<u64>,
+    hashes: &mut Vec<u64>,
     cookie: StoredCookie,
     now: DateTime,
 ) -> Result<(), AllocError>
     requires apart { IsApart cookies.now.items }
-    requires marks { marks.now.items ≡ map mark_of cookies.now.items }
+    requires hashes { hashes.now.items ≡ map hash_of cookies.now.items }
     ensures ok { OnOk result (lasting now cookies.new.items
         ≡ lasting now (kept_with cookie (lasting now cookies.old.items))) }
     ensures err { OnErr result (cookies.new.items ≡ cookies.old.items) }
-    ensures marks { marks.new.items ≡ map mark_of cookies.new.items }
+    ensures hashes { hashes.new.items ≡ map hash_of cookies.new.items }
     ensures fresh { (end : ℤ) → All (IsFreshUntil end) cookies.old.items
         → IsFreshUntil end cookie → All (IsFreshUntil end) cookies.new.items }
 {
-    let mark = cookie.mark();
+    let hash = cookie.hash();
     for index in 0..cookies.len() {
-        if gives_place(&cookies[index], marks[index], &cookie, mark, now) {
+        if gives_place(&cookies[index], hashes[index], &cookie, hash, now) {
             cookies[index] = cookie;
             return Ok(());
         }
     }
     cookies.push(cookie)?;
-    if marks.push(mark).is_err() {
+    if hashes.push(hash).is_err() {
         let _last = cookies.pop();
         return Err(AllocError);
     }
     Ok(())
 }
 
-// Whether the first cookie isn't expired, and the other one replaces it. Each has this mark.
+// Whether the first cookie isn't expired, and the other one replaces it. Each has this hash.
 fn gives_place(
     cookie: &StoredCookie,
-    mark: u64,
+    hash: u64,
     other: &StoredCookie,
-    other_mark: u64,
+    other_hash: u64,
     now: DateTime,
 ) -> bool
-    requires mark { mark ≡ mark_of cookie.now }
-    requires other { other_mark ≡ mark_of other.now }
+    requires hash { hash ≡ hash_of cookie.now }
+    requires other { other_hash ≡ hash_of other.now }
     ensures { result ≡ gives_place other.now now cookie.now }
 {
-    mark == other_mark && cookie.gives_place(other, now)
+    hash == other_hash && cookie.gives_place(other, now)
 }
 
 // Copies of the cookies.

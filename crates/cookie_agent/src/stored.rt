@@ -6,11 +6,11 @@ ghost use Rattle.cookie_browser.specs.RefusedCode.{kept_view};
 ghost use Rattle.cookie_browser.specs.Storage.{is_same_cookie, is_sent, lasts};
 ghost use Rattle.cookie_agent.specs.Sent.{accessed, path_length, sent_pair};
 ghost use Rattle.cookie_agent.specs.Stored.{is_named_in, is_of_domain};
-ghost use Rattle.cookie_agent.specs.StoredCode.{IsFreshUntil, gives_place, key_view, mark_of};
+ghost use Rattle.cookie_agent.specs.StoredCode.{IsFreshUntil, gives_place, key_view, hash_of};
 
 use crate::bytes::copied;
+use crate::hash::hash_after;
 use crate::key::Key;
-use crate::mark::mark_after;
 use crate::nanos::expiry_nanos;
 use crate::scope::Scope;
 use crate::site::Site;
@@ -136,10 +136,10 @@ impl StoredCookie {
     }
 
     // A number that it has in common with those which it can replace.
-    pub(crate) fn mark(&self) -> u64
-        ensures { result ≡ mark_of self.now }
+    pub(crate) fn hash(&self) -> u64
+        ensures { result ≡ hash_of self.now }
     {
-        mark_after(mark_after(0, &self.name), &self.domain)
+        hash_after(hash_after(0, &self.name), &self.domain)
     }
 
     // Whether it isn't expired at the time `now`, and the other one replaces it.

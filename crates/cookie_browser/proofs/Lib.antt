@@ -5,7 +5,6 @@ pub mod CutLemmas
 pub mod DomainLemmas
 pub mod PartLemmas
 pub mod PrintedLemmas
-pub mod RowFacts
 pub mod SentLemmas
 pub mod SuffixFacts
 pub mod SuffixLemmas

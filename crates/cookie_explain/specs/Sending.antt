@@ -14,7 +14,7 @@ has_host request cookie =
     if cookie.is_host_only then bytes_eq request.host cookie.domain
     else is_in_domain request.host request.is_address cookie.domain
 
--- the condition of the algorithm that the cookie fails
+-- whether the obstacle keeps the cookie from being sent: the cookie fails this condition of the algorithm
 abbrev pub keeps : Obstacle → RequestView → DateTime → KeptView → Bool
 keeps Expired request now cookie = not (lasts cookie.expiry now)
 keeps Host request now cookie = not (has_host request cookie)

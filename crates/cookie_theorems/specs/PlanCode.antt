@@ -5,7 +5,7 @@ use Rattle.cookie_browser.specs.Request.{RequestView}
 use Rattle.cookie_browser.specs.Storage.{KeptView, both_or_neither}
 use Rattle.cookie_theorems.specs.Agreement.{PlanView}
 
--- it has the plan's scope, is secure-only only if the plan is, and the plan is so only if the connection is
+-- The cookie has the plan's scope. If it is secure-only, so is the plan, and if the plan is, the connection is secure.
 abbrev pub fits_plan : PlanView → RequestView → KeptView → Bool
 fits_plan plan site kept =
     bytes_eq kept.domain plan.scope.domain

@@ -37,7 +37,7 @@ IsPlannedChange rules site now plans (Remove cookie moment) =
 IsPlannedChange rules site now plans (ForceRemove name) = ⊥
 IsPlannedChange rules site now plans ResetDelta = Unit {0}
 
--- the same of a call, whose cookie is looked at as the jar stores it
+-- The change that a call makes is as planned. Its cookie is looked at as the jar stores it.
 abbrev pub IsPlannedCall : List Rule → RequestView → DateTime → (Name → PlanView) → JarCall
     → Type 0
 IsPlannedCall rules site now plans call = IsPlannedChange rules site now plans (change_of call)

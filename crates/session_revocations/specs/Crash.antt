@@ -20,7 +20,7 @@ pub record IsLeftBy {D : Type 0} {g : Ghosts D} (before : Held (FileStore D g)) 
       before.saved before.in_transaction
   pub left : (store_state before.store).may_leave image
 
--- the same of a set that is open
+-- a crash may leave the files of an open set so
 pub record IsLeftOpen {D : Type 0} {g : Ghosts D} (before : Held (FileStore D g)) (image : Image)
     : Type 0 where
   pub crashed : IsLeftBy before image

@@ -28,7 +28,7 @@ pub record Starts (s : State) : Type 0 where
   pub settled : s.committed ≡ s.now
   pub autocommit : s.in_transaction ≡ false
 
--- the same of an empty database
+-- while the connection is open and the disk has returned what was written, the database is committed and has no tables
 abbrev pub IsBlank : State → Type 0
 IsBlank s = HasCleanDisk s → IsTrue s.is_open → Starts s × (s.now.schema ≡ no_schema)
 

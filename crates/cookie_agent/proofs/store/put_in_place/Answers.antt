@@ -4,7 +4,7 @@ use Rattle.std.proofs.lemmas.Bool.{and_parts}
 use Rattle.std.proofs.lemmas.List.Elements.{All-push, All-set}
 use Rattle.cookie_browser.specs.Storage.{CookieStore, is_same_cookie, lasting, lasts}
 use Rattle.cookie_agent.specs.StoredCode.{IsFreshUntil, gives_place}
-use Rattle.cookie_agent.proofs.IndexLemmas.{front_fresh, marks_stay, same_mark}
+use Rattle.cookie_agent.proofs.IndexLemmas.{front_fresh, hashes_stay, same_hash}
 use Rattle.cookie_agent.proofs.PutLemmas.{put_at, put_last, told_at}
 use Rattle.cookie_agent.proofs.store.put_in_place.Goals as goal
 
@@ -18,8 +18,8 @@ returns-then-gives_place-clause-ok c =
     let found : c.index.result.now ≡ get_or before i c.index.result.now = rw same at c.index.ensures in
     rw same (sym (put_at c.args.now x x before i c.requires.apart below c.loop-index.invariant.before (told_at x c.args.now before i c.index.result.now true found below c.if-gives_place.ensures x)))
 
-pub returns-then-gives_place-clause-marks : goal.returns-then-gives_place-clause-marks
-returns-then-gives_place-clause-marks c =
+pub returns-then-gives_place-clause-hashes : goal.returns-then-gives_place-clause-hashes
+returns-then-gives_place-clause-hashes c =
     let i = c.loop-index.index in
     let x = c.args.cookie in
     let old = c.index.result.now in
@@ -29,7 +29,7 @@ returns-then-gives_place-clause-marks c =
     let found : old ≡ get_or before i old = rw same at c.index.ensures in
     let gives : gives_place x c.args.now old ≡ true = sym c.if-gives_place.ensures in
     let both = and_parts (lasts old.expiry c.args.now) (is_same_cookie old x) gives in
-    rw same (c.requires.marks ∙ sym (marks_stay before i old x below found (same_mark old x both.1)))
+    rw same (c.requires.hashes ∙ sym (hashes_stay before i old x below found (same_hash old x both.1)))
 
 pub returns-then-gives_place-clause-fresh : goal.returns-then-gives_place-clause-fresh
 returns-then-gives_place-clause-fresh c end all fresh =

@@ -13,6 +13,6 @@ invariant_of-self c =
     let fits : FitsSigned w128 c.drop_expired-self-inside.result = search rules in
     simp to_z-of_z (record {
       apart = subst IsApart (sym dropped.cookies) (apart-filter (λ d. lasts d.expiry c.args.now) c.self.inside.cookies.items c.self.invariant.apart);
-      marks = dropped.marks;
+      hashes = dropped.hashes;
       fresh = dropped.fresh;
     })

@@ -4,7 +4,7 @@ use Rattle.std.proofs.lemmas.Int.{to_z-of_z}
 use mir.Syntax.{w128}
 use Rattle.cookie_browser.specs.Storage.{CookieStore, lasting}
 use Rattle.cookie_agent.specs.Stored.{kept_with_each}
-use Rattle.cookie_agent.specs.StoredCode.{IsFreshUntil, mark_of}
+use Rattle.cookie_agent.specs.StoredCode.{IsFreshUntil, hash_of}
 use Rattle.cookie_agent.proofs.PlaceLemmas.{kept_with_each-after}
 use Rattle.cookie_agent.proofs.store.Store.load.Goals as goal
 
@@ -23,6 +23,6 @@ invariant_of-self c =
     let fits : FitsSigned w128 end = search rules in
     simp to_z-of_z (record {
       apart = c.in_ok-cookies.ensures.apart;
-      marks = c.in_ok-self-inside.ensures ∙ ap (map mark_of) c.deref-2.ensures.value;
+      hashes = c.in_ok-self-inside.ensures ∙ ap (map hash_of) c.deref-2.ensures.value;
       fresh = subst (λ (s : CookieStore). All (IsFreshUntil end) s) c.deref-3.ensures.value c.fresh_until-self-inside.ensures;
     })

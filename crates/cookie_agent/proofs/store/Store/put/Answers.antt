@@ -23,6 +23,6 @@ invariant_of-self-2 c =
     let fits : FitsSigned w128 c.drop_expired-self-inside.result = search rules in
     simp to_z-of_z (record {
       apart = subst IsApart (sym (dropped.cookies ∙ c.in_ok-put_in_place.ensures.ok)) (apart-stored c.args.now c.args.cookie c.self.inside.cookies.items c.self.invariant.apart);
-      marks = dropped.marks;
+      hashes = dropped.hashes;
       fresh = dropped.fresh;
     })

@@ -6,7 +6,7 @@ use Rattle.cookie_browser.specs.Storage.{CookieStore, lasting, lasts}
 use Rattle.cookie_agent.specs.Limits.{trimmed, within_domains, within_total}
 use Rattle.cookie_agent.specs.LimitsCode.{picked}
 use Rattle.cookie_agent.specs.Stored.{IsApart}
-use Rattle.cookie_agent.specs.StoredCode.{IsFreshUntil, mark_of}
+use Rattle.cookie_agent.specs.StoredCode.{IsFreshUntil, hash_of}
 use Rattle.cookie_agent.proofs.LimitLemmas.{apart-staying, few_in_all, few_of_domains, of_all, of_domain, staying-all}
 use Rattle.cookie_agent.proofs.PutLemmas.{apart-filter}
 use Rattle.cookie_agent.proofs.store.Store.trim.Goals as goal
@@ -25,7 +25,7 @@ invariant_of-self c =
     let fits : FitsSigned w128 c.fresh_until-self-inside.result = search rules in
     simp to_z-of_z (record {
       apart = subst IsApart (sym left) (apart-staying (λ d. None) limits.total [] (within_domains limits.per_domain (lasting now store)) domains);
-      marks = c.renew.ensures ∙ ap (map mark_of) c.deref-3.ensures.value;
+      hashes = c.renew.ensures ∙ ap (map hash_of) c.deref-3.ensures.value;
       fresh = subst (λ (s : CookieStore). All (IsFreshUntil c.fresh_until-self-inside.result) s) c.deref-4.ensures.value c.fresh_until-self-inside.ensures;
     })
 

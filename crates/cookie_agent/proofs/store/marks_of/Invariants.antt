@@ -1,7 +1,0 @@
--- The marks so far are those of the cookies so far.
-use Rattle.std.proofs.Common.{◌≡◌, map, take}
-use Rattle.cookie_agent.specs.StoredCode.{mark_of}
-use Rattle.cookie_agent.proofs.store.marks_of.Given as goal
-
-abbrev pub invariant-loop-cookie : goal.invariant-loop-cookie
-invariant-loop-cookie l = l.marks.items ≡ map mark_of (take l.cookie-index l.cookies)
