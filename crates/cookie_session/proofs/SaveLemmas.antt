@@ -15,6 +15,12 @@ use Rattle.cookie_session.specs.declared.session_error.SessionError.TheVariants 
 use Rattle.cookie_session.specs.declared.sessions.Sessions.{Sessions}
 use Rattle.cookie_session.proofs.KeyRingLemmas.{opened_newest}
 
+-- a cookie with a session that was sealed by the newest key holds it
+pub sealed_stored : (sealed : Record) (site : Sessions) (s : SessionState) → IsSession s → 0 < length site.keys.now
+    → IsSealedFor (encryption_half (newest site.keys.now)) session_purpose sealed.name sealed.value (session_text s) → IsStored site (Some sealed) s
+sealed_stored sealed site s is some stands = λ cookie same later lives.
+    record { session = is; sealed = opened_newest (Some session_purpose) site.keys.now some sealed cookie (session_text s) same stands; lives = lives }
+
 module _ (sealed : Record) (name : List ℕ) (named : sealed.name ≡ name) (old new : JarState) (added : new ≡ after (Add sealed) old) where
   -- it shows what was added
   shown : view new name ≡ Some sealed
@@ -24,11 +30,8 @@ module _ (sealed : Record) (name : List ℕ) (named : sealed.name ≡ name) (old
   shown_is Is is = subst (λ o. IfSome o Is) (sym shown) is
 
   -- and that holds the session
-  pub shown_stored : (site : Sessions) (s : SessionState) → IsSession s → 0 < length site.keys.now
-      → IsSealedFor (encryption_half (newest site.keys.now)) session_purpose sealed.name sealed.value (session_text s) → IsStored site (view new name) s
-  shown_stored site s is some stands =
-      subst (λ o. IsStored site o s) (sym shown) (λ cookie same later lives.
-      record { session = is; sealed = opened_newest (Some session_purpose) site.keys.now some sealed cookie (session_text s) same stands; lives = lives })
+  pub shown_stored : (site : Sessions) (s : SessionState) → IsStored site (Some sealed) s → IsStored site (view new name) s
+  shown_stored site s stored = subst (λ o. IsStored site o s) (sym shown) stored
 
   -- and that the newest key opens
   pub shown_opens : (ring : List (List ℕ)) (value : List ℕ) → 0 < length ring → IsSealingOf (encryption_half (newest ring)) sealed value

@@ -18,6 +18,7 @@ mod pair_text;
 mod prefix;
 mod revocations;
 mod save_if_needed;
+mod saved_cookie;
 mod seconds;
 mod session;
 mod session_error;

@@ -24,8 +24,7 @@ use crate::seconds::second_of;
 use crate::session::Session;
 use crate::session_error::SessionError;
 use crate::session_text::read_session;
-use crate::size::browser_length;
-use cookie::{Cookie, CookieJar, JarError, MOST_BYTES};
+use cookie::{Cookie, CookieJar, JarError};
 use jiff::SignedDuration;
 use jiff::civil::DateTime;
 use rand_core::TryRng;
@@ -216,13 +215,8 @@ impl<'a> Sessions<'a> {
         // After any refusal the jar is as it was.
         ensures err { OnErr result (jar.new ≡ jar.old) }
     {
-        let cookie = self.bare_cookie(alloc, session, now)?;
-        let sealed = self.sealed(alloc, cookie, rng)?;
-        let size = browser_length(alloc, &sealed)?;
-        if size > MOST_BYTES {
-            return Err(SessionError::TooLarge(size));
-        }
-        jar.add(sealed)?;
+        let cookie = self.saved_cookie(alloc, session, now, rng)?;
+        jar.add(cookie)?;
         Ok(())
     }
 
@@ -242,7 +236,7 @@ impl<'a> Sessions<'a> {
     }
 
     // The cookie with its value sealed as a session, under the newest key.
-    fn sealed<R: TryRng>(
+    pub(crate) fn sealed<R: TryRng>(
         &self,
         alloc: Global,
         mut cookie: Cookie<'static>,
@@ -260,7 +254,7 @@ impl<'a> Sessions<'a> {
     }
 
     // The cookie of a session that is saved at the time `now`, before it is encrypted.
-    fn bare_cookie(
+    pub(crate) fn bare_cookie(
         &self,
         alloc: Global,
         session: &Session,
