@@ -25,12 +25,12 @@ class Moment(ctypes.Structure):
     ]
 
 
-class Place(ctypes.Structure):
+class Span(ctypes.Structure):
     _fields_ = [("start", ctypes.c_size_t), ("length", ctypes.c_size_t)]
 
 
 class Pair(ctypes.Structure):
-    _fields_ = [("status", ctypes.c_uint32), ("name", Place), ("value", Place), ("next", ctypes.c_size_t)]
+    _fields_ = [("status", ctypes.c_uint32), ("name", Span), ("value", Span), ("next", ctypes.c_size_t)]
 
 
 class Attributes(ctypes.Structure):
@@ -43,7 +43,7 @@ class Attributes(ctypes.Structure):
 class Reading(ctypes.Structure):
     _fields_ = (
         [("status", ctypes.c_uint32)]
-        + [(name, Place) for name in ("name", "value", "path", "domain")]
+        + [(name, Span) for name in ("name", "value", "path", "domain")]
         + [("attributes", Attributes)]
     )
 
@@ -75,7 +75,7 @@ class TokenSettings(ctypes.Structure):
 
 class SessionFacts(ctypes.Structure):
     _fields_ = [
-        ("status", ctypes.c_uint32), ("is_opened", ctypes.c_bool), ("place", ctypes.c_size_t),
+        ("status", ctypes.c_uint32), ("is_opened", ctypes.c_bool), ("index", ctypes.c_size_t),
         ("started", ctypes.c_uint64), ("seen", ctypes.c_uint64), ("id", ctypes.c_uint8 * 16),
     ]
 
@@ -253,9 +253,9 @@ def text_or_none(function: Callable[..., Any], none: tuple[type[CookieError], ..
         return None
 
 
-def text_at(text: bytes, place: Place) -> str:
-    """The text at the place."""
-    return text[place.start : place.start + place.length].decode()
+def text_at(text: bytes, span: Span) -> str:
+    """The text of the span."""
+    return text[span.start : span.start + span.length].decode()
 
 
 def seeds() -> list[int]:

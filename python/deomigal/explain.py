@@ -8,7 +8,7 @@ import pathlib
 from typing import NamedTuple
 
 from ._library import (
-    DONE, HANDLE, SECOND, SUFFIXES_FREE, SUFFIXES_NEW, TEXT, Place, bytes_of, declare, perform, handle_of,
+    DONE, HANDLE, SECOND, SUFFIXES_FREE, SUFFIXES_NEW, TEXT, Span, bytes_of, declare, perform, handle_of,
 )
 from ._locks import Lock
 from .addresses import Address, address_of
@@ -48,9 +48,9 @@ class Request(ctypes.Structure):
 
 
 class StoredCookie(ctypes.Structure):
-    """A stored cookie as C returns it: the places of its texts, and the rest."""
+    """A stored cookie as C returns it: the spans of its texts, and the rest."""
 
-    _fields_ = [(name, Place) for name in ("name", "value", "domain", "path")] + [
+    _fields_ = [(name, Span) for name in ("name", "value", "domain", "path")] + [
         ("lifetime", ctypes.c_uint64), ("same_site", ctypes.c_uint32),
     ] + [(name, ctypes.c_bool) for name in ("is_persistent", "is_host_only", "is_secure", "is_http_only")]
 
@@ -59,7 +59,7 @@ class Explanation(ctypes.Structure):
     """What C returns of a text: what refuses it, or what is stored."""
 
     _fields_ = [
-        ("status", ctypes.c_uint32), ("refusal", ctypes.c_uint32), ("sentence", Place), ("section", Place),
+        ("status", ctypes.c_uint32), ("refusal", ctypes.c_uint32), ("sentence", Span), ("section", Span),
         ("stored", StoredCookie),
     ]
 
@@ -160,7 +160,7 @@ def found_at(address: Address, text: bytes, suffixes: bytes, now: int) -> Found:
         raise error_of(answer.status)
     cookie, texts = answer.stored, buffer.raw
 
-    def taken(at: Place) -> bytes:
+    def taken(at: Span) -> bytes:
         return texts[at.start : at.start + at.length]
 
     return Found(

@@ -209,7 +209,7 @@ class Sessions(Uncopied):
             # The next cookie of the name counts.
             session.revoked += found
         if status == DONE:
-            session.started, session.seen, session.place = facts.started, facts.seen, facts.place
+            session.started, session.seen, session.place = facts.started, facts.seen, facts.index
             session.id, session.starts, session.is_renewed = found, {found: facts.started}, False
             form = bytes_from(SESSION_TEXTS, session.handle, room=ROOM).decode()
             try:

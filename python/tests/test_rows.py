@@ -218,7 +218,7 @@ def play_session(call, inputs, out, length):
         answer.status = library.SESSION_OPEN(handle, *texts, now, session)
     if call == "session_open":
         facts = library.SESSION_DESCRIBE(session)
-        if [facts.place, facts.started, facts.seen] != numbers_in(rest[-2], 3):
+        if [facts.index, facts.started, facts.seen] != numbers_in(rest[-2], 3):
             fault("another key or another time")
         if bytes(facts.id) != rest[-1]:
             fault("another id")

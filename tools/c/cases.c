@@ -38,8 +38,8 @@ static bool is(cookie_answer answer, uint32_t status, size_t length) {
     return answer.status == status && answer.length == length;
 }
 
-static bool lies(cookie_place place, size_t start, size_t length) {
-    return place.start == start && place.length == length;
+static bool lies(cookie_span span, size_t start, size_t length) {
+    return span.start == start && span.length == length;
 }
 
 /* The key is looked at before the texts, and the nonce before both. A text that doesn't fit is not written. */
@@ -200,7 +200,7 @@ static void sessions(void) {
     MUST(cookie_sessions_new(&site, &sessions) == COOKIE_DONE);
     MUST(cookie_session_open(&sessions, T(HEADER), NULL, 0, NOW, &session) == COOKIE_DONE);
     cookie_session_facts facts = cookie_session_describe(&session);
-    MUST(facts.status == COOKIE_DONE && facts.is_opened && facts.place == 0);
+    MUST(facts.status == COOKIE_DONE && facts.is_opened && facts.index == 0);
     MUST(facts.started == NOW && facts.seen == NOW && memcmp(facts.id, KEY, 16) == 0);
     MUST(is(cookie_session_texts(&session, ROOM(7)), COOKIE_BUFFER_TOO_SHORT, 8) && holds(""));
     MUST(is(cookie_session_texts(&session, ROOM(8)), COOKIE_DONE, 8) && holds("user=ann"));

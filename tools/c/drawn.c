@@ -404,7 +404,7 @@ static void look_at_handle(drawing *d, int call, uint32_t status, bool has, uint
         fault(d, call, has ? "a handle with something is refused" : "a handle with nothing is taken");
 }
 
-static bool is_within(cookie_place at, size_t length) { return at.start <= length && at.length <= length - at.start; }
+static bool is_within(cookie_span at, size_t length) { return at.start <= length && at.length <= length - at.start; }
 
 /* Makes a call that returns a status. */
 #define STATUS(it, expression) \
@@ -435,7 +435,7 @@ static bool is_within(cookie_place at, size_t length) { return at.start <= lengt
         } \
     } while (0)
 
-/* Makes a call that explains, and looks at its places. */
+/* Makes a call that explains, and looks at its spans. */
 #define EXPLAINS(it, expression) \
     do { \
         draw_room(d); \
@@ -444,11 +444,11 @@ static bool is_within(cookie_place at, size_t length) { return at.start <= lengt
         status = why.status; \
         size_t end = why.section.start + why.section.length + why.stored.path.start + why.stored.path.length; \
         look(d, it##_call, status, status == COOKIE_DONE ? end : 0, starved); \
-        const cookie_place places[] = {why.sentence,     why.section,       why.stored.name, \
+        const cookie_span spans[] =   {why.sentence,     why.section,       why.stored.name, \
                                        why.stored.value, why.stored.domain, why.stored.path}; \
         for (size_t i = 0; i < 6; i++) \
-            if (!is_within(places[i], status == COOKIE_DONE ? d->length : SIZE_MAX)) \
-                fault(d, it##_call, "a place isn't in the buffer"); \
+            if (!is_within(spans[i], status == COOKIE_DONE ? d->length : SIZE_MAX)) \
+                fault(d, it##_call, "a span isn't in the buffer"); \
         if (status == COOKIE_BUFFER_TOO_SHORT && end <= d->length) \
             fault(d, it##_call, "a buffer that fits is too short"); \
         if (status == COOKIE_BUFFER_TOO_SHORT && end <= ROOM) { \
@@ -551,7 +551,7 @@ static void play_reading(drawing *d, int call) {
         look(d, call, status, is_decoded && status == COOKIE_DONE ? pair.value.start + pair.value.length : 0, starved);
         size_t bound = !is_decoded ? from.length : status == COOKIE_DONE ? d->length : SIZE_MAX;
         if (!is_within(pair.name, is_there ? bound : 0) || !is_within(pair.value, is_there ? bound : 0))
-            fault(d, call, "a place isn't in the text");
+            fault(d, call, "a span isn't in the text");
         next = pair.next;
         if (status == COOKIE_NO_PAIR ? next != 0
                                      : status != COOKIE_OUT_OF_MEMORY && (next <= at || next > from.length + 1))
@@ -566,7 +566,7 @@ static void play_reading(drawing *d, int call) {
     size_t decoded = !is_decoded || bound == 0 ? bound : status == COOKIE_DONE ? d->length : SIZE_MAX;
     if (!is_within(it.path, bound) || !is_within(it.domain, bound) || !is_within(it.name, decoded)
         || !is_within(it.value, decoded))
-        fault(d, call, "a place isn't in the text");
+        fault(d, call, "a span isn't in the text");
 }
 
 static void play_jar(drawing *d, int call) {

@@ -234,7 +234,7 @@ static uint32_t make_sessions(const text *in, long long numbers[4], cookie_sessi
     return cookie_sessions_new(&settings, sessions);
 }
 
-/* A session that is opened: the place of its key and its times are the row's last numbers, and its id is the last text. */
+/* A session that is opened: the index of its key and its times are the row's last numbers, and its id is the last text. */
 static cookie_answer open_session(const text *in, uint8_t *out, size_t length) {
     long long n[4], told[3];
     cookie_sessions sessions = {0};
@@ -246,7 +246,7 @@ static cookie_answer open_session(const text *in, uint8_t *out, size_t length) {
     if (answer.status == COOKIE_DONE)
         answer = cookie_session_texts(&session, out, length);
     numbers_in(in[5], 3, told);
-    if (facts.place != (size_t)told[0] || facts.started != (uint64_t)told[1] || facts.seen != (uint64_t)told[2])
+    if (facts.index != (size_t)told[0] || facts.started != (uint64_t)told[1] || facts.seen != (uint64_t)told[2])
         fault("another key or another time");
     if (in[6].length != sizeof facts.id || memcmp(facts.id, in[6].bytes, sizeof facts.id) != 0)
         fault("another id");
@@ -327,13 +327,13 @@ static cookie_answer play_token(const char *name, const text *in, uint8_t *out, 
                                            : cookie_token_read(&settings, IN(3), (uint64_t)n[1], out, length);
 }
 
-/* Whether the places have these lengths, and are one right after the other; or all are 0. */
-static int are_joined(const cookie_place *places, int count, const long long *lengths, int are_there) {
+/* Whether the spans have these lengths, and are one right after the other; or all are 0. */
+static int are_joined(const cookie_span *spans, int count, const long long *lengths, int are_there) {
     size_t end = 0;
     for (int i = 0; i < count; i++) {
-        if (places[i].start != (are_there ? end : 0) || places[i].length != (size_t)lengths[i])
+        if (spans[i].start != (are_there ? end : 0) || spans[i].length != (size_t)lengths[i])
             return 0;
-        end += places[i].length;
+        end += spans[i].length;
     }
     return 1;
 }
@@ -351,7 +351,7 @@ static cookie_answer explain(const text *in, uint8_t *out, size_t length) {
     cookie_explanation why = cookie_explain(&suffixes, &request, IN(4), (uint64_t)n[4], out, length);
     cookie_suffixes_free(&suffixes);
     cookie_stored it = why.stored;
-    const cookie_place refused[] = {why.sentence, why.section}, stored[] = {it.name, it.value, it.domain, it.path};
+    const cookie_span refused[] = {why.sentence, why.section}, stored[] = {it.name, it.value, it.domain, it.path};
     const long long rest[] = {(long long)it.lifetime, it.same_site,  it.is_persistent,
                               it.is_host_only,        it.is_secure, it.is_http_only};
     int is_stored = why.status <= COOKIE_BUFFER_TOO_SHORT && why.refusal == 0;
@@ -537,16 +537,16 @@ static void play_date(text in, uint32_t status, text wanted) {
         fault("another date");
 }
 
-/* The places of a pair, and where the rest begins. */
+/* The spans of a pair, and where the rest begins. */
 static void numbers_of_pair(cookie_pair pair, long long numbers[COUNT]) {
     size_t read[] = {pair.name.start, pair.name.length, pair.value.start, pair.value.length, pair.next};
     for (size_t i = 0; i < COUNT; i++)
         numbers[i] = i < sizeof read / sizeof *read ? (long long)read[i] : 0;
 }
 
-/* The places of a cookie that was read, its attributes and its date. */
+/* The spans of a cookie that was read, its attributes and its date. */
 static void numbers_of_reading(cookie_reading reading, long long numbers[COUNT]) {
-    cookie_place places[] = {reading.name, reading.value, reading.path, reading.domain};
+    cookie_span spans[] = {reading.name, reading.value, reading.path, reading.domain};
     cookie_attributes found = reading.attributes;
     long long read[] = {
         found.http_only,   found.secure,      found.partitioned,   found.same_site,     found.has_path,
@@ -554,8 +554,8 @@ static void numbers_of_reading(cookie_reading reading, long long numbers[COUNT])
         found.expires.month, found.expires.day, found.expires.hour, found.expires.minute, found.expires.second,
     };
     for (size_t i = 0; i < 4; i++) {
-        numbers[2 * i] = (long long)places[i].start;
-        numbers[2 * i + 1] = (long long)places[i].length;
+        numbers[2 * i] = (long long)spans[i].start;
+        numbers[2 * i + 1] = (long long)spans[i].length;
     }
     memcpy(numbers + 8, read, sizeof read);
 }

@@ -1,61 +1,30 @@
 -- A user agent for C: what a call makes of its handle.
-use Rattle.std.proofs.Common.{◌≡◌, ℕ, ℤ, pos, ◌+ℤ◌, ◌-ℤ◌, ◌⊎◌, inl, inr, ◌↔◌, true, false, Option, Some, None, IsNone, IsSome, IsSomeAnd, IfSome, Ok, Err, MatchResult, option_map, refl, sym, ap, subst, ◌∙◌, arith}
+use Rattle.std.proofs.Common.{◌≡◌, ℕ, ◌≤◌, ℤ, pos, ◌+ℤ◌, ◌-ℤ◌, ◌⊎◌, inl, inr, ◌↔◌, true, false, Option, Some, None, IsNone, IsSome, IsSomeAnd, IfSome, Ok, Err, MatchResult, option_map, refl, sym, ap, subst, ◌∙◌, arith}
 use Rattle.std.specs.Prelude.{Result, int_div}
 use Rattle.jiff.specs.Types.{DateTime}
 use Rattle.jiff.specs.Words.{IsDurationNanos, civil_nanos, signed_nanos}
 use Rattle.jiff.specs.declared.SignedDuration.{SignedDuration}
 use Rattle.jiff.proofs.SpanFacts.{signed_arith}
 use Rattle.cookie_browser.specs.Request.{RequestView}
-use Rattle.cookie_browser.specs.Storage.{CookieStore, KeptView}
+use Rattle.cookie_agent.specs.declared.saved.form.SavedForm.{SavedForm}
+use Rattle.cookie_browser.specs.Storage.{KeptView}
 use Rattle.cookie_session.specs.Seconds.{from_zero}
-use Rattle.cookie_c.specs.Agents.{AtStore, ChangesStore, HasTexts, IfSeen, InStore, IsTooFar, seen_request, store_of}
-use Rattle.cookie_c.specs.Codes.{code_of}
+use Rattle.cookie_c.specs.Agents.{HasTexts, IfSeen, IsTooFar, seen_request}
 use Rattle.cookie_c.specs.ExplanationParts.{IsDraftOf}
 use Rattle.cookie_c.specs.Explanations.{seconds_until}
-use Rattle.cookie_c.specs.Handles.{Changes, store_in}
-use Rattle.cookie_c.specs.declared.agent.Agent.{Agent}
+use Rattle.cookie_c.specs.SavedAgents.{ForForm, InForm, form_of}
+use Rattle.cookie_c.specs.Sites.{AtSecond, IsAtSecond, last_second}
 use Rattle.cookie_c.specs.declared.explanation.draft.Draft.{Draft}
 use Rattle.cookie_c.specs.declared.explanation.request.Request.{Request}
-use Rattle.cookie_c.specs.declared.handle.content.Content.{Content}
-use Rattle.cookie_c.specs.declared.handle.content.Content.TheVariants as content
 use Rattle.cookie_c.specs.declared.status.Status.{Status}
 use Rattle.cookie_c.specs.declared.status.Status.TheVariants as status
-use Rattle.cookie_c.proofs.HandleLemmas.{tells_some}
+use Rattle.cookie_c.proofs.SiteLemmas.{at_second}
 
-module _ (Makes : CookieStore → CookieStore → Type 0) (Refuses : Status → Type 0) where
-  -- a handle that has nothing
-  pub store_none : (old new : Option Content) → old ≡ None → new ≡ None → Refuses status.NoAgent → AtStore Makes Refuses (store_in old) (store_in new)
-  store_none old new none left refused =
-      subst (λ o. AtStore Makes Refuses (store_in o) (store_in new)) (sym none)
-      (subst (λ n. AtStore Makes Refuses None (store_in n)) (sym left) (refl, refused))
-
-  -- a handle that has this content, of which the call makes another
-  pub store_some : (old new : Option Content) (content made : Content) → old ≡ Some content → new ≡ Some made
-      → AtStore Makes Refuses (store_in (Some content)) (store_in (Some made)) → AtStore Makes Refuses (store_in old) (store_in new)
-  store_some old new content made some left makes =
-      subst (λ o. AtStore Makes Refuses (store_in o) (store_in new)) (sym some)
-      (subst (λ n. AtStore Makes Refuses (store_in (Some content)) (store_in n)) (sym left) makes)
-
-  -- what the call makes of the cookies that a content is
-  pub store_made : (had : Content) (store made : CookieStore) → had ≡ content.Store store → Makes store made
-      → AtStore Makes Refuses (store_in (Some had)) (store_in (Some (content.Store made)))
-  store_made had store made is makes =
-      subst (λ h. AtStore Makes Refuses (store_in (Some h)) (store_in (Some (content.Store made)))) (sym is) (made, refl, makes)
-
-pub agent_none : (Makes : Status → CookieStore → CookieStore → Type 0) (number : ℕ) (old new : Agent)
-    → old.handle.held.content ≡ None → new.handle.held.content ≡ None → number ≡ code_of status.NoAgent → ChangesStore Makes number old new
-agent_none Makes number old new none left told = (
-  status.NoAgent,
-  told,
-  subst (λ o. Changes status.NoAgent Makes status.NoAgent (store_in o) (store_of new)) (sym none)
-      (subst (λ n. Changes status.NoAgent Makes status.NoAgent None (store_in n)) (sym left) (refl, refl)),
-)
-
-pub agent_some : (Makes : Status → CookieStore → CookieStore → Type 0) (number : ℕ) (old new : Agent) (answer : Status) (content made : Content)
-    → old.handle.held.content ≡ Some content → new.handle.held.content ≡ Some made → number ≡ code_of answer
-    → InStore Makes answer content made → ChangesStore Makes number old new
-agent_some Makes number old new answer content made some left told makes =
-    tells_some store_in status.NoAgent Makes number old.handle.held.content new.handle.held.content answer content made some left told makes
+-- a call in the form of this number, in a second of a date
+pub for_form : (number second : ℕ) (Holds : SavedForm → DateTime → Type 0) (Refuses : Status → Type 0) (form : SavedForm) (time : DateTime)
+    → Some form ≡ form_of number → (second ≤ last_second) × IsAtSecond second time → Holds form time → ForForm number second Holds Refuses
+for_form number second Holds Refuses form time some is holds =
+    subst (λ f. InForm f (λ x. AtSecond second (Holds x) Refuses) Refuses) some (at_second second (Holds form) Refuses time is holds)
 
 -- a call for a request that the agent sees
 pub seen_told : (request : Request) (site : RequestView) (Holds : RequestView → Type 0) (Refuses : Status → Type 0)

@@ -9,7 +9,7 @@ use Rattle.cookie.proofs.CookieOfLemmas.{cookie_of-Reads}
 use Rattle.cookie.proofs.ReadingLemmas.{IsPieces-unique, SetsAttributes-named}
 use Rattle.cookie_c.specs.Decoded.{AreGiven, GivesCookie}
 use Rattle.cookie_c.specs.Numbers.{numbers_of}
-use Rattle.cookie_c.specs.Places.{IsOptionalAt}
+use Rattle.cookie_c.specs.Spans.{IsOptionalAt}
 use Rattle.cookie_c.specs.Readings.{ShowsCookie}
 use Rattle.cookie_c.specs.declared.reading.Reading.{Reading}
 

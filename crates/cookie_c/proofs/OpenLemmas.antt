@@ -1,16 +1,30 @@
 -- Which session is found for C.
-use Rattle.std.proofs.Common.{ℕ, List, Option, Some, None, refl, inl, inr}
+use Rattle.std.proofs.Common.{◌≡◌, ◌↔◌, ℕ, List, Option, Some, None, refl, inl, inr}
 use Rattle.std.proofs.lemmas.Option.{none-some}
 use Rattle.jiff.specs.Types.{DateTime}
 use Rattle.cookie.specs.Record.{Record}
-use Rattle.cookie_session.specs.Sessions.{OpensUnrevoked}
+use Rattle.cookie.specs.Originals.{first_of_name}
+use Rattle.cookie_session.specs.Session.{SessionState}
+use Rattle.cookie_session.specs.Sessions.{HoldsOne, OpensUnrevoked}
 use Rattle.cookie_session.specs.declared.opened.Opened.{Opened}
 use Rattle.cookie_session.specs.declared.sessions.Sessions.{Sessions}
 use Rattle.cookie_c.specs.Handles.{IsKept, IsPut}
-use Rattle.cookie_c.specs.OpenedSessions.{Finds, HasNone, IsOpening}
+use Rattle.cookie_c.specs.OpenedSessions.{HasNone, IsOpening}
 use Rattle.cookie_c.specs.declared.sessions.open_session.OpenSession.{OpenSession}
 use Rattle.cookie_c.specs.declared.status.Status.{Status}
 use Rattle.cookie_c.specs.declared.status.Status.TheVariants as status
+
+-- The session that is found, if any, is the one of the first cookie in which one is open that isn't revoked. This cookie
+-- holds no other, whatever the time. The first cookie of the name holds one at most, whether one is open or not.
+pub record Finds (IsRevoked : List ℕ → Type 0) (site : Sessions) (cookies : List Record)
+    (time : DateTime) (found : Option Opened) : Type 0 where
+  pub exact : (place : ℕ) (session : SessionState)
+      → (found ≡ Some (record { session = session; place = place }))
+      ↔ OpensUnrevoked IsRevoked site cookies time place session
+  pub once : (place : ℕ) (session : SessionState)
+      → (first : OpensUnrevoked IsRevoked site cookies time place session)
+      → HoldsOne site (Some first.cookie)
+  pub first : HoldsOne site (first_of_name site.cookie.now.fields.name cookies)
 
 module _ (IsRevoked : List ℕ → Type 0) (site : Sessions) (cookies : List Record) (time : DateTime) where
   -- the session that was found is open
@@ -27,7 +41,7 @@ module _ (IsRevoked : List ℕ → Type 0) (site : Sessions) (cookies : List Rec
 
   -- it is put into the handle, or memory ran out
   pub opening_put : (opened : Opened) (answer : Status) (old new : Option OpenSession) → Finds IsRevoked site cookies time (Some opened)
-      → IsPut (record { session = opened.session; place = Some opened.place }) answer old new
+      → IsPut (record { session = opened.session; index = Some opened.place }) answer old new
       → IsOpening IsRevoked site cookies time answer old new
   opening_put opened answer old new finds (inl puts) =
       let first = found_is_open opened finds in

@@ -1,4 +1,4 @@
--- The pieces of a header of bytes, from a place on.
+-- The pieces of a header of bytes, from an offset on.
 use Rattle.std.proofs.Common.{◌≡◌, ◌==◌, ◌||◌, not, ℕ, ◌+◌, ◌-◌, ◌<◌, ◌≤◌, List, [], ◌∷◌, ◌++◌, true, false, length, get_or, take, drop, slice_range, ◌⊎◌, Some, None, refl, sym, ap, subst, ◌∙◌, inl, inr, arith, length-drop}
 use Rattle.std.proofs.lemmas.Bool.{cases_lt, and_from, and_left, and_right, or_from, or_left, or_right, not_from_true, not_from_false, cond-true, cond-false, false_from_ne_true}
 use Rattle.std.proofs.lemmas.Bool.Decides.{nat_tests}
@@ -17,7 +17,7 @@ use Rattle.cookie.specs.declared.Layout.{Layout}
 use Rattle.cookie.specs.declared.Span.{Span}
 use Rattle.cookie_c.specs.NextPiece.{IsTextOf}
 use Rattle.cookie_c.specs.Pairs.{HeaderPiece, end_of, is_blank, is_skipped, mark_of, next_in, next_piece}
-use Rattle.cookie_c.specs.Places.{IsAt, IsBetween, place_behind}
+use Rattle.cookie_c.specs.Spans.{IsAt, IsBetween, span_after}
 use mathlib.Core.Logic.{◌≢◌}
 
 pub length-piece : (h : List ℕ) (s e : ℕ) → s ≤ e → e ≤ length h → length (slice_range h s e) ≡ e - s
@@ -79,7 +79,7 @@ differs {n} h = grind (arith, nat_tests)
 -- a span of a text that stands in the header, between two offsets
 pub IsBetween-behind : (h text : List ℕ) (first start last : ℕ) (p : Span)
     → IsAt h (record { start = start; length = length text }) text → StandsIn text p
-    → first ≤ start + p.start → start + p.end ≤ last → IsBetween h first last (place_behind start p) (span_text text p)
+    → first ≤ start + p.start → start + p.end ≤ last → IsBetween h first last (span_after start p) (span_text text p)
 IsBetween-behind h text first start last p (room, here) (forward, _, end) begins ends =
     let within : p.end ≤ length text = end.0 in
     let width : start + p.start + (p.end - p.start) ≡ start + p.end = omega arith in
@@ -89,19 +89,19 @@ IsBetween-behind h text first start last p (room, here) (forward, _, end) begins
       ends = omega (arith, width, ends);
     }
 
--- the places of a pair's layout in the header
+-- the spans of a pair's layout in the header
 module _ (h : List ℕ) (p : HeaderPiece) (text : List ℕ) (start next : ℕ) (is : IsTextOf h p text start next)
     (layout : Layout) (place : IsLayoutIn text layout) where
   mark : mark_of p ≡ start + offset_of 61 text
   mark = is.mark (omega (arith, place.after, place.value.0, place.value.2.0))
 
-  pub name_place : IsBetween h p.start (mark_of p) (place_behind start layout.name) (span_text text layout.name)
-  name_place =
+  pub name_span : IsBetween h p.start (mark_of p) (span_after start layout.name) (span_text text layout.name)
+  name_span =
       IsBetween-behind h text p.start start (mark_of p) layout.name is.place.bytes place.name
       (omega (arith, is.place.begins)) (omega (arith, mark, place.before))
 
-  pub value_place : IsBetween h (mark_of p + 1) (end_of p) (place_behind start layout.value) (span_text text layout.value)
-  value_place =
+  pub value_span : IsBetween h (mark_of p + 1) (end_of p) (span_after start layout.value) (span_text text layout.value)
+  value_span =
       IsBetween-behind h text (mark_of p + 1) start (end_of p) layout.value is.place.bytes place.value
       (omega (arith, mark, place.after)) (omega (arith, is.place.ends, place.value.2.0))
 

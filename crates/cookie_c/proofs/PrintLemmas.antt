@@ -5,11 +5,10 @@ use Rattle.std.proofs.lemmas.Int.{ints}
 use Rattle.jiff.specs.Types.{DateTime}
 use Rattle.jiff.specs.Words.{IsDate, IsTime, epoch_day, time_nanos, civil_nanos}
 use Rattle.jiff.proofs.Family.{epoch_day_range, epoch_day_same, same_date, same_time, civil_nanos-parts, days_from_civil-max}
-use Rattle.cookie.specs.AttributeValues.{FitsField}
 use Rattle.cookie.specs.Moments.{last_moment}
 use Rattle.cookie.specs.Expiration.{last_expiry, capped_moment, capped_expiry}
 use Rattle.cookie.specs.Types.{AtDateTime}
-use Rattle.cookie_c.specs.Prints.{AreCodes, AreTexts, ExpiresAt, HasDate, IsMoment, IsMomentOf, IsUnprintable, option_of, record_of_parts}
+use Rattle.cookie_c.specs.Prints.{AreCodes, AreTexts, ExpiresAt, HasDate, IsMoment, IsMomentOf, IsUnprintable, option_of}
 use Rattle.cookie_c.specs.declared.attributes.Attributes.{Attributes}
 use Rattle.cookie_c.specs.declared.date.Moment.{Moment}
 use Rattle.cookie_c.specs.declared.status.Status.{Status}
@@ -52,28 +51,17 @@ moment-is numbers moment h =
 
 -- such parts aren't refused
 pub printable : (name value path domain : List ℕ) (numbers : Attributes) (why : Status) (moment : DateTime) → AreCodes numbers → ExpiresAt numbers moment
-    → AreTexts name value path domain numbers → FitsField (record_of_parts name value path domain numbers moment)
-    → ¬ (IsUnprintable name value path domain numbers why)
-printable name value path domain numbers why moment codes at texts fits (inl h) = h.1 codes
-printable name value path domain numbers why moment codes at texts fits (inr (inl h)) = h.2 (λ is. moment-is numbers.expires moment (at is))
-printable name value path domain numbers why moment codes at texts fits (inr (inr (inl h))) = h.3 texts
-printable name value path domain numbers why moment codes at texts fits (inr (inr (inr h))) = h.4 moment at fits
+    → AreTexts name value path domain numbers → ¬ (IsUnprintable name value path domain numbers why)
+printable name value path domain numbers why moment codes at texts (inl h) = h.1 codes
+printable name value path domain numbers why moment codes at texts (inr (inl h)) = h.2 (λ is. moment-is numbers.expires moment (at is))
+printable name value path domain numbers why moment codes at texts (inr (inr h)) = h.3 texts
 
 -- texts that aren't UTF-8 are refused for that
 pub texts_refusal : (name value path domain : List ℕ) (numbers : Attributes) (why : Status) → AreCodes numbers → HasDate numbers
     → ¬ (AreTexts name value path domain numbers) → IsUnprintable name value path domain numbers why → why ≡ status.NotUtf8
 texts_refusal name value path domain numbers why codes date bad (inl h) = absurd (h.1 codes)
 texts_refusal name value path domain numbers why codes date bad (inr (inl h)) = absurd (h.2 date)
-texts_refusal name value path domain numbers why codes date bad (inr (inr (inl h))) = h.0
-texts_refusal name value path domain numbers why codes date bad (inr (inr (inr h))) = absurd (bad h.3)
-
--- parts whose path or domain doesn't fit a header are refused for that
-pub unfit_refusal : (name value path domain : List ℕ) (numbers : Attributes) (why : Status) (moment : DateTime) → AreCodes numbers → ExpiresAt numbers moment
-    → AreTexts name value path domain numbers → IsUnprintable name value path domain numbers why → why ≡ status.InvalidValue
-unfit_refusal name value path domain numbers why moment codes at texts (inl h) = absurd (h.1 codes)
-unfit_refusal name value path domain numbers why moment codes at texts (inr (inl h)) = absurd (h.2 (λ is. moment-is numbers.expires moment (at is)))
-unfit_refusal name value path domain numbers why moment codes at texts (inr (inr (inl h))) = absurd (h.3 texts)
-unfit_refusal name value path domain numbers why moment codes at texts (inr (inr (inr h))) = h.0
+texts_refusal name value path domain numbers why codes date bad (inr (inr h)) = h.0
 
 -- the expiry that is set is the one of the numbers
 pub expiry-whole : (numbers : Attributes) (made : DateTime) → numbers.has_expires ≡ 1 → IsMomentOf numbers.expires made

@@ -1,9 +1,9 @@
--- What a call on a handle of a site comes to.
-use Rattle.std.proofs.Common.{◌≡◌, ℕ, ◌≤◌, Option, None, arith, sym, Some, subst}
+-- What a call in a second comes to.
+use Rattle.std.proofs.Common.{◌≡◌, ℕ, ◌<◌, ◌≤◌, Option, Some, arith, sym, ap, subst, ◌∙◌}
 use Rattle.jiff.specs.Types.{DateTime}
 use Rattle.cookie_session.specs.declared.sessions.Sessions.{Sessions}
 use Rattle.cookie_c.specs.Handles.{site_in}
-use Rattle.cookie_c.specs.Sites.{AreOf, AtSecond, AtSite, IsAtSecond, last_second}
+use Rattle.cookie_c.specs.Sites.{AtSecond, AtSite, IsAtSecond, last_second}
 use Rattle.cookie_c.specs.declared.handle.content.Content.{Content}
 use Rattle.cookie_c.specs.declared.handle.content.Content.TheVariants as content
 use Rattle.cookie_c.specs.declared.sessions.site.Site.{Site}
@@ -18,19 +18,14 @@ at_second second Holds Refuses time is holds = record {
   dated = λ _. (time, is.1, holds);
 }
 
-module _ (second : ℕ) (Holds : Sessions → DateTime → Type 0) (Refuses : Status → Type 0) where
-  -- a site, in a second of a date
-  pub at_site : (had : Content) (site : Site) (sessions : Sessions) (time : DateTime) → had ≡ content.Sessions site → AreOf site sessions
-      → (second ≤ last_second) × IsAtSecond second time → Holds sessions time → AtSite (site_in (Some had)) second Holds Refuses
-  at_site had site sessions time is of at holds =
-      subst (λ h. AtSite (site_in (Some h)) second Holds Refuses) (sym is)
-      (at_second second (λ t. (s : Sessions) × AreOf site s × Holds s t) Refuses time at (sessions, of, holds))
+-- a second that is past the last
+pub no_second : (second : ℕ) (Holds : DateTime → Type 0) (Refuses : Status → Type 0) → last_second < second → Refuses status.NoDate
+    → AtSecond second Holds Refuses
+no_second second Holds Refuses late refuses = record { no_date = λ _. refuses; dated = λ early. absurd (omega (arith, late, early)) }
 
-  -- a handle that has nothing
-  pub site_none : (had : Option Content) → had ≡ None → Refuses status.NoSessions → AtSite (site_in had) second Holds Refuses
-  site_none had none refuses = subst (λ h. AtSite (site_in h) second Holds Refuses) (sym none) refuses
-
-  -- a handle that has this
-  pub site_some : (had : Option Content) (content : Content) → Some content ≡ had → AtSite (site_in (Some content)) second Holds Refuses
-      → AtSite (site_in had) second Holds Refuses
-  site_some had content some at = subst (λ h. AtSite (site_in h) second Holds Refuses) some at
+-- what a call on a site is for the handle that had it
+pub site_held : (second : ℕ) (Holds : Sessions → DateTime → Type 0) (Refuses : Status → Type 0) (held seen : Content) (site : Site) (old : Option Content)
+    → Some held ≡ old → seen ≡ held → seen ≡ content.Sessions site → AtSite (Some site) second Holds Refuses → AtSite (site_in old) second Holds Refuses
+site_held second Holds Refuses held seen site old some same is at =
+    subst (λ o. AtSite (site_in o) second Holds Refuses) some
+    (subst (λ h. AtSite (site_in (Some h)) second Holds Refuses) same (subst (λ h. AtSite (site_in (Some h)) second Holds Refuses) (sym is) at))

@@ -26,7 +26,6 @@ use Rattle.cookie_c.specs.declared.agent.read.AgentReading.{AgentReading}
 use Rattle.cookie_c.specs.declared.answer.Answer.{Answer}
 use Rattle.cookie_c.specs.declared.explanation.Explanation.{Explanation}
 use Rattle.cookie_c.specs.declared.explanation.request.Request.{Request}
-use Rattle.cookie_c.specs.declared.handle.content.Content.{Content}
 use Rattle.cookie_c.specs.declared.status.Status.{Status}
 use Rattle.cookie_c.specs.declared.status.Status.TheVariants as status
 
@@ -153,12 +152,6 @@ abbrev pub ChangesStore : (Status → CookieStore → CookieStore → Type 0) �
     → Type 0
 ChangesStore Makes number old new =
     Tells (λ answer. Changes status.NoAgent Makes answer (store_of old) (store_of new)) number
-
--- `ChangesStore` for a content
-abbrev pub InStore : (Status → CookieStore → CookieStore → Type 0) → Status → Content → Content
-    → Type 0
-InStore Makes answer old new =
-    Changes status.NoAgent Makes answer (store_in (Some old)) (store_in (Some new))
 
 -- what is left of the cookies
 abbrev pub Leaves : CookieStore → Status → CookieStore → CookieStore → Type 0

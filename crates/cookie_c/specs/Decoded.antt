@@ -10,10 +10,10 @@ use Rattle.cookie_c.specs.Answers.{IsGiven}
 use Rattle.cookie_c.specs.Codes.{refusal_status}
 use Rattle.cookie_c.specs.Numbers.{numbers_of}
 use Rattle.cookie_c.specs.Pairs.{HeaderPiece, refused_pair, rest_after}
-use Rattle.cookie_c.specs.Places.{IsOptionalAt}
+use Rattle.cookie_c.specs.Spans.{IsOptionalAt}
 use Rattle.cookie_c.specs.Readings.{refused_reading}
 use Rattle.cookie_c.specs.declared.pair.Pair.{Pair}
-use Rattle.cookie_c.specs.declared.place.Place.{Place}
+use Rattle.cookie_c.specs.declared.span.Span.{Span}
 use Rattle.cookie_c.specs.declared.reading.Reading.{Reading}
 use Rattle.cookie_c.specs.declared.status.Status.{Status}
 
@@ -23,20 +23,20 @@ IsDecodingRefusal text why =
     ReadsInMemory true text (Err why) × IsCertain {C = Record} text (Err why)
 
 -- The name and the value stand at the head of the buffer, the value right after the name, where both have room; else
--- nothing is written. Their places are told either way.
-pub record AreGiven (first second : List ℕ) (code : ℕ) (name_place value_place : Place)
+-- nothing is written. Their spans are told either way.
+pub record AreGiven (first second : List ℕ) (code : ℕ) (name_span value_span : Span)
     (old new : List ℕ) : Type 0 where
   pub texts : IsGiven (first ++ second)
       (record { status = code; length = length (first ++ second) }) old new
-  pub name : name_place ≡ record { start = 0; length = length first }
-  pub value : value_place ≡ record { start = length first; length = length second }
+  pub name : name_span ≡ record { start = 0; length = length first }
+  pub value : value_span ≡ record { start = length first; length = length second }
 
 -- the record's name and value are given, and the rest of the header begins there
 pub record GivesPair (r : Record) (rest : ℕ) (answer : Pair) (old new : List ℕ) : Type 0 where
   pub pair : AreGiven r.name r.value answer.status answer.name answer.value old new
   pub next : answer.next ≡ rest
 
--- the same two are given, the path and the domain stand at the answer's places in the text, and the attributes have the
+-- the same two are given, the path and the domain stand at the answer's spans in the text, and the attributes have the
 -- answer's numbers
 pub record GivesCookie (text : List ℕ) (r : Record) (answer : Reading) (old new : List ℕ)
     : Type 0 where

@@ -15,12 +15,12 @@ use Rattle.cookie_session.specs.Seconds.{from_zero}
 use Rattle.cookie_c.specs.Answers.{IsGiven}
 use Rattle.cookie_c.specs.Codes.{code_of}
 use Rattle.cookie_c.specs.Handles.{IsKept, IsPut, suffixes_in}
-use Rattle.cookie_c.specs.Places.{no_place}
+use Rattle.cookie_c.specs.Spans.{no_span}
 use Rattle.cookie_c.specs.Sites.{AtSecond}
 use Rattle.cookie_c.specs.declared.explanation.Explanation.{Explanation}
 use Rattle.cookie_c.specs.declared.explanation.request.Request.{Request}
 use Rattle.cookie_c.specs.declared.explanation.stored.Stored.{Stored}
-use Rattle.cookie_c.specs.declared.place.Place.{Place}
+use Rattle.cookie_c.specs.declared.span.Span.{Span}
 use Rattle.cookie_c.specs.declared.status.Status.{Status}
 use Rattle.cookie_c.specs.declared.status.Status.TheVariants as status
 use Rattle.cookie_c.specs.declared.suffixes.Suffixes.{Suffixes}
@@ -75,18 +75,18 @@ seconds_left now (Some expiry) = seconds_until now expiry
 
 -- ---- the answer
 
--- the place of a text that begins at this offset
-abbrev pub place_at : ℕ → List ℕ → Place
-place_at start text = record { start = start; length = length text }
+-- the span of a text that begins at this offset
+abbrev pub span_at : ℕ → List ℕ → Span
+span_at start text = record { start = start; length = length text }
 
 -- there is no cookie
 abbrev pub nothing_stored : Stored
 nothing_stored =
     record {
-      name = no_place;
-      value = no_place;
-      domain = no_place;
-      path = no_place;
+      name = no_span;
+      value = no_span;
+      domain = no_span;
+      path = no_span;
       lifetime = 0;
       same_site = 0;
       is_persistent = false;
@@ -99,10 +99,10 @@ nothing_stored =
 abbrev pub stored_as : DateTime → KeptView → Stored
 stored_as now cookie =
     record {
-      name = place_at 0 cookie.name;
-      value = place_at (length cookie.name) cookie.value;
-      domain = place_at (length cookie.name + length cookie.value) cookie.domain;
-      path = place_at (length cookie.name + length cookie.value + length cookie.domain) cookie.path;
+      name = span_at 0 cookie.name;
+      value = span_at (length cookie.name) cookie.value;
+      domain = span_at (length cookie.name + length cookie.value) cookie.domain;
+      path = span_at (length cookie.name + length cookie.value + length cookie.domain) cookie.path;
       lifetime = seconds_left now cookie.expiry;
       same_site = enforcement_code cookie.same_site;
       is_persistent = is_some cookie.expiry;
@@ -117,8 +117,8 @@ unexplained why =
     record {
       status = code_of why;
       refusal = 0;
-      sentence = no_place;
-      section = no_place;
+      sentence = no_span;
+      section = no_span;
       stored = nothing_stored;
     }
 
@@ -128,8 +128,8 @@ answer_to now (Ok cookie) = record (unexplained status.Done) { stored = stored_a
 answer_to now (Err why) =
     record (unexplained status.Done) {
       refusal = refusal_code why;
-      sentence = place_at 0 (refusal_text why);
-      section = place_at (length (refusal_text why)) (refusal_section why);
+      sentence = span_at 0 (refusal_text why);
+      section = span_at (length (refusal_text why)) (refusal_section why);
     }
 
 -- the texts of the answer, one after the other

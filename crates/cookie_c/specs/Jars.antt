@@ -17,7 +17,6 @@ use Rattle.cookie_c.specs.Codes.{refusal_status}
 use Rattle.cookie_c.specs.Decoded.{IsDecodingRefusal}
 use Rattle.cookie_c.specs.Handles.{Changes, IsKept, Tells, jar_in}
 use Rattle.cookie_c.specs.declared.answer.Answer.{Answer}
-use Rattle.cookie_c.specs.declared.handle.content.Content.{Content}
 use Rattle.cookie_c.specs.declared.jar.Jar.{Jar}
 use Rattle.cookie_c.specs.declared.status.Status.{Status}
 use Rattle.cookie_c.specs.declared.status.Status.TheVariants as status
@@ -108,8 +107,3 @@ jar_of jar = jar_in jar.handle.held.content
 abbrev pub AtJar : (Status → JarState → JarState → Type 0) → ℕ → Jar → Jar → Type 0
 AtJar Makes number old new =
     Tells (λ answer. Changes status.NoJar Makes answer (jar_of old) (jar_of new)) number
-
--- `AtJar` for a content
-abbrev pub InJar : (Status → JarState → JarState → Type 0) → Status → Content → Content → Type 0
-InJar Makes answer old new =
-    Changes status.NoJar Makes answer (jar_in (Some old)) (jar_in (Some new))

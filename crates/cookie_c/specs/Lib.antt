@@ -13,14 +13,13 @@ pub mod NextPiece
 pub mod Numbers
 pub mod OpenedSessions
 pub mod Pairs
-pub mod Places
 pub mod Played
 pub mod Prints
 pub mod Readings
 pub mod Revoked
-pub mod SaveParts
 pub mod SavedAgents
 pub mod SavedSessions
 pub mod SessionCalls
 pub mod Sites
+pub mod Spans
 pub mod Tokens

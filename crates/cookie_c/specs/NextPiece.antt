@@ -1,10 +1,10 @@
--- Mirrors private code: what comes next in a header from a place on (RFC 6265 4.2.1).
+-- Mirrors private code: what comes next in a header from an offset on (RFC 6265 4.2.1).
 use Rattle.std.specs.Prelude.{◌≡◌, ◌<◌, ◌+◌, ℕ, List, length, IsUtf8, Some, None}
 use Rattle.std.specs.Str.{trim}
 use Rattle.cookie.specs.Pieces.{offset_of}
 use Rattle.cookie.specs.Separators.{equals_sign}
 use Rattle.cookie_c.specs.Pairs.{HeaderPiece, end_of, mark_of, next_piece, rest_after}
-use Rattle.cookie_c.specs.Places.{IsBetween}
+use Rattle.cookie_c.specs.Spans.{IsBetween}
 use Rattle.cookie_c.specs.declared.next_piece.NextPiece.{NextPiece}
 use Rattle.cookie_c.specs.declared.next_piece.NextPiece.TheVariants as piece
 

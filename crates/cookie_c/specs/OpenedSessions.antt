@@ -24,22 +24,10 @@ abbrev pub HasNone : (List ℕ → Type 0) → Sessions → List Record → Date
 HasNone IsRevoked site cookies time = (place : ℕ) (session : SessionState)
     → ¬ OpensUnrevoked IsRevoked site cookies time place session
 
--- The session that is found, if any, is the one of the first cookie in which one is open that isn't revoked. This cookie
--- holds no other, whatever the time. The first cookie of the name holds one at most, whether one is open or not.
-pub record Finds (IsRevoked : List ℕ → Type 0) (site : Sessions) (cookies : List Record)
-    (time : DateTime) (found : Option Opened) : Type 0 where
-  pub exact : (place : ℕ) (session : SessionState)
-      → (found ≡ Some (record { session = session; place = place }))
-      ↔ OpensUnrevoked IsRevoked site cookies time place session
-  pub once : (place : ℕ) (session : SessionState)
-      → (first : OpensUnrevoked IsRevoked site cookies time place session)
-      → HoldsOne site (Some first.cookie)
-  pub first : HoldsOne site (first_of_name site.cookie.now.fields.name cookies)
-
--- the session is in the handle, with the place of the key that opened it
+-- the session is in the handle, with the index of the key that opened it
 abbrev pub IsOpened : ℕ → SessionState → Status → Option OpenSession → Option OpenSession → Type 0
 IsOpened place session answer old new =
-    (answer ≡ status.Done) × (new ≡ Some (record { session = session; place = Some place }))
+    (answer ≡ status.Done) × (new ≡ Some (record { session = session; index = Some place }))
 
 -- The session of the first cookie in which one is open that isn't revoked is in the handle, and this cookie holds no
 -- other; or there is none. In both cases the first cookie of the name holds one at most. Or else memory ran out.
@@ -53,10 +41,10 @@ IsOpening IsRevoked site cookies time answer old new =
     ⊎ (HasNone IsRevoked site cookies time × IsKept status.NoSession answer old new)))
     ⊎ IsKept status.OutOfMemory answer old new
 
--- the place of the key, and 0 if no request had the session
-abbrev pub place_of : Option ℕ → ℕ
-place_of None = 0
-place_of (Some place) = place
+-- the index of the key, and 0 if no request had the session
+abbrev pub index_of : Option ℕ → ℕ
+index_of None = 0
+index_of (Some index) = index
 
 -- what is told of a handle's session, and of a handle without one
 abbrev pub facts_of : Option OpenSession → SessionFacts
@@ -64,7 +52,7 @@ facts_of None =
     record {
       status = code_of status.NoSession;
       is_opened = false;
-      place = 0;
+      index = 0;
       started = 0;
       seen = 0;
       id = replicate 16 0;
@@ -72,8 +60,8 @@ facts_of None =
 facts_of (Some had) =
     record {
       status = code_of status.Done;
-      is_opened = is_some had.place;
-      place = place_of had.place;
+      is_opened = is_some had.index;
+      index = index_of had.index;
       started = had.session.started;
       seen = had.session.seen;
       id = had.session.id;

@@ -10,7 +10,7 @@ use Rattle.cookie.specs.SentNames.{is_named_as_sent}
 use Rattle.cookie.specs.Separators.{equals_sign}
 use Rattle.cookie.specs.declared.ParseError.{ParseError}
 use Rattle.cookie_c.specs.Codes.{code_of, refusal_status}
-use Rattle.cookie_c.specs.Places.{IsBetween, no_place}
+use Rattle.cookie_c.specs.Spans.{IsBetween, no_span}
 use Rattle.cookie_c.specs.declared.pair.Pair.{Pair}
 use Rattle.cookie_c.specs.declared.status.Status.{Status}
 use Rattle.cookie_c.specs.declared.status.Status.TheVariants as status
@@ -47,16 +47,16 @@ next_in start (bytes ∷ later) =
     if is_skipped bytes then next_in (start + length bytes + 1) later
     else Some (record { start = start; bytes = bytes })
 
--- the header's first piece that isn't skipped, from the place on
+-- the header's first piece that isn't skipped, from this offset on
 unfoldable pub next_piece : List ℕ → ℕ → Option HeaderPiece
 next_piece header from = next_in from (pieces (drop from header))
 
--- the answer of a call that has no pair, with the place where the rest begins
+-- the answer of a call that has no pair, with the offset of the rest
 abbrev pub refused_pair : Status → ℕ → Pair
 refused_pair why next =
-    record { status = code_of why; name = no_place; value = no_place; next = next }
+    record { status = code_of why; name = no_span; value = no_span; next = next }
 
--- the name and the value of the record stand at the pair's places, the name before the piece's first `=` and the value
+-- the name and the value of the record stand at the pair's spans, the name before the piece's first `=` and the value
 -- after it
 pub record ShowsPair (header : List ℕ) (piece : HeaderPiece) (r : Record) (answer : Pair)
     : Type 0 where

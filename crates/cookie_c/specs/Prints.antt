@@ -3,7 +3,6 @@
 use Rattle.std.specs.Prelude.{◌≡◌, ◌≤◌, ◌==◌, ◌⊎◌, ℕ, pos, Bool, List, Option, Some, None, IsUtf8, if◌then◌else◌}
 use Rattle.jiff.specs.Types.{DateTime}
 use Rattle.jiff.specs.Words.{IsDate, IsTime, IsYmd, IsHms, nanos_of_seconds}
-use Rattle.cookie.specs.AttributeValues.{FitsField}
 use Rattle.cookie.specs.Record.{Record, without_leading_dot}
 use Rattle.cookie.specs.Types.{AtDateTime}
 use Rattle.cookie.specs.declared.SameSite.{SameSite}
@@ -82,15 +81,10 @@ record_of_parts name value path domain numbers moment =
       expires = option_of numbers.has_expires (AtDateTime moment);
     }
 
--- why these parts are refused, if they aren't a cookie's: the numbers come first, then the date, then the texts, and then
--- what path and domain hold
+-- why these parts are refused, if they aren't a cookie's: the numbers come first, then the date, and then the texts
 abbrev pub IsUnprintable : List ℕ → List ℕ → List ℕ → List ℕ → Attributes → Status → Type 0
 IsUnprintable name value path domain numbers why =
     ((why ≡ status.BadAttribute) × ¬ AreCodes numbers)
     ⊎ (((why ≡ status.NoDate) × AreCodes numbers × ¬ HasDate numbers)
-    ⊎ (((why ≡ status.NotUtf8) × AreCodes numbers × HasDate numbers
-    × ¬ AreTexts name value path domain numbers)
-    ⊎ ((why ≡ status.InvalidValue) × AreCodes numbers × HasDate numbers
-    × AreTexts name value path domain numbers
-    × ((moment : DateTime) → ExpiresAt numbers moment
-    → ¬ FitsField (record_of_parts name value path domain numbers moment)))))
+    ⊎ ((why ≡ status.NotUtf8) × AreCodes numbers × HasDate numbers
+    × ¬ AreTexts name value path domain numbers))

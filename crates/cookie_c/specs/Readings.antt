@@ -1,4 +1,4 @@
--- A cookie that was read for C: the places of its texts, and its attributes as numbers (RFC 6265 5.2).
+-- A cookie that was read for C: the spans of its texts, and its attributes as numbers (RFC 6265 5.2).
 use Rattle.std.specs.Prelude.{◌≡◌, ℕ, ◌+◌, ◌⊎◌, List, Some, Err, false}
 use Rattle.cookie.specs.CookieOf.{cookie_of}
 use Rattle.cookie.specs.Pieces.{offset_of}
@@ -8,7 +8,7 @@ use Rattle.cookie.specs.Separators.{equals_sign, semicolon}
 use Rattle.cookie.specs.declared.ParseError.{ParseError}
 use Rattle.cookie_c.specs.Codes.{code_of, refusal_status}
 use Rattle.cookie_c.specs.Numbers.{numbers_of, no_numbers}
-use Rattle.cookie_c.specs.Places.{IsBetween, IsOptionalAt, no_place}
+use Rattle.cookie_c.specs.Spans.{IsBetween, IsOptionalAt, no_span}
 use Rattle.cookie_c.specs.declared.reading.Reading.{Reading}
 use Rattle.cookie_c.specs.declared.status.Status.{Status}
 use Rattle.cookie_c.specs.declared.status.Status.TheVariants as status
@@ -18,14 +18,14 @@ abbrev pub refused_reading : Status → Reading
 refused_reading why =
     record {
       status = code_of why;
-      name = no_place;
-      value = no_place;
-      path = no_place;
-      domain = no_place;
+      name = no_span;
+      value = no_span;
+      path = no_span;
+      domain = no_span;
       attributes = no_numbers;
     }
 
--- the record's texts stand at the answer's places in the text, the name before the first `=` and the value between it
+-- the record's texts stand at the answer's spans in the text, the name before the first `=` and the value between it
 -- and the first `;`, and its attributes have the answer's numbers
 pub record ShowsCookie (text : List ℕ) (r : Record) (answer : Reading) : Type 0 where
   pub status : answer.status ≡ code_of status.Done

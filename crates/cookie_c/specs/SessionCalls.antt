@@ -12,7 +12,6 @@ use Rattle.cookie_c.specs.Handles.{Changes, IsKept, IsPut, Tells, session_in}
 use Rattle.cookie_c.specs.OpenedSessions.{session_of}
 use Rattle.cookie_c.specs.Sites.{AtSecond}
 use Rattle.cookie_c.specs.declared.answer.Answer.{Answer}
-use Rattle.cookie_c.specs.declared.handle.content.Content.{Content}
 use Rattle.cookie_c.specs.declared.sessions.Session.{Session as Handle}
 use Rattle.cookie_c.specs.declared.sessions.open_session.OpenSession.{OpenSession}
 use Rattle.cookie_c.specs.declared.status.Status.{Status}
@@ -28,7 +27,7 @@ new_session id time =
         seen = second_of time;
         texts = empty;
       };
-      place = None;
+      index = None;
     }
 
 -- a session with this id is in the handle, which starts in that second
@@ -38,7 +37,7 @@ pub record IsStarted (id : List ℕ) (second : ℕ) (answer : Status) (old new :
   pub started : length id ≡ id_length → AtSecond second
       (λ time. IsPut (new_session id time) answer old new) (λ why. IsKept why answer old new)
 
--- the session with another id, which starts at this time; the place of the key that opened it stays
+-- the session with another id, which starts at this time; the index of the key that opened it stays
 abbrev pub renewed_session : List ℕ → DateTime → OpenSession → OpenSession
 renewed_session id time had =
     record had {
@@ -92,9 +91,3 @@ pub record IsTextGiven (name : List ℕ) (had : OpenSession) (answer : Answer) (
 abbrev pub AtSession : (Status → OpenSession → OpenSession → Type 0) → ℕ → Handle → Handle → Type 0
 AtSession Makes number old new =
     Tells (λ answer. Changes status.NoSession Makes answer (session_of old) (session_of new)) number
-
--- `AtSession` for a content
-abbrev pub InSession : (Status → OpenSession → OpenSession → Type 0) → Status → Content → Content
-    → Type 0
-InSession Makes answer old new =
-    Changes status.NoSession Makes answer (session_in (Some old)) (session_in (Some new))

@@ -1,8 +1,6 @@
 -- Tokens for C: `old` is the buffer at the call and `new` at the return.
-use Rattle.std.specs.Prelude.{◌≡◌, ℕ, ◌<◌, ◌≤◌, ◌⊎◌, ◌↔◌, List, IsUtf8, Result, Err, OnOk, IfOk}
+use Rattle.std.specs.Prelude.{◌≡◌, ℕ, ◌<◌, ◌≤◌, ◌⊎◌, List, IsUtf8}
 use Rattle.jiff.specs.Types.{DateTime}
-use Rattle.cookie.specs.declared.jar_error.JarError.{JarError}
-use Rattle.cookie.specs.declared.jar_error.JarError.TheVariants as failure
 use Rattle.cookie_session.specs.Tokens.{CanMakeToken, IsReadUntil, made_token, token_end}
 use Rattle.cookie_session.specs.declared.tokens.Tokens.{Tokens}
 use Rattle.cookie_c.specs.Answers.{IsGiven, IsRefused}
@@ -73,14 +71,3 @@ pub record AreTokensOf (call : TokenCall) (site : Tokens) : Type 0 where
   pub keys : site.keys.now ≡ call.keys
   pub purpose : site.purpose.now ≡ call.purpose.now
   pub lifetime : site.lifetime ≡ call.lifetime
-
--- the clauses of the library's call under a nonce that is known
-pub record IsMade {T : Type 0} (site : Tokens) (nonce : List ℕ) (time : DateTime)
-    (value : List ℕ) (bytes_of : T → List ℕ) (result : Result T JarError) : Type 0 where
-  pub too_long : ¬ (result ≡ Err failure.OutOfMemory)
-      → (¬ CanMakeToken site time value) ↔ (result ≡ Err failure.TooLong)
-  pub within : OnOk result (CanMakeToken site time value)
-  pub drawn : ¬ (result ≡ Err failure.Generator)
-  pub made : IfOk result (λ token. bytes_of token ≡ made_token site nonce time value)
-  pub reads : IfOk result (λ token.
-      IsReadUntil site (token_end site time) (bytes_of token) value)

@@ -14,7 +14,7 @@ use jiff::SignedDuration;
 
 /// The attributes of a cookie. One that isn't set is 0, but for the expiry, whose status is then `Status::NoDate`.
 #[repr(C)]
-#[derive(Clone, Copy)]
+#[derive(Clone, Copy, Default)]
 pub struct Attributes {
     /// Whether scripts are kept from it: 0 if that is unset, 1 if it is true, 2 if it is false.
     pub http_only: u32,
@@ -43,16 +43,8 @@ impl Attributes {
         ensures { result ≡ no_numbers }
     {
         Attributes {
-            http_only: 0,
-            secure: 0,
-            partitioned: 0,
-            same_site: 0,
-            has_path: 0,
-            has_domain: 0,
-            has_max_age: 0,
-            has_expires: 0,
-            max_age: 0,
             expires: Moment::refusal(Status::NoDate),
+            ..Attributes::default()
         }
     }
 

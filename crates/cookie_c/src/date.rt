@@ -15,7 +15,7 @@ use std::alloc::Global;
 
 /// A date and time in UTC, in whole seconds.
 #[repr(C)]
-#[derive(Clone, Copy)]
+#[derive(Clone, Copy, Default)]
 pub struct Moment {
     /// The number of a `Status`. If it isn't `Status::Done`, the other fields are 0.
     pub status: u32,
@@ -39,12 +39,7 @@ impl Moment {
     {
         Moment {
             status: why.code(),
-            year: 0,
-            month: 0,
-            day: 0,
-            hour: 0,
-            minute: 0,
-            second: 0,
+            ..Moment::default()
         }
     }
 

@@ -11,14 +11,14 @@ ghost use Rattle.cookie_c.specs.declared.status.Status.TheVariants as status;
 use crate::answer::Answer;
 use crate::next_piece::NextPiece;
 use crate::pair::Pair;
-use crate::place::Place;
 use crate::reading::Reading;
+use crate::span::Span;
 use crate::status::Status;
 use cookie::{Cookie, Layout};
 use std::alloc::Global;
 
 /// Reads the text of a `Set-Cookie` header as a cookie and decodes its name and value, as `Cookie::parse_encoded` does.
-/// It writes the name to the buffer, and the value right after it; their places are in the buffer. The places of the
+/// It writes the name to the buffer, and the value right after it; their spans are in the buffer. The spans of the
 /// path and the domain are in the text. If the buffer is too short for both, nothing is written, and the status is
 /// `Status::BufferTooShort`; all else is as it would be with room for both.
 ///
@@ -40,7 +40,7 @@ pub extern "C" fn cookie_read_decoded(alloc: Global, text: &[u8], out: &mut [u8]
 }
 
 /// Reads the next pair of a header, from the offset `from` on, as `cookie_next_pair` does, and decodes it. It writes
-/// the name to the buffer, and the value right after it; their places are in the buffer. If the buffer is too short for
+/// the name to the buffer, and the value right after it; their spans are in the buffer. If the buffer is too short for
 /// both, nothing is written, and the status is `Status::BufferTooShort`; all else is as it would be with room for both.
 ///
 /// Refuses as `cookie_next_pair` does, and then a name or a value whose bytes, decoded, aren't UTF-8. It allocates, and
@@ -69,7 +69,7 @@ pub extern "C" fn cookie_next_pair_decoded(
 
 // The cookie in the text, which has this layout, decoded.
 fn give_cookie(alloc: Global, text: &str, layout: Layout, out: &mut [u8]) -> Reading
-    requires place { IsLayoutIn text.now layout }
+    requires layout { IsLayoutIn text.now layout }
     requires value { cookie_of false text.now ≡ Some (layout_record text.now layout) }
     ensures { IsDecodedReadingOf text.now result out.old out.new }
 {
@@ -98,7 +98,7 @@ fn give_next(alloc: Global, text: &str, next: usize, out: &mut [u8]) -> Pair
     }
 }
 
-// A name and a value for the buffer, with their places there.
+// A name and a value for the buffer, with their spans there.
 fn give_pair(name: &str, value: &str, next: usize, out: &mut [u8]) -> Pair
     ensures texts { AreGiven name.now value.now result.status result.name result.value
         out.old out.new }
@@ -107,11 +107,11 @@ fn give_pair(name: &str, value: &str, next: usize, out: &mut [u8]) -> Pair
     let answer = give_both(name.as_bytes(), value.as_bytes(), out);
     Pair {
         status: answer.status,
-        name: Place {
+        name: Span {
             start: 0,
             length: name.len(),
         },
-        value: Place {
+        value: Span {
             start: name.len(),
             length: value.len(),
         },

@@ -1,15 +1,14 @@
 //! What a browser makes of a cookie, for C: why it refuses it, or what it stores (RFC 6265bis).
-ghost use Rattle.std.specs.Prelude.{◌≡◌, Some};
+ghost use Rattle.std.specs.Prelude.{◌≡◌};
 ghost use Rattle.cookie_c.specs.Explanations.{IsExplained, IsExplainedBy, suffixes_of, unexplained};
-ghost use Rattle.cookie_c.specs.Handles.{suffixes_in};
 
 mod draft;
 mod request;
 mod stored;
 
-use crate::handle::content::Content;
-use crate::place::Place;
+use crate::handle::with_content;
 use crate::sessions::time::time_at;
+use crate::span::Span;
 use crate::status::Status;
 use cookie_browser::Suffixes;
 pub(crate) use draft::{Draft, code_of};
@@ -19,16 +18,16 @@ pub use stored::Stored;
 
 /// What a browser makes of a cookie.
 #[repr(C)]
-#[derive(Clone, Copy)]
+#[derive(Clone, Copy, Default)]
 pub struct Explanation {
     /// The number of a `Status`. If it is neither `Status::Done` nor `Status::BufferTooShort`, all else is 0.
     pub status: u32,
     /// 0 if the browser stores the cookie, and else the number of the step that refuses it: of `Refusal`, from 1 on.
     pub refusal: u32,
     /// Where the sentence of the refusal is in the buffer.
-    pub sentence: Place,
+    pub sentence: Span,
     /// Where the title of its section of RFC 6265bis is in the buffer, right after the sentence.
-    pub section: Place,
+    pub section: Span,
     /// The cookie that is stored; all its fields are 0 if it is refused.
     pub stored: Stored,
 }
@@ -53,29 +52,10 @@ pub extern "C" fn cookie_explain(
     ensures explained { IsExplainedBy (suffixes_of suffixes.old) request.now text.now now
         result out.old out.new }
 {
-    let Some(held) = suffixes.handle.take(alloc) else {
-        return Explanation::none(Status::NoSuffixes);
-    };
-    let answer = explain_in(alloc, held.as_ref(), request, text, now, out);
-    suffixes.handle.put(held);
-    answer
-}
-
-fn explain_in(
-    alloc: Global,
-    content: &Content,
-    request: &Request<'_>,
-    text: &[u8],
-    now: u64,
-    out: &mut [u8],
-) -> Explanation
-    ensures { IsExplainedBy (suffixes_in (Some content.now)) request.now text.now now
-        result out.old out.new }
-{
-    let Content::Suffixes(suffixes) = content else {
-        return Explanation::none(Status::NoSuffixes);
-    };
-    explain(alloc, suffixes, request, text, now, out)
+    with_content!(alloc, suffixes.handle,
+        Suffixes(rules) => explain(alloc, rules, request, text, now, out),
+        _ => Explanation::none(Status::NoSuffixes),
+    )
 }
 
 fn explain(
@@ -104,10 +84,7 @@ impl Explanation {
     {
         Explanation {
             status: why.code(),
-            refusal: 0,
-            sentence: Place::none(),
-            section: Place::none(),
-            stored: Stored::none(),
+            ..Explanation::default()
         }
     }
 }

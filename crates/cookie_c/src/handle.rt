@@ -14,6 +14,33 @@ use raw_box::RawBox;
 use std::alloc::Global;
 use std::mem::replace;
 
+// What a call makes of the content of a handle, which is put back after it. A handle without a content of this kind is
+// refused.
+macro_rules! with_content {
+    (
+        $alloc:expr, $handle:expr,
+        $kind:ident($content:ident) => $call:expr,
+        _ => $refusal:expr $(,)?
+    ) => {
+        match $handle.take($alloc) {
+            Some(mut held) => match held.as_mut() {
+                $crate::handle::content::Content::$kind($content) => {
+                    let answer = $call;
+                    $handle.put(held);
+                    answer
+                }
+                _ => {
+                    $handle.put(held);
+                    $refusal
+                }
+            },
+            None => $refusal,
+        }
+    };
+}
+
+pub(crate) use with_content;
+
 /// A handle, which has a content or none. All its bytes may be 0 at first: then it has none.
 #[repr(C)]
 #[derive(Drop)]
@@ -36,16 +63,6 @@ impl Handle {
         }
     }
 
-    // A handle with this content.
-    fn open(content: Box<Content>) -> Handle
-        ensures { result.held.content ≡ Some content.value }
-    {
-        Handle {
-            is_open: true,
-            held: Held::from_raw(RawBox::for_c(content)),
-        }
-    }
-
     // Takes the content out of the handle, if it has one.
     pub(crate) fn take(&mut self, alloc: Global) -> Option<Box<Content>>
         ensures taken { option_map (λ content. content.value) result ≡ self.old.held.content }
@@ -64,7 +81,10 @@ impl Handle {
         requires { self.old.held.content ≡ None }
         ensures { self.new.held.content ≡ Some content.value }
     {
-        *self = Handle::open(content);
+        *self = Handle {
+            is_open: true,
+            held: Held::from_raw(RawBox::for_c(content)),
+        };
     }
 
     // Frees what the handle has, if it has something.

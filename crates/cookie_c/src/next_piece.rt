@@ -23,7 +23,7 @@ pub(crate) enum NextPiece<'h> {
 }
 
 impl<'h> NextPiece<'h> {
-    // What comes next from the place on.
+    // What comes next from this offset on.
     pub(crate) fn of(header: &'h [u8], from: usize) -> NextPiece<'h>
         ensures { IsNextPiece header.now from result }
     {

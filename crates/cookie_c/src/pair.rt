@@ -5,20 +5,20 @@ ghost use Rattle.cookie_c.specs.Pairs.{HeaderPiece, IsPairOf, next_piece, refuse
 ghost use Rattle.cookie_c.specs.declared.status.Status.TheVariants as status;
 
 use crate::next_piece::NextPiece;
-use crate::place::Place;
+use crate::span::Span;
 use crate::status::Status;
 use cookie::Layout;
 
 /// A name and its value in a header or, decoded, in a buffer.
 #[repr(C)]
-#[derive(Clone, Copy)]
+#[derive(Clone, Copy, Default)]
 pub struct Pair {
-    /// The number of a `Status`. If it is neither `Status::Done` nor `Status::BufferTooShort`, the places are 0.
+    /// The number of a `Status`. If it is neither `Status::Done` nor `Status::BufferTooShort`, the spans are 0.
     pub status: u32,
     /// Where the name is.
-    pub name: Place,
+    pub name: Span,
     /// Where the value is.
-    pub value: Place,
+    pub value: Span,
     /// Where the rest of the header begins; 0 at `Status::NoPair`.
     pub next: usize,
 }
@@ -29,9 +29,8 @@ impl Pair {
     {
         Pair {
             status: why.code(),
-            name: Place::none(),
-            value: Place::none(),
             next,
+            ..Pair::default()
         }
     }
 
@@ -44,8 +43,8 @@ impl Pair {
         match Layout::of(text) {
             Ok(layout) => Pair {
                 status: Status::Done.code(),
-                name: Place::behind(start, layout.name),
-                value: Place::behind(start, layout.value),
+                name: Span::after(start, layout.name),
+                value: Span::after(start, layout.value),
                 next,
             },
             Err(error) => Pair::refusal(Status::of(error), next),

@@ -1,5 +1,5 @@
 //! Printing a cookie whose parts C passes in (RFC 6265 4.1.1).
-ghost use Rattle.std.specs.Prelude.{◌≡◌, ◌↔◌, ◌⊎◌, ℕ, pos, Some, None, IsTrue, IsUtf8, IfOk, MatchOption, MatchResult, option_map, string_bytes, false};
+ghost use Rattle.std.specs.Prelude.{◌≡◌, ◌↔◌, Some, None, IsTrue, IsUtf8, IfOk, MatchOption, MatchResult, option_map, string_bytes, false};
 ghost use Rattle.jiff.specs.Types.{DateTime as CivilDateTime};
 ghost use Rattle.jiff.specs.Words.{signed_nanos, nanos_of_seconds};
 ghost use Rattle.cookie.specs.AttributeValues.{FitsField};
@@ -60,7 +60,8 @@ pub extern "C" fn cookie_print(
         result out.old out.new }
 {
     match cookie_of(name, value, path, domain, attributes) {
-        Ok(cookie) => give_text(alloc, &cookie, is_escaped, out),
+        Ok(cookie) if fits_field(&cookie) => give_text(alloc, &cookie, is_escaped, out),
+        Ok(_) => Answer::refusal(Status::InvalidValue),
         Err(why) => Answer::refusal(why),
     }
 }
@@ -92,33 +93,8 @@ fn text_of(alloc: Global, cookie: &Cookie<'_>, is_escaped: bool) -> Result<Strin
     }
 }
 
-// The cookie of these parts, or why there is none.
+// The cookie of these parts, or why there is none. Its path and its domain may hold any bytes.
 fn cookie_of<'a>(
-    name: &'a [u8],
-    value: &'a [u8],
-    path: &'a [u8],
-    domain: &'a [u8],
-    numbers: &Attributes,
-) -> Result<Cookie<'a>, Status>
-    ensures { MatchResult result
-        (λ cookie. AreCodes numbers.now × HasDate numbers.now
-        × AreTexts name.now value.now path.now domain.now numbers.now
-        × FitsField cookie.fields
-        × ((moment : CivilDateTime) → ExpiresAt numbers.now moment
-        → cookie.fields
-        ≡ record_of_parts name.now value.now path.now domain.now numbers.now moment))
-        (IsUnprintable name.now value.now path.now domain.now numbers.now) }
-{
-    let cookie = made_of(name, value, path, domain, numbers)?;
-    if fits_field(&cookie) {
-        Ok(cookie)
-    } else {
-        Err(Status::InvalidValue)
-    }
-}
-
-// The cookie of these parts, whatever bytes its path and its domain hold.
-fn made_of<'a>(
     name: &'a [u8],
     value: &'a [u8],
     path: &'a [u8],
@@ -282,20 +258,11 @@ fn expiry(numbers: &Attributes) -> Result<Option<Expiration>, Status>
 }
 
 // The date and time of these numbers, if there is one.
-fn moment(numbers: &Moment) -> Option<DateTime>
-    ensures { MatchOption result (¬ IsMoment numbers.now)
-        (λ moment. IsMoment numbers.now × IsMomentOf numbers.now moment) }
+fn moment(at: &Moment) -> Option<DateTime>
+    ensures { MatchOption result (¬ IsMoment at.now)
+        (λ moment. IsMoment at.now × IsMomentOf at.now moment) }
 {
-    let Moment {
-        year,
-        month,
-        day,
-        hour,
-        minute,
-        second,
-        ..
-    } = *numbers;
-    match DateTime::new(year, month, day, hour, minute, second, 0) {
+    match DateTime::new(at.year, at.month, at.day, at.hour, at.minute, at.second, 0) {
         Ok(moment) => Some(moment),
         Err(_) => None,
     }

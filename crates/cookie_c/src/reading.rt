@@ -3,30 +3,30 @@ ghost use Rattle.std.specs.Prelude.{◌≡◌, IsUtf8, IfSome, option_map};
 ghost use Rattle.cookie.specs.Layout.{layout_record, IsLayoutIn};
 ghost use Rattle.cookie.specs.Record.{without_leading_dot};
 ghost use Rattle.cookie.specs.Spans.{StandsIn, span_text};
-ghost use Rattle.cookie_c.specs.Places.{IsAt, IsOptionalAt};
+ghost use Rattle.cookie_c.specs.Spans.{IsAt, IsOptionalAt};
 ghost use Rattle.cookie_c.specs.Readings.{refused_reading, ShowsCookie, IsReadingOf};
 ghost use Rattle.cookie_c.specs.declared.status.Status.TheVariants as status;
 
 use crate::attributes::Attributes;
-use crate::place::Place;
+use crate::span::Span;
 use crate::status::Status;
-use cookie::{Layout, Span};
+use cookie::Layout;
 
 /// A cookie that was read from a text. Its decoded name and value may be in a buffer.
 #[repr(C)]
-#[derive(Clone, Copy)]
+#[derive(Clone, Copy, Default)]
 pub struct Reading {
-    /// The number of a `Status`. If it is neither `Status::Done` nor `Status::BufferTooShort`, the places are 0, and no
+    /// The number of a `Status`. If it is neither `Status::Done` nor `Status::BufferTooShort`, the spans are 0, and no
     /// attribute is set.
     pub status: u32,
     /// Where the name is.
-    pub name: Place,
+    pub name: Span,
     /// Where the value is.
-    pub value: Place,
+    pub value: Span,
     /// Where the path is, if it has one.
-    pub path: Place,
+    pub path: Span,
     /// Where the domain is, without one leading dot, if it has one.
-    pub domain: Place,
+    pub domain: Span,
     /// Its attributes.
     pub attributes: Attributes,
 }
@@ -37,11 +37,8 @@ impl Reading {
     {
         Reading {
             status: why.code(),
-            name: Place::none(),
-            value: Place::none(),
-            path: Place::none(),
-            domain: Place::none(),
             attributes: Attributes::none(),
+            ..Reading::default()
         }
     }
 
@@ -52,10 +49,10 @@ impl Reading {
     {
         Reading {
             status: Status::Done.code(),
-            name: Place::behind(0, layout.name),
-            value: Place::behind(0, layout.value),
-            path: path_place(text, layout.attributes.path),
-            domain: domain_place(text, layout.attributes.domain),
+            name: Span::after(0, layout.name),
+            value: Span::after(0, layout.value),
+            path: path_span(text, layout.attributes.path),
+            domain: domain_span(text, layout.attributes.domain),
             attributes: Attributes::of(layout.attributes),
         }
     }
@@ -79,39 +76,39 @@ pub extern "C" fn cookie_read(text: &[u8]) -> Reading
     }
 }
 
-// The place of a path, if there is one.
-fn path_place(text: &str, span: Option<Span>) -> Place
-    requires { IfSome span (StandsIn text.now) }
-    ensures { IsOptionalAt text.now result (option_map (span_text text.now) span) }
+// The span of a path, if there is one.
+fn path_span(text: &str, part: Option<cookie::Span>) -> Span
+    requires { IfSome part (StandsIn text.now) }
+    ensures { IsOptionalAt text.now result (option_map (span_text text.now) part) }
 {
-    match span {
-        Some(span) => Place::behind(0, span),
-        None => Place::none(),
+    match part {
+        Some(part) => Span::after(0, part),
+        None => Span::default(),
     }
 }
 
-// The place of a domain without one leading dot, if there is one.
-fn domain_place(text: &str, span: Option<Span>) -> Place
-    requires { IfSome span (StandsIn text.now) }
+// The span of a domain without one leading dot, if there is one.
+fn domain_span(text: &str, part: Option<cookie::Span>) -> Span
+    requires { IfSome part (StandsIn text.now) }
     ensures { IsOptionalAt text.now result
-        (option_map without_leading_dot (option_map (span_text text.now) span)) }
+        (option_map without_leading_dot (option_map (span_text text.now) part)) }
 {
-    match span {
-        Some(span) => place_after_dot(text, span),
-        None => Place::none(),
+    match part {
+        Some(part) => span_after_dot(text, part),
+        None => Span::default(),
     }
 }
 
-fn place_after_dot(text: &str, span: Span) -> Place
-    requires { StandsIn text.now span }
-    ensures { IsAt text.now result (without_leading_dot (span_text text.now span)) }
+fn span_after_dot(text: &str, part: cookie::Span) -> Span
+    requires { StandsIn text.now part }
+    ensures { IsAt text.now result (without_leading_dot (span_text text.now part)) }
 {
-    let domain = &text[span.start..span.end];
+    let domain = &text[part.start..part.end];
     match domain.strip_prefix('.') {
-        Some(rest) => Place {
-            start: span.start + 1,
+        Some(rest) => Span {
+            start: part.start + 1,
             length: rest.len(),
         },
-        None => Place::behind(0, span),
+        None => Span::after(0, part),
     }
 }

@@ -1,8 +1,8 @@
 //! Tokens for C, such as the link of an email that resets a password.
-ghost use Rattle.std.specs.Prelude.{◌≡◌, ◌≢◌, length, string_bytes};
+ghost use Rattle.std.specs.Prelude.{◌≡◌, ◌≢◌, length};
 ghost use Rattle.cookie_session.specs.Tokens.{IsToken};
 ghost use Rattle.cookie_c.specs.Answers.{IsReadInMemory, IsRefused};
-ghost use Rattle.cookie_c.specs.Tokens.{CallsTokens, IsMade, MakesToken};
+ghost use Rattle.cookie_c.specs.Tokens.{CallsTokens, MakesToken};
 ghost use Rattle.cookie_c.specs.declared.status.Status.TheVariants as status;
 
 pub(crate) mod call;
@@ -91,34 +91,19 @@ fn give_made(
     alloc: Global,
     tokens: &Tokens<'_>,
     value: &str,
-    nonce: Given<'_>,
+    mut nonce: Given<'_>,
     time: DateTime,
     out: &mut [u8],
 ) -> Answer
     requires { length nonce.bytes.now ≡ 12 }
     ensures { MakesToken tokens.now nonce.entry.bytes.now time value.now result out.old out.new }
 {
-    match made(alloc, tokens, value, nonce, time) {
+    match tokens.make(alloc, value, time, &mut nonce) {
         Ok(token) => Answer::give(token.as_bytes(), out),
         Err(JarError::TooLong) => Answer::refusal(Status::TooLong),
         Err(JarError::OutOfMemory) => Answer::refusal(Status::OutOfMemory),
         Err(JarError::Generator) => unreachable!(),
     }
-}
-
-// The token under this nonce.
-fn made(
-    alloc: Global,
-    tokens: &Tokens<'_>,
-    value: &str,
-    nonce: Given<'_>,
-    time: DateTime,
-) -> Result<String, JarError>
-    requires { length nonce.bytes.now ≡ 12 }
-    ensures { IsMade tokens.now nonce.entry.bytes.now time value.now string_bytes result }
-{
-    let mut nonce = nonce;
-    tokens.make(alloc, value, time, &mut nonce)
 }
 
 // The token's value, for the buffer.

@@ -1,9 +1,8 @@
 //! Dropping cookies of a user agent for C.
-ghost use Rattle.std.specs.Prelude.{◌≡◌, ◌⊎◌};
-ghost use Rattle.cookie_c.specs.Agents.{ChangesStore, Clears, Evicts, InStore, Removes, Trims};
+ghost use Rattle.cookie_c.specs.Agents.{ChangesStore, Clears, Evicts, Removes, Trims};
 
 use super::Agent;
-use crate::handle::content::Content;
+use crate::handle::with_content;
 use crate::sessions::time::time_at;
 use crate::status::Status;
 use cookie_agent::{Limits, Scope, Store};
@@ -12,17 +11,14 @@ use std::alloc::Global;
 /// Drops what is expired. `now` is the time in seconds since 1970 in UTC.
 ///
 /// Refuses a handle without an agent, and then a time after 9999-12-30 22:00:00. It doesn't allocate.
-#[tactic(auto, using(crate::proofs::AgentLemmas::agent_none, crate::proofs::AgentLemmas::agent_some))]
 #[unsafe(no_mangle)]
 pub extern "C" fn cookie_agent_evict(alloc: Global, agent: &mut Agent, now: u64) -> u32
     ensures { ChangesStore (Evicts now) result agent.old agent.new }
 {
-    let Some(mut held) = agent.handle.take(alloc) else {
-        return Status::NoAgent.code();
-    };
-    let answer = evict_in(held.as_mut(), now);
-    agent.handle.put(held);
-    answer.code()
+    with_content!(alloc, agent.handle,
+        Store(store) => evict(store, now).code(),
+        _ => Status::NoAgent.code(),
+    )
 }
 
 /// Drops what is expired, and then the cookies above the limits: of a domain, and of all domains (RFC 6265bis, Storage
@@ -32,7 +28,6 @@ pub extern "C" fn cookie_agent_evict(alloc: Global, agent: &mut Agent, now: u64)
 ///
 /// Refuses a handle without an agent, and then a time after 9999-12-30 22:00:00. It may also run out of memory. After a
 /// refusal the agent is as before.
-#[tactic(auto, using(crate::proofs::AgentLemmas::agent_none, crate::proofs::AgentLemmas::agent_some))]
 #[unsafe(no_mangle)]
 pub extern "C" fn cookie_agent_trim(
     alloc: Global,
@@ -44,19 +39,16 @@ pub extern "C" fn cookie_agent_trim(
     ensures { ChangesStore (Trims (record { per_domain = per_domain; total = total }) now)
         result agent.old agent.new }
 {
-    let Some(mut held) = agent.handle.take(alloc) else {
-        return Status::NoAgent.code();
-    };
-    let answer = trim_in(held.as_mut(), Limits { per_domain, total }, now);
-    agent.handle.put(held);
-    answer.code()
+    with_content!(alloc, agent.handle,
+        Store(store) => trim(store, Limits { per_domain, total }, now).code(),
+        _ => Status::NoAgent.code(),
+    )
 }
 
 /// Removes the cookie of this name, domain, host-only flag and path, expired or not. `domain` is in lower case.
 ///
 /// Refuses a handle without an agent. It may run out of memory, and then the agent is as before. If there is no such
 /// cookie, the status is `Status::NotFound`.
-#[tactic(auto, using(crate::proofs::AgentLemmas::agent_none, crate::proofs::AgentLemmas::agent_some))]
 #[unsafe(no_mangle)]
 pub extern "C" fn cookie_agent_remove(
     alloc: Global,
@@ -70,38 +62,24 @@ pub extern "C" fn cookie_agent_remove(
         (record { domain = domain.now; is_host_only = is_host_only; path = path.now }))
         result agent.old agent.new }
 {
-    let Some(mut held) = agent.handle.take(alloc) else {
-        return Status::NoAgent.code();
-    };
-    let answer = remove_in(alloc, held.as_mut(), name, domain, is_host_only, path);
-    agent.handle.put(held);
-    answer.code()
+    with_content!(alloc, agent.handle,
+        Store(store) => remove(alloc, store, name, domain, is_host_only, path).code(),
+        _ => Status::NoAgent.code(),
+    )
 }
 
 /// Removes the cookies of this domain and of the domains below it, expired or not: what a browser clears for a site, if
 /// `domain` is the site's registrable domain (Clear Site Data, Clear Cookies For Origin). `domain` is in lower case.
 ///
 /// Refuses a handle without an agent. It doesn't allocate.
-#[tactic(auto, using(crate::proofs::AgentLemmas::agent_none, crate::proofs::AgentLemmas::agent_some))]
 #[unsafe(no_mangle)]
 pub extern "C" fn cookie_agent_clear(alloc: Global, agent: &mut Agent, domain: &[u8]) -> u32
     ensures { ChangesStore (Clears domain.now) result agent.old agent.new }
 {
-    let Some(mut held) = agent.handle.take(alloc) else {
-        return Status::NoAgent.code();
-    };
-    let answer = clear_in(held.as_mut(), domain);
-    agent.handle.put(held);
-    answer.code()
-}
-
-fn evict_in(content: &mut Content, now: u64) -> Status
-    ensures { InStore (Evicts now) result content.old content.new }
-{
-    let Content::Store(store) = content else {
-        return Status::NoAgent;
-    };
-    evict(store, now)
+    with_content!(alloc, agent.handle,
+        Store(store) => clear(store, domain).code(),
+        _ => Status::NoAgent.code(),
+    )
 }
 
 fn evict(store: &mut Store, now: u64) -> Status
@@ -112,15 +90,6 @@ fn evict(store: &mut Store, now: u64) -> Status
     };
     store.evict(now);
     Status::Done
-}
-
-fn trim_in(content: &mut Content, limits: Limits, now: u64) -> Status
-    ensures { InStore (Trims limits now) result content.old content.new }
-{
-    let Content::Store(store) = content else {
-        return Status::NoAgent;
-    };
-    trim(store, limits, now)
 }
 
 fn trim(store: &mut Store, limits: Limits, now: u64) -> Status
@@ -135,43 +104,31 @@ fn trim(store: &mut Store, limits: Limits, now: u64) -> Status
     }
 }
 
-fn remove_in(
+fn remove(
     alloc: Global,
-    content: &mut Content,
+    store: &mut Store,
     name: &[u8],
     domain: &[u8],
     is_host_only: bool,
     path: &[u8],
 ) -> Status
-    ensures { InStore (Removes name.now
-        (record { domain = domain.now; is_host_only = is_host_only; path = path.now }))
-        result content.old content.new }
+    ensures { Removes name.now
+        (record { domain = domain.now; is_host_only = is_host_only; path = path.now })
+        result store.old store.new }
 {
-    let Content::Store(store) = content else {
-        return Status::NoAgent;
+    let Ok(scope) = Scope::new(alloc, domain, is_host_only, path) else {
+        return Status::OutOfMemory;
     };
-    match Scope::new(alloc, domain, is_host_only, path) {
-        Ok(scope) => remove(store, name, &scope),
-        Err(_) => Status::OutOfMemory,
-    }
-}
-
-fn remove(store: &mut Store, name: &[u8], scope: &Scope) -> Status
-    ensures { Removes name.now scope.now result store.old store.new }
-{
-    if store.remove(name, scope) {
+    if store.remove(name, &scope) {
         Status::Done
     } else {
         Status::NotFound
     }
 }
 
-fn clear_in(content: &mut Content, domain: &[u8]) -> Status
-    ensures { InStore (Clears domain.now) result content.old content.new }
+fn clear(store: &mut Store, domain: &[u8]) -> Status
+    ensures { Clears domain.now result store.old store.new }
 {
-    let Content::Store(store) = content else {
-        return Status::NoAgent;
-    };
     store.clear_domain(domain);
     Status::Done
 }

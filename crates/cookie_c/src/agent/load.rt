@@ -1,29 +1,23 @@
 //! Loading a user agent's saved cookies for C.
-ghost use Rattle.std.specs.Prelude.{◌≡◌, ◌⊎◌, Some, IfOk, OnErr, OnOk};
-ghost use Rattle.cookie_browser.specs.Storage.{lasting};
-ghost use Rattle.cookie_agent.specs.Stored.{kept_with_each};
-ghost use Rattle.cookie_agent.specs.SavedForms.{bad_lines, loaded_cookies};
+ghost use Rattle.std.specs.Prelude.{◌≡◌};
 ghost use Rattle.cookie_c.specs.Agents.{store_of};
 ghost use Rattle.cookie_c.specs.Explanations.{suffixes_of};
-ghost use Rattle.cookie_c.specs.Handles.{store_in, suffixes_in};
-ghost use Rattle.cookie_c.specs.SavedAgents.{Loads, LoadsAt, LoadsBy, LoadsText, loaded_with, unloaded};
-ghost use Rattle.cookie_c.specs.Sites.{AtSecond};
+ghost use Rattle.cookie_c.specs.SavedAgents.{Loads, LoadsAt, LoadsBy, unloaded};
 ghost use Rattle.cookie_c.specs.declared.status.Status.TheVariants as status;
 
 use super::Agent;
 use super::form::form_of;
 use super::save::first_of;
-use crate::handle::content::Content;
+use crate::handle::with_content;
 use crate::sessions::time::time_at;
 use crate::status::Status;
-use cookie_agent::{LoadedCookies, SavedForm, Store};
+use cookie_agent::{LoadedCookies, Store};
 use cookie_browser::Suffixes;
-use jiff::civil::DateTime;
-use std::alloc::{AllocError, Global};
+use std::alloc::Global;
 
 /// The return value of a call that loads saved cookies.
 #[repr(C)]
-#[derive(Clone, Copy)]
+#[derive(Clone, Copy, Default)]
 pub struct AgentLoading {
     /// The number of a `Status`. If it isn't `Status::Done`, all else is 0.
     pub status: u32,
@@ -57,34 +51,14 @@ pub extern "C" fn cookie_agent_load(
     ensures loaded { LoadsBy (suffixes_of suffixes.old) form now text.now
         result (store_of agent.old) (store_of agent.new) }
 {
-    let Some(held) = suffixes.handle.take(alloc) else {
-        return AgentLoading::none(Status::NoSuffixes);
-    };
-    let answer = load_by(alloc, agent, held.as_ref(), form, text, now);
-    suffixes.handle.put(held);
-    answer
-}
-
-// Loads the text by the rules that the content is.
-fn load_by(
-    alloc: Global,
-    agent: &mut Agent,
-    content: &Content,
-    form: u32,
-    text: &[u8],
-    now: u64,
-) -> AgentLoading
-    ensures { LoadsBy (suffixes_in (Some content.now)) form now text.now
-        result (store_of agent.old) (store_of agent.new) }
-{
-    let Content::Suffixes(rules) = content else {
-        return AgentLoading::none(Status::NoSuffixes);
-    };
-    load_to(alloc, agent, rules, form, text, now)
+    with_content!(alloc, suffixes.handle,
+        Suffixes(rules) => load_by(alloc, agent, rules, form, text, now),
+        _ => AgentLoading::none(Status::NoSuffixes),
+    )
 }
 
 // Loads the text by these rules.
-fn load_to(
+fn load_by(
     alloc: Global,
     agent: &mut Agent,
     rules: &Suffixes,
@@ -94,29 +68,10 @@ fn load_to(
 ) -> AgentLoading
     ensures { LoadsAt rules.now form now text.now result (store_of agent.old) (store_of agent.new) }
 {
-    let Some(mut held) = agent.handle.take(alloc) else {
-        return AgentLoading::none(Status::NoAgent);
-    };
-    let answer = load_in(alloc, held.as_mut(), rules, form, text, now);
-    agent.handle.put(held);
-    answer
-}
-
-fn load_in(
-    alloc: Global,
-    content: &mut Content,
-    rules: &Suffixes,
-    form: u32,
-    text: &[u8],
-    now: u64,
-) -> AgentLoading
-    ensures { LoadsAt rules.now form now text.now result
-        (store_in (Some content.old)) (store_in (Some content.new)) }
-{
-    let Content::Store(store) = content else {
-        return AgentLoading::none(Status::NoAgent);
-    };
-    load(alloc, store, rules, form, text, now)
+    with_content!(alloc, agent.handle,
+        Store(store) => load(alloc, store, rules, form, text, now),
+        _ => AgentLoading::none(Status::NoAgent),
+    )
 }
 
 fn load(
@@ -129,66 +84,23 @@ fn load(
 ) -> AgentLoading
     ensures { Loads rules.now form now text.now result store.old store.new }
 {
-    match form_of(form) {
-        Some(form) => load_as(alloc, store, rules, form, text, now),
-        None => AgentLoading::none(Status::BadAttribute),
-    }
-}
-
-fn load_as(
-    alloc: Global,
-    store: &mut Store,
-    rules: &Suffixes,
-    form: SavedForm,
-    text: &[u8],
-    now: u64,
-) -> AgentLoading
-    ensures { AtSecond now
-        (λ time. LoadsText rules.now form time text.now result store.old store.new
-        ⊎ ((result ≡ unloaded status.OutOfMemory) × (store.new ≡ store.old)))
-        (λ why. (result ≡ unloaded why) × (store.new ≡ store.old)) }
-{
-    match time_at(now) {
-        Some(now) => load_at(alloc, store, rules, form, text, now),
-        None => AgentLoading::none(Status::NoDate),
-    }
-}
-
-fn load_at(
-    alloc: Global,
-    store: &mut Store,
-    rules: &Suffixes,
-    form: SavedForm,
-    text: &[u8],
-    now: DateTime,
-) -> AgentLoading
-    ensures { LoadsText rules.now form now text.now result store.old store.new
-        ⊎ ((result ≡ unloaded status.OutOfMemory) × (store.new ≡ store.old)) }
-{
-    match take_in(alloc, store, rules, form, text, now) {
-        Ok(bad_lines) => AgentLoading::of(&bad_lines),
+    let Some(form) = form_of(form) else {
+        return AgentLoading::none(Status::BadAttribute);
+    };
+    let Some(now) = time_at(now) else {
+        return AgentLoading::none(Status::NoDate);
+    };
+    let Ok(LoadedCookies { cookies, bad_lines }) = form.read(alloc, rules, text, now) else {
+        return AgentLoading::none(Status::OutOfMemory);
+    };
+    match store.load(cookies, now) {
+        Ok(()) => AgentLoading {
+            status: Status::Done.code(),
+            bad_lines: bad_lines.len(),
+            first_bad_line: first_of(&bad_lines),
+        },
         Err(_) => AgentLoading::none(Status::OutOfMemory),
     }
-}
-
-// Stores the cookies of the text, and returns the numbers of its bad lines.
-fn take_in(
-    alloc: Global,
-    store: &mut Store,
-    rules: &Suffixes,
-    form: SavedForm,
-    text: &[u8],
-    now: DateTime,
-) -> Result<Vec<usize>, AllocError>
-    ensures bad_lines { IfOk result (λ numbers. numbers.items
-        ≡ bad_lines form rules.now now text.now) }
-    ensures ok { OnOk result (store.new
-        ≡ kept_with_each (lasting now (loaded_cookies form rules.now now text.now)) store.old) }
-    ensures err { OnErr result (store.new ≡ store.old) }
-{
-    let LoadedCookies { cookies, bad_lines } = form.read(alloc, rules, text, now)?;
-    store.load(cookies, now)?;
-    Ok(bad_lines)
 }
 
 impl AgentLoading {
@@ -198,19 +110,7 @@ impl AgentLoading {
     {
         AgentLoading {
             status: why.code(),
-            bad_lines: 0,
-            first_bad_line: 0,
-        }
-    }
-
-    // The answer to a text with these bad lines.
-    fn of(bad_lines: &[usize]) -> AgentLoading
-        ensures { result ≡ loaded_with bad_lines.now }
-    {
-        AgentLoading {
-            status: Status::Done.code(),
-            bad_lines: bad_lines.len(),
-            first_bad_line: first_of(bad_lines),
+            ..AgentLoading::default()
         }
     }
 }

@@ -1,20 +1,19 @@
 //! Reading a response's cookies for C.
-ghost use Rattle.std.specs.Prelude.{◌≡◌, ◌⊎◌, MatchResult, Some};
-ghost use Rattle.cookie_c.specs.Agents.{IfSeen, ReadsAt, ReadsBy, ReadsResponse, ReadsText, read_as, refusal_number, store_of, unread};
+ghost use Rattle.std.specs.Prelude.{◌≡◌, ◌⊎◌, Some};
+ghost use Rattle.cookie_c.specs.Agents.{ReadsAt, ReadsBy, ReadsResponse, ReadsText, refusal_number, store_of, unread};
 ghost use Rattle.cookie_c.specs.Explanations.{suffixes_of};
-ghost use Rattle.cookie_c.specs.Handles.{store_in, suffixes_in};
 ghost use Rattle.cookie_c.specs.declared.status.Status.TheVariants as status;
 
 use super::Agent;
 use super::site::seen;
 use crate::explanation::{Request, code_of};
-use crate::handle::content::Content;
+use crate::handle::with_content;
 use crate::sessions::time::time_at;
 use crate::status::Status;
 use cookie_agent::{Site, Store};
 use cookie_browser::{Refusal, Suffixes};
 use jiff::civil::DateTime;
-use std::alloc::{AllocError, Global};
+use std::alloc::Global;
 use std::mem::replace;
 
 /// What a user agent makes of the text of a `Set-Cookie` header.
@@ -48,34 +47,14 @@ pub extern "C" fn cookie_agent_read(
     ensures read { ReadsBy (suffixes_of suffixes.old) request.now text.now now
         result (store_of agent.old) (store_of agent.new) }
 {
-    let Some(held) = suffixes.handle.take(alloc) else {
-        return AgentReading::none(Status::NoSuffixes);
-    };
-    let answer = read_by(alloc, agent, held.as_ref(), request, text, now);
-    suffixes.handle.put(held);
-    answer
-}
-
-// Reads the text by the rules that the content is.
-fn read_by(
-    alloc: Global,
-    agent: &mut Agent,
-    content: &Content,
-    request: &Request<'_>,
-    text: &[u8],
-    now: u64,
-) -> AgentReading
-    ensures { ReadsBy (suffixes_in (Some content.now)) request.now text.now now
-        result (store_of agent.old) (store_of agent.new) }
-{
-    let Content::Suffixes(rules) = content else {
-        return AgentReading::none(Status::NoSuffixes);
-    };
-    read_at(alloc, agent, rules, request, text, now)
+    with_content!(alloc, suffixes.handle,
+        Suffixes(rules) => read_by(alloc, agent, rules, request, text, now),
+        _ => AgentReading::none(Status::NoSuffixes),
+    )
 }
 
 // Reads the text by these rules.
-fn read_at(
+fn read_by(
     alloc: Global,
     agent: &mut Agent,
     rules: &Suffixes,
@@ -86,29 +65,10 @@ fn read_at(
     ensures { ReadsAt rules.now request.now text.now now
         result (store_of agent.old) (store_of agent.new) }
 {
-    let Some(mut held) = agent.handle.take(alloc) else {
-        return AgentReading::none(Status::NoAgent);
-    };
-    let answer = read_in(alloc, held.as_mut(), rules, request, text, now);
-    agent.handle.put(held);
-    answer
-}
-
-fn read_in(
-    alloc: Global,
-    content: &mut Content,
-    rules: &Suffixes,
-    request: &Request<'_>,
-    text: &[u8],
-    now: u64,
-) -> AgentReading
-    ensures { ReadsAt rules.now request.now text.now now
-        result (store_in (Some content.old)) (store_in (Some content.new)) }
-{
-    let Content::Store(store) = content else {
-        return AgentReading::none(Status::NoAgent);
-    };
-    read_response(alloc, store, rules, request, text, now)
+    with_content!(alloc, agent.handle,
+        Store(store) => read_response(alloc, store, rules, request, text, now),
+        _ => AgentReading::none(Status::NoAgent),
+    )
 }
 
 fn read_response(
@@ -121,26 +81,9 @@ fn read_response(
 ) -> AgentReading
     ensures { ReadsResponse rules.now request.now text.now now result store.old store.new }
 {
-    match time_at(now) {
-        Some(now) => read_seen(alloc, store, rules, request, text, now),
-        None => AgentReading::none(Status::NoDate),
-    }
-}
-
-// Reads the text, if the agent can see the request.
-fn read_seen(
-    alloc: Global,
-    store: &mut Store,
-    rules: &Suffixes,
-    request: &Request<'_>,
-    text: &[u8],
-    now: DateTime,
-) -> AgentReading
-    ensures { IfSeen request.now
-        (λ site. ReadsText (record { rules = rules.now; cookies = store.old }) site
-        now text.now result store.new)
-        (λ why. (result ≡ unread why) × (store.new ≡ store.old)) }
-{
+    let Some(now) = time_at(now) else {
+        return AgentReading::none(Status::NoDate);
+    };
     match seen(alloc, request) {
         Ok(site) => read(alloc, store, rules, &site, text, now),
         Err(why) => AgentReading::none(why),
@@ -163,7 +106,13 @@ fn read(
     let mut agent = cookie_agent::Agent::with_store(rules, had);
     let read = agent.read(site, text, now);
     *store = agent.into_store();
-    AgentReading::of(read)
+    match read {
+        Ok(refusal) => AgentReading {
+            status: Status::Done.code(),
+            refusal: number_of(refusal),
+        },
+        Err(_) => AgentReading::none(Status::OutOfMemory),
+    }
 }
 
 // The number of the step that refuses a cookie, and 0 if none does.
@@ -184,20 +133,6 @@ impl AgentReading {
         AgentReading {
             status: why.code(),
             refusal: 0,
-        }
-    }
-
-    // What is told of a text: the step that refuses it, if one does, or that memory ran out.
-    fn of(read: Result<Option<Refusal>, AllocError>) -> AgentReading
-        ensures { MatchResult read (λ refusal. result ≡ read_as refusal)
-            (λ why. result ≡ unread status.OutOfMemory) }
-    {
-        match read {
-            Ok(refusal) => AgentReading {
-                status: Status::Done.code(),
-                refusal: number_of(refusal),
-            },
-            Err(_) => AgentReading::none(Status::OutOfMemory),
         }
     }
 }

@@ -1,25 +1,22 @@
 //! Saving a user agent's cookies for C.
-ghost use Rattle.std.specs.Prelude.{◌≡◌, ◌⊎◌, Some, length};
+ghost use Rattle.std.specs.Prelude.{◌≡◌, Some, length};
 ghost use Rattle.cookie_c.specs.Agents.{store_of};
 ghost use Rattle.cookie_c.specs.Answers.{IsGiven};
-ghost use Rattle.cookie_c.specs.Handles.{store_in};
-ghost use Rattle.cookie_c.specs.SavedAgents.{GivesSaved, IsUnsaved, Saves, SavesAt, answer_of, first_of, unsaved};
-ghost use Rattle.cookie_c.specs.Sites.{AtSecond};
+ghost use Rattle.cookie_c.specs.SavedAgents.{Saves, SavesAt, answer_of, first_of, unsaved};
 ghost use Rattle.cookie_c.specs.declared.status.Status.TheVariants as status;
 
 use super::Agent;
 use super::form::form_of;
 use crate::answer::Answer;
-use crate::handle::content::Content;
+use crate::handle::with_content;
 use crate::sessions::time::time_at;
 use crate::status::Status;
 use cookie_agent::{SavedCookies, SavedForm, Store};
-use jiff::civil::DateTime;
 use std::alloc::Global;
 
 /// The return value of a call that saves a user agent's cookies.
 #[repr(C)]
-#[derive(Clone, Copy)]
+#[derive(Clone, Copy, Default)]
 pub struct AgentSaving {
     /// The number of a `Status`. If it is neither `Status::Done` nor `Status::BufferTooShort`, all else is 0.
     pub status: u32,
@@ -52,54 +49,21 @@ pub extern "C" fn cookie_agent_save(
     ensures kept { store_of agent.new ≡ store_of agent.old }
     ensures saved { SavesAt form now (store_of agent.old) result out.old out.new }
 {
-    let Some(held) = agent.handle.take(alloc) else {
-        return AgentSaving::none(Status::NoAgent);
-    };
-    let answer = save_in(alloc, held.as_ref(), form, now, out);
-    agent.handle.put(held);
-    answer
-}
-
-fn save_in(alloc: Global, content: &Content, form: u32, now: u64, out: &mut [u8]) -> AgentSaving
-    ensures { SavesAt form now (store_in (Some content.now)) result out.old out.new }
-{
-    let Content::Store(store) = content else {
-        return AgentSaving::none(Status::NoAgent);
-    };
-    save(alloc, store, form, now, out)
+    with_content!(alloc, agent.handle,
+        Store(store) => save(alloc, store, form, now, out),
+        _ => AgentSaving::none(Status::NoAgent),
+    )
 }
 
 fn save(alloc: Global, store: &Store, form: u32, now: u64, out: &mut [u8]) -> AgentSaving
     ensures { Saves form now store.now result out.old out.new }
 {
-    match form_of(form) {
-        Some(form) => save_as(alloc, store, form, now, out),
-        None => AgentSaving::none(Status::BadAttribute),
-    }
-}
-
-fn save_as(alloc: Global, store: &Store, form: SavedForm, now: u64, out: &mut [u8]) -> AgentSaving
-    ensures { AtSecond now
-        (λ time. GivesSaved form time store.now result out.old out.new
-        ⊎ IsUnsaved status.OutOfMemory result out.old out.new)
-        (λ why. IsUnsaved why result out.old out.new) }
-{
-    match time_at(now) {
-        Some(now) => save_at(alloc, store, form, now, out),
-        None => AgentSaving::none(Status::NoDate),
-    }
-}
-
-fn save_at(
-    alloc: Global,
-    store: &Store,
-    form: SavedForm,
-    now: DateTime,
-    out: &mut [u8],
-) -> AgentSaving
-    ensures { GivesSaved form now store.now result out.old out.new
-        ⊎ IsUnsaved status.OutOfMemory result out.old out.new }
-{
+    let Some(form) = form_of(form) else {
+        return AgentSaving::none(Status::BadAttribute);
+    };
+    let Some(now) = time_at(now) else {
+        return AgentSaving::none(Status::NoDate);
+    };
     match form.write(alloc, store.cookies(), now) {
         Ok(saved) => AgentSaving::give(&saved, out),
         Err(_) => AgentSaving::none(Status::OutOfMemory),
@@ -123,9 +87,7 @@ impl AgentSaving {
     {
         AgentSaving {
             status: why.code(),
-            length: 0,
-            left_out: 0,
-            first_left_out: 0,
+            ..AgentSaving::default()
         }
     }
 

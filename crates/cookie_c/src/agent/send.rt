@@ -2,16 +2,15 @@
 ghost use Rattle.std.specs.Prelude.{◌≡◌, ◌⊎◌, true, false, Some, IfOk, OnErr, OnOk};
 ghost use Rattle.cookie_agent.specs.HostJars.{AreOwnSet};
 ghost use Rattle.cookie_agent.specs.Sent.{IsOrderedHeader};
-ghost use Rattle.cookie_c.specs.Agents.{GivesHeader, IfSeen, SendsAt, SendsRequest, after_request, store_of};
+ghost use Rattle.cookie_c.specs.Agents.{GivesHeader, SendsAt, SendsRequest, after_request, store_of};
 ghost use Rattle.cookie_c.specs.Answers.{IsRefused};
-ghost use Rattle.cookie_c.specs.Handles.{store_in};
 ghost use Rattle.cookie_c.specs.declared.status.Status.TheVariants as status;
 
 use super::Agent;
 use super::site::seen;
 use crate::answer::Answer;
 use crate::explanation::Request;
-use crate::handle::content::Content;
+use crate::handle::with_content;
 use crate::sessions::time::time_at;
 use crate::status::Status;
 use cookie_agent::{Site, Store};
@@ -71,32 +70,13 @@ fn send_at(
     ensures { SendsAt is_made request.now now result out.old out.new
         (store_of agent.old) (store_of agent.new) }
 {
-    let Some(mut held) = agent.handle.take(alloc) else {
-        return Answer::refusal(Status::NoAgent);
-    };
-    let answer = send_in(alloc, held.as_mut(), is_made, request, now, out);
-    agent.handle.put(held);
-    answer
+    with_content!(alloc, agent.handle,
+        Store(store) => send(alloc, store, is_made, request, now, out),
+        _ => Answer::refusal(Status::NoAgent),
+    )
 }
 
-fn send_in(
-    alloc: Global,
-    content: &mut Content,
-    is_made: bool,
-    request: &Request<'_>,
-    now: u64,
-    out: &mut [u8],
-) -> Answer
-    ensures { SendsAt is_made request.now now result out.old out.new
-        (store_in (Some content.old)) (store_in (Some content.new)) }
-{
-    let Content::Store(store) = content else {
-        return Answer::refusal(Status::NoAgent);
-    };
-    send_request(alloc, store, is_made, request, now, out)
-}
-
-fn send_request(
+fn send(
     alloc: Global,
     store: &mut Store,
     is_made: bool,
@@ -106,31 +86,16 @@ fn send_request(
 ) -> Answer
     ensures { SendsRequest is_made request.now now result out.old out.new store.old store.new }
 {
-    match time_at(now) {
-        Some(now) => send_seen(alloc, store, is_made, request, now, out),
-        None => Answer::refusal(Status::NoDate),
-    }
-}
-
-// Gives the header, if the agent can see the request.
-fn send_seen(
-    alloc: Global,
-    store: &mut Store,
-    is_made: bool,
-    request: &Request<'_>,
-    now: DateTime,
-    out: &mut [u8],
-) -> Answer
-    ensures { IfSeen request.now
-        (λ site. GivesHeader is_made site now result store.old store.new out.old out.new)
-        (λ why. IsRefused why result out.old out.new × (store.new ≡ store.old)) }
-{
+    let Some(now) = time_at(now) else {
+        return Answer::refusal(Status::NoDate);
+    };
     match seen(alloc, request) {
         Ok(site) => give_header(alloc, store, is_made, &site, now, out),
         Err(why) => Answer::refusal(why),
     }
 }
 
+// The header, for the buffer, by an agent of these cookies. Rules don't count for it.
 fn give_header(
     alloc: Global,
     store: &mut Store,
@@ -142,31 +107,15 @@ fn give_header(
     ensures { GivesHeader is_made site.now now result store.old store.new out.old out.new
         ⊎ (IsRefused status.OutOfMemory result out.old out.new × (store.new ≡ store.old)) }
 {
-    match header(alloc, store, is_made, site, now) {
-        Ok(header) => Answer::give(header.as_slice(), out),
-        Err(_) => Answer::refusal(Status::OutOfMemory),
-    }
-}
-
-// The header, by an agent of these cookies. Rules don't count for it.
-fn header(
-    alloc: Global,
-    store: &mut Store,
-    is_made: bool,
-    site: &Site,
-    now: DateTime,
-) -> Result<Vec<u8>, AllocError>
-    ensures value { IfOk result (λ header.
-        IsOrderedHeader site.now now store.old header.items) }
-    ensures ok { OnOk result (store.new ≡ after_request is_made site.now now store.old) }
-    ensures err { OnErr result (store.new ≡ store.old) }
-{
     let rules = Suffixes::empty(alloc);
     let had = replace(store, Store::new(alloc));
     let mut agent = cookie_agent::Agent::with_store(&rules, had);
     let header = header_of(&mut agent, is_made, site, now);
     *store = agent.into_store();
-    header
+    match header {
+        Ok(header) => Answer::give(header.as_slice(), out),
+        Err(_) => Answer::refusal(Status::OutOfMemory),
+    }
 }
 
 fn header_of(

@@ -1,15 +1,13 @@
 //! What a user agent stores, cookie by cookie, for C.
-ghost use Rattle.std.specs.Prelude.{◌≡◌, Some, slice_get};
-ghost use Rattle.cookie_c.specs.Agents.{TellsAt, TellsCookie, TellsFound, TellsIn, store_of};
-ghost use Rattle.cookie_c.specs.Handles.{store_in};
+ghost use Rattle.std.specs.Prelude.{◌≡◌};
+ghost use Rattle.cookie_c.specs.Agents.{TellsAt, TellsIn, store_of};
 
 use super::Agent;
 use crate::explanation::{Draft, Explanation};
-use crate::handle::content::Content;
+use crate::handle::with_content;
 use crate::sessions::time::time_at;
 use crate::status::Status;
-use cookie_agent::{Store, StoredCookie};
-use jiff::civil::DateTime;
+use cookie_agent::Store;
 use std::alloc::Global;
 
 /// The stored cookie at this index, in the order of creation, told as `cookie_explain` tells of a cookie that is stored:
@@ -30,50 +28,21 @@ pub extern "C" fn cookie_agent_cookie(
     ensures kept { store_of agent.new ≡ store_of agent.old }
     ensures told { TellsAt index now (store_of agent.old) result out.old out.new }
 {
-    let Some(held) = agent.handle.take(alloc) else {
-        return Explanation::none(Status::NoAgent);
-    };
-    let answer = tell_in(alloc, held.as_ref(), index, now, out);
-    agent.handle.put(held);
-    answer
-}
-
-fn tell_in(alloc: Global, content: &Content, index: usize, now: u64, out: &mut [u8]) -> Explanation
-    ensures { TellsAt index now (store_in (Some content.now)) result out.old out.new }
-{
-    let Content::Store(store) = content else {
-        return Explanation::none(Status::NoAgent);
-    };
-    tell(alloc, store, index, now, out)
+    with_content!(alloc, agent.handle,
+        Store(store) => tell(alloc, store, index, now, out),
+        _ => Explanation::none(Status::NoAgent),
+    )
 }
 
 fn tell(alloc: Global, store: &Store, index: usize, now: u64, out: &mut [u8]) -> Explanation
     ensures { TellsIn index now store.now result out.old out.new }
 {
-    match time_at(now) {
-        Some(now) => tell_found(alloc, store, index, now, out),
-        None => Explanation::none(Status::NoDate),
-    }
-}
-
-fn tell_found(
-    alloc: Global,
-    store: &Store,
-    index: usize,
-    now: DateTime,
-    out: &mut [u8],
-) -> Explanation
-    ensures { TellsFound now (slice_get store.now index) result out.old out.new }
-{
-    match store.cookies().get(index) {
-        Some(cookie) => tell_cookie(alloc, cookie, now, out),
-        None => Explanation::none(Status::NotFound),
-    }
-}
-
-fn tell_cookie(alloc: Global, cookie: &StoredCookie, now: DateTime, out: &mut [u8]) -> Explanation
-    ensures { TellsCookie now cookie.now result out.old out.new }
-{
+    let Some(now) = time_at(now) else {
+        return Explanation::none(Status::NoDate);
+    };
+    let Some(cookie) = store.cookies().get(index) else {
+        return Explanation::none(Status::NotFound);
+    };
     match Draft::of_kept(alloc, cookie, now) {
         Ok(draft) => draft.give(out),
         Err(why) => Explanation::none(why),

@@ -1,7 +1,7 @@
 //! An explanation before it is given to C: what a browser makes of a text, or of a cookie.
 ghost use Rattle.std.specs.Prelude.{Result as ResultOf, Option, ℤ, ◌≡◌, ◌++◌, [], IfOk, IsNone, IsSomeAnd, MatchResult, OnOk, None, Some, Ok, Err, length, int_div, option_map, pos};
 ghost use Rattle.jiff.specs.Types.{DateTime as CivilDateTime};
-ghost use Rattle.jiff.specs.Words.{civil_nanos, signed_nanos};
+ghost use Rattle.jiff.specs.Words.{signed_nanos};
 ghost use Rattle.cookie_browser.specs.ExpiryCode.{expiry_time};
 ghost use Rattle.cookie_browser.specs.ReceivedCode.{received_view};
 ghost use Rattle.cookie_browser.specs.RefusedCode.{kept_view, request_view};
@@ -10,12 +10,12 @@ ghost use Rattle.cookie_browser.specs.declared.refusal.Refusal.{Refusal as Refus
 ghost use Rattle.cookie_session.specs.Seconds.{from_zero};
 ghost use Rattle.cookie_c.specs.Agents.{IsTooFar, IsUntold};
 ghost use Rattle.cookie_c.specs.ExplanationParts.{IsDraftOf};
-ghost use Rattle.cookie_c.specs.Explanations.{Explains, enforcement_code, place_at, refusal_code, seconds_until};
+ghost use Rattle.cookie_c.specs.Explanations.{Explains, enforcement_code, span_at, refusal_code, seconds_until};
 ghost use Rattle.cookie_c.specs.declared.status.Status.TheVariants as status;
 
 use crate::answer::Answer;
 use crate::explanation::{Explanation, Stored};
-use crate::place::Place;
+use crate::span::Span;
 use crate::status::Status;
 use cookie_agent::StoredCookie;
 use cookie_browser::{
@@ -72,7 +72,7 @@ impl Draft {
         let new = KeptCookie::of(suffixes, request, received, domain);
         match refused_by(suffixes, request, &[], received, domain, &new) {
             Some(refusal) => Draft::of_refusal(alloc, refusal),
-            None => Draft::of_stored(alloc, &new, &received.attributes, now),
+            None => Draft::of_cookie(alloc, &new, lifetime(&received.attributes, now)),
         }
     }
 
@@ -100,21 +100,6 @@ impl Draft {
             ..Explanation::none(Status::Done)
         };
         Ok(Draft { answer, texts })
-    }
-
-    // The draft of a stored cookie with these attributes.
-    fn of_stored(
-        alloc: Global,
-        cookie: &KeptCookie<'_>,
-        attributes: &ReceivedAttributes<'_>,
-        now: DateTime,
-    ) -> Result<Draft, AllocError>
-        ensures { IfOk result (IsDraftOf now (Ok (record (kept_view cookie.now) {
-          expiry = kept_until now attributes.now.max_age attributes.now.expires;
-          last_access = civil_nanos now;
-        }))) }
-    {
-        Draft::of_cookie(alloc, cookie, lifetime(attributes, now))
     }
 
     // The draft of a cookie that a user agent stores, or why there is none.
@@ -166,17 +151,17 @@ impl Draft {
     }
 }
 
-// Appends the text, and returns its place in the longer text.
-fn push(texts: &mut Vec<u8>, text: &[u8]) -> Result<Place, AllocError>
-    ensures place { IfOk result (λ place. place ≡ place_at (length texts.old.items) text.now) }
+// Appends the text, and returns its span in the longer text.
+fn push(texts: &mut Vec<u8>, text: &[u8]) -> Result<Span, AllocError>
+    ensures span { IfOk result (λ span. span ≡ span_at (length texts.old.items) text.now) }
     ensures text { OnOk result (texts.new.items ≡ texts.old.items ++ text.now) }
 {
-    let place = Place {
+    let span = Span {
         start: texts.len(),
         length: text.len(),
     };
     texts.extend_from_slice(text)?;
-    Ok(place)
+    Ok(span)
 }
 
 // The number of the step that refuses a cookie.

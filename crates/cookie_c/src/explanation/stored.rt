@@ -1,21 +1,19 @@
 //! A cookie that a browser stores, for C.
-ghost use Rattle.std.specs.Prelude.{◌≡◌};
-ghost use Rattle.cookie_c.specs.Explanations.{nothing_stored};
 
-use crate::place::Place;
+use crate::span::Span;
 
 /// A cookie as a browser stores it. Its texts are in the buffer, one right after the other.
 #[repr(C)]
-#[derive(Clone, Copy)]
+#[derive(Clone, Copy, Default)]
 pub struct Stored {
     /// Where the name is, empty if the text has none.
-    pub name: Place,
+    pub name: Span,
     /// Where the value is.
-    pub value: Place,
+    pub value: Span,
     /// Where the domain is: the host, if the cookie is host-only.
-    pub domain: Place,
+    pub domain: Span,
     /// Where the path is.
-    pub path: Place,
+    pub path: Span,
     /// The whole seconds that it lives from now on, at most 400 days, and 0 if it isn't persistent. A persistent cookie
     /// with 0 has no whole second left.
     pub lifetime: u64,
@@ -29,23 +27,4 @@ pub struct Stored {
     pub is_secure: bool,
     /// Whether it is hidden from scripts.
     pub is_http_only: bool,
-}
-
-impl Stored {
-    pub(super) fn none() -> Stored
-        ensures { result ≡ nothing_stored }
-    {
-        Stored {
-            name: Place::none(),
-            value: Place::none(),
-            domain: Place::none(),
-            path: Place::none(),
-            lifetime: 0,
-            same_site: 0,
-            is_persistent: false,
-            is_host_only: false,
-            is_secure: false,
-            is_http_only: false,
-        }
-    }
 }

@@ -1,21 +1,22 @@
 //! The calls that change a jar in a handle.
-ghost use Rattle.std.specs.Prelude.{◌≡◌, [], Some, None, IfOk, IsUtf8, true};
+ghost use Rattle.std.specs.Prelude.{◌≡◌, [], Some, None, IsUtf8};
 ghost use Rattle.jiff.specs.Types.{DateTime};
 ghost use Rattle.cookie.specs.AttributeValues.{FitsField};
-ghost use Rattle.cookie.specs.Jar.{Add, Remove, after, empty_jar};
+ghost use Rattle.cookie.specs.Jar.{Remove, after, empty_jar};
 ghost use Rattle.cookie.specs.Moments.{date_of};
 ghost use Rattle.cookie.specs.Record.{plain};
 ghost use Rattle.cookie.specs.Originals.{field_cookies, with_originals};
 ghost use Rattle.cookie_c.specs.Handles.{IsKept, IsPut, Tells};
-ghost use Rattle.cookie_c.specs.Jars.{AtJar, InJar, IsAdded, IsChanged, IsFitAdded, IsRemoved, jar_of, scoped_record};
+ghost use Rattle.cookie_c.specs.Jars.{AtJar, IsAdded, IsChanged, IsFitAdded, IsRemoved, jar_of, scoped_record};
 ghost use Rattle.cookie_c.specs.declared.status.Status.TheVariants as status;
 
 use super::Jar;
 use crate::handle::content::Content;
+use crate::handle::with_content;
 use crate::run::Seed;
 use crate::status::Status;
 use cookie::{Cookie, CookieJar, fits_field, read_date};
-use std::alloc::{AllocError, Global};
+use std::alloc::Global;
 use std::hash::RandomState;
 
 /// Puts a jar with no cookie into the handle, and frees the one that it had, if it had one. The two seeds are random;
@@ -37,18 +38,15 @@ pub extern "C" fn cookie_jar_new(alloc: Global, seed: u64, other_seed: u64, jar:
 /// that isn't UTF-8 or isn't a cookie is skipped, so that one bad byte costs no other cookie.
 ///
 /// Refuses a handle without a jar. Else it fails only when memory runs out. After a refusal the jar is as before.
-#[tactic(auto, using(crate::proofs::HandleLemmas::jar_none, crate::proofs::HandleLemmas::jar_some))]
 #[unsafe(no_mangle)]
 pub extern "C" fn cookie_jar_add_originals(alloc: Global, jar: &mut Jar, header: &[u8]) -> u32
     ensures { AtJar (IsChanged (with_originals (field_cookies header.now)))
         result jar.old jar.new }
 {
-    let Some(mut held) = jar.handle.take(alloc) else {
-        return Status::NoJar.code();
-    };
-    let answer = add_originals_in(held.as_mut(), header);
-    jar.handle.put(held);
-    answer.code()
+    with_content!(alloc, jar.handle,
+        Jar(held) => add_originals(held, header).code(),
+        _ => Status::NoJar.code(),
+    )
 }
 
 /// Adds the cookie in the text of a `Set-Cookie` header, decoded (RFC 6265 5.2), in place of the jar's cookie of that
@@ -56,17 +54,14 @@ pub extern "C" fn cookie_jar_add_originals(alloc: Global, jar: &mut Jar, header:
 ///
 /// Refuses a handle without a jar, then as `cookie_read_decoded` does, and then a path or a domain with a control
 /// character. Else it fails only when memory runs out. After a refusal the jar is as before.
-#[tactic(auto, using(crate::proofs::HandleLemmas::jar_none, crate::proofs::HandleLemmas::jar_some))]
 #[unsafe(no_mangle)]
 pub extern "C" fn cookie_jar_add(alloc: Global, jar: &mut Jar, text: &[u8]) -> u32
     ensures { AtJar (IsAdded text.now) result jar.old jar.new }
 {
-    let Some(mut held) = jar.handle.take(alloc) else {
-        return Status::NoJar.code();
-    };
-    let answer = add_in(alloc, held.as_mut(), text);
-    jar.handle.put(held);
-    answer.code()
+    with_content!(alloc, jar.handle,
+        Jar(held) => add(alloc, held, text).code(),
+        _ => Status::NoJar.code(),
+    )
 }
 
 /// Removes the cookie of that name. `moment` is the time in UTC, in one of the four forms of `read_date`. If there is
@@ -74,18 +69,15 @@ pub extern "C" fn cookie_jar_add(alloc: Global, jar: &mut Jar, text: &[u8]) -> u
 ///
 /// Refuses a handle without a jar, then a `moment` or a name that isn't UTF-8, and then a `moment` that isn't a date.
 /// Else it fails only when memory runs out. After a refusal the jar is as before.
-#[tactic(auto, using(crate::proofs::HandleLemmas::jar_none, crate::proofs::HandleLemmas::jar_some))]
 #[unsafe(no_mangle)]
 pub extern "C" fn cookie_jar_remove(alloc: Global, jar: &mut Jar, moment: &[u8], name: &[u8]) -> u32
     ensures { AtJar (IsRemoved moment.now (IsUtf8 name.now) (plain name.now []))
         result jar.old jar.new }
 {
-    let Some(mut held) = jar.handle.take(alloc) else {
-        return Status::NoJar.code();
-    };
-    let answer = remove_in(alloc, held.as_mut(), moment, name);
-    jar.handle.put(held);
-    answer.code()
+    with_content!(alloc, jar.handle,
+        Jar(held) => remove(alloc, held, moment, name).code(),
+        _ => Status::NoJar.code(),
+    )
 }
 
 /// Removes the cookie of that name, as `cookie_jar_remove` does, but tells the client to drop the one that was set with
@@ -94,7 +86,6 @@ pub extern "C" fn cookie_jar_remove(alloc: Global, jar: &mut Jar, moment: &[u8],
 /// Refuses a handle without a jar, then a `moment`, a name, a path or a domain that isn't UTF-8, then a path or a domain
 /// with a control character or a `;`, and then a `moment` that isn't a date. It may also run out of memory. After a
 /// refusal the jar is as before.
-#[tactic(auto, using(crate::proofs::HandleLemmas::jar_none, crate::proofs::HandleLemmas::jar_some))]
 #[unsafe(no_mangle)]
 pub extern "C" fn cookie_jar_remove_scoped(
     alloc: Global,
@@ -107,12 +98,10 @@ pub extern "C" fn cookie_jar_remove_scoped(
     ensures { AtJar (IsRemoved moment.now (IsUtf8 name.now × IsUtf8 path.now × IsUtf8 domain.now)
         (scoped_record name.now path.now domain.now)) result jar.old jar.new }
 {
-    let Some(mut held) = jar.handle.take(alloc) else {
-        return Status::NoJar.code();
-    };
-    let answer = remove_scoped_in(alloc, held.as_mut(), moment, name, path, domain);
-    jar.handle.put(held);
-    answer.code()
+    with_content!(alloc, jar.handle,
+        Jar(held) => remove_scoped(alloc, held, moment, name, path, domain).code(),
+        _ => Status::NoJar.code(),
+    )
 }
 
 /// Frees the handle's jar, if it has one. The handle has none then.
@@ -123,47 +112,20 @@ pub extern "C" fn cookie_jar_free(alloc: Global, jar: &mut Jar)
     jar.handle.free(alloc);
 }
 
-fn add_originals_in(content: &mut Content, header: &[u8]) -> Status
-    ensures { InJar (IsChanged (with_originals (field_cookies header.now)))
-        result content.old content.new }
-{
-    let Content::Jar(jar) = content else {
-        return Status::NoJar;
-    };
-    add_originals(jar, header)
-}
-
 fn add_originals(jar: &mut CookieJar, header: &[u8]) -> Status
     ensures { IsChanged (with_originals (field_cookies header.now))
         result jar.old jar.new }
 {
-    match copy_with(jar, header) {
+    let Ok(copy) = jar.clone() else {
+        return Status::OutOfMemory;
+    };
+    match copy.with_field(header) {
         Ok(made) => {
             *jar = made;
             Status::Done
         }
         Err(_) => Status::OutOfMemory,
     }
-}
-
-// A copy of the jar, with the header's cookies as originals.
-fn copy_with(jar: &CookieJar, header: &[u8]) -> Result<CookieJar, AllocError>
-    ensures { IfOk result (λ made.
-        made ≡ with_originals (field_cookies header.now) jar.now) }
-{
-    match jar.clone() {
-        Ok(copy) => copy.with_field(header),
-        Err(_) => Err(AllocError),
-    }
-}
-
-fn add_in(alloc: Global, content: &mut Content, text: &[u8]) -> Status
-    ensures { InJar (IsAdded text.now) result content.old content.new }
-{
-    let Content::Jar(jar) = content else {
-        return Status::NoJar;
-    };
-    add(alloc, jar, text)
 }
 
 fn add(alloc: Global, jar: &mut CookieJar, text: &[u8]) -> Status
@@ -179,37 +141,19 @@ fn add(alloc: Global, jar: &mut CookieJar, text: &[u8]) -> Status
 }
 
 // Adds a copy of the cookie, if its path and domain fit a header.
-fn add_fit(alloc: Global, jar: &mut CookieJar, cookie: Cookie<'_>) -> Status
-    ensures { IsFitAdded cookie.entry.fields result jar.old jar.new }
+fn add_fit(alloc: Global, jar: &mut CookieJar, addition: Cookie<'_>) -> Status
+    ensures { IsFitAdded addition.entry.fields result jar.old jar.new }
 {
-    if fits_field(&cookie) {
-        add_copy(alloc, jar, cookie)
-    } else {
-        Status::InvalidValue
+    if !fits_field(&addition) {
+        return Status::InvalidValue;
     }
-}
-
-// Adds a copy of the cookie.
-fn add_copy(alloc: Global, jar: &mut CookieJar, cookie: Cookie<'_>) -> Status
-    ensures { IsChanged (after (Add cookie.entry.fields)) result jar.old jar.new }
-{
-    let Ok(copy) = cookie.into_owned(alloc) else {
+    let Ok(copy) = addition.into_owned(alloc) else {
         return Status::OutOfMemory;
     };
     match jar.add(copy) {
         Ok(()) => Status::Done,
         Err(_) => Status::OutOfMemory,
     }
-}
-
-fn remove_in(alloc: Global, content: &mut Content, moment: &[u8], name: &[u8]) -> Status
-    ensures { InJar (IsRemoved moment.now (IsUtf8 name.now) (plain name.now []))
-        result content.old content.new }
-{
-    let Content::Jar(jar) = content else {
-        return Status::NoJar;
-    };
-    remove(alloc, jar, moment, name)
 }
 
 fn remove(alloc: Global, jar: &mut CookieJar, moment: &[u8], name: &[u8]) -> Status
@@ -219,23 +163,6 @@ fn remove(alloc: Global, jar: &mut CookieJar, moment: &[u8], name: &[u8]) -> Sta
         return Status::NotUtf8;
     };
     remove_at(alloc, jar, moment, Cookie::named(name))
-}
-
-fn remove_scoped_in(
-    alloc: Global,
-    content: &mut Content,
-    moment: &[u8],
-    name: &[u8],
-    path: &[u8],
-    domain: &[u8],
-) -> Status
-    ensures { InJar (IsRemoved moment.now (IsUtf8 name.now × IsUtf8 path.now × IsUtf8 domain.now)
-        (scoped_record name.now path.now domain.now)) result content.old content.new }
-{
-    let Content::Jar(jar) = content else {
-        return Status::NoJar;
-    };
-    remove_scoped(alloc, jar, moment, name, path, domain)
 }
 
 fn remove_scoped(

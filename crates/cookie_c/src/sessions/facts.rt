@@ -1,24 +1,23 @@
 //! What is told of a session in a handle.
-ghost use Rattle.std.specs.Prelude.{◌≡◌, Some};
-ghost use Rattle.cookie_c.specs.Handles.{session_in};
+ghost use Rattle.std.specs.Prelude.{◌≡◌};
 ghost use Rattle.cookie_c.specs.OpenedSessions.{facts_of, session_of};
 
 use super::Session;
 use super::open_session::OpenSession;
-use crate::handle::content::Content;
+use crate::handle::with_content;
 use crate::status::Status;
 use std::alloc::Global;
 
 /// What is told of a session.
 #[repr(C)]
-#[derive(Clone, Copy)]
+#[derive(Clone, Copy, Default)]
 pub struct SessionFacts {
     /// The number of a `Status`. If it isn't `Status::Done`, the other fields are 0.
     pub status: u32,
     /// Whether a request had it. Else it started in its handle.
     pub is_opened: bool,
-    /// The place of the key that opened it: 0 is the newest. It is 0 too if no request had it.
-    pub place: usize,
+    /// The index of the key that opened it: 0 is the newest. It is 0 too if no request had it.
+    pub index: usize,
     /// When it started, in seconds since 1970 in UTC.
     pub started: u64,
     /// When it was last saved before it was opened, or else when it started or was renewed, in seconds since 1970 in
@@ -28,7 +27,7 @@ pub struct SessionFacts {
     pub id: [u8; 16],
 }
 
-/// The id of the handle's session, its times, and the place of the key that opened it. The session is as before.
+/// The id of the handle's session, its times, and the index of the key that opened it. The session is as before.
 ///
 /// Refuses a handle without a session. It doesn't allocate.
 #[unsafe(no_mangle)]
@@ -36,21 +35,10 @@ pub extern "C" fn cookie_session_describe(alloc: Global, session: &mut Session) 
     ensures kept { session_of session.new ≡ session_of session.old }
     ensures told { result ≡ facts_of (session_of session.old) }
 {
-    let Some(held) = session.handle.take(alloc) else {
-        return SessionFacts::none();
-    };
-    let facts = facts_in(held.as_ref());
-    session.handle.put(held);
-    facts
-}
-
-fn facts_in(content: &Content) -> SessionFacts
-    ensures { result ≡ facts_of (session_in (Some content.now)) }
-{
-    let Content::Session(opened) = content else {
-        return SessionFacts::none();
-    };
-    SessionFacts::of(opened)
+    with_content!(alloc, session.handle,
+        Session(opened) => SessionFacts::of(opened),
+        _ => SessionFacts::none(),
+    )
 }
 
 impl SessionFacts {
@@ -63,11 +51,7 @@ impl SessionFacts {
     {
         SessionFacts {
             status: Status::NoSession.code(),
-            is_opened: false,
-            place: 0,
-            started: 0,
-            seen: 0,
-            id: [0; 16],
+            ..SessionFacts::default()
         }
     }
 
@@ -77,8 +61,8 @@ impl SessionFacts {
     {
         SessionFacts {
             status: Status::Done.code(),
-            is_opened: opened.place.is_some(),
-            place: opened.place.unwrap_or(0),
+            is_opened: opened.index.is_some(),
+            index: opened.index.unwrap_or(0),
             started: opened.session.started(),
             seen: opened.session.seen(),
             id: *opened.session.id(),

@@ -1,5 +1,5 @@
 //! The ids of revoked sessions that C passes in, one after the other.
-ghost use Rattle.std.specs.Prelude.{◌≡◌, ◌≢◌, ◌%◌, Contains, IfNone, IfSome, length};
+ghost use Rattle.std.specs.Prelude.{◌≡◌, Contains, IfNone, IfSome};
 ghost use Rattle.cookie_c.specs.Revoked.{HasIds, ids_of};
 
 use cookie_session::Revocations;

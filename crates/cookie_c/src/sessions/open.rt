@@ -1,23 +1,23 @@
 //! Opening a session for C.
-ghost use Rattle.std.specs.Prelude.{◌≡◌, Some, alloc_error, Contains};
-ghost use Rattle.cookie.specs.Memory.{Gives};
+ghost use Rattle.std.specs.Prelude.{◌≡◌, Some, Contains};
 ghost use Rattle.cookie.specs.Originals.{field_cookies};
-ghost use Rattle.cookie_c.specs.Handles.{IsKept, IsPut, Tells, site_in};
-ghost use Rattle.cookie_c.specs.OpenedSessions.{Finds, IsOpening, session_of};
+ghost use Rattle.cookie_c.specs.Handles.{IsKept, Tells};
+ghost use Rattle.cookie_c.specs.OpenedSessions.{IsOpening, session_of};
 ghost use Rattle.cookie_c.specs.Revoked.{HasIds, IsListed};
 ghost use Rattle.cookie_c.specs.Sites.{AtSite, site_of};
 ghost use Rattle.cookie_c.specs.declared.status.Status.TheVariants as status;
 
 use super::listed::Listed;
 use super::open_session::OpenSession;
+use super::site::Site;
 use super::time::time_at;
 use super::{Session, Sessions};
 use crate::handle::content::Content;
+use crate::handle::with_content;
 use crate::status::Status;
 use cookie::field_cookies;
-use cookie_session::{OpenError, Opened};
-use jiff::civil::DateTime;
-use std::alloc::{AllocError, Global};
+use cookie_session::OpenError;
+use std::alloc::Global;
 
 /// Opens the session of a request: puts it into the handle `session`, and frees the one that it had, if it had one.
 /// `header` is the value of the request's `Cookie` header. A piece of it that isn't UTF-8 or isn't a cookie is skipped.
@@ -45,105 +45,64 @@ pub extern "C" fn cookie_session_open(
         answer (session_of session.old) (session_of session.new))
         (λ why. IsKept why answer (session_of session.old) (session_of session.new))) result }
 {
-    open(alloc, sessions, header, revoked, now, session).code()
+    match Listed::of(revoked) {
+        Some(revoked) => open(alloc, sessions, header, revoked, now, session).code(),
+        None => Status::BadIds.code(),
+    }
 }
 
+// Opens the session of a request. These ids are revoked.
 fn open(
     alloc: Global,
     sessions: &mut Sessions,
     header: &[u8],
-    revoked: &[u8],
+    revoked: Listed<'_>,
     now: u64,
     session: &mut Session,
 ) -> Status
     ensures kept { site_of sessions.new ≡ site_of sessions.old }
-    ensures bad_ids { ¬ HasIds revoked.now
-        → IsKept status.BadIds result (session_of session.old) (session_of session.new) }
-    ensures opens { HasIds revoked.now → AtSite (site_of sessions.old) now
-        (λ site time. IsOpening (IsListed revoked.now) site (field_cookies header.now) time
-        result (session_of session.old) (session_of session.new))
-        (λ why. IsKept why result (session_of session.old) (session_of session.new)) }
-{
-    let Some(revoked) = Listed::of(revoked) else {
-        return Status::BadIds;
-    };
-    let Some(held) = sessions.handle.take(alloc) else {
-        return Status::NoSessions;
-    };
-    let answer = open_in(alloc, held.as_ref(), header, revoked, now, session);
-    sessions.handle.put(held);
-    answer
-}
-
-fn open_in(
-    alloc: Global,
-    content: &Content,
-    header: &[u8],
-    revoked: Listed<'_>,
-    now: u64,
-    session: &mut Session,
-) -> Status
-    ensures { AtSite (site_in (Some content.now)) now
+    ensures opens { AtSite (site_of sessions.old) now
         (λ site time. IsOpening (Contains revoked.entry.ids.now) site (field_cookies header.now)
         time result (session_of session.old) (session_of session.new))
         (λ why. IsKept why result (session_of session.old) (session_of session.new)) }
 {
-    let Content::Sessions(site) = content else {
-        return Status::NoSessions;
-    };
-    match time_at(now) {
-        Some(time) => put_found(alloc, &site.sessions(), header, revoked, time, session),
-        None => Status::NoDate,
-    }
+    with_content!(alloc, sessions.handle,
+        Sessions(site) => open_at(alloc, site, header, revoked, now, session),
+        _ => Status::NoSessions,
+    )
 }
 
-// Puts the session of the request into the handle.
-fn put_found(
+// Opens the session of a request, by the sessions of this site.
+fn open_at(
     alloc: Global,
-    sessions: &cookie_session::Sessions<'_>,
+    site: &Site,
     header: &[u8],
-    revoked: Listed<'_>,
-    time: DateTime,
+    mut revoked: Listed<'_>,
+    now: u64,
     session: &mut Session,
 ) -> Status
-    ensures { IsOpening (Contains revoked.entry.ids.now) sessions.now
-        (field_cookies header.now) time result (session_of session.old) (session_of session.new) }
+    ensures { AtSite (Some site.now) now
+        (λ site time. IsOpening (Contains revoked.entry.ids.now) site (field_cookies header.now)
+        time result (session_of session.old) (session_of session.new))
+        (λ why. IsKept why result (session_of session.old) (session_of session.new)) }
 {
-    match find(alloc, sessions, header, revoked, time) {
-        Ok(Some(opened)) => put_opened(alloc, opened, session),
-        Ok(None) => Status::NoSession,
-        Err(_) => Status::OutOfMemory,
-    }
-}
-
-// Puts the session, with the place of its key, into the handle.
-fn put_opened(alloc: Global, opened: Opened, session: &mut Session) -> Status
-    ensures { IsPut (record { session = opened.session; place = Some opened.place })
-        result (session_of session.old) (session_of session.new) }
-{
-    let found = OpenSession {
-        session: opened.session,
-        place: Some(opened.place),
+    let Some(time) = time_at(now) else {
+        return Status::NoDate;
     };
-    session.handle.set(alloc, Content::Session(found))
-}
-
-// The session of the request, if it has one that is open and isn't revoked.
-fn find(
-    alloc: Global,
-    sessions: &cookie_session::Sessions<'_>,
-    header: &[u8],
-    revoked: Listed<'_>,
-    time: DateTime,
-) -> Result<Option<Opened>, AllocError>
-    ensures { Gives alloc_error result
-        (Finds (Contains revoked.entry.ids.now) sessions.now (field_cookies header.now) time) }
-{
-    let mut revoked = revoked;
-    let cookies = field_cookies(alloc, header)?;
+    let sessions = site.sessions();
+    let Ok(cookies) = field_cookies(alloc, header) else {
+        return Status::OutOfMemory;
+    };
     match sessions.open_unrevoked(alloc, &cookies, time, &mut revoked) {
-        Ok(found) => Ok(found),
-        Err(OpenError::OutOfMemory) => Err(AllocError),
+        Ok(Some(opened)) => {
+            let found = OpenSession {
+                session: opened.session,
+                index: Some(opened.place),
+            };
+            session.handle.set(alloc, Content::Session(found))
+        }
+        Ok(None) => Status::NoSession,
+        Err(OpenError::OutOfMemory) => Status::OutOfMemory,
         Err(OpenError::Revocations(never)) => match never {},
     }
 }

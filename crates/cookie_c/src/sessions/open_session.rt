@@ -7,6 +7,6 @@ use cookie_session::Session;
 pub struct OpenSession {
     /// The session.
     pub session: Session,
-    /// The place of the key that opened it, if a request had it: 0 is the newest.
-    pub place: Option<usize>,
+    /// The index of the key that opened it, if a request had it: 0 is the newest.
+    pub index: Option<usize>,
 }

@@ -1,22 +1,18 @@
 //! Saving a session for C.
-ghost use Rattle.std.specs.Prelude.{◌≡◌, ◌≢◌, true, false, Some, Err, IsOkAnd, MatchResult, length, option_map, string_bytes};
-ghost use Rattle.cookie.specs.Jar.{view};
-ghost use Rattle.cookie.specs.Text.{cookie_text};
-ghost use Rattle.cookie_session.specs.declared.session_error.SessionError.TheVariants as failure;
+ghost use Rattle.std.specs.Prelude.{◌≡◌, ◌≢◌, Some, length};
 ghost use Rattle.cookie_c.specs.Answers.{IsGiven, IsRefused};
-ghost use Rattle.cookie_c.specs.Handles.{Reads, session_in, site_in};
 ghost use Rattle.cookie_c.specs.OpenedSessions.{session_of};
 ghost use Rattle.cookie_c.specs.SavedSessions.{IsUnsaved, Saves, SavesHeld, unsaved_number, unsaved_status};
-ghost use Rattle.cookie_c.specs.SaveParts.{IsSaved};
 ghost use Rattle.cookie_c.specs.Sites.{AtSite, site_of};
 ghost use Rattle.cookie_c.specs.declared.status.Status.TheVariants as status;
 
 use super::given::Given;
+use super::site::Site;
 use super::time::time_at;
 use crate::answer::Answer;
-use crate::handle::content::Content;
+use crate::handle::with_content;
+use crate::print::give_text;
 use crate::status::Status;
-use cookie::{Cookie, CookieJar};
 use cookie_session::{Session, SessionError, Sessions};
 use jiff::civil::DateTime;
 use std::alloc::Global;
@@ -52,25 +48,17 @@ pub extern "C" fn cookie_session_save(
     if nonce.len() != NONCE_LENGTH {
         return Answer::refusal(Status::BadNonce);
     }
-    let Some(held) = sessions.handle.take(alloc) else {
-        return Answer::refusal(Status::NoSessions);
-    };
-    let answer = save_at(
-        alloc,
-        held.as_ref(),
-        session,
-        Given { bytes: nonce },
-        now,
-        out,
-    );
-    sessions.handle.put(held);
-    answer
+    let nonce = Given { bytes: nonce };
+    with_content!(alloc, sessions.handle,
+        Sessions(site) => save_at(alloc, site, session, nonce, now, out),
+        _ => Answer::refusal(Status::NoSessions),
+    )
 }
 
-// Saves the handle's session, by the site that the content is.
+// Saves the handle's session, by these sessions.
 fn save_at(
     alloc: Global,
-    content: &Content,
+    site: &Site,
     session: &mut super::Session,
     nonce: Given<'_>,
     now: u64,
@@ -78,68 +66,27 @@ fn save_at(
 ) -> Answer
     requires { length nonce.bytes.now ≡ 12 }
     ensures kept { session_of session.new ≡ session_of session.old }
-    ensures saves { AtSite (site_in (Some content.now)) now
+    ensures saves { AtSite (Some site.now) now
         (λ site time. SavesHeld site nonce.entry.bytes.now time (session_of session.old)
         result out.old out.new)
         (λ why. IsRefused why result out.old out.new) }
 {
-    let Content::Sessions(site) = content else {
-        return Answer::refusal(Status::NoSessions);
+    let Some(time) = time_at(now) else {
+        return Answer::refusal(Status::NoDate);
     };
-    match time_at(now) {
-        Some(time) => save_handle(alloc, &site.sessions(), session, nonce, time, out),
-        None => Answer::refusal(Status::NoDate),
-    }
+    let sessions = site.sessions();
+    with_content!(alloc, session.handle,
+        Session(opened) => save(alloc, &sessions, &opened.session, nonce, time, out),
+        _ => Answer::refusal(Status::NoSession),
+    )
 }
 
-// Saves the handle's session.
-#[tactic(auto, using(crate::proofs::HandleLemmas::session_read_none, crate::proofs::HandleLemmas::session_read_some))]
-fn save_handle(
-    alloc: Global,
-    sessions: &Sessions<'_>,
-    session: &mut super::Session,
-    nonce: Given<'_>,
-    time: DateTime,
-    out: &mut [u8],
-) -> Answer
-    requires { length nonce.bytes.now ≡ 12 }
-    ensures kept { session_of session.new ≡ session_of session.old }
-    ensures saves { SavesHeld sessions.now nonce.entry.bytes.now time (session_of session.old)
-        result out.old out.new }
-{
-    let Some(held) = session.handle.take(alloc) else {
-        return Answer::refusal(Status::NoSession);
-    };
-    let answer = save_in(alloc, sessions, held.as_ref(), nonce, time, out);
-    session.handle.put(held);
-    answer
-}
-
-// Saves the session that the content is.
-fn save_in(
-    alloc: Global,
-    sessions: &Sessions<'_>,
-    content: &Content,
-    nonce: Given<'_>,
-    time: DateTime,
-    out: &mut [u8],
-) -> Answer
-    requires { length nonce.bytes.now ≡ 12 }
-    ensures { SavesHeld sessions.now nonce.entry.bytes.now time (session_in (Some content.now))
-        result out.old out.new }
-{
-    let Content::Session(opened) = content else {
-        return Answer::refusal(Status::NoSession);
-    };
-    give_saved(alloc, sessions, &opened.session, nonce, time, out)
-}
-
-// The session, saved, for the buffer.
-fn give_saved(
+// The text of the session's cookie, for the buffer.
+fn save(
     alloc: Global,
     sessions: &Sessions<'_>,
     session: &Session,
-    nonce: Given<'_>,
+    mut nonce: Given<'_>,
     time: DateTime,
     out: &mut [u8],
 ) -> Answer
@@ -147,69 +94,9 @@ fn give_saved(
     ensures { Saves sessions.now nonce.entry.bytes.now time session.now
         (IsUnsaved result out.old out.new) (λ text. IsGiven text result out.old out.new) }
 {
-    match saved_text(alloc, sessions, session, nonce, time) {
-        Ok(text) => Answer::give(text.as_bytes(), out),
+    match sessions.saved_cookie(alloc, session, time, &mut nonce) {
+        Ok(cookie) => give_text(alloc, &cookie, true, out),
         Err(error) => Answer::of(unsaved_status(error), unsaved_number(error)),
-    }
-}
-
-// The text of the session's cookie.
-fn saved_text(
-    alloc: Global,
-    sessions: &Sessions<'_>,
-    session: &Session,
-    nonce: Given<'_>,
-    time: DateTime,
-) -> Result<String, SessionError>
-    requires { length nonce.bytes.now ≡ 12 }
-    ensures { Saves sessions.now nonce.entry.bytes.now time session.now
-        (λ why. result ≡ Err why) (λ text. IsOkAnd result (λ made. string_bytes made ≡ text)) }
-{
-    let mut jar = CookieJar::new(alloc);
-    match save_in_jar(alloc, sessions, &mut jar, session, nonce, time) {
-        Ok(()) => shown_text(alloc, &jar, sessions.cookie.name()),
-        Err(error) => Err(error),
-    }
-}
-
-// Saves the session in the jar.
-fn save_in_jar(
-    alloc: Global,
-    sessions: &Sessions<'_>,
-    jar: &mut CookieJar,
-    session: &Session,
-    nonce: Given<'_>,
-    time: DateTime,
-) -> Result<(), SessionError>
-    requires { length nonce.bytes.now ≡ 12 }
-    ensures { IsSaved sessions.now nonce.entry.bytes.now time session.now result
-        (view jar.new sessions.now.cookie.now.fields.name) }
-{
-    let mut nonce = nonce;
-    sessions.save(alloc, jar, session, time, &mut nonce)
-}
-
-// The text of the jar's cookie of that name.
-fn shown_text(alloc: Global, jar: &CookieJar, name: &str) -> Result<String, SessionError>
-    ensures { MatchResult result
-        (λ text. option_map (cookie_text true false) (view jar.now name.now)
-        ≡ Some (string_bytes text))
-        (λ why. why ≡ failure.OutOfMemory) }
-{
-    match jar.get(name) {
-        Some(cookie) => encoded_text(alloc, cookie),
-        None => Err(SessionError::OutOfMemory),
-    }
-}
-
-fn encoded_text(alloc: Global, cookie: &Cookie<'static>) -> Result<String, SessionError>
-    ensures { MatchResult result
-        (λ text. string_bytes text ≡ cookie_text true false cookie.now.fields)
-        (λ why. why ≡ failure.OutOfMemory) }
-{
-    match cookie.encoded().to_string(alloc) {
-        Ok(text) => Ok(text),
-        Err(_) => Err(SessionError::OutOfMemory),
     }
 }
 

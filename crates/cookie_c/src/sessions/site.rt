@@ -74,18 +74,7 @@ fn read_cookie(alloc: Global, text: &str) -> Result<Cookie<'static>, Status>
         × (why ≡ refusal_status error)) ⊎ (why ≡ status.OutOfMemory)) }
 {
     match Cookie::parse_encoded(alloc, text) {
-        Ok(cookie) => own(alloc, cookie),
+        Ok(cookie) => cookie.into_owned(alloc).map_err(|_| Status::OutOfMemory),
         Err(error) => Err(Status::of(error)),
-    }
-}
-
-// The cookie with owned texts.
-fn own(alloc: Global, cookie: Cookie<'_>) -> Result<Cookie<'static>, Status>
-    ensures { MatchResult result (λ owned. owned.fields ≡ cookie.entry.fields)
-        (λ why. why ≡ status.OutOfMemory) }
-{
-    match cookie.into_owned(alloc) {
-        Ok(owned) => Ok(owned),
-        Err(_) => Err(Status::OutOfMemory),
     }
 }

@@ -1,10 +1,8 @@
 //! Starting a session, and renewing one, for C.
-ghost use Rattle.std.specs.FinMap.{empty};
 ghost use Rattle.std.specs.Prelude.{◌≡◌, length};
-ghost use Rattle.cookie_session.specs.Seconds.{second_of};
-ghost use Rattle.cookie_c.specs.Handles.{IsPut, Tells};
+ghost use Rattle.cookie_c.specs.Handles.{Tells};
 ghost use Rattle.cookie_c.specs.OpenedSessions.{session_of};
-ghost use Rattle.cookie_c.specs.SessionCalls.{AtSession, InSession, IsRenewed, IsStarted, new_session, renewed_session};
+ghost use Rattle.cookie_c.specs.SessionCalls.{AtSession, IsRenewed, IsStarted, new_session, renewed_session};
 ghost use Rattle.cookie_c.specs.declared.status.Status.TheVariants as status;
 
 use super::Session;
@@ -12,6 +10,7 @@ use super::given::Given;
 use super::open_session::OpenSession;
 use super::time::time_at;
 use crate::handle::content::Content;
+use crate::handle::with_content;
 use crate::status::Status;
 use jiff::civil::DateTime;
 use std::alloc::Global;
@@ -41,7 +40,6 @@ pub extern "C" fn cookie_session_start(
 ///
 /// Refuses a handle without a session, then an id of another length, and then a time after 9999-12-30 22:00:00. After a
 /// refusal the session is as before. It doesn't allocate.
-#[tactic(auto, using(crate::proofs::HandleLemmas::session_none, crate::proofs::HandleLemmas::session_some))]
 #[unsafe(no_mangle)]
 pub extern "C" fn cookie_session_renew(
     alloc: Global,
@@ -51,12 +49,10 @@ pub extern "C" fn cookie_session_renew(
 ) -> u32
     ensures { AtSession (IsRenewed id.now now) result session.old session.new }
 {
-    let Some(mut held) = session.handle.take(alloc) else {
-        return Status::NoSession.code();
-    };
-    let answer = renew_in(held.as_mut(), id, now);
-    session.handle.put(held);
-    answer.code()
+    with_content!(alloc, session.handle,
+        Session(opened) => renew(opened, id, now).code(),
+        _ => Status::NoSession.code(),
+    )
 }
 
 fn start(alloc: Global, id: &[u8], now: u64, session: &mut Session) -> Status
@@ -65,21 +61,12 @@ fn start(alloc: Global, id: &[u8], now: u64, session: &mut Session) -> Status
     if id.len() != ID_LENGTH {
         return Status::BadNonce;
     }
-    match time_at(now) {
-        Some(time) => put_new(alloc, id, time, session),
-        None => Status::NoDate,
-    }
-}
-
-// Puts a new session with this id into the handle.
-fn put_new(alloc: Global, id: &[u8], time: DateTime, session: &mut Session) -> Status
-    requires { length id.now ≡ 16 }
-    ensures { IsPut (new_session id.now time) result
-        (session_of session.old) (session_of session.new) }
-{
+    let Some(time) = time_at(now) else {
+        return Status::NoDate;
+    };
     let opened = OpenSession {
         session: started(alloc, id, time),
-        place: None,
+        index: None,
     };
     session.handle.set(alloc, Content::Session(opened))
 }
@@ -87,26 +74,12 @@ fn put_new(alloc: Global, id: &[u8], time: DateTime, session: &mut Session) -> S
 // A session with this id that starts at this time.
 fn started(alloc: Global, id: &[u8], time: DateTime) -> cookie_session::Session
     requires { length id.now ≡ 16 }
-    ensures { result ≡ record {
-      id = id.now;
-      started = second_of time;
-      seen = second_of time;
-      texts = empty;
-    } }
+    ensures { result ≡ (new_session id.now time).session }
 {
     match cookie_session::Session::start(alloc, time, &mut Given { bytes: id }) {
         Ok(session) => session,
         Err(_) => unreachable!(),
     }
-}
-
-fn renew_in(content: &mut Content, id: &[u8], now: u64) -> Status
-    ensures { InSession (IsRenewed id.now now) result content.old content.new }
-{
-    let Content::Session(opened) = content else {
-        return Status::NoSession;
-    };
-    renew(opened, id, now)
 }
 
 fn renew(opened: &mut OpenSession, id: &[u8], now: u64) -> Status

@@ -6,7 +6,7 @@ use Rattle.cookie_c.proofs.print.moment.Goals as goal
 
 pub returns-in-Ok : goal.returns-in-Ok
 returns-in-Ok c =
-    let numbers = c.args.numbers.now in
+    let numbers = c.args.at.now in
     let year : SFits w16 numbers.year = search rules in
     let month : SFits w8 numbers.month = search rules in
     let day : SFits w8 numbers.day = search rules in

@@ -1,9 +1,22 @@
-use Rattle.std.proofs.Common.{sym}
-use Rattle.cookie_c.specs.Jars.{IsAdded}
-use Rattle.cookie_c.proofs.HandleLemmas.{jar_none}
+use Rattle.std.proofs.Common.{◌≡◌, None, rules}
+use Rattle.cookie_c.specs.Jars.{IsAdded, jar_of}
+use Rattle.cookie_c.specs.declared.status.Status.TheVariants as status
+use Rattle.cookie_c.proofs.HandleLemmas.{lacking, jar_changed}
 use Rattle.cookie_c.proofs.jar.calls.cookie_jar_add.Goals as goal
+
+pub returns-in-Jar : goal.returns-in-Jar
+returns-in-Jar c =
+    jar_changed (IsAdded c.args.text.now) _ c.args.jar.now (record { handle = c.put.new.self }) _ _ _ _ _ c.in-Some.ensures.taken c.as_mut.ensures.value c.in-Jar.is c.put.ensures
+    c.code-answer.ensures c.add.ensures
 
 pub returns-in_default : goal.returns-in_default
 returns-in_default c =
-    jar_none (IsAdded c.args.text.now) c.code.result c.args.jar.now (record { handle = c.take.new.self })
-    (sym c.in_default.ensures.taken) c.take.ensures.closed c.code.ensures
+    let none : jar_of c.args.jar.now ≡ None = search rules in
+    let left : jar_of (record { handle = c.put-in_default.new.self }) ≡ None = search rules in
+    lacking status.NoJar (IsAdded c.args.text.now) _ _ _ none left c.code.ensures
+
+pub returns-in-None : goal.returns-in-None
+returns-in-None c =
+    let none : jar_of c.args.jar.now ≡ None = search rules in
+    let left : jar_of (record { handle = c.take.new.self }) ≡ None = search rules in
+    lacking status.NoJar (IsAdded c.args.text.now) _ _ _ none left c.code-in-None.ensures

@@ -21,7 +21,7 @@ pub returns-in-None : goal.returns-in-None
 returns-in-None c =
     let now = c.args.now in
     let read : ReceivedView = received_view c.args.received.now in
-    subst (λ v. IfOk c.of_stored.result (IsDraftOf now v))
+    subst (λ v. IfOk c.of_cookie.result (IsDraftOf now v))
     (ap (λ (k : KeptView). Ok (record k { expiry = kept_until now read.attributes.max_age read.attributes.expires; last_access = civil_nanos now })) (c.of-new.ensures now)
     ∙ verdict_by c.args.suffixes.now (request_view c.args.request.now) now read None (kept_view c.of-new.result) (c.of-new.ensures now) c.in-None.ensures.value)
-    c.of_stored.ensures
+    (c.of_cookie.ensures now (kept_until now read.attributes.max_age read.attributes.expires) (civil_nanos now) c.lifetime.ensures)

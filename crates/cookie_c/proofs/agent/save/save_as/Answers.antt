@@ -1,5 +1,0 @@
-use Rattle.cookie_c.proofs.SiteLemmas.{at_second}
-use Rattle.cookie_c.proofs.agent.save.save_as.Goals as goal
-
-pub returns-in-Some : goal.returns-in-Some
-returns-in-Some c = at_second _ _ _ c.in-Some.now c.in-Some.ensures c.save_at.ensures
