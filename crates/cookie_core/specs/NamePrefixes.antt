@@ -1,4 +1,4 @@
--- The prefixes of cookie names that browsers enforce (RFC 6265bis, Cookie Name Prefixes).
+-- The prefixes of cookie names that browsers enforce: two of RFC 6265bis (Cookie Name Prefixes), and two of Chromium.
 use Rattle.std.specs.Prelude.{ℕ, ◌&&◌, ◌||◌, not, Bool, true, false, List, [], ◌∷◌, Option, codes}
 use Rattle.std.specs.List.{find, list_any}
 use Rattle.std.specs.Option.{is_some}

@@ -13,9 +13,9 @@ pub enum EnforcedPrefix {
     Secure,
     /// `__Host-` requires `Secure`, no `Domain`, and the path `/`.
     Host,
-    /// `__Http-` requires `Secure` and `HttpOnly`.
+    /// `__Http-` requires `Secure` and `HttpOnly`. Chromium enforces it, and RFC 6265bis doesn't have it.
     Http,
-    /// `__Host-Http-` requires what `__Host-` does, and `HttpOnly`.
+    /// `__Host-Http-` requires what `__Host-` does, and `HttpOnly`. It is Chromium's too.
     HostHttp,
 }
 
