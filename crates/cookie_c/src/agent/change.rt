@@ -116,10 +116,16 @@ fn remove(
         (record { domain = domain.now; is_host_only = is_host_only; path = path.now })
         result store.old store.new }
 {
-    let Ok(scope) = Scope::new(alloc, domain, is_host_only, path) else {
-        return Status::OutOfMemory;
-    };
-    if store.remove(name, &scope) {
+    match Scope::new(alloc, domain, is_host_only, path) {
+        Ok(scope) => remove_in(store, name, &scope),
+        Err(_) => Status::OutOfMemory,
+    }
+}
+
+fn remove_in(store: &mut Store, name: &[u8], scope: &Scope) -> Status
+    ensures { Removes name.now scope.now result store.old store.new }
+{
+    if store.remove(name, scope) {
         Status::Done
     } else {
         Status::NotFound

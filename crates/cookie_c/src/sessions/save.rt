@@ -71,12 +71,27 @@ fn save_at(
         result out.old out.new)
         (λ why. IsRefused why result out.old out.new) }
 {
-    let Some(time) = time_at(now) else {
-        return Answer::refusal(Status::NoDate);
-    };
-    let sessions = site.sessions();
+    match time_at(now) {
+        Some(time) => save_held(alloc, &site.sessions(), session, nonce, time, out),
+        None => Answer::refusal(Status::NoDate),
+    }
+}
+
+fn save_held(
+    alloc: Global,
+    sessions: &Sessions<'_>,
+    session: &mut super::Session,
+    nonce: Given<'_>,
+    time: DateTime,
+    out: &mut [u8],
+) -> Answer
+    requires { length nonce.bytes.now ≡ 12 }
+    ensures kept { session_of session.new ≡ session_of session.old }
+    ensures saves { SavesHeld sessions.now nonce.entry.bytes.now time (session_of session.old)
+        result out.old out.new }
+{
     with_content!(alloc, session.handle,
-        Session(opened) => save(alloc, &sessions, &opened.session, nonce, time, out),
+        Session(opened) => save(alloc, sessions, &opened.session, nonce, time, out),
         _ => Answer::refusal(Status::NoSession),
     )
 }

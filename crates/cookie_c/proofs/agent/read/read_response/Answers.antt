@@ -12,4 +12,4 @@ returns-in-Ok c =
     (λ why. (c.read.result ≡ unread why) × (c.read.new.store ≡ c.args.store.now)) c.in-Ok.ensures c.read.ensures)
 
 pub returns-in-Err : goal.returns-in-Err
-returns-in-Err c = at_second _ _ _ c.in-Some.now c.in-Some.ensures (inr (c.in-Err.why, c.in-Err.ensures, c.none-in-Err.ensures, refl))
+returns-in-Err c = at_second _ _ _ c.in-Some.now c.in-Some.ensures (inr (c.in-Err.why, c.in-Err.ensures, (c.none-in-Err.ensures, refl)))

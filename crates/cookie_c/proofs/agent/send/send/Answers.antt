@@ -15,4 +15,4 @@ returns-in-Ok c =
 
 pub returns-in-Err : goal.returns-in-Err
 returns-in-Err c =
-    at_second _ _ _ c.in-Some.now c.in-Some.ensures (inr (c.in-Err.why, c.in-Err.ensures, record { told = c.refusal-in-Err.ensures; kept = refl }, refl))
+    at_second _ _ _ c.in-Some.now c.in-Some.ensures (inr (c.in-Err.why, c.in-Err.ensures, (record { told = c.refusal-in-Err.ensures; kept = refl }, refl)))

@@ -1,4 +1,5 @@
-use Rattle.std.proofs.Common.{Ok, inl, inr, refl, subst}
+use Rattle.std.proofs.Common.{◌≡◌, None, Ok, inl, inr, refl, rules, subst, sym}
+use Rattle.std.specs.Prelude.{slice_get}
 use Rattle.cookie_c.specs.Agents.{TellsFound}
 use Rattle.cookie_c.proofs.SiteLemmas.{at_second}
 use Rattle.cookie_c.proofs.agent.walk.tell.Goals as goal
@@ -13,4 +14,10 @@ pub returns-in-Err : goal.returns-in-Err
 returns-in-Err c =
     at_second _ _ _ c.in-Some.now c.in-Some.ensures
     (subst (λ found. TellsFound c.in-Some.now found c.none-in-Err.result c.args.out.now c.args.out.now) c.in-Some-get.ensures
-    (inr (c.in-Err.why, c.in-Err.ensures, c.none-in-Err.ensures, refl)))
+    (inr (c.in-Err.why, c.in-Err.ensures, (c.none-in-Err.ensures, refl))))
+
+pub returns-in_default-get : goal.returns-in_default-get
+returns-in_default-get c =
+    let none : slice_get c.args.store.now c.args.index ≡ None = search rules in
+    at_second _ _ _ c.in-Some.now c.in-Some.ensures
+    (subst (λ found. TellsFound c.in-Some.now found c.none-in_default-get.result c.args.out.now c.args.out.now) (sym none) (c.none-in_default-get.ensures, refl))
