@@ -1,13 +1,14 @@
 //! What a user agent stores, cookie by cookie, for C.
-ghost use Rattle.std.specs.Prelude.{◌≡◌};
-ghost use Rattle.cookie_c.specs.Agents.{TellsAt, TellsIn, store_of};
+ghost use Rattle.std.specs.Prelude.{◌≡◌, slice_get};
+ghost use Rattle.cookie_c.specs.Agents.{TellsAt, TellsCookie, TellsFound, TellsIn, store_of};
 
 use super::Agent;
 use crate::explanation::{Draft, Explanation};
 use crate::handle::with_content;
 use crate::sessions::time::time_at;
 use crate::status::Status;
-use cookie_agent::Store;
+use cookie_agent::{Store, StoredCookie};
+use jiff::civil::DateTime;
 use std::alloc::Global;
 
 /// The stored cookie at this index, in the order of creation, told as `cookie_explain` tells of a cookie that is stored:
@@ -37,12 +38,30 @@ pub extern "C" fn cookie_agent_cookie(
 fn tell(alloc: Global, store: &Store, index: usize, now: u64, out: &mut [u8]) -> Explanation
     ensures { TellsIn index now store.now result out.old out.new }
 {
-    let Some(now) = time_at(now) else {
-        return Explanation::none(Status::NoDate);
-    };
-    let Some(cookie) = store.cookies().get(index) else {
-        return Explanation::none(Status::NotFound);
-    };
+    match time_at(now) {
+        Some(now) => tell_found(alloc, store, index, now, out),
+        None => Explanation::none(Status::NoDate),
+    }
+}
+
+fn tell_found(
+    alloc: Global,
+    store: &Store,
+    index: usize,
+    now: DateTime,
+    out: &mut [u8],
+) -> Explanation
+    ensures { TellsFound now (slice_get store.now index) result out.old out.new }
+{
+    match store.cookies().get(index) {
+        Some(cookie) => tell_cookie(alloc, cookie, now, out),
+        None => Explanation::none(Status::NotFound),
+    }
+}
+
+fn tell_cookie(alloc: Global, cookie: &StoredCookie, now: DateTime, out: &mut [u8]) -> Explanation
+    ensures { TellsCookie now cookie.now result out.old out.new }
+{
     match Draft::of_kept(alloc, cookie, now) {
         Ok(draft) => draft.give(out),
         Err(why) => Explanation::none(why),
