@@ -1,11 +1,10 @@
 -- A session that is found for C: `old` is what the session's handle has at the call and `new` at the return.
-use Rattle.std.specs.Prelude.{◌≡◌, ◌↔◌, ◌⊎◌, ℕ, List, Option, Some, None, is_some, replicate, false}
+use Rattle.std.specs.Prelude.{◌≡◌, ◌⊎◌, ℕ, List, Option, Some, None, is_some, replicate, false}
 use Rattle.jiff.specs.Types.{DateTime}
 use Rattle.cookie.specs.Originals.{first_of_name}
 use Rattle.cookie.specs.Record.{Record}
 use Rattle.cookie_session.specs.Session.{SessionState}
 use Rattle.cookie_session.specs.Sessions.{HoldsOne, OpensUnrevoked}
-use Rattle.cookie_session.specs.declared.opened.Opened.{Opened}
 use Rattle.cookie_session.specs.declared.sessions.Sessions.{Sessions}
 use Rattle.cookie_c.specs.Codes.{code_of}
 use Rattle.cookie_c.specs.Handles.{IsKept, session_in}

@@ -8,7 +8,7 @@ use Rattle.cookie_session.specs.Form.{texts_of_form}
 use Rattle.cookie_session.specs.Id.{id_length}
 use Rattle.cookie_session.specs.Seconds.{second_of}
 use Rattle.cookie_c.specs.Answers.{IsGiven, IsRefused}
-use Rattle.cookie_c.specs.Handles.{Changes, IsKept, IsPut, Tells, session_in}
+use Rattle.cookie_c.specs.Handles.{Changes, IsKept, IsPut, Tells}
 use Rattle.cookie_c.specs.OpenedSessions.{session_of}
 use Rattle.cookie_c.specs.Sites.{AtSecond}
 use Rattle.cookie_c.specs.declared.answer.Answer.{Answer}

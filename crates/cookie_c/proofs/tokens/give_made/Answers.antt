@@ -1,7 +1,7 @@
-use Rattle.std.proofs.Common.{refl, subst, sym, ◌∙◌}
+use Rattle.std.proofs.Common.{subst, sym, ◌∙◌}
 use Rattle.std.specs.String.{string_bytes}
 use Rattle.cookie_c.specs.Answers.{IsGiven}
-use Rattle.cookie_c.proofs.TokenLemmas.{makes_given, makes_too_long}
+use Rattle.cookie_c.proofs.TokenLemmas.{makes_given}
 use Rattle.cookie_c.proofs.tokens.give_made.Goals as goal
 
 pub returns-in-Ok : goal.returns-in-Ok

@@ -1,6 +1,5 @@
 use Rattle.std.proofs.Common.{inl, inr, refl, rules}
-use Rattle.cookie_c.specs.SavedAgents.{GivesSaved, IsUnsaved}
-use Rattle.cookie_c.specs.declared.status.Status.TheVariants as status
+use Rattle.cookie_c.specs.SavedAgents.{GivesSaved}
 use Rattle.cookie_c.proofs.AgentLemmas.{for_form}
 use Rattle.cookie_c.proofs.agent.save.save.Goals as goal
 

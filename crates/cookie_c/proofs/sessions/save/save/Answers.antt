@@ -1,6 +1,6 @@
-use Rattle.std.proofs.Common.{◌≡◌, ◌⊎◌, inl, inr, ℕ, List, length, refl, subst, sym, ◌∙◌}
+use Rattle.std.proofs.Common.{◌≡◌, inl, inr, ℕ, List, length, refl, subst, sym, ◌∙◌}
 use Rattle.cookie_c.specs.Answers.{IsGiven, IsTold}
-use Rattle.cookie_c.specs.SavedSessions.{IsUnsaved, unsaved_number, unsaved_status}
+use Rattle.cookie_c.specs.SavedSessions.{IsUnsaved, unsaved_number}
 use Rattle.cookie_c.proofs.SaveLemmas.{saves_failed, saves_given}
 use Rattle.cookie_c.proofs.sessions.save.save.Goals as goal
 
