@@ -14,13 +14,13 @@ returns-in-Ok-Some c =
     let time = c.in-Some.time in
     let is = c.in-Ok-Some.ensures in
     let finds : Finds ids site (field_cookies c.args.header.now) time (Some c.in-Ok-Some.opened) =
-        subst (λ (answer : Option Opened). Finds ids site (field_cookies c.args.header.now) time answer) c.in-Ok-Some.field-0-is (
-        subst (λ (cookies : List Record). Finds ids site cookies time c.in-Ok-Some.field-0)
-        (ap (map (λ k. k.fields)) c.deref.ensures.value ∙ c.in-Ok.ensures) (record {
-          exact = is.answers tt;
-          once = is.once tt;
-          first = is.first;
-        })) in
+    subst (λ (answer : Option Opened). Finds ids site (field_cookies c.args.header.now) time answer) c.in-Ok-Some.field-0-is (
+    subst (λ (cookies : List Record). Finds ids site cookies time c.in-Ok-Some.field-0)
+    (ap (map (λ k. k.fields)) c.deref.ensures.value ∙ c.in-Ok.ensures) (record {
+      exact = is.answers tt;
+      once = is.once tt;
+      first = is.first;
+    })) in
     at_second _ _ _ time c.in-Some.ensures
     (site, c.sessions-sessions.ensures, opening_put ids site (field_cookies c.args.header.now) time c.in-Ok-Some.opened c.set.result (session_of c.args.session.now) (session_of (record { handle = c.set.new.self })) finds (search rules))
 
@@ -31,13 +31,13 @@ returns-in-Ok-None c =
     let time = c.in-Some.time in
     let is = c.in-Ok-None.ensures in
     let finds : Finds ids site (field_cookies c.args.header.now) time None =
-        subst (λ (answer : Option Opened). Finds ids site (field_cookies c.args.header.now) time answer) c.in-Ok-None.field-0-is (
-        subst (λ (cookies : List Record). Finds ids site cookies time c.in-Ok-None.field-0)
-        (ap (map (λ k. k.fields)) c.deref.ensures.value ∙ c.in-Ok.ensures) (record {
-          exact = is.answers tt;
-          once = is.once tt;
-          first = is.first;
-        })) in
+    subst (λ (answer : Option Opened). Finds ids site (field_cookies c.args.header.now) time answer) c.in-Ok-None.field-0-is (
+    subst (λ (cookies : List Record). Finds ids site cookies time c.in-Ok-None.field-0)
+    (ap (map (λ k. k.fields)) c.deref.ensures.value ∙ c.in-Ok.ensures) (record {
+      exact = is.answers tt;
+      once = is.once tt;
+      first = is.first;
+    })) in
     at_second _ _ _ time c.in-Some.ensures
     (site, c.sessions-sessions.ensures, opening_none ids site (field_cookies c.args.header.now) time _ _ _ finds (refl, refl))
 
