@@ -44,5 +44,5 @@ returns-in-Ok-None c =
 pub returns-in-Err-OutOfMemory : goal.returns-in-Err-OutOfMemory
 returns-in-Err-OutOfMemory c = at_second _ _ _ c.in-Some.time c.in-Some.ensures (c.sessions-sessions.result, c.sessions-sessions.ensures, inr (refl, refl))
 
-pub returns-in-Err : goal.returns-in-Err
-returns-in-Err c = at_second _ _ _ c.in-Some.time c.in-Some.ensures (c.sessions-sessions.result, c.sessions-sessions.ensures, inr (refl, refl))
+pub returns-in_default-field_cookies : goal.returns-in_default-field_cookies
+returns-in_default-field_cookies c = at_second _ _ _ c.in-Some.time c.in-Some.ensures (c.sessions-sessions.result, c.sessions-sessions.ensures, inr (refl, refl))
