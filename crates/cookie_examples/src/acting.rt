@@ -13,7 +13,8 @@ pub enum Action<'a> {
     LogOut,
 }
 
-/// Opens the session in the request's cookies, changes it by the action at the time `now` in UTC, and saves it if it must be saved.
+/// Opens the session in the request's cookies, changes it by the action at the time `now` in UTC, and saves it if it must
+/// be saved.
 pub fn act<R: TryRng>(
     alloc: Global,
     sessions: &Sessions<'_>,
