@@ -19,7 +19,7 @@ pub fn log_out<R: Revocations>(
     now: DateTime,
     revocations: &mut R,
 ) -> Result<(), OpenError<R::Error>>
-    ensures revoked { R.is_kept revocations.new → R.can_revoke
+    ensures revoked { R.is_intact revocations.new → R.can_revoke
         → OnOk result ((place : ℕ) (session : SessionState)
         → OpensUnrevoked (IsRevoked (R.revoked_until revocations.old)) sessions.now
         (map (λ c. c.fields) cookies.now) now place session

@@ -34,7 +34,7 @@ impl<'a> Sessions<'a> {
         now: DateTime,
         revocations: &mut R,
     ) -> Result<Option<Opened>, OpenError<R::Error>>
-        ensures answers { R.is_kept revocations.new → IfOk result (λ answer.
+        ensures answers { R.is_intact revocations.new → IfOk result (λ answer.
             (place : ℕ) (s : SessionState)
             → (answer ≡ Some (record { session = s; place = place }))
             ↔ OpensUnrevoked (IsRevoked (R.revoked_until revocations.old)) self.now
@@ -46,7 +46,7 @@ impl<'a> Sessions<'a> {
             → OpensOne self.now (map (λ c. c.fields) cookies.now) now place s) }
 
         // The cookie that opens holds no other session, whatever the time.
-        ensures once { R.is_kept revocations.new → IfOk result (λ _. (place : ℕ) (s : SessionState)
+        ensures once { R.is_intact revocations.new → IfOk result (λ _. (place : ℕ) (s : SessionState)
             → (first : OpensUnrevoked (IsRevoked (R.revoked_until revocations.old)) self.now
             (map (λ c. c.fields) cookies.now) now place s)
             → HoldsOne self.now (Some first.cookie)) }
@@ -61,9 +61,9 @@ impl<'a> Sessions<'a> {
             × ((error : R.Error) → result ≢ Err (refusal.Revocations error)) }
 
         // It revokes nothing.
-        ensures same { R.is_kept revocations.new
+        ensures same { R.is_intact revocations.new
             → AreSame (R.revoked_until revocations.old) (R.revoked_until revocations.new) }
-        ensures kept { R.is_kept revocations.new → R.is_kept revocations.old }
+        ensures kept { R.is_intact revocations.new → R.is_intact revocations.old }
     {
         for cookie in cookies {
             if cookie.name() == self.cookie.name() {
@@ -83,7 +83,7 @@ impl<'a> Sessions<'a> {
         now: DateTime,
         revocations: &mut R,
     ) -> Result<Option<Opened>, OpenError<R::Error>>
-        ensures answers { R.is_kept revocations.new → IfOk result (λ answer.
+        ensures answers { R.is_intact revocations.new → IfOk result (λ answer.
             (place : ℕ) (s : SessionState)
             → (answer ≡ Some (record { session = s; place = place }))
             ↔ IsOpenUnrevoked (IsRevoked (R.revoked_until revocations.old)) self.now
@@ -96,9 +96,9 @@ impl<'a> Sessions<'a> {
             → ¬ (IsOpen self.now (Some cookie.now.fields) now place s))
             → (revocations.new ≡ revocations.old)
             × ((error : R.Error) → result ≢ Err (refusal.Revocations error)) }
-        ensures same { R.is_kept revocations.new
+        ensures same { R.is_intact revocations.new
             → AreSame (R.revoked_until revocations.old) (R.revoked_until revocations.new) }
-        ensures kept { R.is_kept revocations.new → R.is_kept revocations.old }
+        ensures kept { R.is_intact revocations.new → R.is_intact revocations.old }
     {
         let Some(opened) = self.open_cookie(alloc, cookie, now)? else {
             return Ok(None);
@@ -124,12 +124,12 @@ impl<'a> Sessions<'a> {
         session: &Session,
         revocations: &mut R,
     ) -> Result<(), R::Error>
-        ensures revoked { R.is_kept revocations.new → R.can_revoke → OnOk result
+        ensures revoked { R.is_intact revocations.new → R.can_revoke → OnOk result
             (IsRevokedToo session.now.id (end_of self.now.lifetime session.now)
             (R.revoked_until revocations.old) (R.revoked_until revocations.new)) }
-        ensures err { R.is_kept revocations.new → OnErr result
+        ensures err { R.is_intact revocations.new → OnErr result
             (AreSame (R.revoked_until revocations.old) (R.revoked_until revocations.new)) }
-        ensures kept { R.is_kept revocations.new → R.is_kept revocations.old }
+        ensures kept { R.is_intact revocations.new → R.is_intact revocations.old }
     {
         let end = session.started().saturating_add(self.lifetime as u64);
         revocations.revoke(session.id(), end)

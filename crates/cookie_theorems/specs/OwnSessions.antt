@@ -45,7 +45,7 @@ pub record IsGuarded (sessions : Sessions) (agent : AgentView) (now : DateTime) 
   pub came : agent.cookies ≡ kept_after history
   pub named : IsHostName sessions.cookie.now.fields.name
 
--- what a server reads of the last of the session's cookies that is left of the site's own secure responses
+-- the session's cookie that a secure response of this site stored last, of those that are left, as a server reads it
 abbrev pub own_cookie : Sessions → RequestView → DateTime → History → Option Record
 own_cookie sessions site now history =
     original_of site now (own_left site sessions.cookie.now.fields.name history)

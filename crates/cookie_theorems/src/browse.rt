@@ -48,24 +48,24 @@ pub fn browse<R: TryRng, V: Revocations>(
     rng: &mut R,
     revocations: &mut V,
 ) -> Result<Vec<Page>, AnswerError>
-    ensures pages { CanBrowse site.now.sessions → V.is_kept revocations.new
+    ensures pages { CanBrowse site.now.sessions → V.is_intact revocations.new
         → KeepsOrNever V.can_revoke V.revoked_until
         → IfOk result (λ pages. ArePages V.can_revoke site.now (V.revoked_until revocations.old)
         None requests.now pages.items) }
 
     // Out of memory aside, it fails only as a session of the site is refused: `Over` only if a limit is 0.
-    ensures prefix { V.is_kept revocations.new → result ≡ Err (failure.Session refusal.Prefix)
+    ensures prefix { V.is_intact revocations.new → result ≡ Err (failure.Session refusal.Prefix)
         → ¬ (meets_prefix site.now.sessions.cookie.now.fields ≡ true) }
-    ensures over { V.is_kept revocations.new
+    ensures over { V.is_intact revocations.new
         → 0 < site.now.sessions.lifetime → 0 < site.now.sessions.idle
         → ¬ (result ≡ Err (failure.Session refusal.Over)) }
-    ensures too_large { V.is_kept revocations.new
+    ensures too_large { V.is_intact revocations.new
         → (size : ℕ) → result ≡ Err (failure.Session (refusal.TooLarge size))
         → most_bytes < size }
-    ensures failed { V.is_kept revocations.new
+    ensures failed { V.is_intact revocations.new
         → result ≡ Err (failure.Session refusal.Generator) → R.Error }
     ensures unsure { result ≡ Err failure.Revocations → V.Error }
-    ensures kept { V.is_kept revocations.new → V.is_kept revocations.old }
+    ensures kept { V.is_intact revocations.new → V.is_intact revocations.old }
 {
     let mut client = Client::new(alloc);
     let mut pages = Vec::new(alloc);
@@ -86,24 +86,24 @@ fn send<R: TryRng, V: Revocations>(
     rng: &mut R,
     revocations: &mut V,
 ) -> Result<Page, AnswerError>
-    ensures answered { CanBrowse site.now.sessions → V.is_kept revocations.new
+    ensures answered { CanBrowse site.now.sessions → V.is_intact revocations.new
         → KeepsOrNever V.can_revoke V.revoked_until
         → IfOk result (λ page. (held : Option SessionState)
         → Holds site.now.sessions client.old held
         → IsAnswered V.can_revoke (V.revoked_until revocations.old)
         (V.revoked_until revocations.new) site.now request.now held page client.new) }
-    ensures prefix { V.is_kept revocations.new → result ≡ Err (failure.Session refusal.Prefix)
+    ensures prefix { V.is_intact revocations.new → result ≡ Err (failure.Session refusal.Prefix)
         → ¬ (meets_prefix site.now.sessions.cookie.now.fields ≡ true) }
-    ensures over { V.is_kept revocations.new
+    ensures over { V.is_intact revocations.new
         → 0 < site.now.sessions.lifetime → 0 < site.now.sessions.idle
         → ¬ (result ≡ Err (failure.Session refusal.Over)) }
-    ensures too_large { V.is_kept revocations.new
+    ensures too_large { V.is_intact revocations.new
         → (size : ℕ) → result ≡ Err (failure.Session (refusal.TooLarge size))
         → most_bytes < size }
-    ensures failed { V.is_kept revocations.new
+    ensures failed { V.is_intact revocations.new
         → result ≡ Err (failure.Session refusal.Generator) → R.Error }
     ensures unsure { result ≡ Err failure.Revocations → V.Error }
-    ensures kept { V.is_kept revocations.new → V.is_kept revocations.old }
+    ensures kept { V.is_intact revocations.new → V.is_intact revocations.old }
 {
     match request.sender {
         Sender::Client => send_held(alloc, state, site, client, request, rng, revocations),
@@ -124,24 +124,24 @@ fn send_held<R: TryRng, V: Revocations>(
     rng: &mut R,
     revocations: &mut V,
 ) -> Result<Page, AnswerError>
-    ensures answered { CanBrowse site.now.sessions → V.is_kept revocations.new
+    ensures answered { CanBrowse site.now.sessions → V.is_intact revocations.new
         → KeepsOrNever V.can_revoke V.revoked_until
         → IfOk result (λ page. (held : Option SessionState)
         → Holds site.now.sessions client.old held → request.now.sender ≡ sender.Client
         → IsAnswered V.can_revoke (V.revoked_until revocations.old)
         (V.revoked_until revocations.new) site.now request.now held page client.new) }
-    ensures prefix { V.is_kept revocations.new → result ≡ Err (failure.Session refusal.Prefix)
+    ensures prefix { V.is_intact revocations.new → result ≡ Err (failure.Session refusal.Prefix)
         → ¬ (meets_prefix site.now.sessions.cookie.now.fields ≡ true) }
-    ensures over { V.is_kept revocations.new
+    ensures over { V.is_intact revocations.new
         → 0 < site.now.sessions.lifetime → 0 < site.now.sessions.idle
         → ¬ (result ≡ Err (failure.Session refusal.Over)) }
-    ensures too_large { V.is_kept revocations.new
+    ensures too_large { V.is_intact revocations.new
         → (size : ℕ) → result ≡ Err (failure.Session (refusal.TooLarge size))
         → most_bytes < size }
-    ensures failed { V.is_kept revocations.new
+    ensures failed { V.is_intact revocations.new
         → result ≡ Err (failure.Session refusal.Generator) → R.Error }
     ensures unsure { result ≡ Err failure.Revocations → V.Error }
-    ensures kept { V.is_kept revocations.new → V.is_kept revocations.old }
+    ensures kept { V.is_intact revocations.new → V.is_intact revocations.old }
 {
     let header = header_of(client)?;
     let field = header.as_bytes();
@@ -160,23 +160,23 @@ fn ask<R: TryRng, V: Revocations>(
     rng: &mut R,
     revocations: &mut V,
 ) -> Result<Response, AnswerError>
-    ensures answers { V.is_kept revocations.new → KeepsOrNever V.can_revoke V.revoked_until
+    ensures answers { V.is_intact revocations.new → KeepsOrNever V.can_revoke V.revoked_until
         → IfOk result (λ response. (middle : R)
         × IsResponse (λ id. R.may_fill rng.old id middle)
         (λ nonce. R.may_fill middle nonce rng.new) V.can_revoke (V.revoked_until revocations.old)
         (V.revoked_until revocations.new) site.now request.now field.now response) }
-    ensures prefix { V.is_kept revocations.new → result ≡ Err (failure.Session refusal.Prefix)
+    ensures prefix { V.is_intact revocations.new → result ≡ Err (failure.Session refusal.Prefix)
         → ¬ (meets_prefix site.now.sessions.cookie.now.fields ≡ true) }
-    ensures over { V.is_kept revocations.new
+    ensures over { V.is_intact revocations.new
         → 0 < site.now.sessions.lifetime → 0 < site.now.sessions.idle
         → ¬ (result ≡ Err (failure.Session refusal.Over)) }
-    ensures too_large { V.is_kept revocations.new
+    ensures too_large { V.is_intact revocations.new
         → (size : ℕ) → result ≡ Err (failure.Session (refusal.TooLarge size))
         → most_bytes < size }
-    ensures failed { V.is_kept revocations.new
+    ensures failed { V.is_intact revocations.new
         → result ≡ Err (failure.Session refusal.Generator) → R.Error }
     ensures unsure { result ≡ Err failure.Revocations → V.Error }
-    ensures kept { V.is_kept revocations.new → V.is_kept revocations.old }
+    ensures kept { V.is_intact revocations.new → V.is_intact revocations.old }
 {
     let asked = Request {
         method: request.method,

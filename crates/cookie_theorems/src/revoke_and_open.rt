@@ -29,7 +29,7 @@ pub fn revoke_and_open<R: Revocations>(
     revocations: &mut R,
 ) -> Result<Vec<Option<Opened>>, OpenError<R::Error>>
     // Each request opens exactly the session that its cookies open, by what is revoked then.
-    ensures answers { R.is_kept revocations.new → R.can_revoke → IfOk result (λ answers. AreAnswers
+    ensures answers { R.is_intact revocations.new → R.can_revoke → IfOk result (λ answers. AreAnswers
         (revoked_too session.now.id (end_of sessions.now.lifetime session.now)
         (R.revoked_until revocations.old))
         requests.now answers.items) }
@@ -38,36 +38,36 @@ pub fn revoke_and_open<R: Revocations>(
     ensures sealed { IfOk result (λ answers. AllZip IsAmong requests.now answers.items) }
 
     // No copy of the session opens.
-    ensures refused { R.is_kept revocations.new → R.can_revoke
+    ensures refused { R.is_intact revocations.new → R.can_revoke
         → HaveLifetime sessions.now.lifetime requests.now → AreInOrder 0 requests.now
         → IfOk result (λ answers. All (IsOther session.now) answers.items) }
 
     // Nobody else is logged out.
-    ensures others { R.is_kept revocations.new → R.can_revoke
+    ensures others { R.is_intact revocations.new → R.can_revoke
         → IfOk result (λ answers. AllZip (OpensOther (λ id. (id ≡ session.now.id)
         ⊎ IsRevoked (R.revoked_until revocations.old) id)) requests.now answers.items) }
 
     // The session is still revoked after these requests, as `open_each` requires of one that it refuses.
-    ensures stays { R.is_kept revocations.new → R.can_revoke
+    ensures stays { R.is_intact revocations.new → R.can_revoke
         → AreBefore (end_of sessions.now.lifetime session.now) requests.now
         → OnOk result (IsRevokedToEnd (R.revoked_until revocations.new)
         sessions.now.lifetime session.now) }
 
     // Exactly this session is revoked too, and exactly what is over at one of the requests is forgotten.
-    ensures forgotten { R.is_kept revocations.new → R.can_revoke
+    ensures forgotten { R.is_intact revocations.new → R.can_revoke
         → OnOk result (AreSame (left_after requests.now (revoked_too session.now.id
         (end_of sessions.now.lifetime session.now) (R.revoked_until revocations.old)))
         (R.revoked_until revocations.new)) }
 
     // After an error each session is revoked as before, or this one is revoked too, and exactly what is over at one of
     // the first requests is forgotten.
-    ensures err { R.is_kept revocations.new → R.can_revoke
+    ensures err { R.is_intact revocations.new → R.can_revoke
         → OnErr result (AreSame (R.revoked_until revocations.old) (R.revoked_until revocations.new)
         ⊎ AreLeft requests.now
         (revoked_too session.now.id (end_of sessions.now.lifetime session.now)
         (R.revoked_until revocations.old))
         (R.revoked_until revocations.new)) }
-    ensures kept { R.is_kept revocations.new → R.is_kept revocations.old }
+    ensures kept { R.is_intact revocations.new → R.is_intact revocations.old }
 {
     match sessions.revoke(session, revocations) {
         Ok(()) => open_each(alloc, requests, revocations),
@@ -90,36 +90,36 @@ pub fn open_each<R: Revocations>(
     revocations: &mut R,
 ) -> Result<Vec<Option<Opened>>, OpenError<R::Error>>
     // Each request opens exactly the session that its cookies open, by what is revoked then.
-    ensures answers { R.is_kept revocations.new → IfOk result (λ answers.
+    ensures answers { R.is_intact revocations.new → IfOk result (λ answers.
         AreAnswers (R.revoked_until revocations.old) requests.now answers.items) }
 
     // Whatever the look-ups say, only a session opens that is open in one of the request's cookies.
     ensures sealed { IfOk result (λ answers. AllZip IsAmong requests.now answers.items) }
 
     // No copy of a session opens that is revoked until its end.
-    ensures refused { R.is_kept revocations.new → (lifetime : ℕ) (gone : SessionState)
+    ensures refused { R.is_intact revocations.new → (lifetime : ℕ) (gone : SessionState)
         → HaveLifetime lifetime requests.now → AreInOrder 0 requests.now
         → IsRevokedToEnd (R.revoked_until revocations.old) lifetime gone
         → IfOk result (λ answers. All (IsOther gone) answers.items) }
 
     // What isn't revoked opens.
-    ensures others { R.is_kept revocations.new → IfOk result (λ answers.
+    ensures others { R.is_intact revocations.new → IfOk result (λ answers.
         AllZip (OpensOther (IsRevoked (R.revoked_until revocations.old)))
         requests.now answers.items) }
 
     // What is revoked stays so until its end, also after an error.
-    ensures stays { R.is_kept revocations.new → (lifetime : ℕ) (gone : SessionState)
+    ensures stays { R.is_intact revocations.new → (lifetime : ℕ) (gone : SessionState)
         → AreBefore (end_of lifetime gone) requests.now
         → IsRevokedToEnd (R.revoked_until revocations.old) lifetime gone
         → IsRevokedToEnd (R.revoked_until revocations.new) lifetime gone }
 
     // Exactly what is over at one of the requests is forgotten, and after an error at one of the first of them.
-    ensures forgotten { R.is_kept revocations.new → OnOk result (AreSame
+    ensures forgotten { R.is_intact revocations.new → OnOk result (AreSame
         (left_after requests.now (R.revoked_until revocations.old))
         (R.revoked_until revocations.new)) }
-    ensures err { R.is_kept revocations.new → OnErr result (AreLeft requests.now
+    ensures err { R.is_intact revocations.new → OnErr result (AreLeft requests.now
         (R.revoked_until revocations.old) (R.revoked_until revocations.new)) }
-    ensures kept { R.is_kept revocations.new → R.is_kept revocations.old }
+    ensures kept { R.is_intact revocations.new → R.is_intact revocations.old }
 {
     let mut answers = Vec::new(alloc);
     for request in requests {
@@ -135,17 +135,17 @@ fn open_one<R: Revocations>(
     request: &SiteRequest<'_>,
     revocations: &mut R,
 ) -> Result<Option<Opened>, OpenError<R::Error>>
-    ensures answers { R.is_kept revocations.new → IfOk result
+    ensures answers { R.is_intact revocations.new → IfOk result
         (IsAnswer (R.revoked_until revocations.new) request.now) }
     ensures sealed { IfOk result (IsAmong request.now) }
-    ensures forgotten { R.is_kept revocations.new → OnOk result
+    ensures forgotten { R.is_intact revocations.new → OnOk result
         (AreForgotten (second_of request.now.time)
         (R.revoked_until revocations.old) (R.revoked_until revocations.new)) }
-    ensures err { R.is_kept revocations.new → OnErr result
+    ensures err { R.is_intact revocations.new → OnErr result
         (AreSame (R.revoked_until revocations.old) (R.revoked_until revocations.new)
         ⊎ AreForgotten (second_of request.now.time)
         (R.revoked_until revocations.old) (R.revoked_until revocations.new)) }
-    ensures kept { R.is_kept revocations.new → R.is_kept revocations.old }
+    ensures kept { R.is_intact revocations.new → R.is_intact revocations.old }
 {
     if let Err(error) = revocations.forget(second_of(request.time)) {
         return Err(OpenError::Revocations(error));
@@ -159,12 +159,12 @@ fn open_request<R: Revocations>(
     request: &SiteRequest<'_>,
     revocations: &mut R,
 ) -> Result<Option<Opened>, OpenError<R::Error>>
-    ensures answers { R.is_kept revocations.new → IfOk result
+    ensures answers { R.is_intact revocations.new → IfOk result
         (IsAnswer (R.revoked_until revocations.old) request.now) }
     ensures sealed { IfOk result (IsAmong request.now) }
-    ensures same { R.is_kept revocations.new
+    ensures same { R.is_intact revocations.new
         → AreSame (R.revoked_until revocations.old) (R.revoked_until revocations.new) }
-    ensures kept { R.is_kept revocations.new → R.is_kept revocations.old }
+    ensures kept { R.is_intact revocations.new → R.is_intact revocations.old }
 {
     let cookies = field_cookies(alloc, request.field)?;
     let sessions = &request.sessions;

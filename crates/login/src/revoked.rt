@@ -67,7 +67,7 @@ impl Revoked {
 impl Revocations for Revoked {
     type Error = RevocationError;
 
-    ghost is_kept = { λ r. ⟦<Database as Revocations>⟧.is_kept r.sessions };
+    ghost is_intact = { λ r. ⟦<Database as Revocations>⟧.is_intact r.sessions };
 
     ghost can_revoke = { ⟦<Database as Revocations>⟧.can_revoke };
 

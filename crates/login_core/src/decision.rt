@@ -46,7 +46,7 @@ pub fn answer<G: TryRng, R: Revocations>(
 ) -> Result<Response, AnswerError>
     // A user is greeted exactly if the request is for the home page, and the session that is open and not revoked in the
     // first of its cookies in which one is has that user.
-    ensures greeted { R.is_kept revocations.new → IfOk result (λ response. (user : List ℕ)
+    ensures greeted { R.is_intact revocations.new → IfOk result (λ response. (user : List ℕ)
         → (greeted response.page ≡ Some user)
         ↔ IsGreeted (IsRevoked (R.revoked_until revocations.old)) site.now request.now now user) }
 
@@ -56,7 +56,7 @@ pub fn answer<G: TryRng, R: Revocations>(
 
     // The page and the saved session follow from the request, and the `Set-Cookie` fields are the delta of the jar that
     // this session was saved in. First the id of a session that is started is drawn, then the nonce.
-    ensures answers { R.is_kept revocations.new → IfOk result (λ response.
+    ensures answers { R.is_intact revocations.new → IfOk result (λ response.
         (middle : G) × (saved : Option SessionState) × (jar : JarState)
         × (starts site.now request.now ≡ false → middle ≡ rng.old)
         × IsPlan (IsRevoked (R.revoked_until revocations.old))
@@ -67,7 +67,7 @@ pub fn answer<G: TryRng, R: Revocations>(
 
     // Unless out of memory, it fails as the session that the request starts or saves is refused, or if the saved
     // session's cookie doesn't fit a header, or if the look-up or the revocation fails.
-    ensures fails { R.is_kept revocations.new
+    ensures fails { R.is_intact revocations.new
         → (why : SessionRefusal) → result ≡ Err (failure.Session why)
         → ¬ (why ≡ refusal.OutOfMemory)
         → ((why ≡ refusal.Generator) × G.Error × (starts site.now request.now ≡ true))
@@ -77,7 +77,7 @@ pub fn answer<G: TryRng, R: Revocations>(
         (λ id. G.may_fill rng.old id middle) site.now request.now now page saved
         × FailsFor {T = Unit {0}} (λ nonce. G.may_fill middle nonce rng.new) G.Error
         site.now.sessions now saved (Err why)) }
-    ensures invalid { R.is_kept revocations.new → result ≡ Err failure.InvalidValue
+    ensures invalid { R.is_intact revocations.new → result ≡ Err failure.InvalidValue
         → (middle : G) × (page : Page) × (saved : Option SessionState) × (jar : JarState)
         × (starts site.now request.now ≡ false → middle ≡ rng.old)
         × IsPlan (IsRevoked (R.revoked_until revocations.old))
@@ -92,33 +92,33 @@ pub fn answer<G: TryRng, R: Revocations>(
         → (revocations.new ≡ revocations.old) × (result ≢ Err failure.Revocations) }
 
     // Only a request that starts or saves a session draws from the generator.
-    ensures undrawn { R.is_kept revocations.new → starts site.now request.now ≡ false
+    ensures undrawn { R.is_intact revocations.new → starts site.now request.now ≡ false
         → ((page : Page) (saved : Option SessionState)
         → IsPlan (IsRevoked (R.revoked_until revocations.old)) (λ _. ⊥)
         site.now request.now now page saved → ¬ (Draws site.now.sessions now saved))
         → rng.new ≡ rng.old }
 
     // A logout that is answered has revoked the request's session until its lifetime ends, and revokes no other.
-    ensures revoked { R.is_kept revocations.new → R.can_revoke
+    ensures revoked { R.is_intact revocations.new → R.can_revoke
         → OnOk result ((session : SessionState)
         → LogsOut (IsRevoked (R.revoked_until revocations.old)) site.now request.now now session
         → Ends site.now session (R.revoked_until revocations.old)
         (R.revoked_until revocations.new)) }
 
     // Each other request revokes nothing, nor does a logout without a session.
-    ensures same { R.is_kept revocations.new → ((session : SessionState)
+    ensures same { R.is_intact revocations.new → ((session : SessionState)
         → ¬ (LogsOut (IsRevoked (R.revoked_until revocations.old)) site.now request.now now
         session))
         → AreSame (R.revoked_until revocations.old) (R.revoked_until revocations.new) }
 
     // After an error each session is revoked as before, but for the one that was to be revoked.
-    ensures err { R.is_kept revocations.new → R.can_revoke
+    ensures err { R.is_intact revocations.new → R.can_revoke
         → OnErr result (AreSame (R.revoked_until revocations.old) (R.revoked_until revocations.new)
         ⊎ ((session : SessionState)
         × LogsOut (IsRevoked (R.revoked_until revocations.old)) site.now request.now now session
         × Ends site.now session (R.revoked_until revocations.old)
         (R.revoked_until revocations.new))) }
-    ensures kept { R.is_kept revocations.new → R.is_kept revocations.old }
+    ensures kept { R.is_intact revocations.new → R.is_intact revocations.old }
 {
     let found = find_session(alloc, site, request, now, revocations)?;
     let plan = make_plan(alloc, site.users, request, found.session, now, rng)?;

@@ -28,7 +28,7 @@ pub(crate) fn find_session<R: Revocations>(
 ) -> Result<Found, AnswerError>
     ensures read { IfOk result (λ found.
         map (λ c. c.fields) found.cookies.items ≡ cookies_of request.now) }
-    ensures finds { R.is_kept revocations.new → IfOk result (λ found.
+    ensures finds { R.is_intact revocations.new → IfOk result (λ found.
         HasSession (IsRevoked (R.revoked_until revocations.old)) site.now.sessions
         (cookies_of request.now) now found.session) }
     ensures sealed { IfOk result (λ found. (session : SessionState) → found.session ≡ Some session
@@ -37,18 +37,18 @@ pub(crate) fn find_session<R: Revocations>(
         ⊎ ((why ≡ failure.Revocations) × R.Error)) }
     ensures unasked { OpensNone site.now.sessions (cookies_of request.now) now
         → (revocations.new ≡ revocations.old) × (result ≢ Err failure.Revocations) }
-    ensures revoked { R.is_kept revocations.new → R.can_revoke
+    ensures revoked { R.is_intact revocations.new → R.can_revoke
         → OnOk result ((session : SessionState)
         → LogsOut (IsRevoked (R.revoked_until revocations.old)) site.now request.now now session
         → Ends site.now session (R.revoked_until revocations.old)
         (R.revoked_until revocations.new)) }
-    ensures same { R.is_kept revocations.new → ((session : SessionState)
+    ensures same { R.is_intact revocations.new → ((session : SessionState)
         → ¬ (LogsOut (IsRevoked (R.revoked_until revocations.old)) site.now request.now now
         session))
         → AreSame (R.revoked_until revocations.old) (R.revoked_until revocations.new) }
-    ensures err { R.is_kept revocations.new → OnErr result
+    ensures err { R.is_intact revocations.new → OnErr result
         (AreSame (R.revoked_until revocations.old) (R.revoked_until revocations.new)) }
-    ensures kept { R.is_kept revocations.new → R.is_kept revocations.old }
+    ensures kept { R.is_intact revocations.new → R.is_intact revocations.old }
 {
     let cookies = field_cookies(alloc, request.cookies)?;
     let session = open_session(alloc, &site.sessions, &cookies, now, revocations)?;
@@ -64,7 +64,7 @@ fn open_session<R: Revocations>(
     now: DateTime,
     revocations: &mut R,
 ) -> Result<Option<Session>, AnswerError>
-    ensures finds { R.is_kept revocations.new → IfOk result
+    ensures finds { R.is_intact revocations.new → IfOk result
         (HasSession (IsRevoked (R.revoked_until revocations.old)) sessions.now
         (map (λ c. c.fields) cookies.now) now) }
     ensures sealed { IfOk result (λ found. (session : SessionState) → found ≡ Some session
@@ -73,9 +73,9 @@ fn open_session<R: Revocations>(
         ⊎ ((why ≡ failure.Revocations) × R.Error)) }
     ensures unasked { OpensNone sessions.now (map (λ c. c.fields) cookies.now) now
         → (revocations.new ≡ revocations.old) × (result ≢ Err failure.Revocations) }
-    ensures same { R.is_kept revocations.new
+    ensures same { R.is_intact revocations.new
         → AreSame (R.revoked_until revocations.old) (R.revoked_until revocations.new) }
-    ensures kept { R.is_kept revocations.new → R.is_kept revocations.old }
+    ensures kept { R.is_intact revocations.new → R.is_intact revocations.old }
 {
     match sessions.open_unrevoked(alloc, cookies, now, revocations) {
         Ok(Some(opened)) => Ok(Some(opened.session)),
@@ -92,21 +92,21 @@ fn revoke_at_logout<R: Revocations>(
     found: Option<&Session>,
     revocations: &mut R,
 ) -> Result<(), AnswerError>
-    ensures revoked { R.is_kept revocations.new → R.can_revoke
+    ensures revoked { R.is_intact revocations.new → R.can_revoke
         → OnOk result ((session : SessionState) → route_for request.now ≡ Ok routes.LogOut
         → option_map (λ s. s.now) found.entry ≡ Some session
         → IsRevokedToo session.id (end_of sessions.now.lifetime session)
         (R.revoked_until revocations.old) (R.revoked_until revocations.new)) }
-    ensures same { R.is_kept revocations.new → ((session : SessionState)
+    ensures same { R.is_intact revocations.new → ((session : SessionState)
         → route_for request.now ≡ Ok routes.LogOut
         → ¬ (option_map (λ s. s.now) found.entry ≡ Some session))
         → AreSame (R.revoked_until revocations.old) (R.revoked_until revocations.new) }
-    ensures err { R.is_kept revocations.new → OnErr result
+    ensures err { R.is_intact revocations.new → OnErr result
         (AreSame (R.revoked_until revocations.old) (R.revoked_until revocations.new)) }
     ensures fails { IfErr result (λ why. (why ≡ failure.Revocations) × R.Error) }
     ensures unasked { option_map (λ s. s.now) found.entry ≡ None
         → (revocations.new ≡ revocations.old) × (result ≢ Err failure.Revocations) }
-    ensures kept { R.is_kept revocations.new → R.is_kept revocations.old }
+    ensures kept { R.is_intact revocations.new → R.is_intact revocations.old }
 {
     let Some(session) = found else {
         return Ok(());
@@ -123,13 +123,13 @@ fn revoke<R: Revocations>(
     session: &Session,
     revocations: &mut R,
 ) -> Result<(), AnswerError>
-    ensures revoked { R.is_kept revocations.new → R.can_revoke → OnOk result
+    ensures revoked { R.is_intact revocations.new → R.can_revoke → OnOk result
         (IsRevokedToo session.now.id (end_of sessions.now.lifetime session.now)
         (R.revoked_until revocations.old) (R.revoked_until revocations.new)) }
-    ensures err { R.is_kept revocations.new → OnErr result
+    ensures err { R.is_intact revocations.new → OnErr result
         (AreSame (R.revoked_until revocations.old) (R.revoked_until revocations.new)) }
     ensures fails { IfErr result (λ why. (why ≡ failure.Revocations) × R.Error) }
-    ensures kept { R.is_kept revocations.new → R.is_kept revocations.old }
+    ensures kept { R.is_intact revocations.new → R.is_intact revocations.old }
 {
     match sessions.revoke(session, revocations) {
         Ok(()) => Ok(()),

@@ -74,14 +74,14 @@ module _ (now : ℤ) (rows found : List Row) (has : HasRowids rows) (s : Shows p
   abbrev from : ℤ
   from = now +ℤ pos 1
 
-  abbrev is_kept : Row → Bool
-  is_kept r = is_since from (column r 2)
+  abbrev is_intact : Row → Bool
+  is_intact r = is_since from (column r 2)
 
-  passes : (r : Row) → Has rows r → list_all (holds ((Int now ∷ []) ∷ r ∷ [])) past ≡ not (is_kept r)
+  passes : (r : Row) → Has rows r → list_all (holds ((Int now ∷ []) ∷ r ∷ [])) past ≡ not (is_intact r)
   passes r h =
       let it = has.numbers r h in
       let test : is_true (binary (Compare Le Binary) (column r 2) (Int now)) ≡ int_le it.1 now = rw it.3 (past_int it.1 now) in
-      let kept : is_kept r ≡ not (int_le it.1 now) = rw it.3 (since_int it.1 from) ∙ next_above it.1 now in
+      let kept : is_intact r ≡ not (int_le it.1 now) = rw it.3 (since_int it.1 from) ∙ next_above it.1 now in
       and_true _ ∙ test ∙ twice (int_le it.1 now) ∙ ap not (sym kept)
     where
       twice : (b : Bool) → b ≡ not (not b)
@@ -91,11 +91,11 @@ module _ (now : ℤ) (rows found : List Row) (has : HasRowids rows) (s : Shows p
   own : (r : Row) → Has rows r → has_rowid (id_in (rowid r)) r ≡ true
   own r h = let it = has.numbers r h in rw (it.2, tied_itself value_cmp_total (Int it.0))
 
-  gone : (x : Row) → Has (without_all rows (ids_of found)) x → Has rows x × (is_kept x ≡ true)
+  gone : (x : Row) → Has (without_all rows (ids_of found)) x → Has rows x × (is_intact x ≡ true)
   gone x h =
       let it = left_from (ids_of found) rows x h in (
         it.0,
-        elim (cases_Bool (is_kept x)) [
+        elim (cases_Bool (is_intact x)) [
           | inl t ↦ t
           | inr f ↦ absurd (
               let shown = s.all x it.0 (passes x it.0 ∙ ap not f) in
@@ -111,40 +111,40 @@ module _ (now : ℤ) (rows found : List Row) (has : HasRowids rows) (s : Shows p
       let tie : is_eq (int_cmp b.0 a.0) ≡ true = ap is_eq (sym (value_cmp-Int b.0 a.0)) ∙ (rw (b.2, a.2) at t) in
       b.2 ∙ ap Int (int_cmp-same b.0 a.0 tie) ∙ sym a.2
 
-  stays : (x : Row) → Has rows x → is_kept x ≡ true → Has (without_all rows (ids_of found)) x
+  stays : (x : Row) → Has rows x → is_intact x ≡ true → Has (without_all rows (ids_of found)) x
   stays x h kept = left_has (ids_of found) rows x h (λ id k. false_from_ne_true _ (λ t.
       let f = has_mapped (λ (y : Row). id_in (rowid y)) found id k in
       let r = s.only f.0 f.1 in
       let is : id ≡ id_in (rowid r.0) = f.2 ∙ ap (λ (y : Row). id_in (rowid y)) r.3 in
       let one = same_id r.0 x r.1 h (subst (λ i. has_rowid i x ≡ true) is t) in
-      let same : is_kept x ≡ is_kept r.0 = ap (is_since from) (has.alike x r.0 h r.1 one) in
-      let past : not (is_kept r.0) ≡ true = sym (passes r.0 r.1) ∙ r.2 in
+      let same : is_intact x ≡ is_intact r.0 = ap (is_since from) (has.alike x r.0 h r.1 one) in
+      let past : not (is_intact r.0) ≡ true = sym (passes r.0 r.1) ∙ r.2 in
       true≢false (sym kept ∙ same ∙ not-true _ past)))
 
-  any_left : (q : Row → Bool) → list_any q (without_all rows (ids_of found)) ≡ list_any (λ r. q r && is_kept r) rows
+  any_left : (q : Row → Bool) → list_any q (without_all rows (ids_of found)) ≡ list_any (λ r. q r && is_intact r) rows
   any_left q = same_test _ _
-      (λ h. let x = some_has q _ h in let it = gone x.0 x.1 in some_from (λ r. q r && is_kept r) rows x.0 it.0 (and_from _ _ x.2 it.1))
-      (λ h. let x = some_has (λ r. q r && is_kept r) rows h in let it = and_parts _ _ x.2 in some_from q _ x.0 (stays x.0 x.1 it.1) it.0)
+      (λ h. let x = some_has q _ h in let it = gone x.0 x.1 in some_from (λ r. q r && is_intact r) rows x.0 it.0 (and_from _ _ x.2 it.1))
+      (λ h. let x = some_has (λ r. q r && is_intact r) rows h in let it = and_parts _ _ x.2 in some_from q _ x.0 (stays x.0 x.1 it.1) it.0)
 
-  both_any : (id : List ℕ) (second : ℤ) → list_any (λ r. lasts id second r && is_kept r) rows ≡ (list_any (lasts id from) rows && list_any (lasts id second) rows)
+  both_any : (id : List ℕ) (second : ℤ) → list_any (λ r. lasts id second r && is_intact r) rows ≡ (list_any (lasts id from) rows && list_any (lasts id second) rows)
   both_any id second = same_test _ _
-      (λ h. let x = some_has (λ r. lasts id second r && is_kept r) rows h in
+      (λ h. let x = some_has (λ r. lasts id second r && is_intact r) rows h in
       let r = x.0 in
-      let it = and_parts (lasts id second r) (is_kept r) x.2 in
+      let it = and_parts (lasts id second r) (is_intact r) x.2 in
       let named = and_parts (has_id id r) (is_since second (column r 2)) it.0 in
-      and_from _ _ (some_from (lasts id from) rows r x.1 (and_from (has_id id r) (is_kept r) named.0 it.1)) (some_from (lasts id second) rows r x.1 it.0))
+      and_from _ _ (some_from (lasts id from) rows r x.1 (and_from (has_id id r) (is_intact r) named.0 it.1)) (some_from (lasts id second) rows r x.1 it.0))
       (λ h. let two = and_parts (list_any (lasts id from) rows) (list_any (lasts id second) rows) h in
       elim (cases_Bool (int_le second from)) [
         | inl le ↦ let x = some_has (lasts id from) rows two.0 in
             let r = x.0 in
-            let it = and_parts (has_id id r) (is_kept r) x.2 in
+            let it = and_parts (has_id id r) (is_intact r) x.2 in
             let long = since_earlier second from (column r 2) le it.1 in
-            some_from (λ r. lasts id second r && is_kept r) rows r x.1 (and_from (lasts id second r) (is_kept r) (and_from (has_id id r) (is_since second (column r 2)) it.0 long) it.1)
+            some_from (λ r. lasts id second r && is_intact r) rows r x.1 (and_from (lasts id second r) (is_intact r) (and_from (has_id id r) (is_since second (column r 2)) it.0 long) it.1)
         | inr above ↦ let x = some_has (lasts id second) rows two.1 in
             let r = x.0 in
             let it = and_parts (has_id id r) (is_since second (column r 2)) x.2 in
             let long = since_earlier from second (column r 2) (le_total second from above) it.1 in
-            some_from (λ r. lasts id second r && is_kept r) rows r x.1 (and_from (lasts id second r) (is_kept r) x.2 long)
+            some_from (λ r. lasts id second r && is_intact r) rows r x.1 (and_from (lasts id second r) (is_intact r) x.2 long)
       ])
 
   pub pruned : IsPruned rows from (without_all rows (ids_of found))

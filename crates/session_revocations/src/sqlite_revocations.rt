@@ -244,7 +244,7 @@ impl<S: Alter + Drop> Revocations for SqliteRevocations<S> {
 
     type Error = RevocationError;
 
-    ghost is_kept = { λ r. HasCleanDisk (state S.Store r) × IsTrue (state S.Store r).is_open };
+    ghost is_intact = { λ r. HasCleanDisk (state S.Store r) × IsTrue (state S.Store r).is_open };
 
     ghost revoked_until = { λ r id second. lasts_until (rows_of (state S.Store r)) id second };
 

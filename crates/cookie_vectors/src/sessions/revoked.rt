@@ -29,7 +29,7 @@ impl Revoked {
 impl Revocations for Revoked {
     type Error = Error;
 
-    ghost is_kept = { λ _. ⊥ };
+    ghost is_intact = { λ _. ⊥ };
 
     ghost revoked_until = { λ _ _ _. ⊥ };
 

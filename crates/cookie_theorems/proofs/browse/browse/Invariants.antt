@@ -12,8 +12,8 @@ abbrev pub invariant-loop-request : goal.invariant-loop-request
 invariant-loop-request g l =
     let keeps = g.V.Revocations.can_revoke in
     let set = g.V.Revocations.revoked_until in
-    (g.V.Revocations.is_kept l.revocations → g.V.Revocations.is_kept l.initial.revocations)
-    × (CanBrowse l.site.sessions → g.V.Revocations.is_kept l.revocations → KeepsOrNever keeps set
+    (g.V.Revocations.is_intact l.revocations → g.V.Revocations.is_intact l.initial.revocations)
+    × (CanBrowse l.site.sessions → g.V.Revocations.is_intact l.revocations → KeepsOrNever keeps set
     → (held : Option SessionState) × Holds l.site.sessions l.client held
     × ((rest : List Page) → ArePages keeps l.site (set l.revocations) (option_map standing_of held) (drop l.request-index l.requests) rest
     → ArePages keeps l.site (set l.initial.revocations) None l.requests (l.pages.items ++ rest)))

@@ -117,7 +117,7 @@ loop-cookie-preserved g c =
     let cookie = c.cookie-item.result in
     let at = in_records c.args.cookies.now i cookie c.loop-cookie-test.true c.cookie-item.is in
     let decides = slice_eq-Decides Decides-eqb c.name.result.now c.name-in-loop-cookie.result.now c.eq.result c.eq.ensures in
-    let Kept : g.row.R.Denot → Type 0 = λ r. g.R.Revocations.is_kept r → g.R.Revocations.is_kept c.args.revocations.now
+    let Kept : g.row.R.Denot → Type 0 = λ r. g.R.Revocations.is_intact r → g.R.Revocations.is_intact c.args.revocations.now
     × AreSame (set c.args.revocations.now) (set r) × Closed gone site now (site_cookies site (take (i + 1) cookies)) in
     elim c.if-eq.branch [
       | then-eq+in_ok-opened+in_default w ↦ (

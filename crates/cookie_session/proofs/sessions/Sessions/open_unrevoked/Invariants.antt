@@ -10,7 +10,7 @@ abbrev pub invariant-loop-cookie : goal.invariant-loop-cookie
 invariant-loop-cookie g l =
     let set = g.R.Revocations.revoked_until in
     let tried = take l.cookie-index (map (λ c. c.fields) l.cookies) in
-    (g.R.Revocations.is_kept l.revocations → g.R.Revocations.is_kept l.initial.revocations
+    (g.R.Revocations.is_intact l.revocations → g.R.Revocations.is_intact l.initial.revocations
     × AreSame (set l.initial.revocations) (set l.revocations)
     × All (IsClosed (IsRevoked (set l.initial.revocations)) l.self l.now) (site_cookies l.self tried))
     × HoldsOne l.self (first_of_name l.self.cookie.now.fields.name tried)
