@@ -1,5 +1,5 @@
 -- The session of one request, and when it must be saved.
-use Rattle.std.specs.Prelude.{◌≡◌, ℕ, ◌+◌, ◌/◌, ◌≤◌, ◌⊎◌, Bool, true, Option, Some, None, refl}
+use Rattle.std.specs.Prelude.{◌≡◌, ℕ, ◌+◌, ◌/◌, ◌≤◌, ◌⊎◌, Bool, true, Option, Some, None, min, refl}
 use Rattle.std.specs.Coded.{Coded, code_by, coded×, coded_bool, coded_option, coded_ℕ}
 use Rattle.std.specs.FinMap.{empty}
 use Rattle.jiff.specs.Types.{DateTime}
@@ -25,9 +25,9 @@ visit_code =
       is_changed = parts.1.1;
     }) (λ _. refl)
 
--- a tenth of the idle time has passed since it was last saved
+-- a tenth of the idle time, the site's or its own, has passed since it was last saved
 abbrev pub IsDue : Sessions → DateTime → SessionState → Type 0
-IsDue site now session = session.seen + site.idle / 10 ≤ second_of now
+IsDue site now session = session.seen + min session.idle site.idle / 10 ≤ second_of now
 
 -- It must be saved: it was changed, or no key or an older one opened it, or it is due. But never a new session without
 -- texts.

@@ -1,9 +1,9 @@
 //! Opening and revoking sessions that can be revoked.
-ghost use Rattle.std.specs.Prelude.{◌≡◌, ◌≢◌, ◌↔◌, ℕ, Some, Err, IfOk, OnErr, OnOk, map};
+ghost use Rattle.std.specs.Prelude.{◌≡◌, ◌≢◌, ◌↔◌, ◌⊎◌, ℕ, Some, Err, IfOk, IsTrue, OnErr, OnOk, map};
 ghost use Rattle.cookie.specs.Originals.{first_of_name};
-ghost use Rattle.cookie_session.specs.Revocations.{AreSame, IsRevoked, IsRevokedToo, end_of};
+ghost use Rattle.cookie_session.specs.Revocations.{AreSame, IsRevoked, IsRevokedToo};
 ghost use Rattle.cookie_session.specs.Session.{SessionState};
-ghost use Rattle.cookie_session.specs.Sessions.{HoldsOne, IsOpen, IsOpenUnrevoked, OpensNone, OpensOne, OpensUnrevoked};
+ghost use Rattle.cookie_session.specs.Sessions.{HoldsOne, OpensNone, OpensOne, OpensUnrevoked};
 ghost use Rattle.cookie_session.specs.declared.open_error.OpenError.TheVariants as refusal;
 
 use crate::open_error::OpenError;
@@ -13,12 +13,12 @@ use crate::session::Session;
 use crate::sessions::Sessions;
 use cookie::Cookie;
 use jiff::civil::DateTime;
-use std::alloc::Global;
+use std::alloc::{AllocError, Global};
 
 impl<'a> Sessions<'a> {
     /// Opens the session of a request, as `open` does, unless it is revoked: of several cookies of the site's name the
-    /// first counts in which a session is open that isn't revoked. It looks up only the ids of sessions that are open.
-    /// Returns `None` if there is no such session.
+    /// first counts in which a session is open that isn't revoked. It looks up only the ids of sessions that are open,
+    /// and all of them at once. Returns `None` if there is no such session.
     ///
     /// Fails if a session can't be looked up, or if out of memory. Refuse the request then. With no session open in the
     /// cookies only out of memory is possible, since the store isn't asked.
@@ -65,73 +65,55 @@ impl<'a> Sessions<'a> {
             → AreSame (R.revoked_until revocations.old) (R.revoked_until revocations.new) }
         ensures kept { R.is_intact revocations.new → R.is_intact revocations.old }
     {
-        for cookie in cookies {
-            if cookie.name() == self.cookie.name() {
-                if let Some(opened) = self.open_one(alloc, cookie, now, revocations)? {
-                    return Ok(Some(opened));
-                }
-            }
-        }
-        Ok(None)
-    }
-
-    // The session that is open in the cookie and isn't revoked, if there is one, with the place of its key.
-    fn open_one<R: Revocations>(
-        &self,
-        alloc: Global,
-        cookie: &Cookie<'static>,
-        now: DateTime,
-        revocations: &mut R,
-    ) -> Result<Option<Opened>, OpenError<R::Error>>
-        ensures answers { R.is_intact revocations.new → IfOk result (λ answer.
-            (place : ℕ) (s : SessionState)
-            → (answer ≡ Some (record { session = s; place = place }))
-            ↔ IsOpenUnrevoked (IsRevoked (R.revoked_until revocations.old)) self.now
-            (Some cookie.now.fields) now place s) }
-        ensures sealed { IfOk result (λ answer. (place : ℕ) (s : SessionState)
-            → answer ≡ Some (record { session = s; place = place })
-            → IsOpen self.now (Some cookie.now.fields) now place s) }
-        ensures once { IfOk result (λ _. HoldsOne self.now (Some cookie.now.fields)) }
-        ensures unasked { ((place : ℕ) (s : SessionState)
-            → ¬ (IsOpen self.now (Some cookie.now.fields) now place s))
-            → (revocations.new ≡ revocations.old)
-            × ((error : R.Error) → result ≢ Err (refusal.Revocations error)) }
-        ensures same { R.is_intact revocations.new
-            → AreSame (R.revoked_until revocations.old) (R.revoked_until revocations.new) }
-        ensures kept { R.is_intact revocations.new → R.is_intact revocations.old }
-    {
-        let Some(opened) = self.open_cookie(alloc, cookie, now)? else {
+        let mut opened = self.open_all(alloc, cookies, now)?;
+        if opened.is_empty() {
             return Ok(None);
-        };
-        match revocations.is_revoked(opened.session.id()) {
-            Ok(false) => Ok(Some(opened)),
-            Ok(true) => Ok(None),
+        }
+        let ids = ids_of(alloc, &opened)?;
+        match revocations.first_unrevoked(&ids) {
+            Ok(Some(place)) if place < opened.len() => Ok(Some(opened.swap_remove(place))),
+            Ok(_) => Ok(None),
             Err(error) => Err(OpenError::Revocations(error)),
         }
     }
 
     /// Revokes the session: after it returned `Ok`, no copy of the session's cookie opens any more by `open_unrevoked`,
-    /// whenever the copy was saved. The session is kept as revoked until its lifetime ends.
+    /// whenever the copy was saved. The session is kept as revoked until it is over, whatever limits the site has then.
+    /// Returns whether it was revoked already.
     ///
-    /// Fails if that can't be kept, and then each session is revoked as before. Tell the user so.
+    /// Fails if that can't be kept. The session may then be revoked or not: tell the user so.
     ///
     /// ```
-    /// sessions.revoke(&opened.session, &mut revocations)?;
+    /// let was_revoked = sessions.revoke(&opened.session, &mut revocations)?;
     /// sessions.end(alloc, &mut jar, now)?;
     /// ```
     pub fn revoke<R: Revocations>(
         &self,
         session: &Session,
         revocations: &mut R,
-    ) -> Result<(), R::Error>
+    ) -> Result<bool, R::Error>
         ensures revoked { R.is_intact revocations.new → R.can_revoke → OnOk result
-            (IsRevokedToo session.now.id (end_of self.now.lifetime session.now)
+            (IsRevokedToo session.now.id session.now.end
             (R.revoked_until revocations.old) (R.revoked_until revocations.new)) }
+        ensures already { R.is_intact revocations.new → R.can_revoke → IfOk result (λ already.
+            IsTrue already ↔ IsRevoked (R.revoked_until revocations.old) session.now.id) }
         ensures err { R.is_intact revocations.new → OnErr result
-            (AreSame (R.revoked_until revocations.old) (R.revoked_until revocations.new)) }
+            (AreSame (R.revoked_until revocations.old) (R.revoked_until revocations.new)
+            ⊎ IsRevokedToo session.now.id session.now.end
+            (R.revoked_until revocations.old) (R.revoked_until revocations.new)) }
         ensures kept { R.is_intact revocations.new → R.is_intact revocations.old }
     {
-        let end = session.started().saturating_add(self.lifetime as u64);
-        revocations.revoke(session.id(), end)
+        revocations.revoke(session.id(), session.end())
     }
+}
+
+// The ids of the sessions.
+fn ids_of(alloc: Global, opened: &[Opened]) -> Result<Vec<[u8; 16]>, AllocError>
+    ensures { IfOk result (λ ids. ids.items ≡ map (λ o. o.session.id) opened.now) }
+{
+    let mut ids = Vec::with_capacity(alloc, opened.len())?;
+    for one in opened {
+        ids.push(*one.session.id())?;
+    }
+    Ok(ids)
 }

@@ -33,12 +33,13 @@ impl<'a> Sessions<'a> {
         }
     }
 
-    // Whether a tenth of the idle time has passed since the session was last saved.
+    // Whether a tenth of the idle time, the site's or its own, has passed since the session was last saved.
     fn is_due(&self, session: &Session, now: DateTime) -> bool
         ensures { IsTrue result ↔ IsDue self.now now session.now }
     {
         let second = second_of(now);
-        session.seen() <= second && second - session.seen() >= (self.idle / 10) as u64
+        let idle = session.idle().min(self.idle as u64);
+        session.seen() <= second && second - session.seen() >= idle / 10
     }
 
     /// Saves the session of a request, as [`Sessions::save`] does, if it must be saved (`must_save`). Returns whether it

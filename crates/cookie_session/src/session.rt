@@ -1,41 +1,35 @@
 //! A session.
-ghost use Rattle.std.specs.Prelude.{◌≡◌, ◌↔◌, ◌<◌, ◌^◌, IfErr, IfOk, IsTrue, OnErr, OnOk, length, string_bytes};
+ghost use Rattle.std.specs.Prelude.{◌≡◌, ◌↔◌, ◌<◌, ◌^◌, IfOk, IsTrue, OnErr, OnOk, length, string_bytes};
 ghost use Rattle.std.specs.FinMap.{empty, entries, get, insert, remove};
 ghost use Rattle.std.specs.Option.{option_copied};
 ghost use Rattle.cookie_session.specs.Form.{form_of_texts, texts_of_form};
-ghost use Rattle.cookie_session.specs.Seconds.{second_of};
 ghost use Rattle.cookie_session.specs.Id.{IsId};
 ghost use Rattle.cookie_session.specs.Session.{IsAlive, IsSessionText, seen_at};
-ghost use Rattle.cookie_session.specs.declared.session_error.SessionError.TheVariants as refusal;
 
-use crate::id::{ID_LENGTH, draw_id};
+use crate::id::ID_LENGTH;
 use crate::pair_text::push_pair;
-use crate::seconds::second_of;
-use crate::session_error::SessionError;
+use crate::times::Times;
 use base64::engine::general_purpose::URL_SAFE_NO_PAD;
 use cookie::{Pairs, TextMap};
 use form_urlencoded::Serializer;
 use itoa::Buffer;
-use jiff::civil::DateTime;
-use rand_core::TryRng;
 use std::alloc::{AllocError, Global};
 use std::marker::Model;
 
 // Most texts have at most this many bytes.
 const USUAL_LENGTH: usize = 256;
 
-/// A session: its id, when it started, when it was last saved, and texts by name. Contracts see these as a
-/// `SessionState`.
+/// A session: its id, when it started, the limits that it started with, when it was last saved, and texts by name.
+/// Contracts see these as a `SessionState`. [`Sessions::start`] makes one.
 ///
 /// ```
-/// let mut session = Session::start(alloc, now, &mut rng)?;
+/// let mut session = sessions.start(alloc, now, &mut rng)?;
 /// session.set("user", "ann")?;
 /// ```
 #[derive(Drop)]
 pub struct Session {
     id: [u8; ID_LENGTH],
-    started: u64,
-    seen: u64,
+    times: Times,
     texts: TextMap,
 }
 
@@ -49,8 +43,10 @@ impl Model for Session {
 
     ghost view = { λ s. record {
       id = s.id;
-      started = s.started;
-      seen = s.seen;
+      started = s.times.started;
+      end = s.times.end;
+      idle = s.times.idle;
+      seen = s.times.seen;
       texts = s.texts;
     } };
 
@@ -58,40 +54,45 @@ impl Model for Session {
 }
 
 impl Session {
-    /// A session that starts at the time `now` in UTC, without texts. Its id is one draw of sixteen bytes from `rng`,
-    /// which must be a cryptographic generator. It doesn't allocate.
-    ///
-    /// Fails only with `Generator`, if the draw failed.
-    pub fn start<R: TryRng>(
-        alloc: Global,
-        now: DateTime,
-        rng: &mut R,
-    ) -> Result<Session, SessionError>
-        ensures drawn { IfOk result (λ session. R.may_fill rng.old session.id rng.new) }
-        ensures is_id { IfOk result (λ session. IsId session.id) }
-        ensures started { IfOk result (λ session. session ≡ record {
-          id = session.id;
-          started = second_of now;
-          seen = second_of now;
-          texts = empty;
-        }) }
-        ensures failed { IfErr result (λ why. (why ≡ refusal.Generator) × R.Error) }
+    // A session of these parts.
+    pub(crate) fn of(id: [u8; 16], times: Times, texts: TextMap) -> Session
+        ensures { result ≡ record {
+          id = id;
+          started = times.started;
+          end = times.end;
+          idle = times.idle;
+          seen = times.seen;
+          texts = texts;
+        } }
     {
-        let id = draw_id(rng)?;
-        let second = second_of(now);
-        Ok(Session::of(id, second, second, TextMap::new(alloc)))
+        Session { id, times, texts }
     }
 
-    // A session of these parts.
-    pub(crate) fn of(id: [u8; 16], started: u64, seen: u64, texts: TextMap) -> Session
-        ensures { result ≡ record { id = id; started = started; seen = seen; texts = texts } }
+    // Its times and limits.
+    pub(crate) fn times(&self) -> Times
+        ensures { result ≡ record {
+          started = self.now.started;
+          end = self.now.end;
+          idle = self.now.idle;
+          seen = self.now.seen;
+        } }
     {
-        Session {
-            id,
-            started,
-            seen,
-            texts,
-        }
+        self.times
+    }
+
+    // Starts it anew, with this id and these times.
+    pub(crate) fn restart(&mut self, id: [u8; 16], times: Times)
+        ensures { self.new ≡ record {
+          id = id;
+          started = times.started;
+          end = times.end;
+          idle = times.idle;
+          seen = times.seen;
+          texts = self.old.texts;
+        } }
+    {
+        self.id = id;
+        self.times = times;
     }
 
     /// Its id. Each copy of its cookie has it, whenever it was saved, until it is renewed.
@@ -106,7 +107,24 @@ impl Session {
     pub fn started(&self) -> u64
         ensures { result ≡ self.now.started }
     {
-        self.started
+        self.times.started
+    }
+
+    /// The second, since 1970 in UTC, in which it is over, however it is used: when it started or was renewed, plus the
+    /// site's lifetime at that time. Each copy of its cookie has it. Under a shorter lifetime of the site it is over
+    /// earlier.
+    pub fn end(&self) -> u64
+        ensures { result ≡ self.now.end }
+    {
+        self.times.end
+    }
+
+    /// The seconds that it lives after it was last saved: the site's idle time when it started or was renewed. Under a
+    /// shorter one of the site it lives shorter.
+    pub fn idle(&self) -> u64
+        ensures { result ≡ self.now.idle }
+    {
+        self.times.idle
     }
 
     /// When it was last saved before it was opened, or else when it started or was renewed, in seconds since 1970 in
@@ -114,7 +132,7 @@ impl Session {
     pub fn seen(&self) -> u64
         ensures { result ≡ self.now.seen }
     {
-        self.seen
+        self.times.seen
     }
 
     /// Returns the text at `name`, or `None` if there is none.
@@ -158,30 +176,6 @@ impl Session {
         self.texts.remove(name);
     }
 
-    /// Starts it anew at the time `now` in UTC, with the same texts and another id, so that the lifetime counts from
-    /// now. The id is one draw of sixteen bytes from `rng`, which must be a cryptographic generator. If no text from
-    /// before the login may survive, use `start`.
-    ///
-    /// Fails only with `Generator`, if the draw failed, and then leaves the session as it was.
-    /// Example: `handle` in crates/cookie_examples/src/handler.rt.
-    pub fn renew<R: TryRng>(&mut self, now: DateTime, rng: &mut R) -> Result<(), SessionError>
-        ensures drawn { OnOk result (R.may_fill rng.old self.new.id rng.new) }
-        ensures is_id { OnOk result (IsId self.new.id) }
-        ensures renewed { OnOk result (self.new ≡ record self.old {
-          id = self.new.id;
-          started = second_of now;
-          seen = second_of now;
-        }) }
-        ensures failed { IfErr result (λ why. (why ≡ refusal.Generator) × R.Error) }
-        ensures err { OnErr result (self.new ≡ self.old) }
-    {
-        self.id = draw_id(rng)?;
-        let second = second_of(now);
-        self.started = second;
-        self.seen = second;
-        Ok(())
-    }
-
     /// Its texts as a form, `name=value&name=value`, in byte order of the names (URL Standard 5.2). `set_form` reads
     /// it back.
     ///
@@ -203,9 +197,13 @@ impl Session {
     pub(crate) fn is_alive(&self, lifetime: u32, idle: u32, seen: u64, now: u64) -> bool
         ensures { IsTrue result ↔ IsAlive lifetime idle now (seen_at seen self.now) }
     {
-        self.started <= now
-            && now - self.started < lifetime as u64
-            && (now < seen || now - seen < idle as u64)
+        let Times {
+            started, end, idle: own, ..
+        } = self.times;
+        started <= now
+            && now - started < lifetime as u64
+            && now < end
+            && (now < seen || now - seen < own.min(idle as u64))
     }
 
     // The text of the session, saved in the second `seen`. An id and a number have no escapes.
@@ -213,10 +211,14 @@ impl Session {
         ensures { IfOk result (λ text. IsSessionText (string_bytes text) (seen_at seen self.now)) }
     {
         let mut text = String::with_capacity(alloc, USUAL_LENGTH)?;
-        text.push_str("v=3&id=")?;
+        text.push_str("v=4&id=")?;
         URL_SAFE_NO_PAD.encode_string(&self.id, &mut text)?;
         text.push_str("&started=")?;
-        text.push_str(Buffer::new().format(self.started))?;
+        text.push_str(Buffer::new().format(self.times.started))?;
+        text.push_str("&end=")?;
+        text.push_str(Buffer::new().format(self.times.end))?;
+        text.push_str("&idle=")?;
+        text.push_str(Buffer::new().format(self.times.idle))?;
         text.push_str("&seen=")?;
         text.push_str(Buffer::new().format(seen))?;
         for (name, value) in self.texts.pairs() {

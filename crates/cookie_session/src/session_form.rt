@@ -18,7 +18,7 @@ impl Session {
         ensures err { OnErr result (self.new ≡ self.old) }
     {
         let texts = texts_of(alloc, raw_pairs(form))?;
-        *self = Session::of(*self.id(), self.started(), self.seen(), texts);
+        *self = Session::of(*self.id(), self.times(), texts);
         Ok(())
     }
 }

@@ -12,6 +12,7 @@ ghost use Rattle.cookie_session.specs.Session.{IsSessionText, SessionState};
 use crate::id::id_of;
 use crate::pair_text::has_mark;
 use crate::session::Session;
+use crate::times::Times;
 use cookie::TextMap;
 use form_urlencoded::{RawPairs, decode};
 use itoa::Buffer;
@@ -40,14 +41,17 @@ fn parse_session(alloc: Global, text: &str) -> Result<Session, AllocError>
     let (_, _, rest) = first_pair(text);
     let (_, id, rest) = first_pair(rest);
     let (_, started, rest) = first_pair(rest);
+    let (_, end, rest) = first_pair(rest);
+    let (_, idle, rest) = first_pair(rest);
     let (_, seen, rest) = first_pair(rest);
     let texts = written_texts(alloc, rest)?;
-    Ok(Session::of(
-        id_of(id.as_bytes()),
-        number_of(started.as_bytes()),
-        number_of(seen.as_bytes()),
-        texts,
-    ))
+    let times = Times {
+        started: number_of(started.as_bytes()),
+        end: number_of(end.as_bytes()),
+        idle: number_of(idle.as_bytes()),
+        seen: number_of(seen.as_bytes()),
+    };
+    Ok(Session::of(id_of(id.as_bytes()), times, texts))
 }
 
 // The name and the value of the first pair, with their escapes, and the text after it.

@@ -10,7 +10,7 @@ ghost use Rattle.cookie.specs.SealingCalls.{IsDrawnCall};
 ghost use Rattle.cookie_session.specs.KeyRing.{newest};
 ghost use Rattle.cookie_session.specs.Seconds.{second_of};
 ghost use Rattle.cookie_session.specs.Session.{IsSession, SessionState, seen_at};
-ghost use Rattle.cookie_session.specs.Sessions.{CanSave, CanSealSession, HoldsOne, IsOpen, IsSessionSealed, IsStored, OpensFirst, bare_cookie, meets_prefix, saved_cookie, session_cookie};
+ghost use Rattle.cookie_session.specs.Sessions.{CanSave, CanSealSession, HoldsOne, IsOpen, IsSessionSealed, IsStored, OpensFirst, bare_cookie, meets_prefix, saved_cookie, session_cookie, time_left};
 ghost use Rattle.cookie_session.specs.SessionError.{IsBareRefusal};
 ghost use Rattle.cookie_session.specs.Size.{browser_length, most_bytes};
 ghost use Rattle.cookie_session.specs.declared.session_error.SessionError.TheVariants as refusal;
@@ -41,9 +41,11 @@ pub struct Sessions<'a> {
     /// The cookie with the name and the attributes that the site sets. Its name isn't empty. Its value, `Max-Age` and
     /// `Expires` don't count. With `SameSite=None` but not `Secure` no browser keeps it (RFC 6265bis 5.7).
     pub cookie: &'a Cookie<'static>,
-    /// The seconds that a session lives after its start, however it is used.
+    /// The seconds that a session lives after its start, however it is used. A session keeps the lifetime that it
+    /// started with, so a longer one here is for sessions that start later, and a shorter one for all.
     pub lifetime: u32,
-    /// The seconds that a session lives after it was last saved.
+    /// The seconds that a session lives after it was last saved. A session keeps the idle time that it started with, as
+    /// its lifetime.
     pub idle: u32,
 }
 
@@ -279,17 +281,20 @@ impl<'a> Sessions<'a> {
             return Err(SessionError::Over);
         }
         let text = session.text_at(alloc, second)?;
-        Ok(self.cookie_with(alloc, text, self.time_left(session.started(), second))?)
+        Ok(self.cookie_with(alloc, text, self.time_left(session, second))?)
     }
 
     // The seconds that a session lives that was saved now.
-    fn time_left(&self, started: u64, now: u64) -> u32
-        requires begun { started ≤ now }
-        requires young { now < started + self.now.lifetime }
-        ensures { result ≡ min (started + self.now.lifetime - now) self.now.idle }
+    fn time_left(&self, session: &Session, now: u64) -> u32
+        requires begun { session.now.started ≤ now }
+        requires young { now < session.now.started + self.now.lifetime }
+        requires own { now < session.now.end }
+        ensures { result ≡ time_left self.now now session.now }
     {
-        let left = self.lifetime as u64 - (now - started);
-        left.min(self.idle as u64) as u32
+        let young = self.lifetime as u64 - (now - session.started());
+        let own = session.end() - now;
+        let idle = session.idle().min(self.idle as u64);
+        young.min(own).min(idle) as u32
     }
 
     // The site's cookie with that value, for that many seconds.

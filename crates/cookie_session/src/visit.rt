@@ -2,13 +2,13 @@
 ghost use Rattle.std.specs.Prelude.{◌≡◌, ◌≢◌, ◌↔◌, None, Ok, Some, IfErr, IfOk, IfSome, IsTrue, OnErr, OnOk, false, true};
 ghost use Rattle.std.specs.FinMap.{empty, get, insert, remove};
 ghost use Rattle.cookie_session.specs.Id.{IsId};
-ghost use Rattle.cookie_session.specs.Seconds.{second_of};
+ghost use Rattle.cookie_session.specs.Sessions.{started_at};
 ghost use Rattle.cookie_session.specs.declared.session_error.SessionError.TheVariants as refusal;
 
 use crate::opened::Opened;
-use crate::seconds::second_of;
 use crate::session::Session;
 use crate::session_error::SessionError;
+use crate::sessions::Sessions;
 use jiff::civil::DateTime;
 use rand_core::TryRng;
 use std::alloc::{AllocError, Global};
@@ -19,7 +19,7 @@ use std::marker::Model;
 ///
 /// ```
 /// let opened = sessions.open(alloc, &cookies, now)?;
-/// let mut visit = Visit::of(alloc, opened, now, &mut rng)?;
+/// let mut visit = Visit::of(alloc, opened, &sessions, now, &mut rng)?;
 /// visit.set("theme", "dark")?;
 /// sessions.save_if_needed(alloc, &mut jar, &visit, now, &mut rng)?;
 /// ```
@@ -45,7 +45,7 @@ impl Model for Visit {
 }
 
 impl Visit {
-    /// The session that was found open, or a new one that starts at the time `now` in UTC. Pass in what
+    /// The session that was found open, or a new one of the site that starts at the time `now` in UTC. Pass in what
     /// [`Sessions::open`] or [`Sessions::open_unrevoked`] returned. Only a new session draws its id from `rng`,
     /// which must be a cryptographic generator.
     ///
@@ -53,6 +53,7 @@ impl Visit {
     pub fn of<R: TryRng>(
         alloc: Global,
         opened: Option<Opened>,
+        sessions: &Sessions<'_>,
         now: DateTime,
         rng: &mut R,
     ) -> Result<Visit, SessionError>
@@ -65,12 +66,7 @@ impl Visit {
         ensures started { opened ≡ None → IfOk result (λ visit. IsId visit.session.id
             × R.may_fill rng.old visit.session.id rng.new
             × (visit ≡ record {
-              session = record {
-                id = visit.session.id;
-                started = second_of now;
-                seen = second_of now;
-                texts = empty;
-              };
+              session = started_at sessions.now now visit.session.id empty;
               place = None;
               is_changed = false;
             })) }
@@ -83,7 +79,7 @@ impl Visit {
                 is_changed: false,
             }),
             None => Ok(Visit {
-                session: Session::start(alloc, now, rng)?,
+                session: sessions.start(alloc, now, rng)?,
                 place: None,
                 is_changed: false,
             }),
@@ -142,24 +138,25 @@ impl Visit {
         }
     }
 
-    /// Starts the session anew, as [`Session::renew`] does. Call it at a login.
+    /// Starts the session anew, as [`Sessions::renew`] does. Call it at a login.
     ///
     /// Fails only with `Generator`, if the draw failed, and then leaves the visit as it was.
-    pub fn renew<R: TryRng>(&mut self, now: DateTime, rng: &mut R) -> Result<(), SessionError>
+    pub fn renew<R: TryRng>(
+        &mut self,
+        sessions: &Sessions<'_>,
+        now: DateTime,
+        rng: &mut R,
+    ) -> Result<(), SessionError>
         ensures drawn { OnOk result (IsId self.new.session.id
             × R.may_fill rng.old self.new.session.id rng.new) }
         ensures renewed { OnOk result (self.new ≡ record self.old {
-          session = record self.old.session {
-            id = self.new.session.id;
-            started = second_of now;
-            seen = second_of now;
-          };
+          session = started_at sessions.now now self.new.session.id self.old.session.texts;
           is_changed = true;
         }) }
         ensures failed { IfErr result (λ why. (why ≡ refusal.Generator) × R.Error) }
         ensures err { OnErr result (self.new ≡ self.old) }
     {
-        self.session.renew(now, rng)?;
+        sessions.renew(&mut self.session, now, rng)?;
         self.is_changed = true;
         Ok(())
     }
