@@ -5,7 +5,7 @@ use Rattle.jiff.specs.Types.{DateTime}
 use Rattle.cookie.specs.Originals.{first_of_name}
 use Rattle.cookie.specs.Record.{Record}
 use Rattle.cookie_session.specs.Session.{SessionState}
-use Rattle.cookie_session.specs.Sessions.{AreOpen, EachHoldsOne, HoldsOne, OpensFirst, site_cookies}
+use Rattle.cookie_session.specs.Sessions.{AreFound, EachHoldsOne, HoldsOne, OpensFirst, site_cookies}
 use Rattle.cookie_session.specs.declared.opened.Opened.{Opened}
 use Rattle.cookie_session.specs.declared.sessions.Sessions.{Sessions}
 use Rattle.cookie_c.specs.Codes.{code_of}
@@ -52,7 +52,7 @@ IsOpening site cookies time answer old new =
 abbrev pub AreOpening : Sessions → List Record → DateTime → Status → Option (List Opened)
     → Option (List Opened) → Type 0
 AreOpening site cookies time answer old new =
-    ((opened : List Opened) × AreOpen site time (site_cookies site cookies) opened
+    ((opened : List Opened) × AreFound site time (site_cookies site cookies) opened
     × EachHoldsOne site (site_cookies site cookies) × IsPut opened answer old new)
     ⊎ IsKept status.OutOfMemory answer old new
 
