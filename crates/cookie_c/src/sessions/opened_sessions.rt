@@ -1,5 +1,5 @@
 //! The sessions that a request has open.
-ghost use Rattle.std.specs.Prelude.{◌≡◌, IfNone, IfOk, IfSome, None};
+ghost use Rattle.std.specs.Prelude.{◌≡◌, ◌↔◌, Contains, IfNone, IfOk, IfSome, IsTrue, None};
 ghost use Rattle.cookie_c.specs.Revoked.{IsFirstUnlisted, IsTaken, bytes_of_ids};
 
 use super::open_session::OpenSession;
@@ -64,10 +64,17 @@ impl OpenedSessions {
         ensures { IsFirstUnlisted revoked.now self.now result }
     {
         for (place, one) in self.all.iter().enumerate() {
-            if !revoked.contains(one.session.id()) {
+            if !is_listed(revoked, one.session.id()) {
                 return Some(place);
             }
         }
         None
     }
+}
+
+// Whether the id is one of these.
+fn is_listed(ids: &[[u8; 16]], id: &[u8; 16]) -> bool
+    ensures { IsTrue result ↔ Contains ids.now id.now }
+{
+    ids.contains(id)
 }

@@ -11,6 +11,7 @@ use super::{Opened, Session};
 use crate::handle::content::Content;
 use crate::status::Status;
 use std::alloc::Global;
+use std::mem::replace;
 
 /// Takes one of the handle's opened sessions: the first whose id isn't in `revoked`, which has the ids of revoked
 /// sessions, one after the other. Puts it into the handle `session`, frees the one that this had, if it had one, and
@@ -49,7 +50,7 @@ fn take(alloc: Global, opened: &mut Opened, revoked: &[[u8; 16]], session: &mut 
     };
     match take_first(held.as_mut(), revoked) {
         Some(taken) => {
-            *held.as_mut() = Content::Session(taken);
+            drop(replace(held.as_mut(), Content::Session(taken)));
             session.handle.free(alloc);
             session.handle.put(held);
             Status::Done
