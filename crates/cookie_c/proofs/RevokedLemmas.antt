@@ -55,7 +55,8 @@ module _ (opened : List Opened) (i : ℕ) (past : length opened ≤ i) where
 pub is_taken : (revoked : List (List ℕ)) (opened : List Opened) (place : ℕ) (first : Opened) → IsFirstUnlisted revoked opened (Some place)
     → first ≡ get_or opened place first → IsTaken revoked opened (record { session = first.session; index = Some first.place })
 is_taken revoked opened place first is at =
-    let inside : place < length (opened_ids opened) = slice_get_within (opened_ids opened) place is.1.0 is.1.1.0 in
+    let (before, id, here, unlisted) = is in
+    let inside : place < length (opened_ids opened) = slice_get_within (opened_ids opened) place id here in
     let long = ids_long opened in
     let below : place < length opened = omega (arith, inside, long) in
     (place, first, is, slice_get_read opened (length opened) place first refl below at, refl)
@@ -63,5 +64,6 @@ is_taken revoked opened place first is at =
 -- if none is left of the sessions that the handle has, the handle has none left
 pub none_left : {X : Type 0} (result : Option X) (revoked : List (List ℕ)) (opened : List Opened) (old : Option (List Opened)) → old ≡ Some opened
     → IfNone result (IsFirstUnlisted revoked opened None) → IfNone result (HasNoneLeft revoked old)
-none_left None revoked opened old is none other same = subst (λ o. IsFirstUnlisted revoked o None) (same_Some opened other (sym is ∙ same)) none
+none_left None revoked opened old is none =
+    λ other same. subst (λ o. IsFirstUnlisted revoked o None) (same_Some opened other (sym is ∙ same)) none
 none_left (Some x) revoked opened old is none = none
