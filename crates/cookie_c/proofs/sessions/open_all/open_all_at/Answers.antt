@@ -1,5 +1,4 @@
 use Rattle.std.proofs.Common.{List, ap, inl, inr, map, refl, rules, subst, ◌∙◌}
-use Rattle.cookie.specs.Originals.{field_cookies}
 use Rattle.cookie.specs.Record.{Record}
 use Rattle.cookie_session.specs.Sessions.{AreFound, EachHoldsOne, site_cookies}
 use Rattle.cookie_c.specs.Handles.{IsPut}
