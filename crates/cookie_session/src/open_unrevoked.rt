@@ -65,13 +65,13 @@ impl<'a> Sessions<'a> {
             → AreSame (R.revoked_until revocations.old) (R.revoked_until revocations.new) }
         ensures kept { R.is_intact revocations.new → R.is_intact revocations.old }
     {
-        let mut opened = self.open_all(alloc, cookies, now)?;
-        if opened.is_empty() {
+        let mut found = self.open_all(alloc, cookies, now)?;
+        if found.is_empty() {
             return Ok(None);
         }
-        let ids = ids_of(alloc, &opened)?;
+        let ids = ids_of(alloc, &found)?;
         match revocations.first_unrevoked(&ids) {
-            Ok(Some(place)) if place < opened.len() => Ok(Some(opened.swap_remove(place))),
+            Ok(Some(place)) if place < found.len() => Ok(Some(found.swap_remove(place))),
             Ok(_) => Ok(None),
             Err(error) => Err(OpenError::Revocations(error)),
         }
