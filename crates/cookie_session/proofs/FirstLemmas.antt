@@ -62,19 +62,29 @@ module _ (IsRevoked : List ℕ → Type 0) (site : Sessions) (now : DateTime) wh
       nowhere [] e = cc
       nowhere (x ∷ xs) e = cc
   found_in (cookie ∷ cookies) all before after found (inl (none, rest)) e =
-      let (earlier, later, other, split, finds, closed) = found_in cookies all before after found rest e in
-      (cookie ∷ earlier, later, other, ap (λ cs. cookie ∷ cs) split, finds,
-      λ gone. All-cons (IsClosed IsRevoked site now) cookie earlier (none_closed cookie none) (closed gone))
+      let (earlier, later, other, split, finds, closed) = found_in cookies all before after found rest e in (
+        cookie ∷ earlier,
+        later,
+        other,
+        ap (λ cs. cookie ∷ cs) split,
+        finds,
+        λ gone. All-cons (IsClosed IsRevoked site now) cookie earlier (none_closed cookie none) (closed gone),
+      )
   found_in (cookie ∷ cookies) all [] after found (inr (first, rest, is, finds, later)) e =
       let same = same_heads first found rest after (sym is ∙ e) in
       ([], cookies, cookie, refl, subst (λ o. IsFound site now cookie (Some o)) same.0 finds, λ gone. All-nil (IsClosed IsRevoked site now))
   found_in (cookie ∷ cookies) all (one ∷ before) after found (inr (first, rest, is, finds, more)) e =
       let same = same_heads first one rest (before ++ found ∷ after) (sym is ∙ e) in
-      let (earlier, later, other, split, there, closed) = found_in cookies rest before after found more same.1 in
-      (cookie ∷ earlier, later, other, ap (λ cs. cookie ∷ cs) split, there,
-      λ gone. All-cons (IsClosed IsRevoked site now) cookie earlier
-      (revoked_closed cookie one (subst (λ o. IsFound site now cookie (Some o)) same.0 finds) (All-head (λ (o : Opened). IsRevoked o.session.id) one before gone))
-      (closed (All-tail (λ (o : Opened). IsRevoked o.session.id) one before gone)))
+      let (earlier, later, other, split, there, closed) = found_in cookies rest before after found more same.1 in (
+        cookie ∷ earlier,
+        later,
+        other,
+        ap (λ cs. cookie ∷ cs) split,
+        there,
+        λ gone. All-cons (IsClosed IsRevoked site now) cookie earlier
+            (revoked_closed cookie one (subst (λ o. IsFound site now cookie (Some o)) same.0 finds) (All-head (λ (o : Opened). IsRevoked o.session.id) one before gone))
+            (closed (All-tail (λ (o : Opened). IsRevoked o.session.id) one before gone)),
+      )
 
   -- if each that is found is revoked, each cookie is closed
   pub all_closed : (cookies : List Record) (all : List Opened) → AreFound site now cookies all → All (λ (o : Opened). IsRevoked o.session.id) all → Closed cookies
