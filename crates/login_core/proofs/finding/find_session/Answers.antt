@@ -60,6 +60,15 @@ returns-in_err-revoke_at_logout-clause-unasked g c none =
     let was : c.revoke_at_logout.result ≡ Err p.0 = c.in_err-revoke_at_logout.was ∙ search rules in
     (left.0 ∙ (c.open_session.ensures.unasked tried).0, λ refused. left.1 (let same : Err p.0 ≡ Err failure.Revocations = sym p.1 ∙ refused in cc))
 
+pub returns-in_err-revoke_at_logout-clause-same : goal.returns-in_err-revoke_at_logout-clause-same
+returns-in_err-revoke_at_logout-clause-same g c kept none =
+    let before = c.revoke_at_logout.ensures.kept kept in
+    let finds =
+    subst (λ (cookies : List Record). HasSession (IsRevoked (g.R.Revocations.revoked_until c.args.revocations.now)) c.args.site.now.sessions cookies c.args.now c.in_ok-session.session)
+    (ap (map (λ k. k.fields)) c.deref.ensures.value ∙ c.in_ok-cookies.ensures) (c.in_ok-session.ensures.finds before) in
+    same_twice _ _ _ (c.open_session.ensures.same before) (c.revoke_at_logout.ensures.same kept
+    (λ session out is. none session (out, (finds.exact session).0 (sym c.as_ref.ensures.value ∙ is))))
+
 pub returns-in_err-revoke_at_logout-clause-err : goal.returns-in_err-revoke_at_logout-clause-err
 returns-in_err-revoke_at_logout-clause-err g c kept =
     let before = c.revoke_at_logout.ensures.kept kept in
