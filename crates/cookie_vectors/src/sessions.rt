@@ -86,12 +86,13 @@ impl<'s> Visitors<'s> {
 
     // Starts a new session, or the same one anew.
     fn start(&mut self, step: Step<'_>) -> Answer {
-        let (sessions, now, mut rng) = (self.site.sessions(), self.now, self.rng());
+        let (now, sessions) = (self.now, self.site.sessions());
+        let (session, mut rng) = (&mut self.session, Sevens { left: self.left });
         if step.call == "renew" {
-            return step.done_or_why(sessions.renew(&mut self.session, now, &mut rng));
+            return step.done_or_why(sessions.renew(session, now, &mut rng));
         }
         match sessions.start(step.alloc, now, &mut rng) {
-            Ok(session) => self.session = session,
+            Ok(started) => *session = started,
             Err(refusal) => return step.printed(refusal),
         }
         step.done()
