@@ -110,25 +110,27 @@ class FlaskSession(SecureCookieSession):
         super().clear()
         self.renew()
 
-    def revoke(self) -> None:
+    def revoke(self) -> bool:
         """Revokes it, and then clears it. Call it at a logout: no copy of its cookie opens any more, whenever it was
-        saved. Raises `RevocationsError` if that can't be kept, and `RuntimeError` if the interface has no `revocations`.
-        """
-        self.end()
+        saved. Returns whether it was revoked already. Raises `RevocationsError` if that can't be kept, and `RuntimeError`
+        if the interface has no `revocations`."""
+        is_already = self.end()
         is_forgotten = self.get(REMEMBER) == "clear"
         self.clear()
         if is_forgotten:
             # So Flask-Login drops the cookie that would log the user in again.
             self[REMEMBER] = "clear"
+        return is_already
 
-    def end(self) -> None:
-        """Revokes it, and starts it anew with the same values."""
+    def end(self) -> bool:
+        """Revokes it, and starts it anew with the same values. Returns whether it was revoked already."""
         try:
-            self.sessions.revoke(self.source)
+            is_already = self.sessions.revoke(self.source)
         except RevocationsError as error:
             self.is_failed = True
             raise Unavailable(error) from error
         self.renew()
+        return is_already
 
     def check(self) -> None:
         """Raises `TooLarge` if no browser would store the session as it is now. It is checked so after each view, if

@@ -8,9 +8,9 @@ from typing import Any, Iterator, MutableMapping, Sequence, Union
 from urllib.parse import parse_qsl, urlencode
 
 from ._library import (
-    DONE, SESSION_DESCRIBE, SESSION_END, SESSION_FREE, SESSION_OPEN, SESSION_RENEW, SESSION_SAVE, SESSION_SET_TEXTS,
-    SESSION_START, SESSION_TEXTS, SESSIONS_FREE, SESSIONS_NEW, Settings, Uncopied, arguments_of, perform, bytes_from, handle_of,
-    header_of, ring_of,
+    OPENED_FREE, OPENED_IDS, OPENED_NEW, OPENED_TAKE, SESSION_DESCRIBE, SESSION_END, SESSION_FREE, SESSION_OPEN, SESSION_SAVE,
+    SESSION_SET_TEXTS, SESSION_START, SESSION_TEXTS, SESSIONS_FREE, SESSIONS_NEW, Handle, Settings, Uncopied, bytes_from,
+    handle_of, header_of, perform, ring_of,
 )
 from ._locks import Lock
 from ._steps import Steps, in_thread, run, run_async
@@ -28,9 +28,10 @@ AnyRevocations = Union[Revocations, AsyncRevocations]
 class Session(MutableMapping[str, str]):
     """A session: a dict of texts. `Sessions.open` makes it.
 
-    `started` is when it started, and `seen` when it was last saved, in seconds since 1970. `place` is the place of the
-    key that opened it: 0 is the newest, and a new session has None. `id` has sixteen random bytes: each copy of its
-    cookie has them, whenever it was saved, until it is renewed.
+    `started` is when it started, and `seen` when it was last saved, in seconds since 1970. `end` is when it is over, and
+    `idle` how many seconds it lives unsaved. It gets both when it is first saved, and keeps them if the site's limits are
+    raised. Before that they are None. `place` is the place of the key that opened it: 0 is the newest, and a new session
+    has None. `id` has sixteen random bytes: each copy of its cookie has them, whenever it was saved, until it is renewed.
 
     >>> session = Session(1445412480)
     >>> session["user"] = "ann"
@@ -41,17 +42,17 @@ class Session(MutableMapping[str, str]):
     def __init__(self, now: int) -> None:
         if not isinstance(now, int):
             raise TypeError("a second is an int")
-        self.now = self.started = self.seen = whole_second(now)
+        self.now = whole_second(now)
         self.place: int | None = None
-        self.id = os.urandom(ID_LENGTH)
-        # The ids that cookies of it may have, each with its start.
-        self.starts: dict[bytes, int] = {}
-        # The header that it was opened from, and the ids that were found revoked.
-        self.header = self.revoked = b""
+        # The ids that cookies of it may have, each with its end.
+        self.ends: dict[bytes, int | None] = {}
+        # The header that it was opened from, and the ids in it that are revoked, or None before they are looked up.
+        self.header = b""
+        self.revoked: bytes | None = None
         self.texts: dict[str, str] = {}
-        self.is_renewed = True
         # What the library keeps of the session, once it is opened or saved.
         self.handle = handle_of(self, SESSION_FREE)
+        self.renew()
 
     @property
     def is_new(self) -> bool:
@@ -69,8 +70,17 @@ class Session(MutableMapping[str, str]):
         1445412480
         """
         self.started = self.seen = self.now
+        self.end: int | None = None
+        self.idle: int | None = None
         self.id = os.urandom(ID_LENGTH)
         self.is_renewed = True
+        SESSION_FREE(self.handle)
+
+    def describe(self) -> None:
+        """Has the id and the times that the library tells of it."""
+        facts = SESSION_DESCRIBE(self.handle)
+        self.id, self.started, self.seen, self.end, self.idle = bytes(facts.id), facts.started, facts.seen, facts.end, facts.idle
+        self.place = facts.index if facts.is_opened else self.place
 
     def __getitem__(self, name: str) -> str:
         return self.texts[name]
@@ -99,7 +109,7 @@ class Session(MutableMapping[str, str]):
 
     def __copy__(self) -> Session:
         copied = Session.__new__(Session)
-        copied.__setstate__({**self.__getstate__(), "texts": dict(self.texts), "starts": dict(self.starts)})
+        copied.__setstate__({**self.__getstate__(), "texts": dict(self.texts), "ends": dict(self.ends)})
         return copied
 
     def __repr__(self) -> str:
@@ -110,8 +120,9 @@ class Sessions(Uncopied):
     """How a site keeps its sessions: one encrypted cookie holds a session. Threads may share it.
 
     `keys` are the site's keys, each of at least 64 random bytes, the newest first. The newest encrypts, and each of them
-    decrypts. A session is over `lifetime` seconds after its start, and `idle` seconds after it was last saved. `name` and
-    the arguments after the limits are the cookie's. Settings that no session could be saved with are refused at once:
+    decrypts. A session is over `lifetime` seconds after its start, and `idle` seconds after it was last saved. It keeps the
+    limits that it started with: lower ones end it sooner, and higher ones count for new sessions. `name` and the arguments
+    after the limits are the cookie's. Settings that no session could be saved with are refused at once:
     a path or a domain with a control character or a `;` with `InvalidValue`, and a limit past 32 bits with
     `OverflowError`.
 
@@ -158,7 +169,7 @@ class Sessions(Uncopied):
             raise OverflowError("a limit has at most 32 bits")
         if revocations is not None and not (hasattr(revocations, "is_revoked") and hasattr(revocations, "revoke")):
             raise TypeError("revocations have calls is_revoked and revoke")
-        self.revocations, self.lifetime, self.compress = revocations, lifetime, compress
+        self.revocations, self.compress = revocations, compress
         cookie = print_cookie(
             name, "", path=path, domain=domain, secure=secure, http_only=http_only, same_site=same_site,
             partitioned=partitioned or None,
@@ -201,33 +212,52 @@ class Sessions(Uncopied):
         """Opens the session in a request's header, and yields the calls of the revocations."""
         session = self.start(now)
         session.header = header_of(header)
-        while (status := self.fill(session)) == DONE:
-            facts = SESSION_DESCRIBE(session.handle)
-            found = bytes(facts.id)
-            if self.revocations is None or not is_true((yield "is_revoked", found)):
-                break
-            # The next cookie of the name counts.
-            session.revoked += found
-        if status == DONE:
-            session.started, session.seen, session.place = facts.started, facts.seen, facts.index
-            session.id, session.starts, session.is_renewed = found, {found: facts.started}, False
-            form = bytes_from(SESSION_TEXTS, session.handle, room=ROOM).decode()
-            try:
-                session.texts = expand(dict(parse_qsl(form, keep_blank_values=True)))
-            except ValueError:
-                # Another program saved it, under the same key.
-                return self.start(session.now)
-            return session
-        if status != NoSession.status:
-            raise error_of(status)
-        return self.start(session.now)
+        try:
+            yield from self.filling(session)
+        except NoSession:
+            return self.start(session.now)
+        session.describe()
+        session.ends, session.is_renewed = {session.id: session.end}, False
+        form = bytes_from(SESSION_TEXTS, session.handle, room=ROOM).decode()
+        try:
+            session.texts = expand(dict(parse_qsl(form, keep_blank_values=True)))
+        except ValueError:
+            # Another program saved it, under the same key.
+            return self.start(session.now)
+        return session
 
-    def fill(self, session: Session) -> int:
-        """Opens the session of its header for its handle, and returns the status."""
-        inputs = (self.handle, session.header, session.revoked, session.now, session.handle)
-        with self.lock:
-            status: int = SESSION_OPEN(*arguments_of(SESSION_OPEN, inputs))
-        return status
+    def filling(self, session: Session) -> Steps[None]:
+        """Opens the session of its header for its handle, and yields the calls of the revocations. For a copy they were
+        made before."""
+        if self.revocations is None and not session.revoked:
+            session.revoked = b""
+            with self.lock:
+                perform(SESSION_OPEN, self.handle, session.header, session.now, session.handle)
+            return
+        opened = Handle()
+        try:
+            with self.lock:
+                perform(OPENED_NEW, self.handle, session.header, session.now, opened)
+            if session.revoked is None:
+                session.revoked = yield from self.looking_up(bytes_from(OPENED_IDS, opened))
+            perform(OPENED_TAKE, opened, session.revoked, session.handle)
+        finally:
+            OPENED_FREE(opened)
+
+    def looking_up(self, ids: bytes) -> Steps[bytes]:
+        """Looks up which of the ids are revoked, until one isn't, and yields the calls of the revocations."""
+        each = list(dict.fromkeys(ids[at : at + ID_LENGTH] for at in range(0, len(ids), ID_LENGTH)))
+        revoked = b""
+        if each and hasattr(self.revocations, "are_revoked"):
+            found = yield "are_revoked", each
+            if not isinstance(found, list) or len(found) != len(each):
+                raise RevocationsError("are_revoked returns a list with a bool for each id")
+            return b"".join(id for id, is_revoked in zip(each, found) if is_true(is_revoked))
+        for id in each:
+            if not is_true((yield "is_revoked", id)):
+                break
+            revoked += id
+        return revoked
 
     def ask(self, call: tuple[Any, ...]) -> Any:
         """What this call of the revocations returns. Raises `RevocationsError` for whatever it raises."""
@@ -248,10 +278,11 @@ class Sessions(Uncopied):
                 return await function(*words)
             return await in_thread(function, *words)
 
-    def revoke(self, session: Session) -> None:
+    def revoke(self, session: Session) -> bool:
         """Revokes the session: no copy of its cookie opens any more, whenever it was saved. Call it at a logout, and
-        send what `end` returns. Raises `RevocationsError` if that can't be kept: tell the user then that the logout
-        failed. Without `revocations` it raises `RuntimeError`.
+        send what `end` returns. Returns whether it was revoked already: of two logouts at the same moment one gets False.
+        Raises `RevocationsError` if that can't be kept: tell the user then that the logout failed. Without `revocations`
+        it raises `RuntimeError`.
 
         >>> from deomigal import derive_key
         >>> from deomigal.revocations import MemoryRevocations
@@ -259,23 +290,28 @@ class Sessions(Uncopied):
         >>> sessions = Sessions(keys, "session", 12 * 3600, 1800, revocations=MemoryRevocations())
         >>> cookie = sessions.save(sessions.start())
         >>> session = sessions.open(cookie)
-        >>> sessions.revoke(session)
-        >>> session.is_new, sessions.open(cookie).is_new
+        >>> sessions.revoke(session), sessions.revoke(session)
         (False, True)
+        >>> sessions.open(cookie).is_new
+        True
         """
-        run(self.revoking(session), self.ask)
+        return run(self.revoking(session), self.ask)
 
-    async def arevoke(self, session: Session) -> None:
+    async def arevoke(self, session: Session) -> bool:
         """Does what `revoke` does. Calls of the revocations that are coroutines are awaited, and others made in a worker
         thread."""
-        await run_async(self.revoking(session), self.ask_async)
+        return await run_async(self.revoking(session), self.ask_async)
 
-    def revoking(self, session: Session) -> Steps[None]:
-        """Revokes the session, and yields the calls of the revocations."""
+    def revoking(self, session: Session) -> Steps[bool]:
+        """Revokes the session, and yields the calls of the revocations. Returns whether it was revoked already."""
         if self.revocations is None:
             raise RuntimeError("these sessions can't be revoked: they are made without `revocations`")
-        for id, started in list(session.starts.items()):
-            yield "revoke", id, started + self.lifetime
+        found = []
+        for id, end in list(session.ends.items()):
+            found.append((yield "revoke", id, end))
+        if not all(isinstance(is_already, bool) for is_already in found):
+            raise TypeError("revoke of the revocations returns a bool: whether the session was revoked already")
+        return any(found)
 
     def save(self, session: Session) -> str:
         """The value of the `Set-Cookie` header that saves the session, encrypted under the newest key.
@@ -298,12 +334,12 @@ class Sessions(Uncopied):
         if not isinstance(session, Session):
             raise TypeError("what is saved is a Session")
         now, handle = session.now, session.handle
-        if session.is_renewed and not handle.is_open:
-            perform(SESSION_START, session.id, now, handle)
-        elif session.is_renewed:
-            perform(SESSION_RENEW, handle, session.id, now)
-        elif not handle.is_open and (status := self.fill(session)) != DONE:
-            raise error_of(status)
+        if not handle.is_open and session.is_renewed:
+            with self.lock:
+                perform(SESSION_START, self.handle, session.id, now, handle)
+            session.describe()
+        elif not handle.is_open:
+            run(self.filling(session), self.ask)
         try:
             form = urlencode(shorten(session.texts, self.compress))
         except UnicodeEncodeError:
@@ -312,7 +348,7 @@ class Sessions(Uncopied):
         perform(SESSION_SET_TEXTS, handle, form)
         with self.lock:
             text = bytes_from(SESSION_SAVE, self.handle, handle, os.urandom(12), now, room=ROOM).decode()
-        session.starts[session.id] = session.started
+        session.ends[session.id] = session.end
         return text
 
     def end(self, now: float | None = None) -> str:

@@ -165,17 +165,19 @@ class CookieSession(Mapped):
         super().clear()
         self.renew()
 
-    def revoke(self) -> None:
+    def revoke(self) -> bool:
         """Revokes it, and then clears it. Call it at a logout: no copy of its cookie opens any more, whenever it was
-        saved. Raises `RevocationsError` if that can't be kept, and `RuntimeError` if the middleware has no `revocations`.
-        """
-        self.sessions.revoke(self.source)
+        saved. Returns whether it was revoked already. Raises `RevocationsError` if that can't be kept, and `RuntimeError`
+        if the middleware has no `revocations`."""
+        is_already = self.sessions.revoke(self.source)
         self.clear()
+        return is_already
 
-    async def arevoke(self) -> None:
+    async def arevoke(self) -> bool:
         """Does what `revoke` does, in a coroutine: others go on meanwhile."""
-        await self.sessions.arevoke(self.source)
+        is_already = await self.sessions.arevoke(self.source)
         self.clear()
+        return is_already
 
     def check(self) -> None:
         """Raises `TooLarge` if no browser would store the session as it is now. Else that is raised where the response

@@ -62,11 +62,11 @@ def with_full_disk(path):
         revocations.revoke(number.to_bytes(16, "big"), NOON)
 
 
-def revoke_all(barrier, path, ids):
+def revoke_all(barrier, path, ids, sent):
+    """Revokes each, and sends how many weren't revoked before."""
     barrier.wait()
     revocations = SqliteRevocations(path)
-    for id in ids:
-        revocations.revoke(id, NOON)
+    sent.send([revocations.revoke(id, NOON) for id in ids].count(False))
 
 
 class Stores:
@@ -76,42 +76,51 @@ class Stores:
         """What is revoked is, and nothing else."""
         revocations = self.new_store()
         assert revocations.is_revoked(ANN) is False
-        revocations.revoke(ANN, self.now + HOUR)
+        assert revocations.revoke(ANN, self.now + HOUR) is False
         assert [revocations.is_revoked(id) for id in (ANN, BO)] == [True, False]
 
     def test_twice(self):
-        """Of two seconds the later one counts, whichever comes first."""
+        """Of two seconds the later one counts, whichever comes first. The second call says that it was revoked already."""
         for order in ((1, 2), (2, 1), (2, 2)):
             revocations, id = self.new_store(), os.urandom(16)
-            for hours in order:
-                revocations.revoke(id, self.now + hours * HOUR)
+            assert [revocations.revoke(id, self.now + hours * HOUR) for hours in order] == [False, True]
             assert self.until(revocations, id) == self.now + 2 * HOUR
+
+    def test_many(self):
+        """Many are looked up at once, each in its place, also one that comes twice."""
+        revocations, ids = self.new_store(), [os.urandom(16) for _ in range(1200)]
+        for id in ids[::7]:
+            revocations.revoke(id, self.now + HOUR)
+        assert revocations.are_revoked([*ids, ids[0], ids[1]]) == [not number % 7 for number in range(1200)] + [True, False]
+        assert revocations.are_revoked([]) == []
 
     def test_no_ids(self):
         """What has no sixteen bytes is no id."""
         revocations = self.new_store()
         for id, error in ((b"", ValueError), (bytes(15), ValueError), (bytes(17), ValueError), ("x" * 16, TypeError)):
-            with pytest.raises(error):
-                revocations.is_revoked(id)
+            for call in (revocations.is_revoked, lambda id: revocations.are_revoked([ANN, id])):
+                with pytest.raises(error):
+                    call(id)
             with pytest.raises(error):
                 revocations.revoke(id, self.now + HOUR)
 
     def test_threads(self):
-        """Threads share it."""
-        revocations, ids, found = self.new_store(), [os.urandom(16) for _ in range(80)], []
+        """Of threads that revoke the same sessions at once one finds each of them not yet revoked."""
+        revocations, ids, found = self.new_store(), [os.urandom(16) for _ in range(20)], []
+        barrier = threading.Barrier(4, timeout=10)
 
-        def revoke(first):
-            for id in ids[first::8]:
-                revocations.revoke(id, self.now + HOUR)
-                found.append(revocations.is_revoked(id))
+        def revoke():
+            for id in ids:
+                barrier.wait()
+                found.append((revocations.revoke(id, self.now + HOUR), revocations.is_revoked(id)))
 
-        threads = [threading.Thread(target=revoke, args=[first]) for first in range(8)]
+        threads = [threading.Thread(target=revoke) for _ in range(4)]
         for thread in threads:
             thread.start()
         for thread in threads:
             thread.join()
-        assert found == [True] * 80
-        assert all(map(revocations.is_revoked, ids))
+        assert sorted(found) == [(False, True)] * 20 + [(True, True)] * 60
+        assert revocations.are_revoked(ids) == [True] * 20
 
     def test_sessions(self):
         """A session that was revoked opens in no copy of its cookie, and another one does."""
@@ -201,19 +210,20 @@ class SqliteFacts(Stores, unittest.TestCase):
         assert self.rows() == [(BO, NOON + 1)]
 
     def test_processes(self):
-        """Processes that make the file and revoke the same sessions at once, 20 times, each find them revoked, once
-        each."""
+        """Of processes that make the file and revoke the same sessions at once, 20 times, one finds each of them not yet
+        revoked. They are in it once each."""
         ids, fork = [os.urandom(16) for _ in range(20)], multiprocessing.get_context("fork")
         orders = (ids, ids[::-1], ids[10:] + ids[:10], ids[::2] + ids[1::2])
         for number in range(20):
             self.path = self.folder / f"revoked{number}"
-            barrier = fork.Barrier(len(orders))
-            processes = [fork.Process(target=revoke_all, args=(barrier, self.path, order)) for order in orders]
+            barrier, (here, there) = fork.Barrier(len(orders)), fork.Pipe(False)
+            processes = [fork.Process(target=revoke_all, args=(barrier, self.path, order, there)) for order in orders]
             for process in processes:
                 process.start()
             for process in processes:
                 process.join()
             assert [process.exitcode for process in processes] == [0] * 4
+            assert sum(here.recv() for _ in orders) == len(ids)
             assert self.rows() == sorted((id, NOON) for id in ids)
 
     def test_fork(self):
@@ -361,7 +371,7 @@ class RedisCommandFacts(unittest.TestCase):
     def test_expires_between(self):
         """If the key expires between two commands, the session is revoked anew."""
         client = Answers(set=[None, True], expireat=[0], expiretime=[-2])
-        RedisRevocations(client).revoke(ANN, NOON)
+        assert RedisRevocations(client).revoke(ANN, NOON) is True
         end = ("exat", NOON + HOUR)
         assert client.commands == [
             ("set", ("nx", True), end), ("expireat", end[1], ("gt", True)), ("expiretime",), ("set", ("nx", True), end),
@@ -371,7 +381,7 @@ class RedisCommandFacts(unittest.TestCase):
         """A key that ends later, or never, is kept."""
         for expires in (NOON + HOUR, NOON + 2 * HOUR, -1):
             client = Answers(set=[None], expireat=[0], expiretime=[expires])
-            RedisRevocations(client).revoke(ANN, NOON)
+            assert RedisRevocations(client).revoke(ANN, NOON) is True
             assert len(client.commands) == 3
 
     def test_not_kept(self):
@@ -384,9 +394,16 @@ class RedisCommandFacts(unittest.TestCase):
         ):
             with pytest.raises(RevocationsError):
                 RedisRevocations(Answers(**answers)).revoke(ANN, NOON)
-        for found in (2, None, "1", object()):
+        for found in (2, None, "1", object(), [], [None, None], [0], [b"QUEUED"], (None,)):
             with pytest.raises(RevocationsError):
-                RedisRevocations(Answers(exists=[found])).is_revoked(ANN)
+                RedisRevocations(Answers(mget=[found])).is_revoked(ANN)
+
+    def test_once(self):
+        """Many are looked up in one round trip, whether the client decodes what it reads or not."""
+        for value in (b"", ""):
+            client = Answers(mget=[[None, value] * 500])
+            assert RedisRevocations(client).are_revoked([ANN, BO] * 500) == [False, True] * 500
+            assert client.commands == [("mget",)]
 
 
 class RevocationFacts(unittest.TestCase):

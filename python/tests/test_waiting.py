@@ -29,7 +29,7 @@ class Coroutines:
 
     async def revoke(self, id, until):
         await asyncio.sleep(0)
-        self.store.revoke(id, until)
+        return self.store.revoke(id, until)
 
 
 async def page(scope, receive, send):
