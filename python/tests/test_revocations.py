@@ -1,8 +1,10 @@
 """Facts about revoked sessions: where they are kept, what is refused if that fails, and how the frameworks answer."""
 import asyncio
 import contextlib
+import copy
 import multiprocessing
 import os
+import pickle
 import resource
 import shutil
 import signal
@@ -14,6 +16,7 @@ import threading
 import time
 import unittest
 from pathlib import Path
+from unittest import mock
 from wsgiref.util import setup_testing_defaults
 
 import pytest
@@ -22,7 +25,7 @@ from deomigal.asgi import SessionMiddleware
 from deomigal.errors import CookieError, RevocationsError
 from deomigal.revocations import TABLE, MemoryRevocations, RedisRevocations, SqliteRevocations
 from deomigal.wsgi import SessionMiddleware as WsgiMiddleware
-from helpers import NOON, SECRET, Breaking, Failing, pair_of, redis_server
+from helpers import NOON, SECRET, Breaking, Failing, age_of, pair_of, redis_server
 
 KEY = bytes(range(64))
 ANN, BO, EVE = (bytes([number]) * 16 for number in (1, 2, 3))
@@ -431,10 +434,57 @@ class RevocationFacts(unittest.TestCase):
         assert len({self.saved_session().id for _ in range(100)}) == 100
 
     def test_until(self):
-        """A session is revoked until its lifetime ends."""
-        opened = self.sessions.open(self.saved_session(NOON).header, NOON + 5)
+        """A session is revoked until its own end, also by a site that has another lifetime now."""
+        for lifetime in (HOUR, 60, 24 * HOUR):
+            header = self.saved_session(NOON).header
+            site = Sessions([KEY], "s", lifetime, 60, revocations=self.store)
+            opened = site.open(header, NOON + 5)
+            assert site.revoke(opened) is False
+            assert self.store.until.pop(opened.id) == opened.end == NOON + HOUR
+
+    def test_limits(self):
+        """A session keeps its limits. If the site raises its own, they count for what starts then, or is renewed. Lower
+        ones end a session sooner."""
+        assert (self.sessions.start(NOON).end, self.sessions.start(NOON).idle) == (None, None)
+        opened = self.saved_session()
+        assert (opened.end, opened.idle) == (NOON + HOUR, 60)
+        raised, lowered = (Sessions([KEY], "s", limit, limit) for limit in (24 * HOUR, 30))
+        for site, second in ((raised, 60), (lowered, 30)):
+            assert [site.open(opened.header, NOON + now).is_new for now in (second - 1, second)] == [False, True]
+        again = raised.open(opened.header, NOON + 5)
+        assert age_of(raised.save(again)) == again.idle == 60
+        again.renew()
+        assert (again.end, again.idle) == (None, None)
+        assert age_of(raised.save(again)) == again.idle == 24 * HOUR
+        assert again.end == NOON + 5 + 24 * HOUR
+
+    def test_raised_lifetime(self):
+        """A session that was revoked, and forgotten after its end, opens in no copy if the site raises its limits."""
+        opened = self.saved_session(user="ann")
         self.sessions.revoke(opened)
-        assert self.store.until == {opened.id: NOON + HOUR}
+        self.store.forget(NOON + HOUR)
+        assert not self.store.is_revoked(opened.id)
+        raised = Sessions([KEY], "s", 24 * HOUR, 24 * HOUR, revocations=self.store)
+        assert raised.open(opened.header, NOON + HOUR).is_new
+
+    def test_already(self):
+        """The first call says that it revoked the session, and the next ones that it was revoked already, whichever copy of
+        the session they are of."""
+        opened = self.saved_session()
+        others = [self.sessions.open(opened.header, NOON) for _ in range(2)]
+        others[1].renew()
+        self.sessions.save(others[1])
+        assert [self.sessions.revoke(session) for session in (opened, *others, opened)] == [False, True, True, True]
+        assert self.sessions.revoke(self.saved_session()) is False
+
+    def test_no_bool(self):
+        """A store of before, whose `revoke` returns None, is an error of the program. It keeps what is revoked."""
+        opened = self.saved_session()
+        for wrong in (None, 0, "False"):
+            self.store.revoke = lambda *words: (MemoryRevocations.revoke(self.store, *words), wrong)[1]
+            with pytest.raises(TypeError, match="revoke of the revocations returns a bool"):
+                self.sessions.revoke(opened)
+        assert self.sessions.open(opened.header, NOON).is_new
 
     def test_renewed(self):
         """What was renewed is revoked with the copies of before."""
@@ -449,7 +499,7 @@ class RevocationFacts(unittest.TestCase):
 
     def test_unsaved(self):
         """A session that was never saved has no cookie, and isn't kept as revoked."""
-        self.sessions.revoke(self.sessions.start(NOON))
+        assert self.sessions.revoke(self.sessions.start(NOON)) is False
         assert self.store.until == {}
 
     def test_planted(self):
@@ -465,6 +515,51 @@ class RevocationFacts(unittest.TestCase):
             saved = self.sessions.open(pair_of(self.sessions.save(found)), NOON)
             assert (saved["user"], saved.id) == ("ann", good.id)
         assert self.sessions.open(b"; ".join(texts), NOON).is_new
+
+    def test_thousand(self):
+        """A thousand cookies of revoked sessions cost one question to the store, and hide no good one."""
+        opened = [self.saved_session() for _ in range(1000)]
+        good = self.saved_session(user="ann")
+        self.store.until = {session.id: NOON + HOUR for session in opened}
+        with mock.patch.object(self.store, "are_revoked", wraps=self.store.are_revoked) as asked:
+            found = self.sessions.open(b"; ".join([session.header for session in opened] + [good.header]), NOON)
+        assert found["user"] == "ann"
+        assert asked.mock_calls == [mock.call([*(session.id for session in opened), good.id])]
+
+    def test_one_by_one(self):
+        """A store without `are_revoked` is asked for one after the other, up to the first that isn't revoked, and for each
+        once."""
+        opened = [self.saved_session() for _ in range(4)]
+        asked = []
+
+        class Plain:
+            def is_revoked(self, id):
+                asked.append(id)
+                return id in (opened[0].id, opened[1].id)
+
+            revoke = None
+
+        sessions = Sessions([KEY], "s", HOUR, 60, revocations=Plain())
+        found = sessions.open(b"; ".join(opened[place].header for place in (0, 1, 0, 2, 3)), NOON)
+        assert (found.id, asked) == (opened[2].id, [session.id for session in opened[:3]])
+
+    def test_not_asked(self):
+        """Without an open session the store isn't asked."""
+        over = pair_of(self.sessions.save(self.sessions.start(NOON - HOUR)))
+        self.store.is_revoked = self.store.are_revoked = None
+        for header in (None, "", "a=1", "s=junk", over):
+            assert self.sessions.open(header, NOON).is_new
+
+    def test_copies(self):
+        """A copy of a session is saved as the session is, though revoked cookies come before it."""
+        planted, good = self.saved_session(), self.saved_session(user="ann")
+        self.sessions.revoke(planted)
+        opened = self.sessions.open(planted.header + b"; " + good.header, NOON)
+        self.store.is_revoked = self.store.are_revoked = None
+        for copied in (copy.copy(opened), pickle.loads(pickle.dumps(opened))):
+            text = pair_of(self.sessions.save(copied))
+            saved = Sessions([KEY], "s", HOUR, 60).open(text, NOON)
+            assert (saved["user"], saved.id, saved.end) == ("ann", good.id, good.end)
 
     def test_in_flight(self):
         """What a request saves that was under way at the logout doesn't open."""
@@ -486,6 +581,10 @@ class RevocationFacts(unittest.TestCase):
             assert sessions.open("s=junk", NOON).is_new
         for wrong in (None, 0, 1, "", [], asyncio.Future):
             self.store.is_revoked = lambda id: wrong
+            with pytest.raises(RevocationsError):
+                self.sessions.open(text, NOON)
+        for wrong in (None, True, [], [None], [False, False], (False,)):
+            self.store.are_revoked = lambda ids: wrong
             with pytest.raises(RevocationsError):
                 self.sessions.open(text, NOON)
 
