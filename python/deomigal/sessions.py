@@ -317,7 +317,7 @@ class Sessions(Uncopied):
         """The value of the `Set-Cookie` header that saves the session, encrypted under the newest key.
 
         Save at each request, so that the idle time counts from it. Raises `TooLarge` if a browser wouldn't store the
-        cookie: there is room for about 2,950 bytes of texts in UTF-8, or of what they are when they are compressed. Raises
+        cookie: there is room for about 2,930 bytes of texts in UTF-8, or of what they are when they are compressed. Raises
         `NotUtf8` for a text with a lone surrogate.
 
         >>> from deomigal import derive_key
