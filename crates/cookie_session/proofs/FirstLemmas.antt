@@ -1,8 +1,7 @@
 -- The first cookie of the site's name in which a session is open that isn't revoked.
-use Rattle.std.proofs.Common.{◌≡◌, ◌↔◌, ℕ, ◌+◌, ◌<◌, Bool, true, false, cond, List, [], ◌∷◌, ◌++◌, All, length, take, drop, get_or, map, Option, None, Some, Result, Ok, Err, refl, sym, ap, subst, ◌∙◌}
-use Rattle.std.proofs.lemmas.List.{drop_more, take-append-drop, take_more}
-use Rattle.std.proofs.lemmas.List.Elements.{All-append, All-cons, All-head, All-nil, All-tail, filter-append, filter_more}
-use Rattle.std.proofs.lemmas.Option.{none-some}
+use Rattle.std.proofs.Common.{◌≡◌, ◌↔◌, ℕ, ◌+◌, ◌<◌, Bool, true, false, cond, List, [], ◌∷◌, ◌++◌, All, append-nil, length, take, get_or, Option, None, Some, Result, Ok, Err, inl, inr, refl, sym, ap, subst, ◌∙◌}
+use Rattle.std.proofs.lemmas.List.Elements.{All-append, All-cons, All-head, All-nil, All-tail, filter_more}
+use Rattle.std.proofs.lemmas.Option.{none-some, same_Some}
 use Rattle.std.specs.FinMap.{get, get-empty}
 use Rattle.std.specs.Option.{option_or}
 use Rattle.std.specs.Str.{bytes_eq}
@@ -14,29 +13,13 @@ use Rattle.cookie.specs.Record.{Record}
 use Rattle.cookie.proofs.OriginalLemmas.{has_first, same_delta}
 use Rattle.cookie_session.specs.Revocations.{none_revoked}
 use Rattle.cookie_session.specs.Session.{SessionState}
-use Rattle.cookie_session.specs.Sessions.{HoldsOne, IsClosed, IsOpen, IsOpenUnrevoked, OpensFirst, OpensNone, OpensUnrevoked, site_cookies}
+use Rattle.cookie_session.specs.Sessions.{AreFound, EachHoldsOne, HoldsOne, IsClosed, IsFound, IsOpen, IsOpenUnrevoked, OpensFirst, OpensNone, OpensUnrevoked, site_cookies}
 use Rattle.cookie_session.specs.declared.opened.Opened.{Opened}
 use Rattle.cookie_session.specs.declared.sessions.Sessions.{Sessions}
 use Rattle.cookie_session.proofs.SessionLemmas.{opened}
 
 same_heads : (a b : Record) (xs ys : List Record) → a ∷ xs ≡ b ∷ ys → (a ≡ b) × (xs ≡ ys)
 same_heads a b xs ys e = (cc, cc)
-
-module _ (site : Sessions) (cookies : List Record) (i : ℕ) (cookie : Record) (below : i < length cookies) (is : cookie ≡ get_or cookies i cookie)
-    (same : bytes_eq site.cookie.now.fields.name cookie.name ≡ true) where
-  -- those before this one, this one, and those after it
-  pub split_here : site_cookies site cookies ≡ site_cookies site (take i cookies) ++ cookie ∷ site_cookies site (drop (i + 1) cookies)
-  split_here =
-      ap (site_cookies site) (sym (take-append-drop i cookies))
-      ∙ filter-append (λ c. bytes_eq site.cookie.now.fields.name c.name) (take i cookies) (drop i cookies)
-      ∙ ap (λ rest. site_cookies site (take i cookies) ++ site_cookies site rest)
-      (drop_more cookies i cookie below ∙ ap (λ c. c ∷ drop (i + 1) cookies) (sym is))
-      ∙ ap (λ b. site_cookies site (take i cookies) ++ cond b (cookie ∷ site_cookies site (drop (i + 1) cookies)) (site_cookies site (drop (i + 1) cookies))) same
-
-  -- where no session is open in any, none is in this one
-  pub none_here : (now : DateTime) → OpensNone site cookies now → (place : ℕ) (state : SessionState) → ¬ (IsOpen site (Some cookie) now place state)
-  none_here now none place state is =
-      none place state (site_cookies site (take i cookies), site_cookies site (drop (i + 1) cookies), cookie, split_here, is)
 
 module _ (IsRevoked : List ℕ → Type 0) (site : Sessions) (now : DateTime) where
   abbrev pub Closed : List Record → Type 0
@@ -54,33 +37,67 @@ module _ (IsRevoked : List ℕ → Type 0) (site : Sessions) (now : DateTime) wh
       same_first xs ys c d cs ds (same_heads x y (xs ++ c ∷ cs) (ys ++ d ∷ ds) e).1 (All-tail (IsClosed IsRevoked site now) x xs left)
       (All-tail (IsClosed IsRevoked site now) y ys right) here there
 
-  back_closed : (xs ys : List Record) → Closed (xs ++ ys) → Closed ys
-  back_closed [] ys closed = closed
-  back_closed (x ∷ xs) ys closed = back_closed xs ys (All-tail (IsClosed IsRevoked site now) x (xs ++ ys) closed)
-
   is_not_closed : (cookie : Record) (place : ℕ) (s : SessionState) → IsOpenUnrevoked IsRevoked site (Some cookie) now place s
       → ¬ (IsClosed IsRevoked site now cookie)
   is_not_closed cookie place s is closed = closed place s is
 
+  -- where no session is found, none is open
+  none_closed : (cookie : Record) → IsFound site now cookie None → IsClosed IsRevoked site now cookie
+  none_closed cookie none place s is = none-some (opened s place) ((none place s).1 is.0)
+
+  -- where the one that is found is revoked, none is open but a revoked one
+  revoked_closed : (cookie : Record) (found : Opened) → IsFound site now cookie (Some found) → IsRevoked found.session.id → IsClosed IsRevoked site now cookie
+  revoked_closed cookie found finds gone place s is =
+      is.1 (subst IsRevoked (ap (λ (o : Opened). o.session.id) (same_Some found (opened s place) ((finds place s).1 is.0))) gone)
+
+  -- ---- what is found in cookies
+
+  -- each session that is found is open in a cookie; if those before it are revoked, the cookies before that one are closed
+  pub found_in : (cookies : List Record) (all before after : List Opened) (found : Opened) → AreFound site now cookies all → all ≡ before ++ found ∷ after
+      → (earlier later : List Record) × (cookie : Record) × (cookies ≡ earlier ++ cookie ∷ later) × IsFound site now cookie (Some found)
+      × (All (λ (o : Opened). IsRevoked o.session.id) before → Closed earlier)
+  found_in [] all before after found none e = absurd (nowhere before (sym none ∙ e))
+    where
+      nowhere : (xs : List Opened) → [] ≡ xs ++ found ∷ after → ⊥
+      nowhere [] e = cc
+      nowhere (x ∷ xs) e = cc
+  found_in (cookie ∷ cookies) all before after found (inl (none, rest)) e =
+      let (earlier, later, other, split, finds, closed) = found_in cookies all before after found rest e in (
+        cookie ∷ earlier,
+        later,
+        other,
+        ap (λ cs. cookie ∷ cs) split,
+        finds,
+        λ gone. All-cons (IsClosed IsRevoked site now) cookie earlier (none_closed cookie none) (closed gone),
+      )
+  found_in (cookie ∷ cookies) all [] after found (inr (first, rest, is, finds, later)) e =
+      let same = same_heads first found rest after (sym is ∙ e) in
+      ([], cookies, cookie, refl, subst (λ o. IsFound site now cookie (Some o)) same.0 finds, λ gone. All-nil (IsClosed IsRevoked site now))
+  found_in (cookie ∷ cookies) all (one ∷ before) after found (inr (first, rest, is, finds, more)) e =
+      let same = same_heads first one rest (before ++ found ∷ after) (sym is ∙ e) in
+      let (earlier, later, other, split, there, closed) = found_in cookies rest before after found more same.1 in (
+        cookie ∷ earlier,
+        later,
+        other,
+        ap (λ cs. cookie ∷ cs) split,
+        there,
+        λ gone. All-cons (IsClosed IsRevoked site now) cookie earlier
+            (revoked_closed cookie one (subst (λ o. IsFound site now cookie (Some o)) same.0 finds) (All-head (λ (o : Opened). IsRevoked o.session.id) one before gone))
+            (closed (All-tail (λ (o : Opened). IsRevoked o.session.id) one before gone)),
+      )
+
+  -- if each that is found is revoked, each cookie is closed
+  pub all_closed : (cookies : List Record) (all : List Opened) → AreFound site now cookies all → All (λ (o : Opened). IsRevoked o.session.id) all → Closed cookies
+  all_closed [] all none gone = All-nil (IsClosed IsRevoked site now)
+  all_closed (cookie ∷ cookies) all (inl (none, rest)) gone =
+      All-cons (IsClosed IsRevoked site now) cookie cookies (none_closed cookie none) (all_closed cookies all rest gone)
+  all_closed (cookie ∷ cookies) all (inr (first, rest, is, finds, more)) gone =
+      let Gone : Opened → Type 0 = λ o. IsRevoked o.session.id in
+      let are = subst (All Gone) is gone in
+      All-cons (IsClosed IsRevoked site now) cookie cookies (revoked_closed cookie first finds (All-head Gone first rest are)) (all_closed cookies rest more (All-tail Gone first rest are))
+
   module _ (cookies : List Record) where
-    -- ---- once some cookies were tried
-
-    -- if none of those so far opens, nor this one if it has the name, then none of these opens
-    pub closed_more : (i : ℕ) (cookie : Record) → i < length cookies → cookie ≡ get_or cookies i cookie → Closed (site_cookies site (take i cookies))
-        → (bytes_eq site.cookie.now.fields.name cookie.name ≡ true → IsClosed IsRevoked site now cookie) → Closed (site_cookies site (take (i + 1) cookies))
-    closed_more i cookie below is closed this =
-        subst Closed (sym (filter_more named cookies i cookie below))
-        (All-append (IsClosed IsRevoked site now) (site_cookies site (take i cookies)) _ closed
-        (subst (λ c. Closed (cond (named c) (c ∷ []) [])) is (one (named cookie) refl)))
-      where
-        named : Record → Bool
-        named c = bytes_eq site.cookie.now.fields.name c.name
-
-        one : (b : Bool) → named cookie ≡ b → Closed (cond b (cookie ∷ []) [])
-        one true same = All-cons (IsClosed IsRevoked site now) cookie [] (this same) (All-nil (IsClosed IsRevoked site now))
-        one false other = All-nil (IsClosed IsRevoked site now)
-
-    -- if none of them opens, no session is found
+    -- if each of them is closed, no session is found
     pub found_none : Closed (site_cookies site cookies) → (place : ℕ) (s : SessionState)
         → (◌≡◌ {A = Option Opened} None (Some (opened s place))) ↔ OpensUnrevoked IsRevoked site cookies now place s
     found_none closed place s = (
@@ -89,76 +106,111 @@ module _ (IsRevoked : List ℕ → Type 0) (site : Sessions) (now : DateTime) wh
           let rest = back_closed first.earlier (first.cookie ∷ first.later) (subst Closed first.split closed) in
           absurd (is_not_closed first.cookie place s (first.opens, first.unrevoked) (All-head (IsClosed IsRevoked site now) first.cookie first.later rest)),
     )
+      where
+        back_closed : (xs ys : List Record) → Closed (xs ++ ys) → Closed ys
+        back_closed [] ys are = are
+        back_closed (x ∷ xs) ys are = back_closed xs ys (All-tail (IsClosed IsRevoked site now) x (xs ++ ys) are)
 
-    pub once_none : Closed (site_cookies site cookies) → (place : ℕ) (s : SessionState) (first : OpensUnrevoked IsRevoked site cookies now place s)
-        → HoldsOne site (Some first.cookie)
-    once_none closed place s first = absurd (none-some (opened s place) ((found_none closed place s).1 first))
-
-    module _ (i : ℕ) (cookie : Record) (below : i < length cookies) (is : cookie ≡ get_or cookies i cookie)
-        (same : bytes_eq site.cookie.now.fields.name cookie.name ≡ true) (closed : Closed (site_cookies site (take i cookies))) where
-      module _ (found : Opened) (answers : (place : ℕ) (s : SessionState) → (Some found ≡ Some (opened s place)) ↔ IsOpenUnrevoked IsRevoked site (Some cookie) now place s) where
-        -- the cookie that opens is this one
-        first_is : (place : ℕ) (s : SessionState) (first : OpensUnrevoked IsRevoked site cookies now place s) → first.cookie ≡ cookie
-        first_is place s first =
-            same_first first.earlier (site_cookies site (take i cookies)) first.cookie cookie first.later (site_cookies site (drop (i + 1) cookies))
-            (sym first.split ∙ split_here site cookies i cookie below is same) first.closed closed (is_not_closed first.cookie place s (first.opens, first.unrevoked))
-            (is_not_closed cookie found.place found.session ((answers found.place found.session).0 refl))
-
-        -- so its session is the one that is found
-        pub found_here : (place : ℕ) (s : SessionState) → (Some found ≡ Some (opened s place)) ↔ OpensUnrevoked IsRevoked site cookies now place s
-        found_here place s = (
-          λ e. record {
-            earlier = site_cookies site (take i cookies);
+    -- the first that is found and isn't revoked is the session that opens
+    pub found_first : (all before after : List Opened) (found : Opened) → AreFound site now (site_cookies site cookies) all → all ≡ before ++ found ∷ after
+        → All (λ (o : Opened). IsRevoked o.session.id) before → ¬ (IsRevoked found.session.id)
+        → (place : ℕ) (s : SessionState) → (Some found ≡ Some (opened s place)) ↔ OpensUnrevoked IsRevoked site cookies now place s
+    found_first all before after found are e gone stays place s =
+        let (earlier, later, cookie, split, finds, closed) = found_in (site_cookies site cookies) all before after found are e in
+        let same_id : Some found ≡ Some (opened s place) → found.session.id ≡ s.id = λ is. ap (λ (o : Opened). o.session.id) (same_Some found (opened s place) is) in
+        let open_here : IsOpenUnrevoked IsRevoked site (Some cookie) now found.place found.session = ((finds found.place found.session).0 refl, stays) in (
+          λ is. record {
+            earlier = earlier;
             cookie = cookie;
-            later = site_cookies site (drop (i + 1) cookies);
-            split = split_here site cookies i cookie below is same;
-            closed = closed;
-            opens = ((answers place s).0 e).0;
-            unrevoked = ((answers place s).0 e).1;
+            later = later;
+            split = split;
+            closed = closed gone;
+            opens = (finds place s).0 is;
+            unrevoked = λ revoked. stays (subst IsRevoked (sym (same_id is)) revoked);
           },
-          λ first. (answers place s).1 (subst (λ c. IsOpen site (Some c) now place s) (first_is place s first) first.opens, first.unrevoked),
+          λ first.
+              let at = same_first first.earlier earlier first.cookie cookie first.later later (sym first.split ∙ split) first.closed (closed gone)
+              (is_not_closed first.cookie place s (first.opens, first.unrevoked)) (is_not_closed cookie found.place found.session open_here) in
+              (finds place s).1 (subst (λ c. IsOpen site (Some c) now place s) at first.opens),
         )
 
-        pub once_here : HoldsOne site (Some cookie) → (place : ℕ) (s : SessionState) (first : OpensUnrevoked IsRevoked site cookies now place s) → HoldsOne site (Some first.cookie)
-        once_here once place s first = subst (λ c. HoldsOne site (Some c)) (sym (first_is place s first)) once
-
 module _ (site : Sessions) (now : DateTime) where
-  -- ---- the first cookie of the name
+  -- ---- one cookie more
 
-  abbrev First : List Record → Option Record
-  First cookies = first_of_name site.cookie.now.fields.name cookies
+  abbrev Holds : Record → Type 0
+  Holds cookie = HoldsOne site (Some cookie)
 
-  -- of no cookie the first holds no session
-  one_of_none : HoldsOne site (first_of_name site.cookie.now.fields.name [])
-  one_of_none time later place other_place session other is also = absurd is.sealed
+  found_more : (cookies : List Record) (all : List Opened) (cookie : Record) → AreFound site now cookies all → IsFound site now cookie None → AreFound site now (cookies ++ cookie ∷ []) all
+  found_more [] all cookie are none = inl (none, are)
+  found_more (c ∷ cookies) all cookie (inl (is, rest)) none = inl (is, found_more cookies all cookie rest none)
+  found_more (c ∷ cookies) all cookie (inr (first, later, e, finds, rest)) none = inr (first, later, e, finds, found_more cookies later cookie rest none)
 
-  -- the first of two lists is the first of one of them
-  one_of_both : (xs ys : List Record) → HoldsOne site (First xs) → HoldsOne site (First ys) → HoldsOne site (First (xs ++ ys))
-  one_of_both [] ys before after = after
-  one_of_both (x ∷ xs) ys before after = by (bytes_eq site.cookie.now.fields.name x.name) before (λ one. one_of_both xs ys one after)
+  found_too : (cookies : List Record) (all : List Opened) (cookie : Record) (found : Opened) → AreFound site now cookies all → IsFound site now cookie (Some found)
+      → AreFound site now (cookies ++ cookie ∷ []) (all ++ found ∷ [])
+  found_too [] all cookie found are finds = inr (found, [], ap (λ os. os ++ found ∷ []) are, finds, refl)
+  found_too (c ∷ cookies) all cookie found (inl (is, rest)) finds = inl (is, found_too cookies all cookie found rest finds)
+  found_too (c ∷ cookies) all cookie found (inr (first, later, e, is, rest)) finds =
+      inr (first, later ++ found ∷ [], ap (λ os. os ++ found ∷ []) e, is, found_too cookies later cookie found rest finds)
+
+  module _ (cookies : List Record) (i : ℕ) (cookie : Record) (below : i < length cookies) (is : cookie ≡ get_or cookies i cookie) where
+    so_far : ℕ → List Record
+    so_far n = site_cookies site (take n cookies)
+
+    module _ (named : bytes_eq site.cookie.now.fields.name cookie.name ≡ true) where
+      -- those of the name, with this one
+      one_more : so_far (i + 1) ≡ so_far i ++ cookie ∷ []
+      one_more =
+          filter_more (λ c. bytes_eq site.cookie.now.fields.name c.name) cookies i cookie below
+          ∙ ap (λ c. so_far i ++ cond (bytes_eq site.cookie.now.fields.name c.name) (c ∷ []) []) (sym is)
+          ∙ ap (λ b. so_far i ++ cond b (cookie ∷ []) []) named
+
+      pub none_more : (all : List Opened) → AreFound site now (so_far i) all → IsFound site now cookie None → AreFound site now (so_far (i + 1)) all
+      none_more all are none = subst (λ cs. AreFound site now cs all) (sym one_more) (found_more (so_far i) all cookie are none)
+
+      pub some_more : (all : List Opened) (found : Opened) → AreFound site now (so_far i) all → IsFound site now cookie (Some found)
+          → AreFound site now (so_far (i + 1)) (all ++ found ∷ [])
+      some_more all found are finds = subst (λ cs. AreFound site now cs (all ++ found ∷ [])) (sym one_more) (found_too (so_far i) all cookie found are finds)
+
+      pub holds_more : EachHoldsOne site (so_far i) → HoldsOne site (Some cookie) → EachHoldsOne site (so_far (i + 1))
+      holds_more before this = subst (EachHoldsOne site) (sym one_more) (All-append Holds (so_far i) (cookie ∷ []) before (All-cons Holds cookie [] this (All-nil Holds)))
+
+    -- one of another name changes nothing
+    pub other_more : bytes_eq site.cookie.now.fields.name cookie.name ≡ false → so_far (i + 1) ≡ so_far i
+    other_more other =
+        filter_more (λ c. bytes_eq site.cookie.now.fields.name c.name) cookies i cookie below
+        ∙ ap (λ c. so_far i ++ cond (bytes_eq site.cookie.now.fields.name c.name) (c ∷ []) []) (sym is)
+        ∙ ap (λ b. so_far i ++ cond b (cookie ∷ []) []) other ∙ append-nil (so_far i)
+
+  -- ---- what each of them holds
+
+  -- so the cookie that opens holds one session
+  pub once_first : (IsRevoked : List ℕ → Type 0) (cookies : List Record) → EachHoldsOne site (site_cookies site cookies) → (place : ℕ) (s : SessionState)
+      → (first : OpensUnrevoked IsRevoked site cookies now place s) → HoldsOne site (Some first.cookie)
+  once_first IsRevoked cookies each place s first = head first.earlier (subst (EachHoldsOne site) first.split each)
     where
-      by : (b : Bool) → HoldsOne site (cond b (Some x) (First xs)) → (HoldsOne site (First xs) → HoldsOne site (First (xs ++ ys)))
-          → HoldsOne site (cond b (Some x) (First (xs ++ ys)))
-      by true one rest = one
-      by false one rest = rest one
+      head : (xs : List Record) → EachHoldsOne site (xs ++ first.cookie ∷ first.later) → HoldsOne site (Some first.cookie)
+      head [] are = All-head Holds first.cookie first.later are
+      head (x ∷ xs) are = head xs (All-tail Holds x (xs ++ first.cookie ∷ first.later) are)
 
-  module _ (cookies : List Record) (i : ℕ) (cookie : Record) (below : i < length cookies) (is : cookie ≡ get_or cookies i cookie) (before : HoldsOne site (First (take i cookies))) where
-    -- once one more was tried
-    pub one_of_more : (bytes_eq site.cookie.now.fields.name cookie.name ≡ true → HoldsOne site (Some cookie)) → HoldsOne site (First (take (i + 1) cookies))
-    one_of_more this =
-        subst (λ cs. HoldsOne site (First cs)) (sym (take_more cookies i cookie below ∙ ap (λ c. take i cookies ++ c ∷ []) (sym is)))
-        (one_of_both (take i cookies) (cookie ∷ []) before (by (bytes_eq site.cookie.now.fields.name cookie.name) refl))
-      where
-        by : (b : Bool) → bytes_eq site.cookie.now.fields.name cookie.name ≡ b → HoldsOne site (cond b (Some cookie) None)
-        by true same = this same
-        by false other = one_of_none
+  -- and so does the first of the name
+  pub holds_first : (cookies : List Record) → EachHoldsOne site (site_cookies site cookies) → HoldsOne site (first_of_name site.cookie.now.fields.name cookies)
+  holds_first [] each time later place other_place session other is also = absurd is.sealed
+  holds_first (cookie ∷ cookies) each = by (bytes_eq site.cookie.now.fields.name cookie.name) each (holds_first cookies)
+    where
+      by : (b : Bool) → EachHoldsOne site (cond b (cookie ∷ site_cookies site cookies) (site_cookies site cookies))
+          → (EachHoldsOne site (site_cookies site cookies) → HoldsOne site (first_of_name site.cookie.now.fields.name cookies))
+          → HoldsOne site (cond b (Some cookie) (first_of_name site.cookie.now.fields.name cookies))
+      by true are rest = All-head Holds cookie (site_cookies site cookies) are
+      by false are rest = rest are
 
-    -- once one that has the name was tried, whatever comes after it
-    pub one_of_all : bytes_eq site.cookie.now.fields.name cookie.name ≡ true → HoldsOne site (Some cookie) → HoldsOne site (First cookies)
-    one_of_all same this =
-        subst (λ cs. HoldsOne site (First cs)) (ap (λ rest. take i cookies ++ rest) (sym (drop_more cookies i cookie below ∙ ap (λ c. c ∷ drop (i + 1) cookies) (sym is))) ∙ take-append-drop i cookies)
-        (one_of_both (take i cookies) (cookie ∷ drop (i + 1) cookies) before
-        (subst (λ b. HoldsOne site (cond b (Some cookie) (First (drop (i + 1) cookies)))) (sym same) this))
+  -- where no session is open in any of them, none is found
+  pub none_found : (cookies : List Record) (all : List Opened) → AreFound site now (site_cookies site cookies) all → OpensNone site cookies now → all ≡ []
+  none_found cookies [] are none = refl
+  none_found cookies (found ∷ all) are none =
+      let (earlier, later, cookie, split, finds, closed) = found_in none_revoked site now (site_cookies site cookies) (found ∷ all) [] all found are refl in
+      absurd (none found.place found.session (earlier, later, cookie, split, (finds found.place found.session).0 refl))
+
+  -- ---- the first cookie of the name
 
   -- if it opens, it is the first that does
   first_opens : (cookies : List Record) (place : ℕ) (s : SessionState) → IsOpen site (first_of_name site.cookie.now.fields.name cookies) now place s

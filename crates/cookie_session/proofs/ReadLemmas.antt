@@ -92,26 +92,37 @@ remains_after rest name value after read_name read_value texts next pairs some r
     let made : next ≡ insert texts pair.0 pair.1 = put ∙ (λ i. insert texts (n i) (v i)) in
     (left, All-tail (λ (p : Pair). IsUtf8 p.0 × IsUtf8 p.1) pair left are, parts.2, ap (filled left) made ∙ full)
 
+-- the number that was read is the one that was written
+abbrev ReadsNumber : List ℕ → ℕ → Type 0
+ReadsNumber text read = (n : ℕ) → n < 2 ^ 64 → text ≡ decimal n → read ≡ n
+
 -- the parts that are read of a session's text are the session's
-pub parsed : (text n0 v0 r0 n1 v1 r1 n2 v2 r2 n3 v3 r3 id : List ℕ) (started seen : ℕ) (texts : FinMap name_cmp (List ℕ))
-    → ReadsFirst text n0 v0 r0 → ReadsFirst r0 n1 v1 r1 → ReadsFirst r1 n2 v2 r2 → ReadsFirst r2 n3 v3 r3 → ((written : List ℕ) → IsId written → v1 ≡ id_text written → id ≡ written)
-    → ((n : ℕ) → n < 2 ^ 64 → v2 ≡ decimal n → started ≡ n) → ((n : ℕ) → n < 2 ^ 64 → v3 ≡ decimal n → seen ≡ n)
-    → ((pairs : List Pair) → AreTexts pairs → r3 ≡ pairs_text pairs → texts ≡ filled pairs empty) → (s : SessionState) → IsSessionText text s
-    → ◌≡◌ {A = SessionState} (record { id = id; started = started; seen = seen; texts = texts }) s
-parsed text n0 v0 r0 n1 v1 r1 n2 v2 r2 n3 v3 r3 id started seen texts f0 f1 f2 f3 reads_id reads_started reads_seen reads_texts s is =
+pub parsed : (text n0 v0 r0 n1 v1 r1 n2 v2 r2 n3 v3 r3 n4 v4 r4 n5 v5 r5 id : List ℕ) (started end idle seen : ℕ) (texts : FinMap name_cmp (List ℕ))
+    → ReadsFirst text n0 v0 r0 → ReadsFirst r0 n1 v1 r1 → ReadsFirst r1 n2 v2 r2 → ReadsFirst r2 n3 v3 r3 → ReadsFirst r3 n4 v4 r4 → ReadsFirst r4 n5 v5 r5
+    → ((written : List ℕ) → IsId written → v1 ≡ id_text written → id ≡ written)
+    → ReadsNumber v2 started → ReadsNumber v3 end → ReadsNumber v4 idle → ReadsNumber v5 seen
+    → ((pairs : List Pair) → AreTexts pairs → r5 ≡ pairs_text pairs → texts ≡ filled pairs empty) → (s : SessionState) → IsSessionText text s
+    → ◌≡◌ {A = SessionState} (record { id = id; started = started; end = end; idle = idle; seen = seen; texts = texts }) s
+parsed text n0 v0 r0 n1 v1 r1 n2 v2 r2 n3 v3 r3 n4 v4 r4 n5 v5 r5 id started end idle seen texts f0 f1 f2 f3 f4 f5 reads_id reads_started reads_end reads_idle reads_seen reads_texts s is =
     let session = is.session in
     let in_seen : List Pair = (codes "seen", decimal s.seen) ∷ entries s.texts in
-    let in_started : List Pair = (codes "started", decimal s.started) ∷ in_seen in
+    let in_idle : List Pair = (codes "idle", decimal s.idle) ∷ in_seen in
+    let in_end : List Pair = (codes "end", decimal s.end) ∷ in_idle in
+    let in_started : List Pair = (codes "started", decimal s.started) ∷ in_end in
     let in_id : List Pair = (codes "id", id_text s.id) ∷ in_started in
-    let p0 = f0 (codes "v", codes "3") in_id (is.written ∙ compact_form-read (session_pairs s)) in
+    let p0 = f0 (codes "v", codes "4") in_id (is.written ∙ compact_form-read (session_pairs s)) in
     let p1 = f1 (codes "id", id_text s.id) in_started p0.2 in
-    let p2 = f2 (codes "started", decimal s.started) in_seen p1.2 in
-    let p3 = f3 (codes "seen", decimal s.seen) (entries s.texts) p2.2 in
+    let p2 = f2 (codes "started", decimal s.started) in_end p1.2 in
+    let p3 = f3 (codes "end", decimal s.end) in_idle p2.2 in
+    let p4 = f4 (codes "idle", decimal s.idle) in_seen p3.2 in
+    let p5 = f5 (codes "seen", decimal s.seen) (entries s.texts) p4.2 in
     let a : id ≡ s.id = reads_id s.id session.id (p1.1 ∙ escape_marks-id_text s.id) in
     let b : started ≡ s.started = reads_started s.started session.started (p2.1 ∙ escape_marks-decimal s.started session.started) in
-    let c : seen ≡ s.seen = reads_seen s.seen session.seen (p3.1 ∙ escape_marks-decimal s.seen session.seen) in
-    let d : texts ≡ s.texts = reads_texts (entries s.texts) session.texts p3.2 ∙ filled-entries s.texts in
-    λ j. record { id = a j; started = b j; seen = c j; texts = d j }
+    let c : end ≡ s.end = reads_end s.end session.end (p3.1 ∙ escape_marks-decimal s.end session.end) in
+    let d : idle ≡ s.idle = reads_idle s.idle session.idle (p4.1 ∙ escape_marks-decimal s.idle session.idle) in
+    let e : seen ≡ s.seen = reads_seen s.seen session.seen (p5.1 ∙ escape_marks-decimal s.seen session.seen) in
+    let f : texts ≡ s.texts = reads_texts (entries s.texts) session.texts p5.2 ∙ filled-entries s.texts in
+    λ j. record { id = a j; started = b j; end = c j; idle = d j; seen = e j; texts = f j }
 
 module _ (text again : List ℕ) (session : SessionState) (wrote : IsSessionText again session)
     (reads : (s : SessionState) → IsSessionText text s → session ≡ s) where

@@ -50,31 +50,15 @@ form_text-written text is = ap utf8_lossy (decode-escape_marks text (small_text 
 pub form_text-unmarked : (text : List ℕ) → IsUtf8 text → list_any is_mark text ≡ false → form_text text ≡ text
 form_text-unmarked text is none = subst (λ t. form_text t ≡ text) (escape_marks_unmarked text none) (form_text-written text is)
 
--- what comes before the texts
-abbrev pub head_text : List ℕ → ℕ → ℕ → List ℕ
-head_text id started seen = codes "v=3&id=" ++ id_text id ++ codes "&started=" ++ decimal started ++ codes "&seen=" ++ decimal seen
-
--- the text so far, as its pieces were appended
-pub head_pieces : (t0 t1 t2 t3 t4 t5 t6 a b id : List ℕ) (started seen : ℕ) → a ≡ decimal started → b ≡ decimal seen → t0 ≡ [] → t1 ≡ t0 ++ codes "v=3&id="
-    → t2 ≡ t1 ++ id_text id → t3 ≡ t2 ++ codes "&started=" → t4 ≡ t3 ++ a → t5 ≡ t4 ++ codes "&seen=" → t6 ≡ t5 ++ b → t6 ≡ head_text id started seen
-head_pieces t0 t1 t2 t3 t4 t5 t6 a b id started seen is also e0 e1 e2 e3 e4 e5 e6 = joined (id_text id) (decimal started) (decimal seen) is also e0 e1 e2 e3 e4 e5 e6
+-- the text so far, as its pieces were appended, is the form of the first two pairs
+pub head_pairs : (t0 t1 t2 id : List ℕ) → t0 ≡ [] → t1 ≡ t0 ++ codes "v=4&id=" → t2 ≡ t1 ++ id_text id → t2 ≡ compact_form ((codes "v", codes "4") ∷ (codes "id", id_text id) ∷ [])
+head_pairs t0 t1 t2 id e0 e1 e2 = plain (id_text id) (escape_marks-id_text id) e2
   where
-    joined : (i x y : List ℕ) → a ≡ x → b ≡ y → t0 ≡ [] → t1 ≡ t0 ++ codes "v=3&id=" → t2 ≡ t1 ++ i → t3 ≡ t2 ++ codes "&started=" → t4 ≡ t3 ++ a → t5 ≡ t4 ++ codes "&seen=" → t6 ≡ t5 ++ b
-        → t6 ≡ codes "v=3&id=" ++ i ++ codes "&started=" ++ x ++ codes "&seen=" ++ y
-    joined i x y p q f0 f1 f2 f3 f4 f5 f6 = simp (f6, f5, f4, f3, f2, f1, f0, p, q, append_assoc) refl
-
--- these are the first pairs, as a form
-pub head_pairs : (id : List ℕ) (started seen : ℕ) → started < 2 ^ 64 → seen < 2 ^ 64
-    → head_text id started seen ≡ compact_form ((codes "v", codes "3") ∷ (codes "id", id_text id) ∷ (codes "started", decimal started) ∷ (codes "seen", decimal seen) ∷ [])
-head_pairs id started seen small also = plain (id_text id) (decimal started) (decimal seen) (escape_marks-id_text id) (escape_marks-decimal started small) (escape_marks-decimal seen also)
-  where
-    plain : (i a b : List ℕ) → escape_marks i ≡ i → escape_marks a ≡ a → escape_marks b ≡ b
-        → codes "v=3&id=" ++ i ++ codes "&started=" ++ a ++ codes "&seen=" ++ b ≡ compact_form ((codes "v", codes "3") ∷ (codes "id", i) ∷ (codes "started", a) ∷ (codes "seen", b) ∷ [])
-    plain i a b stays start last =
+    plain : (i : List ℕ) → escape_marks i ≡ i → t2 ≡ t1 ++ i → t2 ≡ compact_form ((codes "v", codes "4") ∷ (codes "id", i) ∷ [])
+    plain i stays last =
         let version = escape_marks_unmarked (codes "v") refl in
-        let three = escape_marks_unmarked (codes "3") refl in
+        let four = escape_marks_unmarked (codes "4") refl in
         let id_name = escape_marks_unmarked (codes "id") refl in
-        let started_name = escape_marks_unmarked (codes "started") refl in
-        let seen_name = escape_marks_unmarked (codes "seen") refl in
-        sym (compact_nonempty (compact_pair (codes "v", codes "3")) ((codes "id", i) ∷ (codes "started", a) ∷ (codes "seen", b) ∷ []) (compact_pair_nonempty (codes "v", codes "3"))
-        ∙ simp (version, three, id_name, started_name, seen_name, stays, start, last, append_assoc, append-nil) refl)
+        last ∙ simp (e1, e0) refl
+        ∙ sym (compact_nonempty (compact_pair (codes "v", codes "4")) ((codes "id", i) ∷ []) (compact_pair_nonempty (codes "v", codes "4"))
+        ∙ simp (version, four, id_name, stays, append_assoc, append-nil) refl)

@@ -1,13 +1,17 @@
--- A cookie in which a session is open that may be revoked.
-use Rattle.std.proofs.Common.{◌≡◌, ◌↔◌, ℕ, List, Option, None, Some, sym, ap, subst}
-use Rattle.std.proofs.lemmas.Option.{none-some, same_Some}
+-- The session that opens, of those that are open, by what the store says of their ids.
+use Rattle.std.proofs.Common.{◌≡◌, ◌↔◌, ℕ, zero, suc, List, [], ◌∷◌, ◌++◌, All, drop, map, take, Option, None, Some, MatchOption, option_map, refl, sym, ap, subst, ◌∙◌}
+use Rattle.std.proofs.lemmas.List.{take-map}
+use Rattle.std.proofs.lemmas.List.Elements.{All-cons, All-head, All-tail}
+use Rattle.std.proofs.lemmas.Option.{none-some, same_Some, slice_get-map}
+use Rattle.std.specs.List.{slice_get}
 use Rattle.jiff.specs.Types.{DateTime}
 use Rattle.cookie.specs.Record.{Record}
-use Rattle.cookie_session.specs.Revocations.{AreSame, IsRevoked}
+use Rattle.cookie_session.specs.Revocations.{AreSame, IsFirstUnrevoked, IsRevoked}
 use Rattle.cookie_session.specs.Session.{SessionState}
-use Rattle.cookie_session.specs.Sessions.{IsOpen, IsOpenUnrevoked}
+use Rattle.cookie_session.specs.Sessions.{AreFound, OpensOne, OpensUnrevoked, site_cookies}
 use Rattle.cookie_session.specs.declared.opened.Opened.{Opened}
 use Rattle.cookie_session.specs.declared.sessions.Sessions.{Sessions}
+use Rattle.cookie_session.proofs.FirstLemmas.{all_closed, found_first, found_in, found_none}
 use Rattle.cookie_session.proofs.SessionLemmas.{opened}
 
 -- what is the same as the same is the same
@@ -17,40 +21,44 @@ same_again a b c first second id until = (
   λ is. (second id until).1 ((first id until).1 is),
 )
 
-module _ (IsGone : List ℕ → Type 0) (site : Sessions) (stored : Option Record) (now : DateTime) where
-  abbrev Answers : Option Opened → Type 0
-  Answers answer = (place : ℕ) (s : SessionState) → (answer ≡ Some (opened s place)) ↔ IsOpen site stored now place s
+-- the id of a session that was opened
+abbrev pub id_of : Opened → List ℕ
+id_of found = found.session.id
 
-  abbrev pub AnswersUnrevoked : Option Opened → Type 0
-  AnswersUnrevoked answer = (place : ℕ) (s : SessionState)
-      → (answer ≡ Some (opened s place)) ↔ IsOpenUnrevoked IsGone site stored now place s
+split_at : (all : List Opened) (n : ℕ) (found : Opened) → slice_get all n ≡ Some found → all ≡ take n all ++ found ∷ drop (suc n) all
+split_at [] n found is = absurd (none-some found is)
+split_at (one ∷ all) zero found is = ap (λ o. o ∷ all) (same_Some one found is)
+split_at (one ∷ all) (suc n) found is = ap (λ os. one ∷ os) (split_at all n found is)
 
-  -- no session is open
-  pub none_open : Answers None → AnswersUnrevoked None
-  none_open answers place s = (λ e. absurd (none-some (opened s place) e), λ is. (answers place s).1 is.0)
+all_of_ids : (Gone : List ℕ → Type 0) (all : List Opened) → All Gone (map id_of all) → All (λ (o : Opened). Gone o.session.id) all
+all_of_ids Gone [] are = are
+all_of_ids Gone (one ∷ all) are = All-cons (λ (o : Opened). Gone o.session.id) one all (All-head Gone one.session.id (map id_of all) are)
+    (all_of_ids Gone all (All-tail Gone one.session.id (map id_of all) are))
 
-  module _ (found : Opened) (answers : Answers (Some found)) where
-    same_id : (place : ℕ) (s : SessionState) → Some found ≡ Some (opened s place) → found.session.id ≡ s.id
-    same_id place s e = ap (λ (o : Opened). o.session.id) (same_Some found (opened s place) e)
+module _ (site : Sessions) (now : DateTime) (cookies : List Record) (all : List Opened) (are : AreFound site now (site_cookies site cookies) all) where
+  -- what is opened is open in one of the cookies, whatever the place is
+  pub one_opens : (place : Option ℕ) (answer : Option Opened) → MatchOption place (answer ≡ None) (λ n. answer ≡ slice_get all n)
+      → (key : ℕ) (s : SessionState) → answer ≡ Some (opened s key) → OpensOne site cookies now key s
+  one_opens None answer is key s e = absurd (none-some (opened s key) (sym is ∙ e))
+  one_opens (Some n) answer is key s e =
+      let split = split_at all n (opened s key) (sym is ∙ e) in
+      let (earlier, later, cookie, whole, finds, closed) = found_in (λ id. ⊥) site now (site_cookies site cookies) all (take n all) (drop (suc n) all) (opened s key) are split in
+      (earlier, later, cookie, whole, (finds key s).0 refl)
 
-    -- one is open that isn't revoked
-    pub one_open : ¬ (IsGone found.session.id) → AnswersUnrevoked (Some found)
-    one_open stays place s = (
-      λ e. ((answers place s).0 e, λ gone. stays (subst IsGone (sym (same_id place s e)) gone)),
-      λ is. (answers place s).1 is.0,
-    )
-
-    -- the one that is open is revoked
-    pub one_revoked : IsGone found.session.id → AnswersUnrevoked None
-    one_revoked gone place s = (
-      λ e. absurd (none-some (opened s place) e),
-      λ is. absurd (is.1 (subst IsGone (same_id place s ((answers place s).1 is.0)) gone)),
-    )
-
--- what is revoked alike opens alike
-pub opens_alike : (old new : List ℕ → ℕ → Type 0) → AreSame old new → (site : Sessions) (stored : Option Record) (now : DateTime) (answer : Option Opened)
-    → AnswersUnrevoked (IsRevoked new) site stored now answer → AnswersUnrevoked (IsRevoked old) site stored now answer
-opens_alike old new same site stored now answer answers place s = (
-  λ e. let is = (answers place s).0 e in (is.0, λ gone. is.1 ((same s.id 0).1 gone)),
-  λ is. (answers place s).1 (is.0, λ gone. is.1 ((same s.id 0).0 gone)),
-)
+  module _ (set : List ℕ → ℕ → Type 0) where
+    -- and at the first place whose session isn't revoked it is the session that opens
+    pub first_opens : (place : Option ℕ) (answer : Option Opened) → MatchOption place (answer ≡ None) (λ n. answer ≡ slice_get all n)
+        → IsFirstUnrevoked set (map id_of all) place → (key : ℕ) (s : SessionState) → (answer ≡ Some (opened s key)) ↔ OpensUnrevoked (IsRevoked set) site cookies now key s
+    first_opens None answer is gone key s =
+        let none = found_none (IsRevoked set) site now cookies (all_closed (IsRevoked set) site now (site_cookies site cookies) all are (all_of_ids (IsRevoked set) all gone)) key s in
+        (λ e. none.0 (sym is ∙ e), λ first. is ∙ none.1 first)
+    first_opens (Some n) answer is (gone, id, at, stays) key s = by (slice_get all n) refl
+      where
+        by : (o : Option Opened) → slice_get all n ≡ o → (answer ≡ Some (opened s key)) ↔ OpensUnrevoked (IsRevoked set) site cookies now key s
+        by None none = absurd (none-some id (sym (slice_get-map id_of all n ∙ ap (option_map id_of) none) ∙ at))
+        by (Some found) there =
+            let same : found.session.id ≡ id = same_Some found.session.id id (sym (slice_get-map id_of all n ∙ ap (option_map id_of) there) ∙ at) in
+            let before = all_of_ids (IsRevoked set) (take n all) (subst (All (IsRevoked set)) (take-map id_of n all) gone) in
+            let right = found_first (IsRevoked set) site now cookies all (take n all) (drop (suc n) all) found are (split_at all n found there) before
+            (λ revoked. stays (subst (IsRevoked set) same revoked)) key s in
+            (λ e. right.0 (sym there ∙ sym is ∙ e), λ first. is ∙ there ∙ right.1 first)

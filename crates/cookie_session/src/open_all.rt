@@ -1,7 +1,7 @@
 //! Opening each session that a request has.
 ghost use Rattle.std.specs.Prelude.{IfOk, alloc_error, map};
 ghost use Rattle.cookie.specs.Memory.{Gives};
-ghost use Rattle.cookie_session.specs.Sessions.{AreOpen, EachHoldsOne, site_cookies};
+ghost use Rattle.cookie_session.specs.Sessions.{AreFound, EachHoldsOne, site_cookies};
 
 use crate::opened::Opened;
 use crate::sessions::Sessions;
@@ -27,21 +27,21 @@ impl<'a> Sessions<'a> {
         cookies: &[Cookie<'static>],
         now: DateTime,
     ) -> Result<Vec<Opened>, AllocError>
-        ensures opened { Gives alloc_error result (λ opened. AreOpen self.now now
-            (site_cookies self.now (map (λ c. c.fields) cookies.now)) opened.items) }
+        ensures found { Gives alloc_error result (λ found. AreFound self.now now
+            (site_cookies self.now (map (λ c. c.fields) cookies.now)) found.items) }
 
         // None of these cookies holds another session, whatever the time.
         ensures once { IfOk result (λ _. EachHoldsOne self.now
             (site_cookies self.now (map (λ c. c.fields) cookies.now))) }
     {
-        let mut opened = Vec::new(alloc);
+        let mut found = Vec::new(alloc);
         for cookie in cookies {
             if cookie.name() == self.cookie.name() {
-                if let Some(found) = self.open_cookie(alloc, cookie, now)? {
-                    opened.push(found)?;
+                if let Some(opened) = self.open_cookie(alloc, cookie, now)? {
+                    found.push(opened)?;
                 }
             }
         }
-        Ok(opened)
+        Ok(found)
     }
 }

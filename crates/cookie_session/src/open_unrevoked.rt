@@ -1,5 +1,5 @@
 //! Opening and revoking sessions that can be revoked.
-ghost use Rattle.std.specs.Prelude.{◌≡◌, ◌≢◌, ◌↔◌, ◌⊎◌, ℕ, Some, Err, IfOk, IsTrue, OnErr, OnOk, map};
+ghost use Rattle.std.specs.Prelude.{◌≡◌, ◌≢◌, ◌↔◌, ◌⊎◌, ℕ, MatchOption, None, Some, Err, IfOk, IsTrue, OnErr, OnOk, map, slice_get};
 ghost use Rattle.cookie.specs.Originals.{first_of_name};
 ghost use Rattle.cookie_session.specs.Revocations.{AreSame, IsRevoked, IsRevokedToo};
 ghost use Rattle.cookie_session.specs.Session.{SessionState};
@@ -65,14 +65,13 @@ impl<'a> Sessions<'a> {
             → AreSame (R.revoked_until revocations.old) (R.revoked_until revocations.new) }
         ensures kept { R.is_intact revocations.new → R.is_intact revocations.old }
     {
-        let mut opened = self.open_all(alloc, cookies, now)?;
-        if opened.is_empty() {
+        let found = self.open_all(alloc, cookies, now)?;
+        if found.is_empty() {
             return Ok(None);
         }
-        let ids = ids_of(alloc, &opened)?;
+        let ids = ids_of(alloc, &found)?;
         match revocations.first_unrevoked(&ids) {
-            Ok(Some(place)) if place < opened.len() => Ok(Some(opened.swap_remove(place))),
-            Ok(_) => Ok(None),
+            Ok(place) => Ok(session_at(found, place)),
             Err(error) => Err(OpenError::Revocations(error)),
         }
     }
@@ -116,4 +115,11 @@ fn ids_of(alloc: Global, opened: &[Opened]) -> Result<Vec<[u8; 16]>, AllocError>
         ids.push(*one.session.id())?;
     }
     Ok(ids)
+}
+
+// The session at this place, if there is one.
+fn session_at(found: Vec<Opened>, place: Option<usize>) -> Option<Opened>
+    ensures { MatchOption place (result ≡ None) (λ n. result ≡ slice_get found.items n) }
+{
+    found.into_iter().nth(place?)
 }

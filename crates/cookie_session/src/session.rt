@@ -198,7 +198,10 @@ impl Session {
         ensures { IsTrue result ↔ IsAlive lifetime idle now (seen_at seen self.now) }
     {
         let Times {
-            started, end, idle: own, ..
+            started,
+            end,
+            idle: own,
+            ..
         } = self.times;
         started <= now
             && now - started < lifetime as u64
@@ -206,21 +209,21 @@ impl Session {
             && (now < seen || now - seen < own.min(idle as u64))
     }
 
-    // The text of the session, saved in the second `seen`. An id and a number have no escapes.
+    // The text of the session, saved in the second `seen`. An id has no escapes.
     pub(crate) fn text_at(&self, alloc: Global, seen: u64) -> Result<String, AllocError>
         ensures { IfOk result (λ text. IsSessionText (string_bytes text) (seen_at seen self.now)) }
     {
         let mut text = String::with_capacity(alloc, USUAL_LENGTH)?;
         text.push_str("v=4&id=")?;
         URL_SAFE_NO_PAD.encode_string(&self.id, &mut text)?;
-        text.push_str("&started=")?;
-        text.push_str(Buffer::new().format(self.times.started))?;
-        text.push_str("&end=")?;
-        text.push_str(Buffer::new().format(self.times.end))?;
-        text.push_str("&idle=")?;
-        text.push_str(Buffer::new().format(self.times.idle))?;
-        text.push_str("&seen=")?;
-        text.push_str(Buffer::new().format(seen))?;
+        push_pair(
+            &mut text,
+            "started",
+            Buffer::new().format(self.times.started),
+        )?;
+        push_pair(&mut text, "end", Buffer::new().format(self.times.end))?;
+        push_pair(&mut text, "idle", Buffer::new().format(self.times.idle))?;
+        push_pair(&mut text, "seen", Buffer::new().format(seen))?;
         for (name, value) in self.texts.pairs() {
             push_pair(&mut text, name, value)?;
         }
