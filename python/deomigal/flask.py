@@ -114,23 +114,23 @@ class FlaskSession(SecureCookieSession):
         """Revokes it, and then clears it. Call it at a logout: no copy of its cookie opens any more, whenever it was
         saved. Returns whether it was revoked already. Raises `RevocationsError` if that can't be kept, and `RuntimeError`
         if the interface has no `revocations`."""
-        is_already = self.end()
+        was_revoked = self.end()
         is_forgotten = self.get(REMEMBER) == "clear"
         self.clear()
         if is_forgotten:
             # So Flask-Login drops the cookie that would log the user in again.
             self[REMEMBER] = "clear"
-        return is_already
+        return was_revoked
 
     def end(self) -> bool:
         """Revokes it, and starts it anew with the same values. Returns whether it was revoked already."""
         try:
-            is_already = self.sessions.revoke(self.source)
+            was_revoked = self.sessions.revoke(self.source)
         except RevocationsError as error:
             self.is_failed = True
             raise Unavailable(error) from error
         self.renew()
-        return is_already
+        return was_revoked
 
     def check(self) -> None:
         """Raises `TooLarge` if no browser would store the session as it is now. It is checked so after each view, if

@@ -16,7 +16,7 @@ import weakref
 from typing import Any, Iterable, Iterator, Protocol, Sequence
 
 from ._locks import Lock
-from ._steps import Steps, run, run_async
+from ._steps import awaited, run
 from .errors import RevocationsError
 
 ID_LENGTH = 16
@@ -110,9 +110,9 @@ class MemoryRevocations:
     def revoke(self, id: bytes, until: int) -> bool:
         """Revokes the session with this id until that second, or a later one. Returns whether it was revoked already."""
         with self.lock:
-            is_already = id_of(id) in self.until
+            was_revoked = id_of(id) in self.until
             self.until[id] = max(until, self.until.get(id, until))
-            return is_already
+            return was_revoked
 
     def forget(self, now: float) -> None:
         """Forgets each session whose second isn't after `now`."""
@@ -318,7 +318,7 @@ class SqliteRevocations:
 
 
 class RedisCommands:
-    """The commands of Redis for revoked sessions, as steps that are each a call of the client."""
+    """The commands of Redis for revoked sessions, over a client whose calls are coroutines or not."""
 
     def __init__(self, client: Any, prefix: str = "revoked:") -> None:
         self.client, self.prefix = client, prefix
@@ -327,32 +327,27 @@ class RedisCommands:
         """The key of the id in Redis."""
         return self.prefix + id_of(id).hex()
 
-    def looking_up(self, ids: Sequence[bytes]) -> Steps[list[bool]]:
+    async def looking_up(self, ids: Sequence[bytes]) -> list[bool]:
         """Looks up whether each of the sessions is revoked."""
         keys = [self.key(id) for id in ids]
-        found = (yield lambda: self.client.mget(keys)) if keys else []
+        found = await awaited(self.client.mget(keys)) if keys else []
         if not isinstance(found, list) or len(found) != len(keys):
             raise RevocationsError(f"Redis returned {found!r}")
         return [outcome(value, None, b"", "") is not None for value in found]
 
-    def revoking(self, id: bytes, until: int) -> Steps[bool]:
+    async def revoking(self, id: bytes, until: int) -> bool:
         """Revokes the session with this id until that second, or a later one. Between two commands the key may expire."""
         key, end = self.key(id), until + SLACK
         for attempt in range(3):
-            if outcome((yield lambda: self.client.set(key, b"", nx=True, exat=end)), True, None):
+            if outcome(await awaited(self.client.set(key, b"", nx=True, exat=end)), True, None):
                 return attempt > 0
-            if outcome((yield lambda: self.client.expireat(key, end, gt=True)), 0, 1):
+            if outcome(await awaited(self.client.expireat(key, end, gt=True)), 0, 1):
                 return True
             # Of a key without an end it is -1, and of none -2.
-            expires = yield lambda: self.client.expiretime(key)
+            expires = await awaited(self.client.expiretime(key))
             if isinstance(expires, int) and (expires == -1 or expires >= end):
                 return True
         raise RevocationsError("Redis doesn't keep the key of a revoked session")
-
-
-def called(command: Any) -> Any:
-    """What a command returns."""
-    return command()
 
 
 def outcome(found: Any, *known: Any) -> Any:
@@ -378,11 +373,11 @@ class RedisRevocations(RedisCommands):
 
     def are_revoked(self, ids: Sequence[bytes]) -> list[bool]:
         """Whether each of the sessions is revoked, in one round trip."""
-        return run(self.looking_up(ids), called)
+        return run(self.looking_up(ids))
 
     def revoke(self, id: bytes, until: int) -> bool:
         """Revokes the session with this id until that second, or a later one. Returns whether it was revoked already."""
-        return run(self.revoking(id, until), called)
+        return run(self.revoking(id, until))
 
     def forget(self, now: float) -> None:
         """Does nothing: Redis forgets each key by itself."""
@@ -397,11 +392,11 @@ class AsyncRedisRevocations(RedisCommands):
 
     async def are_revoked(self, ids: Sequence[bytes]) -> list[bool]:
         """Whether each of the sessions is revoked, in one round trip."""
-        return await run_async(self.looking_up(ids), called)
+        return await self.looking_up(ids)
 
     async def revoke(self, id: bytes, until: int) -> bool:
         """Revokes the session with this id until that second, or a later one. Returns whether it was revoked already."""
-        return await run_async(self.revoking(id, until), called)
+        return await self.revoking(id, until)
 
     async def forget(self, now: float) -> None:
         """Does nothing: Redis forgets each key by itself."""

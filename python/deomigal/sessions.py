@@ -4,7 +4,7 @@ from __future__ import annotations
 
 import inspect
 import os
-from typing import Any, Iterator, MutableMapping, Sequence, Union
+from typing import Any, Awaitable, Callable, Iterator, MutableMapping, Sequence, Union
 from urllib.parse import parse_qsl, urlencode
 
 from ._library import (
@@ -13,7 +13,7 @@ from ._library import (
     handle_of, header_of, perform, ring_of,
 )
 from ._locks import Lock
-from ._steps import Steps, in_thread, run, run_async
+from ._steps import in_thread, run
 from .compression import expand, shorten
 from .cookies import print_cookie
 from .dates import whole_second
@@ -23,6 +23,8 @@ from .revocations import ID_LENGTH, AsyncRevocations, Revocations, as_revocation
 # Room for a cookie that a browser stores, and for the texts in it.
 ROOM = 5000
 AnyRevocations = Union[Revocations, AsyncRevocations]
+# Makes a call of the revocations, by its name.
+Ask = Callable[..., Awaitable[Any]]
 
 
 class Session(MutableMapping[str, str]):
@@ -201,19 +203,19 @@ class Sessions(Uncopied):
         >>> sessions.open(cookie, now=1445414279).is_new, sessions.open(cookie, now=1445414280).is_new
         (False, True)
         """
-        return run(self.opening(header, now), self.ask)
+        return run(self.opening(header, now, self.ask))
 
     async def aopen(self, header: str | bytes | None, now: float | None = None) -> Session:
         """What `open` returns. Calls of the revocations that are coroutines are awaited, and others made in a worker
         thread."""
-        return await run_async(self.opening(header, now), self.ask_async)
+        return await self.opening(header, now, self.ask_async)
 
-    def opening(self, header: str | bytes | None, now: float | None) -> Steps[Session]:
-        """Opens the session in a request's header, and yields the calls of the revocations."""
+    async def opening(self, header: str | bytes | None, now: float | None, ask: Ask) -> Session:
+        """Opens the session in a request's header."""
         session = self.start(now)
         session.header = header_of(header)
         try:
-            yield from self.filling(session)
+            await self.fill(session, ask)
         except NoSession:
             return self.start(session.now)
         session.describe()
@@ -226,9 +228,8 @@ class Sessions(Uncopied):
             return self.start(session.now)
         return session
 
-    def filling(self, session: Session) -> Steps[None]:
-        """Opens the session of its header for its handle, and yields the calls of the revocations. For a copy they were
-        made before."""
+    async def fill(self, session: Session, ask: Ask) -> None:
+        """Opens the session of its header for its handle. For a copy the revocations were asked before."""
         if self.revocations is None and not session.revoked:
             session.revoked = b""
             with self.lock:
@@ -239,29 +240,28 @@ class Sessions(Uncopied):
             with self.lock:
                 perform(OPENED_NEW, self.handle, session.header, session.now, opened)
             if session.revoked is None:
-                session.revoked = yield from self.looking_up(bytes_from(OPENED_IDS, opened))
+                session.revoked = await self.revoked_of(bytes_from(OPENED_IDS, opened), ask)
             perform(OPENED_TAKE, opened, session.revoked, session.handle)
         finally:
             OPENED_FREE(opened)
 
-    def looking_up(self, ids: bytes) -> Steps[bytes]:
-        """Looks up which of the ids are revoked, until one isn't, and yields the calls of the revocations."""
+    async def revoked_of(self, ids: bytes, ask: Ask) -> bytes:
+        """Those of the ids that are revoked, or only those before the first that isn't."""
         each = list(dict.fromkeys(ids[at : at + ID_LENGTH] for at in range(0, len(ids), ID_LENGTH)))
         revoked = b""
         if each and hasattr(self.revocations, "are_revoked"):
-            found = yield "are_revoked", each
+            found = await ask("are_revoked", each)
             if not isinstance(found, list) or len(found) != len(each):
                 raise RevocationsError("are_revoked returns a list with a bool for each id")
             return b"".join(id for id, is_revoked in zip(each, found) if is_true(is_revoked))
         for id in each:
-            if not is_true((yield "is_revoked", id)):
+            if not is_true(await ask("is_revoked", id)):
                 break
             revoked += id
         return revoked
 
-    def ask(self, call: tuple[Any, ...]) -> Any:
+    async def ask(self, name: str, *words: Any) -> Any:
         """What this call of the revocations returns. Raises `RevocationsError` for whatever it raises."""
-        name, *words = call
         with as_revocations_error(f"{name} of the revocations failed"):
             found = getattr(self.revocations, name)(*words)
         if inspect.iscoroutine(found):
@@ -269,9 +269,8 @@ class Sessions(Uncopied):
             raise TypeError(f"{name} of these revocations is a coroutine: await aopen and arevoke")
         return found
 
-    async def ask_async(self, call: tuple[Any, ...]) -> Any:
+    async def ask_async(self, name: str, *words: Any) -> Any:
         """The same, awaited."""
-        name, *words = call
         function = getattr(self.revocations, name)
         with as_revocations_error(f"{name} of the revocations failed"):
             if inspect.iscoroutinefunction(function):
@@ -295,21 +294,19 @@ class Sessions(Uncopied):
         >>> sessions.open(cookie).is_new
         True
         """
-        return run(self.revoking(session), self.ask)
+        return run(self.revoking(session, self.ask))
 
     async def arevoke(self, session: Session) -> bool:
         """Does what `revoke` does. Calls of the revocations that are coroutines are awaited, and others made in a worker
         thread."""
-        return await run_async(self.revoking(session), self.ask_async)
+        return await self.revoking(session, self.ask_async)
 
-    def revoking(self, session: Session) -> Steps[bool]:
-        """Revokes the session, and yields the calls of the revocations. Returns whether it was revoked already."""
+    async def revoking(self, session: Session, ask: Ask) -> bool:
+        """Revokes the session. Returns whether it was revoked already."""
         if self.revocations is None:
             raise RuntimeError("these sessions can't be revoked: they are made without `revocations`")
-        found = []
-        for id, end in list(session.ends.items()):
-            found.append((yield "revoke", id, end))
-        if not all(isinstance(is_already, bool) for is_already in found):
+        found = [await ask("revoke", id, end) for id, end in list(session.ends.items())]
+        if not all(isinstance(was_revoked, bool) for was_revoked in found):
             raise TypeError("revoke of the revocations returns a bool: whether the session was revoked already")
         return any(found)
 
@@ -339,7 +336,7 @@ class Sessions(Uncopied):
                 perform(SESSION_START, self.handle, session.id, now, handle)
             session.describe()
         elif not handle.is_open:
-            run(self.filling(session), self.ask)
+            run(self.fill(session, self.ask))
         try:
             form = urlencode(shorten(session.texts, self.compress))
         except UnicodeEncodeError:

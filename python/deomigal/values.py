@@ -169,15 +169,15 @@ class CookieSession(Mapped):
         """Revokes it, and then clears it. Call it at a logout: no copy of its cookie opens any more, whenever it was
         saved. Returns whether it was revoked already. Raises `RevocationsError` if that can't be kept, and `RuntimeError`
         if the middleware has no `revocations`."""
-        is_already = self.sessions.revoke(self.source)
+        was_revoked = self.sessions.revoke(self.source)
         self.clear()
-        return is_already
+        return was_revoked
 
     async def arevoke(self) -> bool:
         """Does what `revoke` does, in a coroutine: others go on meanwhile."""
-        is_already = await self.sessions.arevoke(self.source)
+        was_revoked = await self.sessions.arevoke(self.source)
         self.clear()
-        return is_already
+        return was_revoked
 
     def check(self) -> None:
         """Raises `TooLarge` if no browser would store the session as it is now. Else that is raised where the response
