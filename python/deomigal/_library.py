@@ -220,14 +220,15 @@ def perform(function: Callable[..., Any], *inputs: Any) -> None:
 
 
 def answer_and_bytes(function: Callable[..., Any], *inputs: Any, room: int = 256) -> tuple[Any, bytes]:
-    """What a call returns, and its bytes. If the first buffer is too short, it is called again with one that fits."""
+    """What a call returns, and its bytes, or the buffer if it decodes. If the first is too short, it is called again with
+    one that fits."""
     arguments = arguments_of(function, inputs)
     while True:
         buffer = ctypes.create_string_buffer(room)
         answer = function(*arguments, buffer, room)
         if answer.status != BufferTooShort.status:
-            return answer, buffer.raw[: answer.length]
-        room = answer.length
+            return answer, buffer.raw[: getattr(answer, "length", room)]
+        room = answer.length if hasattr(answer, "length") else answer.value.start + answer.value.length
 
 
 def bytes_from(function: Callable[..., Any], *inputs: Any, room: int = 256) -> bytes:
@@ -236,17 +237,6 @@ def bytes_from(function: Callable[..., Any], *inputs: Any, room: int = 256) -> b
     if answer.status != DONE:
         raise error_of(answer.status, answer.length)
     return text
-
-
-def decoded(function: Callable[..., Any], *inputs: Any, room: int = 256) -> tuple[Any, bytes]:
-    """What a call that decodes returns, and its buffer. If the first is too short, it is called again."""
-    arguments = arguments_of(function, inputs)
-    while True:
-        buffer = ctypes.create_string_buffer(room)
-        answer = function(*arguments, buffer, room)
-        if answer.status != BufferTooShort.status:
-            return answer, buffer.raw
-        room = answer.value.start + answer.value.length
 
 
 def text_or_none(function: Callable[..., Any], none: tuple[type[CookieError], ...], *inputs: Any) -> str | None:

@@ -328,7 +328,7 @@ class RedisCommands:
         return self.prefix + id_of(id).hex()
 
     async def looking_up(self, ids: Sequence[bytes]) -> list[bool]:
-        """Looks up whether each of the sessions is revoked."""
+        """Whether each of the sessions is revoked, in one round trip."""
         keys = [self.key(id) for id in ids]
         found = await awaited(self.client.mget(keys)) if keys else []
         if not isinstance(found, list) or len(found) != len(keys):
@@ -336,8 +336,9 @@ class RedisCommands:
         return [outcome(value, None, b"", "") is not None for value in found]
 
     async def revoking(self, id: bytes, until: int) -> bool:
-        """Revokes the session with this id until that second, or a later one. Between two commands the key may expire."""
+        """Revokes the session with this id until that second, or a later one. Returns whether it was revoked already."""
         key, end = self.key(id), until + SLACK
+        # Between two commands the key may expire.
         for attempt in range(3):
             if outcome(await awaited(self.client.set(key, b"", nx=True, exat=end)), True, None):
                 return attempt > 0
@@ -386,17 +387,11 @@ class RedisRevocations(RedisCommands):
 class AsyncRedisRevocations(RedisCommands):
     """The same with the client of `redis.asyncio`, for `deomigal.asgi` and `Sessions.aopen`."""
 
+    are_revoked, revoke = RedisCommands.looking_up, RedisCommands.revoking
+
     async def is_revoked(self, id: bytes) -> bool:
         """Whether the session with this id is revoked."""
         return (await self.are_revoked([id]))[0]
-
-    async def are_revoked(self, ids: Sequence[bytes]) -> list[bool]:
-        """Whether each of the sessions is revoked, in one round trip."""
-        return await self.looking_up(ids)
-
-    async def revoke(self, id: bytes, until: int) -> bool:
-        """Revokes the session with this id until that second, or a later one. Returns whether it was revoked already."""
-        return await self.revoking(id, until)
 
     async def forget(self, now: float) -> None:
         """Does nothing: Redis forgets each key by itself."""
