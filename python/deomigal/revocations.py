@@ -286,11 +286,11 @@ class SqliteRevocations:
 
     def are_revoked(self, ids: Sequence[bytes]) -> list[bool]:
         """Whether each of the sessions is revoked, by one statement for 500 of them."""
-        found: set[bytes] = set()
-        for some in (ids[start : start + AT_ONCE] for start in range(0, len(ids), AT_ONCE)):
-            marks = ", ".join("?" * len(some))
-            found.update(id for id, in self.read(f"SELECT id FROM revoked WHERE id IN ({marks})", *map(id_of, some)))
-        return [id in found for id in ids]
+        found: set[tuple[bytes]] = set()
+        for start in range(0, len(ids), AT_ONCE):
+            some = [id_of(id) for id in ids[start : start + AT_ONCE]]
+            found.update(self.read(f"SELECT id FROM revoked WHERE id IN (?{', ?' * (len(some) - 1)})", *some))
+        return [(id,) in found for id in ids]
 
     def revoke(self, id: bytes, until: int) -> bool:
         """Revokes the session with this id until that second, or a later one. Returns whether it was revoked already."""
