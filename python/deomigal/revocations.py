@@ -254,7 +254,8 @@ class SqliteRevocations:
         try:
             if connection.opened is None:
                 self.check_file()
-            found = [rows(connection.open(), *words) for words in statements]
+            opened = connection.open()
+            found = [rows(opened, *words) for words in statements]
             self.check_file()
             return found
         except BaseException as error:
