@@ -363,7 +363,7 @@ class SessionInterface(FlaskSessionInterface):
         limit = app.permanent_session_lifetime.total_seconds() if self.idle is None else self.idle
         refresh = limit / 10 if self.refresh is None else self.refresh
         counts = app.config["SESSION_REFRESH_EACH_REQUEST"] and (session.permanent or self.idle is not None)
-        return bool(counts and session.source.now - session.source.seen >= refresh)
+        return bool(counts and session.source.is_due(limit, refresh))
 
     def save_session(self, app: Flask, session: SessionMixin, response: Response) -> None:
         """Saves the session in the response, or removes its cookie if it was emptied. An error page or a file that

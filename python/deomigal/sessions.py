@@ -78,6 +78,11 @@ class Session(MutableMapping[str, str]):
         self.is_renewed = True
         SESSION_FREE(self.handle)
 
+    def is_due(self, idle: float, refresh: float) -> bool:
+        """Whether it was last saved so long ago that its use is to count: `refresh` seconds, if the site has this idle time,
+        and in proportion fewer if its own is shorter."""
+        return (self.now - self.seen) * idle >= refresh * min(idle, self.idle or idle)
+
     def describe(self) -> None:
         """Has the id and the times that the library tells of it."""
         facts = SESSION_DESCRIBE(self.handle)
