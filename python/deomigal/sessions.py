@@ -107,17 +107,13 @@ class Session(MutableMapping[str, str]):
         return len(self.texts)
 
     def __getstate__(self) -> dict[str, Any]:
-        # A copy has a handle of its own: it opens the header's session again when it is saved.
-        return {name: value for name, value in self.__dict__.items() if name != "handle"}
+        # A copy has a handle and dicts of its own: it opens the header's session again when it is saved.
+        state = {name: value for name, value in self.__dict__.items() if name != "handle"}
+        return {name: dict(value) if isinstance(value, dict) else value for name, value in state.items()}
 
     def __setstate__(self, state: dict[str, Any]) -> None:
         self.__dict__.update(state)
         self.handle = handle_of(self, SESSION_FREE)
-
-    def __copy__(self) -> Session:
-        copied = Session.__new__(Session)
-        copied.__setstate__({**self.__getstate__(), "texts": dict(self.texts), "ends": dict(self.ends)})
-        return copied
 
     def __repr__(self) -> str:
         return f"<Session {list(self.texts)!r}>"
@@ -369,5 +365,5 @@ class Sessions(Uncopied):
 def is_true(found: Any) -> bool:
     """What a look-up returned. Raises `RevocationsError` if it isn't a bool."""
     if not isinstance(found, bool):
-        raise RevocationsError(f"is_revoked returns a bool, and not a value of the type {type(found).__name__}")
+        raise RevocationsError(f"a look-up returns a bool, and not a value of the type {type(found).__name__}")
     return found
