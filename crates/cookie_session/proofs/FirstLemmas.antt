@@ -18,7 +18,7 @@ use Rattle.cookie_session.specs.declared.opened.Opened.{Opened}
 use Rattle.cookie_session.specs.declared.sessions.Sessions.{Sessions}
 use Rattle.cookie_session.proofs.SessionLemmas.{opened}
 
-same_heads : (a b : Record) (xs ys : List Record) → a ∷ xs ≡ b ∷ ys → (a ≡ b) × (xs ≡ ys)
+same_heads : {X : Type 0} (a b : X) (xs ys : List X) → a ∷ xs ≡ b ∷ ys → (a ≡ b) × (xs ≡ ys)
 same_heads a b xs ys e = (cc, cc)
 
 module _ (IsRevoked : List ℕ → Type 0) (site : Sessions) (now : DateTime) where
@@ -153,7 +153,8 @@ module _ (site : Sessions) (now : DateTime) where
       inr (first, later ++ found ∷ [], ap (λ os. os ++ found ∷ []) e, is, found_too cookies later cookie found rest finds)
 
   module _ (cookies : List Record) (i : ℕ) (cookie : Record) (below : i < length cookies) (is : cookie ≡ get_or cookies i cookie) where
-    so_far : ℕ → List Record
+    -- those of the name among the first of them
+    abbrev pub so_far : ℕ → List Record
     so_far n = site_cookies site (take n cookies)
 
     module _ (named : bytes_eq site.cookie.now.fields.name cookie.name ≡ true) where
@@ -192,9 +193,13 @@ module _ (site : Sessions) (now : DateTime) where
       head [] are = All-head Holds first.cookie first.later are
       head (x ∷ xs) are = head xs (All-tail Holds x (xs ++ first.cookie ∷ first.later) are)
 
+  -- of no cookie the first holds no session
+  one_of_none : HoldsOne site (first_of_name site.cookie.now.fields.name [])
+  one_of_none time later place other_place session other is also = absurd is.sealed
+
   -- and so does the first of the name
   pub holds_first : (cookies : List Record) → EachHoldsOne site (site_cookies site cookies) → HoldsOne site (first_of_name site.cookie.now.fields.name cookies)
-  holds_first [] each time later place other_place session other is also = absurd is.sealed
+  holds_first [] each = one_of_none
   holds_first (cookie ∷ cookies) each = by (bytes_eq site.cookie.now.fields.name cookie.name) each (holds_first cookies)
     where
       by : (b : Bool) → EachHoldsOne site (cond b (cookie ∷ site_cookies site cookies) (site_cookies site cookies))

@@ -59,6 +59,7 @@ head_pairs t0 t1 t2 id e0 e1 e2 = plain (id_text id) (escape_marks-id_text id) e
         let version = escape_marks_unmarked (codes "v") refl in
         let four = escape_marks_unmarked (codes "4") refl in
         let id_name = escape_marks_unmarked (codes "id") refl in
-        last ∙ simp (e1, e0) refl
-        ∙ sym (compact_nonempty (compact_pair (codes "v", codes "4")) ((codes "id", i) ∷ []) (compact_pair_nonempty (codes "v", codes "4"))
-        ∙ simp (version, four, id_name, stays, append_assoc, append-nil) refl)
+        let whole : codes "v=4&id=" ++ i ≡ compact_form ((codes "v", codes "4") ∷ (codes "id", i) ∷ []) =
+        sym (compact_nonempty (compact_pair (codes "v", codes "4")) ((codes "id", i) ∷ []) (compact_pair_nonempty (codes "v", codes "4"))
+        ∙ simp (version, four, id_name, stays, append_assoc, append-nil) refl) in
+        last ∙ ap (λ t. t ++ i) (e1 ∙ ap (λ t. t ++ codes "v=4&id=") e0) ∙ whole

@@ -1,7 +1,7 @@
 -- The session that opens, of those that are open, by what the store says of their ids.
 use Rattle.std.proofs.Common.{◌≡◌, ◌↔◌, ℕ, zero, suc, List, [], ◌∷◌, ◌++◌, All, drop, map, take, Option, None, Some, MatchOption, option_map, refl, sym, ap, subst, ◌∙◌}
 use Rattle.std.proofs.lemmas.List.{take-map}
-use Rattle.std.proofs.lemmas.List.Elements.{All-cons, All-head, All-tail}
+use Rattle.std.proofs.lemmas.List.Elements.{All-cons, All-head, All-nil, All-tail}
 use Rattle.std.proofs.lemmas.Option.{none-some, same_Some, slice_get-map}
 use Rattle.std.specs.List.{slice_get}
 use Rattle.jiff.specs.Types.{DateTime}
@@ -31,7 +31,7 @@ split_at (one ∷ all) zero found is = ap (λ o. o ∷ all) (same_Some one found
 split_at (one ∷ all) (suc n) found is = ap (λ os. one ∷ os) (split_at all n found is)
 
 all_of_ids : (Gone : List ℕ → Type 0) (all : List Opened) → All Gone (map id_of all) → All (λ (o : Opened). Gone o.session.id) all
-all_of_ids Gone [] are = are
+all_of_ids Gone [] are = All-nil (λ (o : Opened). Gone o.session.id)
 all_of_ids Gone (one ∷ all) are = All-cons (λ (o : Opened). Gone o.session.id) one all (All-head Gone one.session.id (map id_of all) are)
     (all_of_ids Gone all (All-tail Gone one.session.id (map id_of all) are))
 
@@ -52,7 +52,7 @@ module _ (site : Sessions) (now : DateTime) (cookies : List Record) (all : List 
     first_opens None answer is gone key s =
         let none = found_none (IsRevoked set) site now cookies (all_closed (IsRevoked set) site now (site_cookies site cookies) all are (all_of_ids (IsRevoked set) all gone)) key s in
         (λ e. none.0 (sym is ∙ e), λ first. is ∙ none.1 first)
-    first_opens (Some n) answer is (gone, id, at, stays) key s = by (slice_get all n) refl
+    first_opens (Some n) answer is (gone, (id, at, stays)) key s = by (slice_get all n) refl
       where
         by : (o : Option Opened) → slice_get all n ≡ o → (answer ≡ Some (opened s key)) ↔ OpensUnrevoked (IsRevoked set) site cookies now key s
         by None none = absurd (none-some id (sym (slice_get-map id_of all n ∙ ap (option_map id_of) none) ∙ at))

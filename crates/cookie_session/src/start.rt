@@ -1,5 +1,5 @@
 //! Starting a session, and starting one anew.
-ghost use Rattle.std.specs.Prelude.{◌≡◌, IfErr, IfOk, OnErr, OnOk};
+ghost use Rattle.std.specs.Prelude.{◌≡◌, ◌+◌, IfErr, IfOk, OnErr, OnOk};
 ghost use Rattle.std.specs.FinMap.{empty};
 ghost use Rattle.cookie_session.specs.Id.{IsId};
 ghost use Rattle.cookie_session.specs.Seconds.{second_of};
