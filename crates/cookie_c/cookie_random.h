@@ -64,19 +64,19 @@ static inline uint32_t cookie_jar_new_drawn(cookie_jar *jar) {
 }
 
 /* cookie_session_start with an id that is drawn. */
-static inline uint32_t cookie_session_start_drawn(uint64_t now, cookie_session *session) {
+static inline uint32_t cookie_session_start_drawn(cookie_sessions *sessions, uint64_t now, cookie_session *session) {
     uint8_t id[COOKIE_ID_LENGTH];
     if (cookie_draw(id, sizeof id) != COOKIE_DONE)
         return COOKIE_NO_RANDOM;
-    return cookie_session_start(id, sizeof id, now, session);
+    return cookie_session_start(sessions, id, sizeof id, now, session);
 }
 
 /* cookie_session_renew with an id that is drawn. */
-static inline uint32_t cookie_session_renew_drawn(cookie_session *session, uint64_t now) {
+static inline uint32_t cookie_session_renew_drawn(cookie_sessions *sessions, cookie_session *session, uint64_t now) {
     uint8_t id[COOKIE_ID_LENGTH];
     if (cookie_draw(id, sizeof id) != COOKIE_DONE)
         return COOKIE_NO_RANDOM;
-    return cookie_session_renew(session, id, sizeof id, now);
+    return cookie_session_renew(sessions, session, id, sizeof id, now);
 }
 
 /* cookie_session_save with a nonce that is drawn. */

@@ -165,10 +165,15 @@ static void jars(void) {
     cookie_jar_free(&jar);
 }
 
-/* The session of ann, with the id of bytes 7, under the key of bytes 1. */
-static const char HEADER[] =
-    "__Host-session=BwcHBwcHBwcHBwcH-87ZgmbKjONu-Uxy0aMviNDKyZsTCEcbfEF7_5EyIdktW7bnpeCI2ZBoCu2FBUCJvjj9Q_BEVKhC6CoMc-"
-    "9Tkpk72dHUtmPrWGIJ7XkhCxxk6_aKGWjQ6_0";
+/* The session of ann, with the id of bytes 7, and of bob, with the id of bytes 8, under the key of bytes 1. */
+#define ANN \
+    "__Host-session=BwcHBwcHBwcHBwcH-87egmbKjONu-Uxy0aMviNDKyZsTCEcbfEF7_5EyIdktW7bnpeCI2ZBoCu2FBUCJvi72QqNIUahD6S8Od-" \
+    "NbhNYqxtGbvTK1EBy9lPxrBMWYUJwJda0FX674kjr_FGIo412NE3tnKw4mNyqNTRjg_CM"
+#define BOB \
+    "__Host-session=CAgICAgICAgICAgI7EMxzWi746gPm_6LgfrSxZPYplbzzOwx2GCzDVZBicB8yxc48qiXUTd1RbGOZM3_6eTX5gSBh6TBUCan54" \
+    "HBgu5IiEfqdNNUVHGznyBDznky0szdkSuxS_v953Ipn_8-794KpaFpfrQjFXok_RYuIUU"
+#define ANN_ID "\7\7\7\7\7\7\7\7\7\7\7\7\7\7\7\7"
+#define BOB_ID "\10\10\10\10\10\10\10\10\10\10\10\10\10\10\10\10"
 
 static cookie_session_settings settings(const uint8_t *keys, size_t length, const char *cookie) {
     cookie_session_settings made = {keys, length, (const uint8_t *)cookie, strlen(cookie), 1200, 600};
@@ -176,19 +181,35 @@ static cookie_session_settings settings(const uint8_t *keys, size_t length, cons
 }
 
 static void settings_that_are_no_sites(void) {
+    const uint64_t LATE = 253402207201;
     cookie_sessions sessions = {0};
+    cookie_opened opened = {0};
     cookie_session session = {0};
     cookie_session_settings site = settings(KEY, 63, "\xff");
     MUST(cookie_sessions_new(&site, &sessions) == COOKIE_KEY_TOO_SHORT);
     site = settings(KEY, 64, "s=\xff");
     MUST(cookie_sessions_new(&site, &sessions) == COOKIE_NOT_UTF8);
-    MUST(is(cookie_session_end(&sessions, NOW, NULL, 0), COOKIE_NO_SESSIONS, 0));
-    MUST(cookie_session_start(KEY, 16, 253402207201, &session) == COOKIE_NO_DATE);
-    MUST(cookie_session_describe(&session).status == COOKIE_NO_SESSION);
+    MUST(is(cookie_session_end(&sessions, LATE, NULL, 0), COOKIE_NO_SESSIONS, 0));
+    MUST(cookie_opened_new(&sessions, NULL, 0, LATE, &opened) == COOKIE_NO_SESSIONS);
+    MUST(cookie_session_open(&sessions, NULL, 0, LATE, &session) == COOKIE_NO_SESSIONS);
+    MUST(cookie_session_start(&sessions, KEY, 15, LATE, &session) == COOKIE_BAD_NONCE);
+    MUST(cookie_session_start(&sessions, KEY, 16, LATE, &session) == COOKIE_NO_SESSIONS);
+    MUST(cookie_session_renew(&sessions, &session, KEY, 17, LATE) == COOKIE_BAD_NONCE);
+    MUST(cookie_session_renew(&sessions, &session, KEY, 16, LATE) == COOKIE_NO_SESSIONS);
     site = settings(KEY, 64, "s=");
     MUST(cookie_sessions_new(&site, &sessions) == COOKIE_DONE);
+    MUST(cookie_opened_new(&sessions, NULL, 0, LATE, &opened) == COOKIE_NO_DATE);
+    MUST(cookie_session_open(&sessions, NULL, 0, LATE, &session) == COOKIE_NO_DATE);
+    MUST(cookie_session_start(&sessions, KEY, 16, LATE, &session) == COOKIE_NO_DATE);
+    MUST(cookie_session_renew(&sessions, &session, KEY, 16, LATE) == COOKIE_NO_DATE);
+    MUST(cookie_session_renew(&sessions, &session, KEY, 16, NOW) == COOKIE_NO_SESSION);
     MUST(is(cookie_session_save(&sessions, &session, KEY, 12, NOW, NULL, 0), COOKIE_NO_SESSION, 0));
+    MUST(cookie_session_describe(&session).status == COOKIE_NO_SESSION);
     cookie_sessions_free(&sessions);
+}
+
+static bool has_limits(const cookie_session_facts *facts, uint64_t started, uint64_t end, uint64_t idle) {
+    return facts->started == started && facts->seen == started && facts->end == end && facts->idle == idle;
 }
 
 static void sessions(void) {
@@ -198,13 +219,71 @@ static void sessions(void) {
     cookie_session session = {0};
     cookie_session_settings site = settings(keys, 64, "__Host-session=; Path=/; Secure");
     MUST(cookie_sessions_new(&site, &sessions) == COOKIE_DONE);
-    MUST(cookie_session_open(&sessions, T(HEADER), NULL, 0, NOW, &session) == COOKIE_DONE);
+    MUST(cookie_session_open(&sessions, T(ANN), NOW, &session) == COOKIE_DONE);
     cookie_session_facts facts = cookie_session_describe(&session);
     MUST(facts.status == COOKIE_DONE && facts.is_opened && facts.index == 0);
-    MUST(facts.started == NOW && facts.seen == NOW && memcmp(facts.id, KEY, 16) == 0);
+    MUST(has_limits(&facts, NOW, NOW + 1200, 600) && memcmp(facts.id, KEY, 16) == 0);
     MUST(is(cookie_session_texts(&session, ROOM(7)), COOKIE_BUFFER_TOO_SHORT, 8) && holds(""));
     MUST(is(cookie_session_texts(&session, ROOM(8)), COOKIE_DONE, 8) && holds("user=ann"));
+    /* A site with other limits: an open session keeps its own, and one that starts or is renewed has the new ones. */
+    site.lifetime = 3000;
+    site.idle = 2000;
+    MUST(cookie_sessions_new(&site, &sessions) == COOKIE_DONE);
+    MUST(cookie_session_open(&sessions, T(ANN), NOW + 600, &session) == COOKIE_NO_SESSION);
+    MUST(cookie_session_open(&sessions, T(ANN), NOW + 599, &session) == COOKIE_DONE);
+    facts = cookie_session_describe(&session);
+    MUST(has_limits(&facts, NOW, NOW + 1200, 600));
+    MUST(cookie_session_renew(&sessions, &session, (const uint8_t *)BOB_ID, 16, NOW + 599) == COOKIE_DONE);
+    facts = cookie_session_describe(&session);
+    MUST(facts.is_opened && has_limits(&facts, NOW + 599, NOW + 3599, 2000) && memcmp(facts.id, BOB_ID, 16) == 0);
+    MUST(is(cookie_session_texts(&session, ROOM(8)), COOKIE_DONE, 8) && holds("user=ann"));
+    MUST(cookie_session_start(&sessions, KEY, 16, NOW + 1, &session) == COOKIE_DONE);
+    facts = cookie_session_describe(&session);
+    MUST(!facts.is_opened && has_limits(&facts, NOW + 1, NOW + 3001, 2000) && memcmp(facts.id, KEY, 16) == 0);
     cookie_sessions_free(&sessions);
+    cookie_session_free(&session);
+}
+
+/* A handle without opened sessions is refused, also after it was freed. Ids that are cut come first. */
+static void handles_without_opened_sessions(void) {
+    cookie_opened opened = {0};
+    cookie_session session = {0};
+    for (int turn = 0; turn < 2; turn++) {
+        MUST(is(cookie_opened_ids(&opened, OUT), COOKIE_NO_SESSION, 0) && holds(""));
+        MUST(cookie_opened_take(&opened, KEY, 15, &session) == COOKIE_BAD_IDS);
+        MUST(cookie_opened_take(&opened, NULL, 0, &session) == COOKIE_NO_SESSION);
+        MUST(cookie_session_describe(&session).status == COOKIE_NO_SESSION);
+        cookie_opened_free(&opened);
+    }
+}
+
+/* Two sessions in one header: the first that isn't revoked is taken, and a refusal leaves both. */
+static void opened_sessions(void) {
+    uint8_t keys[64];
+    memset(keys, 1, sizeof keys);
+    cookie_sessions sessions = {0};
+    cookie_opened opened = {0};
+    cookie_session session = {0};
+    cookie_session_settings site = settings(keys, 64, "__Host-session=; Path=/; Secure");
+    MUST(cookie_sessions_new(&site, &sessions) == COOKIE_DONE);
+    MUST(cookie_opened_new(&sessions, T("a=1; __Host-session=x; b=2"), NOW, &opened) == COOKIE_DONE);
+    MUST(is(cookie_opened_ids(&opened, OUT), COOKIE_DONE, 0) && holds(""));
+    MUST(cookie_opened_take(&opened, NULL, 0, &session) == COOKIE_NO_SESSION);
+    MUST(cookie_opened_new(&sessions, T(BOB "; " ANN), NOW, &opened) == COOKIE_DONE);
+    MUST(is(cookie_opened_ids(&opened, ROOM(31)), COOKIE_BUFFER_TOO_SHORT, 32) && holds(""));
+    MUST(is(cookie_opened_ids(&opened, OUT), COOKIE_DONE, 32) && holds(BOB_ID ANN_ID));
+    MUST(cookie_opened_take(&opened, T(ANN_ID "\7"), &session) == COOKIE_BAD_IDS);
+    MUST(cookie_opened_take(&opened, T(ANN_ID BOB_ID), &session) == COOKIE_NO_SESSION);
+    MUST(cookie_session_describe(&session).status == COOKIE_NO_SESSION);
+    MUST(is(cookie_opened_ids(&opened, OUT), COOKIE_DONE, 32) && holds(BOB_ID ANN_ID));
+    MUST(cookie_opened_take(&opened, T(BOB_ID), &session) == COOKIE_DONE);
+    MUST(is(cookie_session_texts(&session, OUT), COOKIE_DONE, 8) && holds("user=ann"));
+    MUST(is(cookie_opened_ids(&opened, OUT), COOKIE_NO_SESSION, 0) && holds(""));
+    MUST(cookie_opened_new(&sessions, T(BOB "; " ANN), NOW, &opened) == COOKIE_DONE);
+    MUST(cookie_opened_take(&opened, T(ANN_ID), &session) == COOKIE_DONE);
+    MUST(is(cookie_session_texts(&session, OUT), COOKIE_DONE, 8) && holds("user=bob"));
+    cookie_sessions_free(&sessions);
+    cookie_opened_free(&opened);
     cookie_session_free(&session);
 }
 
@@ -259,6 +338,8 @@ int main(void) {
     jars();
     settings_that_are_no_sites();
     sessions();
+    handles_without_opened_sessions();
+    opened_sessions();
     short_buffers_of_explanations();
     lists_and_times();
     printf("cases: %d faults\n", faults);

@@ -34,10 +34,11 @@ typedef struct drawing {
     size_t length, margin_before, margin_after;
     cookie_jar jars[PAIR];
     cookie_sessions sites[PAIR];
+    cookie_opened opened[PAIR];
     cookie_session sessions[PAIR];
     cookie_suffixes lists[PAIR];
     cookie_agent agents[PAIR];
-    bool has_jar[PAIR], has_site[PAIR], has_session[PAIR], has_list[PAIR], has_agent[PAIR];
+    bool has_jar[PAIR], has_site[PAIR], has_opened[PAIR], has_session[PAIR], has_list[PAIR], has_agent[PAIR];
     char kept[KEPT][LONGEST];
     size_t met[64][STATUSES];
 } drawing;
@@ -71,15 +72,19 @@ typedef struct drawing {
     X(sessions_new, \
       S(KEY_TOO_SHORT) | S(NOT_UTF8) | S(MISSING_PAIR) | S(EMPTY_NAME) | S(BAD_ESCAPE) | S(INVALID_VALUE)) \
     X(sessions_free, 0) \
-    X(session_open, S(BAD_IDS) | S(NO_SESSIONS) | S(NO_DATE) | S(NO_SESSION)) \
-    X(session_start, S(BAD_NONCE) | S(NO_DATE)) \
+    X(opened_new, S(NO_SESSIONS) | S(NO_DATE)) \
+    X(opened_ids, S(BUFFER_TOO_SHORT) | S(NO_SESSION)) \
+    X(opened_take, S(BAD_IDS) | S(NO_SESSION)) \
+    X(opened_free, 0) \
+    X(session_open, S(NO_SESSIONS) | S(NO_DATE) | S(NO_SESSION)) \
+    X(session_start, S(BAD_NONCE) | S(NO_SESSIONS) | S(NO_DATE)) \
     X(session_describe, S(NO_SESSION)) \
     X(session_get, S(BUFFER_TOO_SHORT) | S(NO_SESSION) | S(NOT_UTF8) | S(NOT_FOUND)) \
     X(session_set, S(NO_SESSION) | S(NOT_UTF8)) \
     X(session_remove, S(NO_SESSION) | S(NOT_UTF8)) \
     X(session_texts, S(BUFFER_TOO_SHORT) | S(NO_SESSION)) \
     X(session_set_texts, S(NO_SESSION)) \
-    X(session_renew, S(NO_SESSION) | S(BAD_NONCE) | S(NO_DATE)) \
+    X(session_renew, S(BAD_NONCE) | S(NO_SESSIONS) | S(NO_DATE) | S(NO_SESSION)) \
     X(session_save, S(BUFFER_TOO_SHORT) | S(BAD_NONCE) | S(NO_SESSIONS) | S(NO_DATE) | S(NO_SESSION) | S(BAD_PREFIX) \
                         | S(OVER) | S(TOO_LONG) | S(TOO_LARGE)) \
     X(session_end, S(BUFFER_TOO_SHORT) | S(NO_SESSIONS) | S(NO_DATE)) \
@@ -662,6 +667,42 @@ static void keep(drawing *d, size_t length) {
     }
 }
 
+/* The ids that a handle has, as the list of revoked ones; or others. */
+static text draw_revoked(drawing *d, cookie_opened *opened) {
+    uint8_t ids[300];
+    cookie_answer told = cookie_opened_ids(opened, ids, sizeof ids);
+    return told.status == COOKIE_DONE && one_in(d, 2) ? text_of(d, ids, told.length) : draw_bytes(d, 16 * below(d, 3));
+}
+
+static void play_opened(drawing *d, int call) {
+    size_t i = below(d, PAIR), j = below(d, PAIR);
+    cookie_opened *opened = &d->opened[i];
+    bool *has = &d->has_opened[i];
+    cookie_answer answer;
+    uint32_t status;
+    bool starved;
+    if (call == opened_new_call) {
+        text header = draw_text(d, A_HEADER);
+        STATUS(opened_new, cookie_opened_new(&d->sites[j], IN(header), draw_now(d), opened));
+        *has |= status == COOKIE_DONE;
+        look_at_handle(d, call, status, d->has_site[j], COOKIE_NO_SESSIONS, 0);
+    } else if (call == opened_ids_call) {
+        WRITES(opened_ids, cookie_opened_ids(opened, d->out, d->length));
+        look_at_handle(d, call, status, *has, COOKIE_NO_SESSION, 0);
+    } else if (call == opened_take_call) {
+        text revoked = draw_revoked(d, opened);
+        STATUS(opened_take, cookie_opened_take(opened, IN(revoked), &d->sessions[j]));
+        if (!*has && status == COOKIE_DONE)
+            fault(d, call, "a handle with nothing is taken");
+        d->has_session[j] |= status == COOKIE_DONE;
+        *has &= status != COOKIE_DONE;
+    } else {
+        cookie_opened_free(opened);
+        *has = false;
+        d->met[call][0]++;
+    }
+}
+
 static void play_session(drawing *d, int call) {
     size_t i = below(d, PAIR), j = below(d, PAIR);
     cookie_session *session = &d->sessions[i];
@@ -673,16 +714,17 @@ static void play_session(drawing *d, int call) {
     text name = draw_text(d, A_NAME);
     switch (call) {
     case session_open_call: {
-        text header = draw_text(d, A_HEADER), revoked = draw_bytes(d, 16 * below(d, 3));
-        STATUS(session_open, cookie_session_open(&d->sites[j], IN(header), IN(revoked), now, session));
+        text header = draw_text(d, A_HEADER);
+        STATUS(session_open, cookie_session_open(&d->sites[j], IN(header), now, session));
         *has |= status == COOKIE_DONE;
-        look_at_handle(d, call, status, d->has_site[j], COOKIE_NO_SESSIONS, S(BAD_IDS));
+        look_at_handle(d, call, status, d->has_site[j], COOKIE_NO_SESSIONS, 0);
         return;
     }
     case session_start_call: {
         text id = draw_bytes(d, 16);
-        STATUS(session_start, cookie_session_start(IN(id), now, session));
+        STATUS(session_start, cookie_session_start(&d->sites[j], IN(id), now, session));
         *has |= status == COOKIE_DONE;
+        look_at_handle(d, call, status, d->has_site[j], COOKIE_NO_SESSIONS, S(BAD_NONCE));
         return;
     }
     case session_free_call:
@@ -714,7 +756,9 @@ static void play_session(drawing *d, int call) {
     }
     case session_renew_call: {
         text id = draw_bytes(d, 16);
-        STATUS(session_renew, cookie_session_renew(session, IN(id), now));
+        STATUS(session_renew, cookie_session_renew(&d->sites[j], session, IN(id), now));
+        look_at_handle(d, call, status, d->has_site[j], COOKIE_NO_SESSIONS, S(BAD_NONCE));
+        first = S(BAD_NONCE) | S(NO_SESSIONS) | S(NO_DATE);
         break;
     }
     default: {
@@ -855,6 +899,8 @@ static void play(drawing *d) {
         play_jar(d, call);
     else if (call == sessions_new_call || call == sessions_free_call || call == session_end_call)
         play_site(d, call);
+    else if (strncmp(NAMES[call], "opened", 6) == 0)
+        play_opened(d, call);
     else if (strncmp(NAMES[call], "session", 7) == 0)
         play_session(d, call);
     else if (strncmp(NAMES[call], "agent", 5) == 0 || strncmp(NAMES[call], "suffixes", 8) == 0 || call == explain_call)
@@ -875,6 +921,7 @@ static void *play_all(void *at) {
     for (int i = 0; i < PAIR; i++) {
         cookie_jar_free(&d->jars[i]);
         cookie_sessions_free(&d->sites[i]);
+        cookie_opened_free(&d->opened[i]);
         cookie_session_free(&d->sessions[i]);
         cookie_suffixes_free(&d->lists[i]);
         cookie_agent_free(&d->agents[i]);

@@ -133,7 +133,7 @@ static void play_round(void) {
     cookie_session found;
     memset(&found, 0, sizeof found);
     const uint8_t *end = (const uint8_t *)memchr(saved.bytes, ';', saved.answer.length);
-    check(end != NULL && cookie_session_open(&sessions, saved.bytes, (size_t)(end - saved.bytes), NULL, 0, NOW, &found)
+    check(end != NULL && cookie_session_open(&sessions, saved.bytes, (size_t)(end - saved.bytes), NOW, &found)
               == COOKIE_DONE,
           "a saved session doesn't open");
     opened = cookie_session_get(&found, TEXT("user"), value, sizeof value);
@@ -152,7 +152,7 @@ static void play_twice(void) {
     uint8_t ids[3][COOKIE_ID_LENGTH];
     for (int i = 0; i < 3; i++) {
         uint32_t status =
-            i < 2 ? cookie_session_start_drawn(NOW, &session) : cookie_session_renew_drawn(&session, NOW);
+            i < 2 ? cookie_session_start_drawn(&sessions, NOW, &session) : cookie_session_renew_drawn(&sessions, &session, NOW);
         check(status == COOKIE_DONE, "a session doesn't start");
         memcpy(ids[i], cookie_session_describe(&session).id, COOKIE_ID_LENGTH);
     }
@@ -175,7 +175,7 @@ static void play_pieces(void) {
     for (int i = 0; i < 2; i++) {
         choose(IN_PIECES);
         uint32_t status =
-            i == 0 ? cookie_session_start_drawn(NOW, &session) : cookie_session_renew_drawn(&session, NOW);
+            i == 0 ? cookie_session_start_drawn(&sessions, NOW, &session) : cookie_session_renew_drawn(&sessions, &session, NOW);
         check(status == COOKIE_DONE, "a session doesn't start");
         check(memcmp(cookie_session_describe(&session).id, wanted, 16) == 0, "the id isn't what was drawn");
     }
@@ -204,9 +204,9 @@ static void play_failure(enum generator chosen) {
     cookie_session held = session;
     cookie_jar kept = jar;
     choose(chosen);
-    check(cookie_session_start_drawn(NOW + 1, &session) == COOKIE_NO_RANDOM, "a session starts");
+    check(cookie_session_start_drawn(&sessions, NOW + 1, &session) == COOKIE_NO_RANDOM, "a session starts");
     choose(chosen);
-    check(cookie_session_renew_drawn(&session, NOW + 1) == COOKIE_NO_RANDOM, "a session is renewed");
+    check(cookie_session_renew_drawn(&sessions, &session, NOW + 1) == COOKIE_NO_RANDOM, "a session is renewed");
     choose(chosen);
     check(cookie_jar_new_drawn(&jar) == COOKIE_NO_RANDOM, "a jar is made");
     cookie_session_facts after = cookie_session_describe(&session);
@@ -237,7 +237,7 @@ int main(void) {
     settings.purpose_length = strlen("password reset");
     settings.lifetime = 600;
     if (cookie_sessions_new(&site, &sessions) != COOKIE_DONE || cookie_jar_new_drawn(&jar) != COOKIE_DONE
-        || cookie_session_start_drawn(NOW, &session) != COOKIE_DONE)
+        || cookie_session_start_drawn(&sessions, NOW, &session) != COOKIE_DONE)
         return 2;
     play_twice();
     play_round();

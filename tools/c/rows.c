@@ -218,30 +218,87 @@ static cookie_answer print_cookie(const text *in, uint8_t *out, size_t length) {
     return cookie_print(IN(0), IN(1), IN(2), IN(3), &attributes, in[5].bytes[0] == '1', out, length);
 }
 
-/* The sessions of a row, whose numbers are the two limits, the second, and whether the session is renewed. No pointer of
- * settings is null. */
-static uint32_t make_sessions(const text *in, long long numbers[4], cookie_sessions *sessions) {
+/* The sessions of a row's keys and cookie, with these limits. No pointer of settings is null. */
+static uint32_t sessions_with(const text *in, const long long limits[2], cookie_sessions *sessions) {
     static const uint8_t nothing = 0;
-    numbers_in(in[2], 4, numbers);
     cookie_session_settings settings = {
         .keys = in[0].length > 0 ? in[0].bytes : &nothing,
         .keys_length = in[0].length,
         .cookie = in[1].length > 0 ? in[1].bytes : &nothing,
         .cookie_length = in[1].length,
-        .lifetime = (uint32_t)numbers[0],
-        .idle = (uint32_t)numbers[1],
+        .lifetime = (uint32_t)limits[0],
+        .idle = (uint32_t)limits[1],
     };
     return cookie_sessions_new(&settings, sessions);
 }
 
+/* The sessions of a row, whose numbers are the two limits, the second, and whether the session starts: 1, or 2 if it
+ * starts under other limits, which are the last two. */
+static uint32_t make_sessions(const text *in, long long numbers[6], cookie_sessions *sessions) {
+    numbers_in(in[2], 6, numbers);
+    return sessions_with(in, numbers, sessions);
+}
+
+/* The first of these ids that isn't revoked, or a null pointer if there is none. */
+static const uint8_t *first_unrevoked(const uint8_t *ids, size_t length, text revoked) {
+    for (size_t i = 0; i < length; i += COOKIE_ID_LENGTH) {
+        size_t at = 0;
+        while (at < revoked.length && memcmp(revoked.bytes + at, ids + i, COOKIE_ID_LENGTH) != 0)
+            at += COOKIE_ID_LENGTH;
+        if (at >= revoked.length)
+            return ids + i;
+    }
+    return NULL;
+}
+
+/* Takes the first of the opened sessions that isn't revoked. The ids, which were told before, say which it is. */
+static uint32_t take_session(cookie_opened *opened, text revoked, cookie_session *session) {
+    uint8_t *ids = at_edge(cookie_opened_ids(opened, NULL, 0).length);
+    cookie_answer told = cookie_opened_ids(opened, ids, cookie_opened_ids(opened, NULL, 0).length);
+    if (told.status != COOKIE_DONE || told.length % COOKIE_ID_LENGTH != 0)
+        fault("ids that aren't sixteen bytes each");
+    uint32_t status = cookie_opened_take(opened, revoked.bytes, revoked.length, session);
+    cookie_session_facts facts = cookie_session_describe(session);
+    const uint8_t *first = status == COOKIE_BAD_IDS ? NULL : first_unrevoked(ids, told.length, revoked);
+    if ((status == COOKIE_DONE) != (first != NULL) || (first != NULL && memcmp(facts.id, first, sizeof facts.id) != 0))
+        fault("another session is taken than the first whose id isn't revoked");
+    if (cookie_opened_ids(opened, NULL, 0).length != (status == COOKIE_DONE ? 0 : told.length))
+        fault("a session that is taken leaves others, or a refusal doesn't");
+    free_at_edge(ids, told.length);
+    return status;
+}
+
+/* Whether two handles' sessions are told alike. */
+static bool are_alike(cookie_session_facts one, cookie_session_facts other) {
+    return one.status == other.status && one.is_opened == other.is_opened && one.index == other.index
+        && one.started == other.started && one.seen == other.seen && one.end == other.end && one.idle == other.idle
+        && memcmp(one.id, other.id, sizeof one.id) == 0;
+}
+
+/* Opens the session of a row's request. If no id is revoked, the call that opens the first one finds the same. */
+static uint32_t find_session(const text *in, uint64_t now, cookie_sessions *sessions, cookie_session *session) {
+    cookie_opened opened = {0};
+    cookie_session first = {0};
+    uint32_t status = cookie_opened_new(sessions, IN(3), now, &opened);
+    if (status == COOKIE_DONE)
+        status = take_session(&opened, in[4], session);
+    uint32_t other = cookie_session_open(sessions, IN(3), now, &first);
+    bool is_first = are_alike(cookie_session_describe(session), cookie_session_describe(&first));
+    if (in[4].length == 0 && (other != status || !is_first))
+        fault("another session is the first");
+    cookie_session_free(&first);
+    cookie_opened_free(&opened);
+    return status;
+}
+
 /* A session that is opened: the index of its key and its times are the row's last numbers, and its id is the last text. */
 static cookie_answer open_session(const text *in, uint8_t *out, size_t length) {
-    long long n[4], told[3];
+    long long n[6], told[3];
     cookie_sessions sessions = {0};
     cookie_session session = {0};
     cookie_answer answer = of_status(make_sessions(in, n, &sessions));
     if (answer.status == COOKIE_DONE)
-        answer.status = cookie_session_open(&sessions, IN(3), IN(4), (uint64_t)n[2], &session);
+        answer.status = find_session(in, (uint64_t)n[2], &sessions, &session);
     cookie_session_facts facts = cookie_session_describe(&session);
     if (answer.status == COOKIE_DONE)
         answer = cookie_session_texts(&session, out, length);
@@ -252,6 +309,8 @@ static cookie_answer open_session(const text *in, uint8_t *out, size_t length) {
         fault("another id");
     if (facts.is_opened != (facts.status == COOKIE_DONE))
         fault("a session that was opened is told as a new one");
+    if (facts.status == COOKIE_DONE && facts.end <= (uint64_t)n[2])
+        fault("a session that is over is opened");
     cookie_session_free(&session);
     cookie_sessions_free(&sessions);
     return answer;
@@ -271,24 +330,45 @@ static void put_and_drop(cookie_session *session) {
         fault("a text isn't dropped");
 }
 
-/* Starts a session with another id, or opens the request's, and gives it the row's texts. The one that started is
- * renewed, so that it has the row's id. */
-static uint32_t make_session(const text *in, const long long n[4], cookie_sessions *sessions, cookie_session *session) {
+/* Whether the session starts at this second, and keeps these limits. */
+static bool starts(cookie_session *session, uint64_t now, const long long limits[2]) {
+    cookie_session_facts facts = cookie_session_describe(session);
+    return !facts.is_opened && facts.started == now && facts.seen == now && facts.end == now + (uint64_t)limits[0]
+        && facts.idle == (uint64_t)limits[1];
+}
+
+/* Starts a session with another id, and renews it, so that it has the row's id. */
+static uint32_t start_session(const text *in, const long long n[6], cookie_sessions *sessions, cookie_session *session) {
     static const uint8_t id[16] = {1};
+    const long long *limits = n[3] == 2 ? n + 4 : n;
+    cookie_sessions others = {0}, *site = n[3] == 2 ? &others : sessions;
     uint64_t now = (uint64_t)n[2];
-    uint32_t status = n[3] == 1 ? cookie_session_start(id, sizeof id, now, session)
-                                : cookie_session_open(sessions, IN(3), IN(4), now, session);
+    if (n[3] == 2 && sessions_with(in, limits, &others) != COOKIE_DONE)
+        fault("a site isn't made with other limits");
+    uint32_t status = cookie_session_start(site, id, sizeof id, now, session);
+    if (status == COOKIE_DONE && !starts(session, now, limits))
+        fault("a session starts at another time or with other limits");
+    if (status == COOKIE_DONE)
+        status = cookie_session_renew(site, session, in[6].bytes + 12, 16, now);
+    if (status == COOKIE_DONE && !starts(session, now, limits))
+        fault("a session is renewed at another time or with other limits");
+    cookie_sessions_free(&others);
+    return status;
+}
+
+/* Starts a session, or opens the request's, and gives it the row's texts. */
+static uint32_t make_session(const text *in, const long long n[6], cookie_sessions *sessions, cookie_session *session) {
+    uint32_t status = n[3] > 0 ? start_session(in, n, sessions, session)
+                               : find_session(in, (uint64_t)n[2], sessions, session);
     if (status != COOKIE_DONE)
         return status;
     status = cookie_session_set_texts(session, IN(5));
     put_and_drop(session);
-    if (status == COOKIE_DONE && n[3] == 1)
-        status = cookie_session_renew(session, in[6].bytes + 12, 16, now);
     return status;
 }
 
 static cookie_answer save_session(const text *in, uint8_t *out, size_t length) {
-    long long n[4];
+    long long n[6];
     cookie_sessions sessions = {0};
     cookie_session session = {0};
     cookie_answer answer = of_status(make_sessions(in, n, &sessions));
@@ -302,7 +382,7 @@ static cookie_answer save_session(const text *in, uint8_t *out, size_t length) {
 }
 
 static cookie_answer end_session(const text *in, uint8_t *out, size_t length) {
-    long long n[4];
+    long long n[6];
     cookie_sessions sessions = {0};
     cookie_answer answer = of_status(make_sessions(in, n, &sessions));
     if (answer.status == COOKIE_DONE)
@@ -742,49 +822,64 @@ static size_t look_at_session(cookie_session *session, uint8_t *out, size_t leng
     return sizeof facts.id + cookie_session_texts(session, out + sizeof facts.id, length - sizeof facts.id).length;
 }
 
-/* A step on the handles of a site and of a session. */
-static uint32_t session_step(int step, cookie_sessions *sessions, cookie_session *session) {
+/* The handles of a site, of a request's opened sessions, and of a session. */
+typedef struct site_handles {
+    cookie_sessions sessions;
+    cookie_opened opened;
+    cookie_session session;
+} site_handles;
+
+/* A step on these handles. */
+static uint32_t session_step(int step, site_handles *at) {
     static const uint8_t key[64] = {7}, cookie[] = "s=; Path=/", id[16] = {1}, form[] = "a=1&b=%20", nonce[12] = {2};
     static uint8_t saved[1000];
     static size_t length = 0;
     const cookie_session_settings settings = {key, sizeof key, cookie, sizeof cookie - 1, 60, 60};
     switch (step) {
     case 0:
-        return cookie_sessions_new(&settings, sessions);
+        return cookie_sessions_new(&settings, &at->sessions);
     case 1:
-        return cookie_session_start(id, sizeof id, 1445412480, session);
+        return cookie_session_start(&at->sessions, id, sizeof id, 1445412480, &at->session);
     case 2:
-        return cookie_session_set(session, id, 1, form, 1);
+        return cookie_session_set(&at->session, id, 1, form, 1);
     case 3:
-        return cookie_session_set_texts(session, form, sizeof form - 1);
+        return cookie_session_set_texts(&at->session, form, sizeof form - 1);
     case 4: {
-        cookie_answer answer = cookie_session_save(sessions, session, nonce, 12, 1445412480, saved, sizeof saved);
+        cookie_answer answer =
+            cookie_session_save(&at->sessions, &at->session, nonce, 12, 1445412480, saved, sizeof saved);
         if (answer.status == COOKIE_DONE)
             length = (size_t)((uint8_t *)memchr(saved, ';', answer.length) - saved);
         return answer.status;
     }
+    case 5:
+        return cookie_session_open(&at->sessions, saved, length, 1445412480, &at->session);
+    case 6:
+        return cookie_opened_new(&at->sessions, saved, length, 1445412480, &at->opened);
+    case 7: {
+        uint8_t ids[16];
+        return cookie_opened_ids(&at->opened, ids, sizeof ids).status;
+    }
     default:
-        return cookie_session_open(sessions, saved, length, NULL, 0, 1445412480, session);
+        return cookie_opened_take(&at->opened, NULL, 0, &at->session);
     }
 }
 
 /* The same of handles of sessions as of a jar's. */
 static void starve_sessions(void) {
-    cookie_sessions sessions = {0};
-    cookie_session session = {0};
+    site_handles at = {{{0}}, {{0}}, {{0}}};
     int refused = 0;
-    for (int step = 0; step < 6; step++)
+    for (int step = 0; step < 9; step++)
         for (size_t number = 1;; number++) {
             uint8_t before[300] = {0}, after[300] = {0};
-            size_t before_length = look_at_session(&session, before, sizeof before);
+            size_t before_length = look_at_session(&at.session, before, sizeof before);
             asked = 0;
             refused_at = number;
-            uint32_t status = session_step(step, &sessions, &session);
+            uint32_t status = session_step(step, &at);
             refused_at = 0;
             if (status == COOKIE_DONE)
                 break;
             refused++;
-            size_t after_length = look_at_session(&session, after, sizeof after);
+            size_t after_length = look_at_session(&at.session, after, sizeof after);
             if (status != COOKIE_OUT_OF_MEMORY || asked < number)
                 fault("a step on a session without memory has another status");
             if (after_length != before_length || memcmp(after, before, before_length) != 0)
@@ -792,8 +887,9 @@ static void starve_sessions(void) {
             if (number == 1000)
                 break;
         }
-    cookie_session_free(&session);
-    cookie_sessions_free(&sessions);
+    cookie_session_free(&at.session);
+    cookie_opened_free(&at.opened);
+    cookie_sessions_free(&at.sessions);
     printf("%d requests for memory of sessions refused, each told with the session as it was\n", refused);
 }
 

@@ -120,7 +120,7 @@ static size_t of_session(const char *work, size_t times) {
     cookie_session session = {0};
     size_t total = 0;
     if (cookie_sessions_new(&settings, &sessions) != COOKIE_DONE
-        || cookie_session_start(id, sizeof id, 1445412480, &session) != COOKIE_DONE
+        || cookie_session_start(&sessions, id, sizeof id, 1445412480, &session) != COOKIE_DONE
         || cookie_session_set_texts(&session, form, sizeof form - 1) != COOKIE_DONE)
         return 0;
     if (strcmp(work, "save") == 0) {
@@ -130,7 +130,7 @@ static size_t of_session(const char *work, size_t times) {
         size_t length = save(&sessions, &session).length;
         const uint8_t *end = memchr(out, ';', length);
         for (; end != NULL && times > 0; times--)
-            total += cookie_session_open(&sessions, out, (size_t)(end - out), NULL, 0, 1445412480, &session) == COOKIE_DONE;
+            total += cookie_session_open(&sessions, out, (size_t)(end - out), 1445412480, &session) == COOKIE_DONE;
     }
     cookie_session_free(&session);
     cookie_sessions_free(&sessions);

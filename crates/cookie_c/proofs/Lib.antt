@@ -12,6 +12,7 @@ mod PairLemmas
 mod PrintLemmas
 mod ReadLemmas
 mod ReadingLemmas
+mod RevokedLemmas
 mod SaveLemmas
 mod SiteLemmas
 mod TokenLemmas

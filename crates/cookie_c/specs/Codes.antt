@@ -46,4 +46,4 @@ refusal_status errors.OutOfMemory = status.OutOfMemory
 
 -- the number of the header that callers in C know
 abbrev pub header_version : ℕ
-header_version = 1
+header_version = 2

@@ -4,6 +4,7 @@ use Rattle.std.specs.Prelude.{◌≡◌, ℕ, ◌⊎◌, List, Option, Some, Non
 use Rattle.cookie.specs.Jar.{JarState}
 use Rattle.cookie_browser.specs.Storage.{CookieStore}
 use Rattle.cookie_browser.specs.Suffixes.{Rule}
+use Rattle.cookie_session.specs.declared.opened.Opened.{Opened}
 use Rattle.cookie_c.specs.Answers.{IsRefused}
 use Rattle.cookie_c.specs.Codes.{code_of}
 use Rattle.cookie_c.specs.declared.answer.Answer.{Answer}
@@ -23,6 +24,10 @@ jar_in _ = None
 abbrev pub site_in : Option Content → Option Site
 site_in (Some (content.Sessions site)) = Some site
 site_in _ = None
+
+abbrev pub opened_in : Option Content → Option (List Opened)
+opened_in (Some (content.Opened opened)) = Some opened
+opened_in _ = None
 
 abbrev pub session_in : Option Content → Option OpenSession
 session_in (Some (content.Session session)) = Some session

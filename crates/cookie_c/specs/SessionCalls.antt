@@ -1,56 +1,36 @@
 -- The calls on a session in a handle: `old` is the session at the call and `new` at the return. Of a call that gives a
 -- text they are the buffer.
-use Rattle.std.specs.Prelude.{◌≡◌, ◌≢◌, ℕ, ◌⊎◌, List, IsUtf8, Option, Some, None, length}
+use Rattle.std.specs.Prelude.{◌≡◌, ℕ, ◌⊎◌, List, IsUtf8, Option, Some, None}
 use Rattle.std.specs.FinMap.{FinMap, empty, get, insert, remove}
 use Rattle.jiff.specs.Types.{DateTime}
 use Rattle.cookie.specs.Jar.{name_cmp}
 use Rattle.cookie_session.specs.Form.{texts_of_form}
-use Rattle.cookie_session.specs.Id.{id_length}
-use Rattle.cookie_session.specs.Seconds.{second_of}
+use Rattle.cookie_session.specs.Sessions.{started_at}
+use Rattle.cookie_session.specs.declared.sessions.Sessions.{Sessions}
 use Rattle.cookie_c.specs.Answers.{IsGiven, IsRefused}
-use Rattle.cookie_c.specs.Handles.{Changes, IsKept, IsPut, Tells}
+use Rattle.cookie_c.specs.Handles.{Changes, IsKept, Tells}
 use Rattle.cookie_c.specs.OpenedSessions.{session_of}
-use Rattle.cookie_c.specs.Sites.{AtSecond}
 use Rattle.cookie_c.specs.declared.answer.Answer.{Answer}
 use Rattle.cookie_c.specs.declared.sessions.Session.{Session as Handle}
 use Rattle.cookie_c.specs.declared.sessions.open_session.OpenSession.{OpenSession}
 use Rattle.cookie_c.specs.declared.status.Status.{Status}
 use Rattle.cookie_c.specs.declared.status.Status.TheVariants as status
 
--- a session with this id that starts at this time, without texts
-abbrev pub new_session : List ℕ → DateTime → OpenSession
-new_session id time =
-    record {
-      session = record {
-        id = id;
-        started = second_of time;
-        seen = second_of time;
-        texts = empty;
-      };
-      index = None;
-    }
-
--- a session with this id is in the handle, which starts in that second
-pub record IsStarted (id : List ℕ) (second : ℕ) (answer : Status) (old new : Option OpenSession)
-    : Type 0 where
-  pub bad_id : length id ≢ id_length → IsKept status.BadNonce answer old new
-  pub started : length id ≡ id_length → AtSecond second
-      (λ time. IsPut (new_session id time) answer old new) (λ why. IsKept why answer old new)
+-- the session that starts at this time, with this id, without texts, and with the limits that the site has
+abbrev pub new_session : Sessions → List ℕ → DateTime → OpenSession
+new_session site id time = record { session = started_at site time id empty; index = None }
 
 -- the session with another id, which starts at this time; the index of the key that opened it stays
-abbrev pub renewed_session : List ℕ → DateTime → OpenSession → OpenSession
-renewed_session id time had =
-    record had {
-      session = record had.session { id = id; started = second_of time; seen = second_of time };
-    }
+abbrev pub renewed_session : Sessions → List ℕ → DateTime → OpenSession → OpenSession
+renewed_session site id time had =
+    record had { session = started_at site time id had.session.texts }
 
--- the session starts anew in that second, with this id
-pub record IsRenewed (id : List ℕ) (second : ℕ) (answer : Status) (old new : OpenSession)
-    : Type 0 where
-  pub bad_id : length id ≢ id_length → IsKept status.BadNonce answer old new
-  pub renewed : length id ≡ id_length → AtSecond second
-      (λ time. (answer ≡ status.Done) × (new ≡ renewed_session id time old))
-      (λ why. IsKept why answer old new)
+-- the session of the handle starts anew at this time, with this id and the limits that the site has
+abbrev pub Renews : Sessions → List ℕ → DateTime → Status → Option OpenSession → Option OpenSession
+    → Type 0
+Renews site id time =
+    Changes status.NoSession
+    (λ answer old new. (answer ≡ status.Done) × (new ≡ renewed_session site id time old))
 
 -- the session with these texts in place of its own
 abbrev pub with_texts : FinMap name_cmp (List ℕ) → OpenSession → OpenSession

@@ -7,12 +7,14 @@ pub(crate) mod ending;
 pub(crate) mod facts;
 pub(crate) mod given;
 pub(crate) mod keys;
-mod listed;
 pub(crate) mod open;
+pub(crate) mod open_all;
 pub(crate) mod open_session;
+pub(crate) mod opened_sessions;
 pub(crate) mod save;
 pub(crate) mod site;
 pub(crate) mod start;
+pub(crate) mod take;
 pub(crate) mod texts;
 pub(crate) mod time;
 
@@ -30,9 +32,11 @@ pub struct SessionSettings<'a> {
     pub keys: &'a [u8],
     /// The site's cookie as the value of a `Set-Cookie` header. Its value, `Max-Age` and `Expires` don't count.
     pub cookie: &'a [u8],
-    /// The seconds that a session lives after its start, however it is used.
+    /// The seconds that a session lives after its start, however it is used. A session keeps the lifetime that it
+    /// started with, so a longer one here is for sessions that start later, and a shorter one for all.
     pub lifetime: u32,
-    /// The seconds that a session lives after it was last saved.
+    /// The seconds that a session lives after it was last saved. A session keeps the idle time that it started with, as
+    /// its lifetime.
     pub idle: u32,
 }
 
@@ -40,6 +44,14 @@ pub struct SessionSettings<'a> {
 #[repr(C)]
 #[derive(Drop)]
 pub struct Sessions {
+    /// What has them.
+    pub handle: Handle,
+}
+
+/// A handle of the sessions that a request has open.
+#[repr(C)]
+#[derive(Drop)]
+pub struct Opened {
     /// What has them.
     pub handle: Handle,
 }
@@ -76,6 +88,14 @@ pub extern "C" fn cookie_sessions_free(alloc: Global, sessions: &mut Sessions)
     ensures { sessions.new.handle.held.content ≡ None }
 {
     sessions.handle.free(alloc);
+}
+
+/// Frees the handle's opened sessions, if it has some. The handle has none then.
+#[unsafe(no_mangle)]
+pub extern "C" fn cookie_opened_free(alloc: Global, opened: &mut Opened)
+    ensures { opened.new.handle.held.content ≡ None }
+{
+    opened.handle.free(alloc);
 }
 
 /// Frees the handle's session, if it has one. The handle has none then.

@@ -1,8 +1,9 @@
 """Sessions. The inputs are the keys, the site's cookie, and numbers: lifetime, idle time, and now in seconds.
 `session_open` has the header and the revoked ids then, and last the place of the key with both times, and the session's
-id. `session_save` has one number more, 1 if the session is renewed, and then the header, the revoked ids, the form of the
-texts, and the random bytes: the nonce and the id of a session that starts. `token_make` and `token_read` have the keys,
-the purpose, the lifetime with now, the value or the token, and the first a nonce."""
+id. `session_save` has one number more: 1 if the session starts, or 2 if it starts under other limits, which follow. Then it
+has the header, the revoked ids, the form of the texts, and the random bytes: the nonce and the id of a session that starts.
+`token_make` and `token_read` have the keys, the purpose, the lifetime with now, the value or the token, and the first a
+nonce."""
 from urllib.parse import urlencode
 
 import rowfile
@@ -42,7 +43,7 @@ class Sessions:
         self.limits, self.now, self.nonce = [1200, 600], FIRST, bytes([7] * 12)
         self.revoked, self.new_id = b"", SEVENS
         self.originals, self.header = {}, None
-        self.texts, self.form, self.started = {}, None, FIRST
+        self.texts, self.form, self.started, self.kept_limits = {}, None, FIRST, self.limits
         # The call that isn't known whole yet: its place and its inputs, or its name and its inputs.
         self.opened = self.saved = None
         self.told = {}
@@ -77,7 +78,7 @@ class Sessions:
     def change_session(self, step):
         """Whether the step changes the session or the request."""
         if step.call in ("start", "renew"):
-            self.header, self.started = None, self.now
+            self.header, self.started, self.kept_limits = None, self.now, self.limits
             self.texts = {} if step.call == "start" else self.texts
         elif step.call == "set":
             name, mark, text = step.words.partition("*" if "*" in step.words else "=")
@@ -121,9 +122,10 @@ class Sessions:
         is_new = self.header is None and step.wanted != "refused NoSession"
         if self.opened or is_new and self.started != self.now:
             raise Lacks(step)
+        starts = [0] if not is_new else [1] if self.kept_limits == self.limits else [2, *self.kept_limits]
         form = form_of(self.texts) if self.form is None else self.form
         drawn = self.nonce + self.new_id
-        inputs = [*self.settings(int(is_new)), self.header or b"", self.revoked, form, drawn]
+        inputs = [*self.settings(*starts), self.header or b"", self.revoked, form, drawn]
         self.form = None
         if status_of(step.wanted) == "BAD_IDS":
             # Only the call that opens a session takes the list.

@@ -23,11 +23,16 @@ pub struct SessionFacts {
     /// When it was last saved before it was opened, or else when it started or was renewed, in seconds since 1970 in
     /// UTC.
     pub seen: u64,
+    /// The second in which it is over, however it is used, in seconds since 1970 in UTC. Under a shorter lifetime of the
+    /// site it is over earlier.
+    pub end: u64,
+    /// The seconds that it lives after it was last saved. Under a shorter idle time of the site it lives shorter.
+    pub idle: u64,
     /// Its id.
     pub id: [u8; 16],
 }
 
-/// The id of the handle's session, its times, and the index of the key that opened it. The session is as before.
+/// The id of the handle's session, its times and limits, and the index of the key that opened it. The session is as before.
 ///
 /// Refuses a handle without a session. It doesn't allocate.
 #[unsafe(no_mangle)]
@@ -65,6 +70,8 @@ impl SessionFacts {
             index: opened.index.unwrap_or(0),
             started: opened.session.started(),
             seen: opened.session.seen(),
+            end: opened.session.end(),
+            idle: opened.session.idle(),
             id: *opened.session.id(),
         }
     }
