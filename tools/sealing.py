@@ -54,8 +54,10 @@ def spelled_for_urls(data):
     return base64.urlsafe_b64encode(data).rstrip(b"=").decode()
 
 
-def form(started, seen, texts, version="3", number=ID):
-    """A session's text, with its two times in seconds since 1970: of each name and text only those bytes are escaped
-    that a form's reader gives a meaning."""
-    head = [("v", version), ("id", spelled_for_urls(number)), ("started", f"{started}"), ("seen", f"{seen}")]
+def form(started, seen, texts, limits, version="4", number=ID):
+    """A session's text, with its times in seconds since 1970, and the lifetime and the idle time that it started with: of
+    each name and text only those bytes are escaped that a form's reader gives a meaning."""
+    lifetime, idle = limits
+    head = [("v", version), ("id", spelled_for_urls(number)), ("started", f"{started}"), ("end", f"{started + lifetime}")]
+    head += [("idle", f"{idle}"), ("seen", f"{seen}")]
     return "&".join(f"{name.translate(MARKS)}={text.translate(MARKS)}" for name, text in [*head, *texts])

@@ -12,7 +12,7 @@ from .errors import BufferTooShort, CookieError, KeyTooShort, error_of
 
 DONE = 0
 # COOKIE_VERSION of the header that this file follows.
-VERSION = 1
+VERSION = 2
 
 
 class Answer(ctypes.Structure):
@@ -53,7 +53,7 @@ class Held(ctypes.Structure):
 
 
 class Handle(ctypes.Structure):
-    """What the library keeps for a jar, a site's sessions, a session, or a list of public suffixes."""
+    """What the library keeps for a jar, a site's sessions, those of a request, a session, or a list of public suffixes."""
 
     _fields_ = [("is_open", ctypes.c_bool), ("held", Held)]
 
@@ -76,7 +76,7 @@ class TokenSettings(ctypes.Structure):
 class SessionFacts(ctypes.Structure):
     _fields_ = [
         ("status", ctypes.c_uint32), ("is_opened", ctypes.c_bool), ("index", ctypes.c_size_t),
-        ("started", ctypes.c_uint64), ("seen", ctypes.c_uint64), ("id", ctypes.c_uint8 * 16),
+        *((name, ctypes.c_uint64) for name in ("started", "seen", "end", "idle")), ("id", ctypes.c_uint8 * 16),
     ]
 
 
@@ -136,15 +136,19 @@ JAR_FREE = declare("jar_free", HANDLE, None)
 JAR_COOKIES = declare("jar_cookies", HANDLE + TEXT, Answer)
 SESSIONS_NEW = declare("sessions_new", SETTINGS + HANDLE, ctypes.c_uint32)
 SESSIONS_FREE = declare("sessions_free", HANDLE, None)
-SESSION_OPEN = declare("session_open", HANDLE + TEXT * 2 + SECOND + HANDLE, ctypes.c_uint32)
-SESSION_START = declare("session_start", TEXT + SECOND + HANDLE, ctypes.c_uint32)
+OPENED_NEW = declare("opened_new", HANDLE + TEXT + SECOND + HANDLE, ctypes.c_uint32)
+OPENED_IDS = declare("opened_ids", HANDLE + TEXT, Answer)
+OPENED_TAKE = declare("opened_take", HANDLE + TEXT + HANDLE, ctypes.c_uint32)
+OPENED_FREE = declare("opened_free", HANDLE, None)
+SESSION_OPEN = declare("session_open", HANDLE + TEXT + SECOND + HANDLE, ctypes.c_uint32)
+SESSION_START = declare("session_start", HANDLE + TEXT + SECOND + HANDLE, ctypes.c_uint32)
 SESSION_DESCRIBE = declare("session_describe", HANDLE, SessionFacts)
 SESSION_GET = declare("session_get", HANDLE + TEXT * 2, Answer)
 SESSION_SET = declare("session_set", HANDLE + TEXT * 2, ctypes.c_uint32)
 SESSION_REMOVE = declare("session_remove", HANDLE + TEXT, ctypes.c_uint32)
 SESSION_TEXTS = declare("session_texts", HANDLE + TEXT, Answer)
 SESSION_SET_TEXTS = declare("session_set_texts", HANDLE + TEXT, ctypes.c_uint32)
-SESSION_RENEW = declare("session_renew", HANDLE + TEXT + SECOND, ctypes.c_uint32)
+SESSION_RENEW = declare("session_renew", HANDLE * 2 + TEXT + SECOND, ctypes.c_uint32)
 SESSION_SAVE = declare("session_save", HANDLE * 2 + TEXT + SECOND + TEXT, Answer)
 SESSION_END = declare("session_end", HANDLE + SECOND + TEXT, Answer)
 SESSION_FREE = declare("session_free", HANDLE, None)
@@ -216,14 +220,15 @@ def perform(function: Callable[..., Any], *inputs: Any) -> None:
 
 
 def answer_and_bytes(function: Callable[..., Any], *inputs: Any, room: int = 256) -> tuple[Any, bytes]:
-    """What a call returns, and its bytes. If the first buffer is too short, it is called again with one that fits."""
+    """What a call returns, and its bytes, or the buffer if it decodes. If the first is too short, it is called again with
+    one that fits."""
     arguments = arguments_of(function, inputs)
     while True:
         buffer = ctypes.create_string_buffer(room)
         answer = function(*arguments, buffer, room)
         if answer.status != BufferTooShort.status:
-            return answer, buffer.raw[: answer.length]
-        room = answer.length
+            return answer, buffer.raw[: getattr(answer, "length", room)]
+        room = answer.length if hasattr(answer, "length") else answer.value.start + answer.value.length
 
 
 def bytes_from(function: Callable[..., Any], *inputs: Any, room: int = 256) -> bytes:
@@ -232,17 +237,6 @@ def bytes_from(function: Callable[..., Any], *inputs: Any, room: int = 256) -> b
     if answer.status != DONE:
         raise error_of(answer.status, answer.length)
     return text
-
-
-def decoded(function: Callable[..., Any], *inputs: Any, room: int = 256) -> tuple[Any, bytes]:
-    """What a call that decodes returns, and its buffer. If the first is too short, it is called again."""
-    arguments = arguments_of(function, inputs)
-    while True:
-        buffer = ctypes.create_string_buffer(room)
-        answer = function(*arguments, buffer, room)
-        if answer.status != BufferTooShort.status:
-            return answer, buffer.raw
-        room = answer.value.start + answer.value.length
 
 
 def text_or_none(function: Callable[..., Any], none: tuple[type[CookieError], ...], *inputs: Any) -> str | None:

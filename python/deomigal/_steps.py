@@ -1,37 +1,31 @@
-"""Steps that wait for others: with and without asyncio."""
+"""Coroutines whose steps may wait: with and without asyncio."""
 from __future__ import annotations
 
 import asyncio
+import inspect
 import os
 from concurrent.futures import ThreadPoolExecutor
-from typing import Any, Awaitable, Callable, Generator, TypeVar
+from typing import Any, Callable, Coroutine, TypeVar
 
 T = TypeVar("T")
-# They yield what is to be done, and are sent what it returns.
-Steps = Generator[Any, Any, T]
 # The worker threads, which a process has of its own, and how many.
 THREADS = 32
 threads: tuple[int, ThreadPoolExecutor] | None = None
 
 
-def run(steps: Steps[T], do: Callable[[Any], Any]) -> T:
-    """What the steps return, where `do` does each."""
+def run(steps: Coroutine[Any, Any, T]) -> T:
+    """What the steps return, of which none waits."""
     try:
-        step = next(steps)
-        while True:
-            step = steps.send(do(step))
+        steps.send(None)
     except StopIteration as end:
         return end.value  # type: ignore[no-any-return]
+    steps.close()
+    raise TypeError("a call that waits is awaited")
 
 
-async def run_async(steps: Steps[T], do: Callable[[Any], Awaitable[Any]]) -> T:
-    """The same, where `do` is awaited."""
-    try:
-        step = next(steps)
-        while True:
-            step = steps.send(await do(step))
-    except StopIteration as end:
-        return end.value  # type: ignore[no-any-return]
+async def awaited(found: Any) -> Any:
+    """What a call returned, or what it is a coroutine of."""
+    return await found if inspect.isawaitable(found) else found
 
 
 async def in_thread(call: Callable[..., T], *words: Any) -> T:

@@ -61,25 +61,27 @@ def site() -> Sessions:
     return found[1]
 
 
-def session_of(key: str) -> Session:
-    """The session in the value of the site's cookie, or a new one."""
-    if not re.fullmatch(r"[!-+\--:<-\[\]-~]+", key):
-        return site().start()
-    return site().open(print_cookie(settings.SESSION_COOKIE_NAME, "") + key)
+def session_of(key: str | None, header: bytes | None = None) -> Session:
+    """The session in the request's header, or without one in the value of the site's cookie; or a new one."""
+    if header is None and re.fullmatch(r"[!-+\--:<-\[\]-~]+", key or ""):
+        header = f"{print_cookie(settings.SESSION_COOKIE_NAME, '')}{key}".encode()
+    return site().open(header)
 
 
 class SessionStore(SessionBase):
-    """A session, whose key is the value of its cookie. `source` is the session that it was opened from. `failure` is why it
-    couldn't be opened, or the error of its revocations that no view answered."""
+    """A session, whose key is the value of its cookie. `source` is the session that it was opened from, and `header` the
+    request's, if it is opened from that. `failure` is why it couldn't be opened, or the error of its revocations that no
+    view answered."""
 
     source: Session | None = None
+    header: bytes | None = None
     failure: RevocationsError | None = None
     _session_cache: dict[str, Any]
 
     def load(self) -> dict[str, Any]:
         """The values of the session, or none if the cookie holds no session that is open."""
         try:
-            self.source = session_of(self.session_key or "")
+            self.source = session_of(self.session_key, self.header)
         except RevocationsError as error:
             self.failure = error
             raise
@@ -91,7 +93,7 @@ class SessionStore(SessionBase):
             except Exception:
                 # Another program or another serializer saved it, as pickle, which raises what it wants.
                 pass
-        self.source, self._session_key = None, ""
+        self.source, self.header, self._session_key = None, None, ""
         return {}
 
     def lives(self, values: dict[str, Any]) -> bool:
@@ -119,15 +121,16 @@ class SessionStore(SessionBase):
         """Drops the values and the key. `flush` calls it, as at a logout. With DEOMIGAL_REVOCATIONS the session is
         revoked. Without it a copy of the cookie stays open until its limits."""
         self.revoke(session_key)
-        self.source, self._session_key, self._session_cache = None, "", {}
+        self.source, self.header, self._session_key, self._session_cache = None, None, "", {}
         self.modified = True
 
-    def revoke(self, session_key: str | None = None) -> None:
-        """Revokes the session, if the site keeps which sessions are revoked."""
-        if site().revocations is not None:
-            is_other = session_key is not None and session_key != self.session_key
-            source = session_of(session_key or "") if is_other else self.source or session_of(self.session_key or "")
-            site().revoke(source)
+    def revoke(self, session_key: str | None = None) -> bool:
+        """Revokes the session, if the site keeps which sessions are revoked. Returns whether it was revoked already."""
+        if site().revocations is None:
+            return False
+        if session_key is not None and session_key != self.session_key:
+            return site().revoke(session_of(session_key))
+        return site().revoke(self.source or session_of(self.session_key, self.header))
 
     def cycle_key(self) -> None:
         """Starts it anew with the same values, so that the lifetime counts from this request. A login calls it. With
@@ -174,10 +177,11 @@ class SessionMiddleware(DjangoMiddleware):
 
     def process_request(self, request: Any) -> None:
         """Opens the session of the request."""
-        name = settings.SESSION_COOKIE_NAME
-        keys = [value for found, value in pairs(header_in(request.META)) if found == name] or [""]
-        # Of several the last counts if none is open, so that Django drops it.
-        request.session = self.SessionStore(next((key for key in keys[:-1] if not session_of(key).is_new), keys[-1]))
+        header = header_in(request.META)
+        keys = [value for name, value in pairs(header) if name == settings.SESSION_COOKIE_NAME]
+        # Django takes no short one for a key.
+        request.session = self.SessionStore(max(keys, key=len, default=None))
+        request.session.header = header
 
     def process_exception(self, request: Any, exception: Exception) -> Any:
         """Answers a view whose session couldn't be looked up, or not be revoked."""

@@ -110,25 +110,27 @@ class FlaskSession(SecureCookieSession):
         super().clear()
         self.renew()
 
-    def revoke(self) -> None:
+    def revoke(self) -> bool:
         """Revokes it, and then clears it. Call it at a logout: no copy of its cookie opens any more, whenever it was
-        saved. Raises `RevocationsError` if that can't be kept, and `RuntimeError` if the interface has no `revocations`.
-        """
-        self.end()
+        saved. Returns whether it was revoked already. Raises `RevocationsError` if that can't be kept, and `RuntimeError`
+        if the interface has no `revocations`."""
+        was_revoked = self.end()
         is_forgotten = self.get(REMEMBER) == "clear"
         self.clear()
         if is_forgotten:
             # So Flask-Login drops the cookie that would log the user in again.
             self[REMEMBER] = "clear"
+        return was_revoked
 
-    def end(self) -> None:
-        """Revokes it, and starts it anew with the same values."""
+    def end(self) -> bool:
+        """Revokes it, and starts it anew with the same values. Returns whether it was revoked already."""
         try:
-            self.sessions.revoke(self.source)
+            was_revoked = self.sessions.revoke(self.source)
         except RevocationsError as error:
             self.is_failed = True
             raise Unavailable(error) from error
         self.renew()
+        return was_revoked
 
     def check(self) -> None:
         """Raises `TooLarge` if no browser would store the session as it is now. It is checked so after each view, if
@@ -361,7 +363,7 @@ class SessionInterface(FlaskSessionInterface):
         limit = app.permanent_session_lifetime.total_seconds() if self.idle is None else self.idle
         refresh = limit / 10 if self.refresh is None else self.refresh
         counts = app.config["SESSION_REFRESH_EACH_REQUEST"] and (session.permanent or self.idle is not None)
-        return bool(counts and session.source.now - session.source.seen >= refresh)
+        return bool(counts and session.source.is_due(limit, refresh))
 
     def save_session(self, app: Flask, session: SessionMixin, response: Response) -> None:
         """Saves the session in the response, or removes its cookie if it was emptied. An error page or a file that

@@ -2,8 +2,8 @@
 
     sessions = Sessions(keys, "__Host-session", 12 * 3600, 1800, revocations=SqliteRevocations("/var/lib/site/revoked"))
 
-A session's id is revoked until the session's lifetime ends. So a site keeps only the ids of few sessions, each for a
-while. Whatever one of these raises, `Sessions` raises as `RevocationsError`, and the session isn't opened.
+A session's id is revoked until the session's own end. So a site keeps only the ids of few sessions, each for a while.
+Whatever one of these raises, `Sessions` raises as `RevocationsError`, and the session isn't opened.
 """
 from __future__ import annotations
 
@@ -13,10 +13,10 @@ import pathlib
 import sqlite3
 import time
 import weakref
-from typing import Any, Iterable, Iterator, Protocol
+from typing import Any, Iterable, Iterator, Protocol, Sequence
 
 from ._locks import Lock
-from ._steps import Steps, run, run_async
+from ._steps import awaited, run
 from .errors import RevocationsError
 
 ID_LENGTH = 16
@@ -27,6 +27,8 @@ CONNECTIONS = 3
 LONGEST = 0.05
 # Opens a path, but not its file. PyPy has no name for it.
 PATH_ONLY = getattr(os, "O_PATH", 0o10000000)
+# How many ids an SQLite statement looks up at most.
+AT_ONCE = 500
 # How many seconds longer Redis keeps a key, whose clock may be ahead.
 SLACK = 3600
 
@@ -34,14 +36,16 @@ SLACK = 3600
 class Revocations(Protocol):
     """Where a site keeps which sessions are revoked. Threads share it.
 
-    An id has sixteen bytes. Seconds count from 1970 in UTC. A call that can't do what it is for raises an exception.
+    An id has sixteen bytes. Seconds count from 1970 in UTC. A call that can't do what it is for raises an exception. If a
+    class also has `are_revoked(ids)`, which returns a list of bools, a request's sessions are looked up by one call of it.
     """
 
     def is_revoked(self, id: bytes) -> bool:
         """Whether the session with this id is revoked."""
 
-    def revoke(self, id: bytes, until: int) -> None:
-        """Revokes the session with this id until that second. If it is revoked already, the later second counts."""
+    def revoke(self, id: bytes, until: int) -> bool:
+        """Revokes the session with this id until that second. If it is revoked already, the later second counts. Returns
+        whether it was revoked already: of several calls at the same moment exactly one returns False."""
 
     def forget(self, now: float) -> None:
         """Forgets each session whose second isn't after `now`. It is over then."""
@@ -53,8 +57,8 @@ class AsyncRevocations(Protocol):
     async def is_revoked(self, id: bytes) -> bool:
         """Whether the session with this id is revoked."""
 
-    async def revoke(self, id: bytes, until: int) -> None:
-        """Revokes the session with this id until that second, or a later one."""
+    async def revoke(self, id: bytes, until: int) -> bool:
+        """Revokes the session with this id until that second, or a later one. Returns whether it was revoked already."""
 
 
 def id_of(id: bytes) -> bytes:
@@ -83,6 +87,7 @@ class MemoryRevocations:
 
     >>> revocations = MemoryRevocations()
     >>> revocations.revoke(b"an id of 16 byte", until=1445412480)
+    False
     >>> revocations.is_revoked(b"an id of 16 byte"), revocations.is_revoked(bytes(16))
     (True, False)
     >>> revocations.forget(now=1445412480)
@@ -98,10 +103,16 @@ class MemoryRevocations:
         """Whether the session with this id is revoked."""
         return id_of(id) in self.until
 
-    def revoke(self, id: bytes, until: int) -> None:
-        """Revokes the session with this id until that second, or a later one."""
+    def are_revoked(self, ids: Sequence[bytes]) -> list[bool]:
+        """Whether each of the sessions is revoked."""
+        return [self.is_revoked(id) for id in ids]
+
+    def revoke(self, id: bytes, until: int) -> bool:
+        """Revokes the session with this id until that second, or a later one. Returns whether it was revoked already."""
         with self.lock:
-            self.until[id_of(id)] = max(until, self.until.get(id, until))
+            was_revoked = id_of(id) in self.until
+            self.until[id] = max(until, self.until.get(id, until))
+            return was_revoked
 
     def forget(self, now: float) -> None:
         """Forgets each session whose second isn't after `now`."""
@@ -205,6 +216,7 @@ class SqliteRevocations:
     >>> folder = tempfile.TemporaryDirectory()
     >>> revocations = SqliteRevocations(folder.name + "/revoked")
     >>> revocations.revoke(b"an id of 16 byte", until=1445412480)
+    False
     >>> SqliteRevocations(folder.name + "/revoked", create=False).is_revoked(b"an id of 16 byte")
     True
     >>> revocations.close()
@@ -230,23 +242,24 @@ class SqliteRevocations:
 
     def read(self, statement: str, *values: Any) -> list[Any]:
         """The rows of a statement that only reads."""
-        return self.perform(self.connections, statement, *values)
+        return self.perform(self.connections, (statement, *values))[0]
 
-    def write(self, statement: str, *values: Any) -> None:
-        """Makes a statement, which is a transaction. The first connection is left to those that read: they wait for none."""
-        self.perform(self.connections[1:], statement, *values)
+    def write(self, *statements: tuple[Any, ...]) -> list[list[Any]]:
+        """The rows of each statement. The first connection is left to those that read: they wait for none."""
+        return self.perform(self.connections[1:], *statements)
 
-    def perform(self, connections: list[Connection], statement: str, *values: Any) -> list[Any]:
-        """The rows of a statement by one of the connections, if the file is still at its path afterwards."""
+    def perform(self, connections: list[Connection], *statements: tuple[Any, ...]) -> list[list[Any]]:
+        """The rows of each statement by one of the connections, if the file is still at its path afterwards."""
         connection = self.free_one(connections)
         try:
             if connection.opened is None:
                 self.check_file()
-            found = rows(connection.open(), statement, *values)
+            opened = connection.open()
+            found = [rows(opened, *words) for words in statements]
             self.check_file()
             return found
         except BaseException as error:
-            # It may be one to another file.
+            # It may be one to another file. A transaction that was begun is undone.
             connection.close()
             if not isinstance(error, Exception):
                 raise
@@ -270,12 +283,23 @@ class SqliteRevocations:
 
     def is_revoked(self, id: bytes) -> bool:
         """Whether the session with this id is revoked."""
-        return bool(self.read("SELECT 1 FROM revoked WHERE id = ? LIMIT 1", id_of(id)))
+        return self.are_revoked([id])[0]
 
-    def revoke(self, id: bytes, until: int) -> None:
-        """Revokes the session with this id until that second, or a later one."""
-        statement = "INSERT INTO revoked SELECT ?, ? WHERE NOT EXISTS (SELECT 1 FROM revoked WHERE id = ? AND until >= ?)"
-        self.write(statement, id_of(id), until, id, until)
+    def are_revoked(self, ids: Sequence[bytes]) -> list[bool]:
+        """Whether each of the sessions is revoked, by one statement for 500 of them."""
+        found: set[tuple[bytes]] = set()
+        for start in range(0, len(ids), AT_ONCE):
+            some = [id_of(id) for id in ids[start : start + AT_ONCE]]
+            found.update(self.read(f"SELECT id FROM revoked WHERE id IN (?{', ?' * (len(some) - 1)})", *some))
+        return [(id,) in found for id in ids]
+
+    def revoke(self, id: bytes, until: int) -> bool:
+        """Revokes the session with this id until that second, or a later one. Returns whether it was revoked already."""
+        look = "SELECT 1 FROM revoked WHERE id = ? LIMIT 1"
+        insert = "INSERT INTO revoked SELECT ?, ? WHERE NOT EXISTS (SELECT 1 FROM revoked WHERE id = ? AND until >= ?)"
+        # Begun so, no other process writes between the two.
+        _, found, *_ = self.write(("BEGIN IMMEDIATE",), (look, id_of(id)), (insert, id, until, id, until), ("COMMIT",))
+        return bool(found)
 
     def forget(self, now: float) -> None:
         """Forgets each session whose second isn't after `now`, in transactions of at most some 50 ms. Between them it
@@ -284,7 +308,7 @@ class SqliteRevocations:
         batch = "SELECT max(rowid) FROM (SELECT rowid FROM revoked WHERE rowid > ? ORDER BY rowid LIMIT ?)"
         while (end := self.read(batch, last, count)[0][0]) is not None:
             begun = time.monotonic()
-            self.write("DELETE FROM revoked WHERE rowid > ? AND rowid <= ? AND until <= ?", last, end, int(now))
+            self.write(("DELETE FROM revoked WHERE rowid > ? AND rowid <= ? AND until <= ?", last, end, int(now)))
             seconds, last = time.monotonic() - begun, end
             count = max(1, count // 2) if seconds > LONGEST / 3 else 2 * count if seconds < LONGEST / 10 else count
             time.sleep(seconds)
@@ -295,7 +319,7 @@ class SqliteRevocations:
 
 
 class RedisCommands:
-    """The commands of Redis for revoked sessions, as steps that are each a call of the client."""
+    """The commands of Redis for revoked sessions, over a client whose calls are coroutines or not."""
 
     def __init__(self, client: Any, prefix: str = "revoked:") -> None:
         self.client, self.prefix = client, prefix
@@ -304,29 +328,28 @@ class RedisCommands:
         """The key of the id in Redis."""
         return self.prefix + id_of(id).hex()
 
-    def looking_up(self, id: bytes) -> Steps[bool]:
-        """Looks up whether the session with this id is revoked."""
-        key = self.key(id)
-        return bool(outcome((yield lambda: self.client.exists(key)), 0, 1))
+    async def looking_up(self, ids: Sequence[bytes]) -> list[bool]:
+        """Whether each of the sessions is revoked, in one round trip."""
+        keys = [self.key(id) for id in ids]
+        found = await awaited(self.client.mget(keys)) if keys else []
+        if not isinstance(found, list) or len(found) != len(keys):
+            raise RevocationsError(f"Redis returned {found!r}")
+        return [outcome(value, None, b"", "") is not None for value in found]
 
-    def revoking(self, id: bytes, until: int) -> Steps[None]:
-        """Revokes the session with this id until that second, or a later one. Between two commands the key may expire."""
+    async def revoking(self, id: bytes, until: int) -> bool:
+        """Revokes the session with this id until that second, or a later one. Returns whether it was revoked already."""
         key, end = self.key(id), until + SLACK
-        for _ in range(3):
-            if outcome((yield lambda: self.client.set(key, b"", nx=True, exat=end)), True, None):
-                return
-            if outcome((yield lambda: self.client.expireat(key, end, gt=True)), 0, 1):
-                return
+        # Between two commands the key may expire.
+        for attempt in range(3):
+            if outcome(await awaited(self.client.set(key, b"", nx=True, exat=end)), True, None):
+                return attempt > 0
+            if outcome(await awaited(self.client.expireat(key, end, gt=True)), 0, 1):
+                return True
             # Of a key without an end it is -1, and of none -2.
-            expires = yield lambda: self.client.expiretime(key)
+            expires = await awaited(self.client.expiretime(key))
             if isinstance(expires, int) and (expires == -1 or expires >= end):
-                return
+                return True
         raise RevocationsError("Redis doesn't keep the key of a revoked session")
-
-
-def called(command: Any) -> Any:
-    """What a command returns."""
-    return command()
 
 
 def outcome(found: Any, *known: Any) -> Any:
@@ -338,7 +361,7 @@ def outcome(found: Any, *known: Any) -> Any:
 
 class RedisRevocations(RedisCommands):
     """Keeps them in Redis or Valkey, so that the servers of many machines share them. `client` has redis-py's calls
-    `exists`, `set` with `nx` and `exat`, `expireat` with `gt`, and `expiretime`, which Redis has from 7.0 on. Give it a
+    `mget`, `set` with `nx` and `exat`, `expireat` with `gt`, and `expiretime`, which Redis has from 7.0 on. Give it a
     time limit, such as `redis.Redis(socket_timeout=2)`. Each key begins with `prefix`. Redis forgets it by its own clock,
     an hour after its second.
 
@@ -348,11 +371,15 @@ class RedisRevocations(RedisCommands):
 
     def is_revoked(self, id: bytes) -> bool:
         """Whether the session with this id is revoked."""
-        return run(self.looking_up(id), called)
+        return self.are_revoked([id])[0]
 
-    def revoke(self, id: bytes, until: int) -> None:
-        """Revokes the session with this id until that second, or a later one."""
-        run(self.revoking(id, until), called)
+    def are_revoked(self, ids: Sequence[bytes]) -> list[bool]:
+        """Whether each of the sessions is revoked, in one round trip."""
+        return run(self.looking_up(ids))
+
+    def revoke(self, id: bytes, until: int) -> bool:
+        """Revokes the session with this id until that second, or a later one. Returns whether it was revoked already."""
+        return run(self.revoking(id, until))
 
     def forget(self, now: float) -> None:
         """Does nothing: Redis forgets each key by itself."""
@@ -361,13 +388,11 @@ class RedisRevocations(RedisCommands):
 class AsyncRedisRevocations(RedisCommands):
     """The same with the client of `redis.asyncio`, for `deomigal.asgi` and `Sessions.aopen`."""
 
+    are_revoked, revoke = RedisCommands.looking_up, RedisCommands.revoking
+
     async def is_revoked(self, id: bytes) -> bool:
         """Whether the session with this id is revoked."""
-        return await run_async(self.looking_up(id), called)
-
-    async def revoke(self, id: bytes, until: int) -> None:
-        """Revokes the session with this id until that second, or a later one."""
-        await run_async(self.revoking(id, until), called)
+        return (await self.are_revoked([id]))[0]
 
     async def forget(self, now: float) -> None:
         """Does nothing: Redis forgets each key by itself."""

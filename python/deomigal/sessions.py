@@ -4,16 +4,16 @@ from __future__ import annotations
 
 import inspect
 import os
-from typing import Any, Iterator, MutableMapping, Sequence, Union
+from typing import Any, Awaitable, Callable, Iterator, MutableMapping, Sequence, Union
 from urllib.parse import parse_qsl, urlencode
 
 from ._library import (
-    DONE, SESSION_DESCRIBE, SESSION_END, SESSION_FREE, SESSION_OPEN, SESSION_RENEW, SESSION_SAVE, SESSION_SET_TEXTS,
-    SESSION_START, SESSION_TEXTS, SESSIONS_FREE, SESSIONS_NEW, Settings, Uncopied, arguments_of, perform, bytes_from, handle_of,
-    header_of, ring_of,
+    OPENED_FREE, OPENED_IDS, OPENED_NEW, OPENED_TAKE, SESSION_DESCRIBE, SESSION_END, SESSION_FREE, SESSION_OPEN, SESSION_SAVE,
+    SESSION_SET_TEXTS, SESSION_START, SESSION_TEXTS, SESSIONS_FREE, SESSIONS_NEW, Handle, Settings, Uncopied, bytes_from,
+    handle_of, header_of, perform, ring_of,
 )
 from ._locks import Lock
-from ._steps import Steps, in_thread, run, run_async
+from ._steps import in_thread, run
 from .compression import expand, shorten
 from .cookies import print_cookie
 from .dates import whole_second
@@ -23,14 +23,17 @@ from .revocations import ID_LENGTH, AsyncRevocations, Revocations, as_revocation
 # Room for a cookie that a browser stores, and for the texts in it.
 ROOM = 5000
 AnyRevocations = Union[Revocations, AsyncRevocations]
+# Makes a call of the revocations, by its name.
+Ask = Callable[..., Awaitable[Any]]
 
 
 class Session(MutableMapping[str, str]):
     """A session: a dict of texts. `Sessions.open` makes it.
 
-    `started` is when it started, and `seen` when it was last saved, in seconds since 1970. `place` is the place of the
-    key that opened it: 0 is the newest, and a new session has None. `id` has sixteen random bytes: each copy of its
-    cookie has them, whenever it was saved, until it is renewed.
+    `started` is when it started, and `seen` when it was last saved, in seconds since 1970. `end` is when it is over, and
+    `idle` how many seconds it lives unsaved. It gets both when it is first saved, and keeps them if the site's limits are
+    raised. Before that they are None. `place` is the place of the key that opened it: 0 is the newest, and a new session
+    has None. `id` has sixteen random bytes: each copy of its cookie has them, whenever it was saved, until it is renewed.
 
     >>> session = Session(1445412480)
     >>> session["user"] = "ann"
@@ -41,17 +44,17 @@ class Session(MutableMapping[str, str]):
     def __init__(self, now: int) -> None:
         if not isinstance(now, int):
             raise TypeError("a second is an int")
-        self.now = self.started = self.seen = whole_second(now)
+        self.now = whole_second(now)
         self.place: int | None = None
-        self.id = os.urandom(ID_LENGTH)
-        # The ids that cookies of it may have, each with its start.
-        self.starts: dict[bytes, int] = {}
-        # The header that it was opened from, and the ids that were found revoked.
-        self.header = self.revoked = b""
+        # The ids that cookies of it may have, each with its end.
+        self.ends: dict[bytes, int | None] = {}
+        # The header that it was opened from, and the ids in it that are revoked, or None before they are looked up.
+        self.header = b""
+        self.revoked: bytes | None = None
         self.texts: dict[str, str] = {}
-        self.is_renewed = True
         # What the library keeps of the session, once it is opened or saved.
         self.handle = handle_of(self, SESSION_FREE)
+        self.renew()
 
     @property
     def is_new(self) -> bool:
@@ -69,8 +72,22 @@ class Session(MutableMapping[str, str]):
         1445412480
         """
         self.started = self.seen = self.now
+        self.end: int | None = None
+        self.idle: int | None = None
         self.id = os.urandom(ID_LENGTH)
         self.is_renewed = True
+        SESSION_FREE(self.handle)
+
+    def is_due(self, idle: float, refresh: float) -> bool:
+        """Whether it was last saved so long ago that its use is to count: `refresh` seconds, if the site has this idle time,
+        and in proportion fewer if its own is shorter."""
+        return (self.now - self.seen) * idle >= refresh * min(idle, self.idle or idle)
+
+    def describe(self) -> None:
+        """Has the id and the times that the library tells of it."""
+        facts = SESSION_DESCRIBE(self.handle)
+        self.id, self.started, self.seen, self.end, self.idle = bytes(facts.id), facts.started, facts.seen, facts.end, facts.idle
+        self.place = facts.index if facts.is_opened else self.place
 
     def __getitem__(self, name: str) -> str:
         return self.texts[name]
@@ -90,17 +107,13 @@ class Session(MutableMapping[str, str]):
         return len(self.texts)
 
     def __getstate__(self) -> dict[str, Any]:
-        # A copy has a handle of its own: it opens the header's session again when it is saved.
-        return {name: value for name, value in self.__dict__.items() if name != "handle"}
+        # A copy has a handle and dicts of its own: it opens the header's session again when it is saved.
+        state = {name: value for name, value in self.__dict__.items() if name != "handle"}
+        return {name: dict(value) if isinstance(value, dict) else value for name, value in state.items()}
 
     def __setstate__(self, state: dict[str, Any]) -> None:
         self.__dict__.update(state)
         self.handle = handle_of(self, SESSION_FREE)
-
-    def __copy__(self) -> Session:
-        copied = Session.__new__(Session)
-        copied.__setstate__({**self.__getstate__(), "texts": dict(self.texts), "starts": dict(self.starts)})
-        return copied
 
     def __repr__(self) -> str:
         return f"<Session {list(self.texts)!r}>"
@@ -110,8 +123,9 @@ class Sessions(Uncopied):
     """How a site keeps its sessions: one encrypted cookie holds a session. Threads may share it.
 
     `keys` are the site's keys, each of at least 64 random bytes, the newest first. The newest encrypts, and each of them
-    decrypts. A session is over `lifetime` seconds after its start, and `idle` seconds after it was last saved. `name` and
-    the arguments after the limits are the cookie's. Settings that no session could be saved with are refused at once:
+    decrypts. A session is over `lifetime` seconds after its start, and `idle` seconds after it was last saved. It keeps the
+    limits that it started with: lower ones end it sooner, and higher ones count for new sessions. `name` and the arguments
+    after the limits are the cookie's. Settings that no session could be saved with are refused at once:
     a path or a domain with a control character or a `;` with `InvalidValue`, and a limit past 32 bits with
     `OverflowError`.
 
@@ -158,7 +172,7 @@ class Sessions(Uncopied):
             raise OverflowError("a limit has at most 32 bits")
         if revocations is not None and not (hasattr(revocations, "is_revoked") and hasattr(revocations, "revoke")):
             raise TypeError("revocations have calls is_revoked and revoke")
-        self.revocations, self.lifetime, self.compress = revocations, lifetime, compress
+        self.revocations, self.compress = revocations, compress
         cookie = print_cookie(
             name, "", path=path, domain=domain, secure=secure, http_only=http_only, same_site=same_site,
             partitioned=partitioned or None,
@@ -190,48 +204,65 @@ class Sessions(Uncopied):
         >>> sessions.open(cookie, now=1445414279).is_new, sessions.open(cookie, now=1445414280).is_new
         (False, True)
         """
-        return run(self.opening(header, now), self.ask)
+        return run(self.opening(header, now, self.ask))
 
     async def aopen(self, header: str | bytes | None, now: float | None = None) -> Session:
         """What `open` returns. Calls of the revocations that are coroutines are awaited, and others made in a worker
         thread."""
-        return await run_async(self.opening(header, now), self.ask_async)
+        return await self.opening(header, now, self.ask_async)
 
-    def opening(self, header: str | bytes | None, now: float | None) -> Steps[Session]:
-        """Opens the session in a request's header, and yields the calls of the revocations."""
+    async def opening(self, header: str | bytes | None, now: float | None, ask: Ask) -> Session:
+        """Opens the session in a request's header."""
         session = self.start(now)
         session.header = header_of(header)
-        while (status := self.fill(session)) == DONE:
-            facts = SESSION_DESCRIBE(session.handle)
-            found = bytes(facts.id)
-            if self.revocations is None or not is_true((yield "is_revoked", found)):
+        try:
+            await self.fill(session, ask)
+        except NoSession:
+            return self.start(session.now)
+        session.describe()
+        session.ends, session.is_renewed = {session.id: session.end}, False
+        form = bytes_from(SESSION_TEXTS, session.handle, room=ROOM).decode()
+        try:
+            session.texts = expand(dict(parse_qsl(form, keep_blank_values=True)))
+        except ValueError:
+            # Another program saved it, under the same key.
+            return self.start(session.now)
+        return session
+
+    async def fill(self, session: Session, ask: Ask) -> None:
+        """Opens the session of its header for its handle. For a copy the revocations were asked before."""
+        if self.revocations is None and not session.revoked:
+            session.revoked = b""
+            with self.lock:
+                perform(SESSION_OPEN, self.handle, session.header, session.now, session.handle)
+            return
+        opened = Handle()
+        try:
+            with self.lock:
+                perform(OPENED_NEW, self.handle, session.header, session.now, opened)
+            if session.revoked is None:
+                session.revoked = await self.revoked_of(bytes_from(OPENED_IDS, opened), ask)
+            perform(OPENED_TAKE, opened, session.revoked, session.handle)
+        finally:
+            OPENED_FREE(opened)
+
+    async def revoked_of(self, ids: bytes, ask: Ask) -> bytes:
+        """Those of the ids that are revoked, or only those before the first that isn't."""
+        each = list(dict.fromkeys(ids[at : at + ID_LENGTH] for at in range(0, len(ids), ID_LENGTH)))
+        revoked = b""
+        if each and hasattr(self.revocations, "are_revoked"):
+            found = await ask("are_revoked", each)
+            if not isinstance(found, list) or len(found) != len(each):
+                raise RevocationsError("are_revoked returns a list with a bool for each id")
+            return b"".join(id for id, is_revoked in zip(each, found) if is_true(is_revoked))
+        for id in each:
+            if not is_true(await ask("is_revoked", id)):
                 break
-            # The next cookie of the name counts.
-            session.revoked += found
-        if status == DONE:
-            session.started, session.seen, session.place = facts.started, facts.seen, facts.index
-            session.id, session.starts, session.is_renewed = found, {found: facts.started}, False
-            form = bytes_from(SESSION_TEXTS, session.handle, room=ROOM).decode()
-            try:
-                session.texts = expand(dict(parse_qsl(form, keep_blank_values=True)))
-            except ValueError:
-                # Another program saved it, under the same key.
-                return self.start(session.now)
-            return session
-        if status != NoSession.status:
-            raise error_of(status)
-        return self.start(session.now)
+            revoked += id
+        return revoked
 
-    def fill(self, session: Session) -> int:
-        """Opens the session of its header for its handle, and returns the status."""
-        inputs = (self.handle, session.header, session.revoked, session.now, session.handle)
-        with self.lock:
-            status: int = SESSION_OPEN(*arguments_of(SESSION_OPEN, inputs))
-        return status
-
-    def ask(self, call: tuple[Any, ...]) -> Any:
+    async def ask(self, name: str, *words: Any) -> Any:
         """What this call of the revocations returns. Raises `RevocationsError` for whatever it raises."""
-        name, *words = call
         with as_revocations_error(f"{name} of the revocations failed"):
             found = getattr(self.revocations, name)(*words)
         if inspect.iscoroutine(found):
@@ -239,19 +270,19 @@ class Sessions(Uncopied):
             raise TypeError(f"{name} of these revocations is a coroutine: await aopen and arevoke")
         return found
 
-    async def ask_async(self, call: tuple[Any, ...]) -> Any:
+    async def ask_async(self, name: str, *words: Any) -> Any:
         """The same, awaited."""
-        name, *words = call
         function = getattr(self.revocations, name)
         with as_revocations_error(f"{name} of the revocations failed"):
             if inspect.iscoroutinefunction(function):
                 return await function(*words)
             return await in_thread(function, *words)
 
-    def revoke(self, session: Session) -> None:
+    def revoke(self, session: Session) -> bool:
         """Revokes the session: no copy of its cookie opens any more, whenever it was saved. Call it at a logout, and
-        send what `end` returns. Raises `RevocationsError` if that can't be kept: tell the user then that the logout
-        failed. Without `revocations` it raises `RuntimeError`.
+        send what `end` returns. Returns whether it was revoked already: of two logouts at the same moment one gets False.
+        Raises `RevocationsError` if that can't be kept: tell the user then that the logout failed. Without `revocations`
+        it raises `RuntimeError`.
 
         >>> from deomigal import derive_key
         >>> from deomigal.revocations import MemoryRevocations
@@ -259,29 +290,32 @@ class Sessions(Uncopied):
         >>> sessions = Sessions(keys, "session", 12 * 3600, 1800, revocations=MemoryRevocations())
         >>> cookie = sessions.save(sessions.start())
         >>> session = sessions.open(cookie)
-        >>> sessions.revoke(session)
-        >>> session.is_new, sessions.open(cookie).is_new
+        >>> sessions.revoke(session), sessions.revoke(session)
         (False, True)
+        >>> sessions.open(cookie).is_new
+        True
         """
-        run(self.revoking(session), self.ask)
+        return run(self.revoking(session, self.ask))
 
-    async def arevoke(self, session: Session) -> None:
+    async def arevoke(self, session: Session) -> bool:
         """Does what `revoke` does. Calls of the revocations that are coroutines are awaited, and others made in a worker
         thread."""
-        await run_async(self.revoking(session), self.ask_async)
+        return await self.revoking(session, self.ask_async)
 
-    def revoking(self, session: Session) -> Steps[None]:
-        """Revokes the session, and yields the calls of the revocations."""
+    async def revoking(self, session: Session, ask: Ask) -> bool:
+        """Revokes the session. Returns whether it was revoked already."""
         if self.revocations is None:
             raise RuntimeError("these sessions can't be revoked: they are made without `revocations`")
-        for id, started in list(session.starts.items()):
-            yield "revoke", id, started + self.lifetime
+        found = [await ask("revoke", id, end) for id, end in list(session.ends.items())]
+        if not all(isinstance(was_revoked, bool) for was_revoked in found):
+            raise TypeError("revoke of the revocations returns a bool: whether the session was revoked already")
+        return any(found)
 
     def save(self, session: Session) -> str:
         """The value of the `Set-Cookie` header that saves the session, encrypted under the newest key.
 
         Save at each request, so that the idle time counts from it. Raises `TooLarge` if a browser wouldn't store the
-        cookie: there is room for about 2,950 bytes of texts in UTF-8, or of what they are when they are compressed. Raises
+        cookie: there is room for about 2,930 bytes of texts in UTF-8, or of what they are when they are compressed. Raises
         `NotUtf8` for a text with a lone surrogate.
 
         >>> from deomigal import derive_key
@@ -298,12 +332,12 @@ class Sessions(Uncopied):
         if not isinstance(session, Session):
             raise TypeError("what is saved is a Session")
         now, handle = session.now, session.handle
-        if session.is_renewed and not handle.is_open:
-            perform(SESSION_START, session.id, now, handle)
-        elif session.is_renewed:
-            perform(SESSION_RENEW, handle, session.id, now)
-        elif not handle.is_open and (status := self.fill(session)) != DONE:
-            raise error_of(status)
+        if not handle.is_open and session.is_renewed:
+            with self.lock:
+                perform(SESSION_START, self.handle, session.id, now, handle)
+            session.describe()
+        elif not handle.is_open:
+            run(self.fill(session, self.ask))
         try:
             form = urlencode(shorten(session.texts, self.compress))
         except UnicodeEncodeError:
@@ -312,7 +346,7 @@ class Sessions(Uncopied):
         perform(SESSION_SET_TEXTS, handle, form)
         with self.lock:
             text = bytes_from(SESSION_SAVE, self.handle, handle, os.urandom(12), now, room=ROOM).decode()
-        session.starts[session.id] = session.started
+        session.ends[session.id] = session.end
         return text
 
     def end(self, now: float | None = None) -> str:
@@ -331,5 +365,5 @@ class Sessions(Uncopied):
 def is_true(found: Any) -> bool:
     """What a look-up returned. Raises `RevocationsError` if it isn't a bool."""
     if not isinstance(found, bool):
-        raise RevocationsError(f"is_revoked returns a bool, and not a value of the type {type(found).__name__}")
+        raise RevocationsError(f"a look-up returns a bool, and not a value of the type {type(found).__name__}")
     return found

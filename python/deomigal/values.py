@@ -165,17 +165,19 @@ class CookieSession(Mapped):
         super().clear()
         self.renew()
 
-    def revoke(self) -> None:
+    def revoke(self) -> bool:
         """Revokes it, and then clears it. Call it at a logout: no copy of its cookie opens any more, whenever it was
-        saved. Raises `RevocationsError` if that can't be kept, and `RuntimeError` if the middleware has no `revocations`.
-        """
-        self.sessions.revoke(self.source)
+        saved. Returns whether it was revoked already. Raises `RevocationsError` if that can't be kept, and `RuntimeError`
+        if the middleware has no `revocations`."""
+        was_revoked = self.sessions.revoke(self.source)
         self.clear()
+        return was_revoked
 
-    async def arevoke(self) -> None:
+    async def arevoke(self) -> bool:
         """Does what `revoke` does, in a coroutine: others go on meanwhile."""
-        await self.sessions.arevoke(self.source)
+        was_revoked = await self.sessions.arevoke(self.source)
         self.clear()
+        return was_revoked
 
     def check(self) -> None:
         """Raises `TooLarge` if no browser would store the session as it is now. Else that is raised where the response
@@ -247,13 +249,14 @@ class Middleware:
         # Starlette's `Secret` shows its text only by `str`.
         newest: str | bytes = secret_key if isinstance(secret_key, bytes) else str(secret_key)
         lifetime = FORTNIGHT if max_age is None else max_age
+        self.idle = lifetime if idle is None else idle
         self.app, self.clock, self.is_lasting, self.too_large = app, clock, max_age is not None, too_large
         # Only with an idle time does a session need to be saved that was only read.
         self.refresh = idle / 10 if refresh is None and idle is not None else refresh
         self.sessions = Sessions(
-            keys_of([newest, *fallbacks], salt), session_cookie, lifetime, lifetime if idle is None else idle,
-            path=path, domain=domain, secure=https_only, http_only=http_only, same_site=same_site.title(),
-            partitioned=partitioned, revocations=revocations, compress=compress,
+            keys_of([newest, *fallbacks], salt), session_cookie, lifetime, self.idle, path=path, domain=domain,
+            secure=https_only, http_only=http_only, same_site=same_site.title(), partitioned=partitioned,
+            revocations=revocations, compress=compress,
         )
 
     def session_from(self, source: Session) -> CookieSession:
@@ -290,6 +293,5 @@ class Middleware:
 
     def is_due(self, session: CookieSession) -> bool:
         """Whether to save a session that was only read: an older key opened it, or its idle time is to count from now."""
-        age = session.source.now - session.source.seen
-        is_old = self.refresh is not None and age >= self.refresh
+        is_old = self.refresh is not None and session.source.is_due(self.idle, self.refresh)
         return session.accessed and (is_old or bool(session.source.place))

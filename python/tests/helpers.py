@@ -156,4 +156,4 @@ class Breaking(MemoryRevocations):
     def revoke(self, id, until):
         if self.is_broken:
             raise OSError("the store is gone")
-        super().revoke(id, until)
+        return super().revoke(id, until)

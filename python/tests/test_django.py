@@ -278,6 +278,26 @@ class EngineFacts(SimpleTestCase):
             cycled = self.cookie_set_by("/cycle", cookie=other)
             self.reads(cycled, {"user": "bo"})
             self.reads(other, {})
+            with mock.patch("time.time", lambda: NOON):
+                revoke = engine.SessionStore(cycled.partition("=")[2]).revoke
+                assert [revoke(), revoke()] == [False, True]
+
+    def test_asked_once(self):
+        """A request with many cookies of the name asks the store once, and one that doesn't use its session not at all."""
+        store = MemoryRevocations()
+        with override_settings(DEOMIGAL_REVOCATIONS=store):
+            cookies = [self.cookie_set_by() for _ in range(20)]
+            good = self.cookie_set_by("/bo")
+            for cookie in cookies:
+                self.ask("/flush", cookie)
+            header = "; ".join(["sessionid=junk", *cookies, good, "sessionid=junk"])
+            with mock.patch.object(store, "are_revoked", wraps=store.are_revoked) as asked:
+                engine.SessionMiddleware(lambda request: HttpResponse())(RequestFactory().get("/", HTTP_COOKIE=header))
+                assert asked.call_count == 0
+                self.reads(header, {"user": "bo"})
+                assert asked.call_count == 1
+            assert age_of(self.ask("/flush", header)[1]) == 0
+            self.reads(header, {})
 
     def test_in_flight(self):
         """A request that is under way at the logout doesn't log the user in again."""

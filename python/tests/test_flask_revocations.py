@@ -58,6 +58,22 @@ class FlaskFacts(unittest.TestCase):
         assert (response.status_code, "Max-Age=0" in text) == (200, True)
         assert (self.user(cookie), self.user(other)) == (None, "ann")
 
+    def test_already(self):
+        """A logout says whether the session was revoked already."""
+        cookie, found = pair_of(self.ask("/login")[1]), []
+
+        def slow():
+            assert session["user"] == "ann"
+            self.ask("/logout", cookie)
+            found.append(session.revoke())
+            found.append(session.revoke())
+            return ""
+
+        self.app.view_functions["/slow"] = slow
+        self.ask("/slow", cookie)
+        self.app.view_functions["/plain"] = lambda: str(session.revoke())
+        assert (found, self.ask("/plain", pair_of(self.ask("/login")[1]))[0].text) == ([True, True], "False")
+
     def test_in_flight(self):
         """A request that is under way at the logout doesn't log the user in again."""
         cookie = pair_of(self.ask("/login")[1])

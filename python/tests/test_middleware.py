@@ -312,6 +312,11 @@ class Shared:
         saved = pair_of(self.ask("/read", cookie, NOON + 99, **settings)[2])
         self.reads(cookie, {}, now=NOON + 100, **settings)
         self.reads(saved, {"user": "ann"}, now=NOON + 198, **settings)
+        # The lesser idle time counts: the session's own, or that of the site.
+        for idle, refresh, due in ((1000, None, 10), (1000, 300, 30), (50, None, 5)):
+            for now in (due - 1, due):
+                text = self.ask("/read", cookie, NOON + now, idle=idle, refresh=refresh)[2]
+                assert (text is not None) == (now == due), (idle, refresh, now)
 
     def test_keys(self):
         """An older key opens a session, which is then saved under the newest."""

@@ -1,8 +1,10 @@
 """Facts about revoked sessions: where they are kept, what is refused if that fails, and how the frameworks answer."""
 import asyncio
 import contextlib
+import copy
 import multiprocessing
 import os
+import pickle
 import resource
 import shutil
 import signal
@@ -14,6 +16,7 @@ import threading
 import time
 import unittest
 from pathlib import Path
+from unittest import mock
 from wsgiref.util import setup_testing_defaults
 
 import pytest
@@ -22,7 +25,7 @@ from deomigal.asgi import SessionMiddleware
 from deomigal.errors import CookieError, RevocationsError
 from deomigal.revocations import TABLE, MemoryRevocations, RedisRevocations, SqliteRevocations
 from deomigal.wsgi import SessionMiddleware as WsgiMiddleware
-from helpers import NOON, SECRET, Breaking, Failing, pair_of, redis_server
+from helpers import NOON, SECRET, Breaking, Failing, age_of, pair_of, redis_server
 
 KEY = bytes(range(64))
 ANN, BO, EVE = (bytes([number]) * 16 for number in (1, 2, 3))
@@ -62,11 +65,11 @@ def with_full_disk(path):
         revocations.revoke(number.to_bytes(16, "big"), NOON)
 
 
-def revoke_all(barrier, path, ids):
+def revoke_all(barrier, path, ids, sent):
+    """Revokes each, and sends how many weren't revoked before."""
     barrier.wait()
     revocations = SqliteRevocations(path)
-    for id in ids:
-        revocations.revoke(id, NOON)
+    sent.send([revocations.revoke(id, NOON) for id in ids].count(False))
 
 
 class Stores:
@@ -76,42 +79,51 @@ class Stores:
         """What is revoked is, and nothing else."""
         revocations = self.new_store()
         assert revocations.is_revoked(ANN) is False
-        revocations.revoke(ANN, self.now + HOUR)
+        assert revocations.revoke(ANN, self.now + HOUR) is False
         assert [revocations.is_revoked(id) for id in (ANN, BO)] == [True, False]
 
     def test_twice(self):
-        """Of two seconds the later one counts, whichever comes first."""
+        """Of two seconds the later one counts, whichever comes first. The second call says that it was revoked already."""
         for order in ((1, 2), (2, 1), (2, 2)):
             revocations, id = self.new_store(), os.urandom(16)
-            for hours in order:
-                revocations.revoke(id, self.now + hours * HOUR)
+            assert [revocations.revoke(id, self.now + hours * HOUR) for hours in order] == [False, True]
             assert self.until(revocations, id) == self.now + 2 * HOUR
+
+    def test_many(self):
+        """Many are looked up at once, each in its place, also one that comes twice."""
+        revocations, ids = self.new_store(), [os.urandom(16) for _ in range(1200)]
+        for id in ids[::7]:
+            revocations.revoke(id, self.now + HOUR)
+        assert revocations.are_revoked([*ids, ids[0], ids[1]]) == [not number % 7 for number in range(1200)] + [True, False]
+        assert revocations.are_revoked([]) == []
 
     def test_no_ids(self):
         """What has no sixteen bytes is no id."""
         revocations = self.new_store()
         for id, error in ((b"", ValueError), (bytes(15), ValueError), (bytes(17), ValueError), ("x" * 16, TypeError)):
-            with pytest.raises(error):
-                revocations.is_revoked(id)
+            for call in (revocations.is_revoked, lambda id: revocations.are_revoked([ANN, id])):
+                with pytest.raises(error):
+                    call(id)
             with pytest.raises(error):
                 revocations.revoke(id, self.now + HOUR)
 
     def test_threads(self):
-        """Threads share it."""
-        revocations, ids, found = self.new_store(), [os.urandom(16) for _ in range(80)], []
+        """Of threads that revoke the same sessions at once one finds each of them not yet revoked."""
+        revocations, ids, found = self.new_store(), [os.urandom(16) for _ in range(20)], []
+        barrier = threading.Barrier(4, timeout=10)
 
-        def revoke(first):
-            for id in ids[first::8]:
-                revocations.revoke(id, self.now + HOUR)
-                found.append(revocations.is_revoked(id))
+        def revoke():
+            for id in ids:
+                barrier.wait()
+                found.append((revocations.revoke(id, self.now + HOUR), revocations.is_revoked(id)))
 
-        threads = [threading.Thread(target=revoke, args=[first]) for first in range(8)]
+        threads = [threading.Thread(target=revoke) for _ in range(4)]
         for thread in threads:
             thread.start()
         for thread in threads:
             thread.join()
-        assert found == [True] * 80
-        assert all(map(revocations.is_revoked, ids))
+        assert sorted(found) == [(False, True)] * 20 + [(True, True)] * 60
+        assert revocations.are_revoked(ids) == [True] * 20
 
     def test_sessions(self):
         """A session that was revoked opens in no copy of its cookie, and another one does."""
@@ -201,19 +213,20 @@ class SqliteFacts(Stores, unittest.TestCase):
         assert self.rows() == [(BO, NOON + 1)]
 
     def test_processes(self):
-        """Processes that make the file and revoke the same sessions at once, 20 times, each find them revoked, once
-        each."""
+        """Of processes that make the file and revoke the same sessions at once, 20 times, one finds each of them not yet
+        revoked. They are in it once each."""
         ids, fork = [os.urandom(16) for _ in range(20)], multiprocessing.get_context("fork")
         orders = (ids, ids[::-1], ids[10:] + ids[:10], ids[::2] + ids[1::2])
         for number in range(20):
             self.path = self.folder / f"revoked{number}"
-            barrier = fork.Barrier(len(orders))
-            processes = [fork.Process(target=revoke_all, args=(barrier, self.path, order)) for order in orders]
+            barrier, (here, there) = fork.Barrier(len(orders)), fork.Pipe(False)
+            processes = [fork.Process(target=revoke_all, args=(barrier, self.path, order, there)) for order in orders]
             for process in processes:
                 process.start()
             for process in processes:
                 process.join()
             assert [process.exitcode for process in processes] == [0] * 4
+            assert sum(here.recv() for _ in orders) == len(ids)
             assert self.rows() == sorted((id, NOON) for id in ids)
 
     def test_fork(self):
@@ -361,7 +374,7 @@ class RedisCommandFacts(unittest.TestCase):
     def test_expires_between(self):
         """If the key expires between two commands, the session is revoked anew."""
         client = Answers(set=[None, True], expireat=[0], expiretime=[-2])
-        RedisRevocations(client).revoke(ANN, NOON)
+        assert RedisRevocations(client).revoke(ANN, NOON) is True
         end = ("exat", NOON + HOUR)
         assert client.commands == [
             ("set", ("nx", True), end), ("expireat", end[1], ("gt", True)), ("expiretime",), ("set", ("nx", True), end),
@@ -371,7 +384,7 @@ class RedisCommandFacts(unittest.TestCase):
         """A key that ends later, or never, is kept."""
         for expires in (NOON + HOUR, NOON + 2 * HOUR, -1):
             client = Answers(set=[None], expireat=[0], expiretime=[expires])
-            RedisRevocations(client).revoke(ANN, NOON)
+            assert RedisRevocations(client).revoke(ANN, NOON) is True
             assert len(client.commands) == 3
 
     def test_not_kept(self):
@@ -384,9 +397,16 @@ class RedisCommandFacts(unittest.TestCase):
         ):
             with pytest.raises(RevocationsError):
                 RedisRevocations(Answers(**answers)).revoke(ANN, NOON)
-        for found in (2, None, "1", object()):
+        for found in (2, None, "1", object(), [], [None, None], [0], [b"QUEUED"], (None,)):
             with pytest.raises(RevocationsError):
-                RedisRevocations(Answers(exists=[found])).is_revoked(ANN)
+                RedisRevocations(Answers(mget=[found])).is_revoked(ANN)
+
+    def test_once(self):
+        """Many are looked up in one round trip, whether the client decodes what it reads or not."""
+        for value in (b"", ""):
+            client = Answers(mget=[[None, value] * 500])
+            assert RedisRevocations(client).are_revoked([ANN, BO] * 500) == [False, True] * 500
+            assert client.commands == [("mget",)]
 
 
 class RevocationFacts(unittest.TestCase):
@@ -414,10 +434,57 @@ class RevocationFacts(unittest.TestCase):
         assert len({self.saved_session().id for _ in range(100)}) == 100
 
     def test_until(self):
-        """A session is revoked until its lifetime ends."""
-        opened = self.sessions.open(self.saved_session(NOON).header, NOON + 5)
+        """A session is revoked until its own end, also by a site that has another lifetime now."""
+        for lifetime in (HOUR, 60, 24 * HOUR):
+            header = self.saved_session(NOON).header
+            site = Sessions([KEY], "s", lifetime, 60, revocations=self.store)
+            opened = site.open(header, NOON + 5)
+            assert site.revoke(opened) is False
+            assert self.store.until.pop(opened.id) == opened.end == NOON + HOUR
+
+    def test_limits(self):
+        """A session keeps its limits. If the site raises its own, they count for what starts then, or is renewed. Lower
+        ones end a session sooner."""
+        assert (self.sessions.start(NOON).end, self.sessions.start(NOON).idle) == (None, None)
+        opened = self.saved_session()
+        assert (opened.end, opened.idle) == (NOON + HOUR, 60)
+        raised, lowered = (Sessions([KEY], "s", limit, limit) for limit in (24 * HOUR, 30))
+        for site, second in ((raised, 60), (lowered, 30)):
+            assert [site.open(opened.header, NOON + now).is_new for now in (second - 1, second)] == [False, True]
+        again = raised.open(opened.header, NOON + 5)
+        assert age_of(raised.save(again)) == again.idle == 60
+        again.renew()
+        assert (again.end, again.idle) == (None, None)
+        assert age_of(raised.save(again)) == again.idle == 24 * HOUR
+        assert again.end == NOON + 5 + 24 * HOUR
+
+    def test_raised_lifetime(self):
+        """A session that was revoked, and forgotten after its end, opens in no copy if the site raises its limits."""
+        opened = self.saved_session(user="ann")
         self.sessions.revoke(opened)
-        assert self.store.until == {opened.id: NOON + HOUR}
+        self.store.forget(NOON + HOUR)
+        assert not self.store.is_revoked(opened.id)
+        raised = Sessions([KEY], "s", 24 * HOUR, 24 * HOUR, revocations=self.store)
+        assert raised.open(opened.header, NOON + HOUR).is_new
+
+    def test_already(self):
+        """The first call says that it revoked the session, and the next ones that it was revoked already, whichever copy of
+        the session they are of."""
+        opened = self.saved_session()
+        others = [self.sessions.open(opened.header, NOON) for _ in range(2)]
+        others[1].renew()
+        self.sessions.save(others[1])
+        assert [self.sessions.revoke(session) for session in (opened, *others, opened)] == [False, True, True, True]
+        assert self.sessions.revoke(self.saved_session()) is False
+
+    def test_no_bool(self):
+        """A store of before, whose `revoke` returns None, is an error of the program. It keeps what is revoked."""
+        opened = self.saved_session()
+        for wrong in (None, 0, "False"):
+            self.store.revoke = lambda *words: (MemoryRevocations.revoke(self.store, *words), wrong)[1]
+            with pytest.raises(TypeError, match="revoke of the revocations returns a bool"):
+                self.sessions.revoke(opened)
+        assert self.sessions.open(opened.header, NOON).is_new
 
     def test_renewed(self):
         """What was renewed is revoked with the copies of before."""
@@ -432,7 +499,7 @@ class RevocationFacts(unittest.TestCase):
 
     def test_unsaved(self):
         """A session that was never saved has no cookie, and isn't kept as revoked."""
-        self.sessions.revoke(self.sessions.start(NOON))
+        assert self.sessions.revoke(self.sessions.start(NOON)) is False
         assert self.store.until == {}
 
     def test_planted(self):
@@ -448,6 +515,51 @@ class RevocationFacts(unittest.TestCase):
             saved = self.sessions.open(pair_of(self.sessions.save(found)), NOON)
             assert (saved["user"], saved.id) == ("ann", good.id)
         assert self.sessions.open(b"; ".join(texts), NOON).is_new
+
+    def test_thousand(self):
+        """A thousand cookies of revoked sessions cost one question to the store, and hide no good one."""
+        opened = [self.saved_session() for _ in range(1000)]
+        good = self.saved_session(user="ann")
+        self.store.until = {session.id: NOON + HOUR for session in opened}
+        with mock.patch.object(self.store, "are_revoked", wraps=self.store.are_revoked) as asked:
+            found = self.sessions.open(b"; ".join([session.header for session in opened] + [good.header]), NOON)
+        assert found["user"] == "ann"
+        assert asked.mock_calls == [mock.call([*(session.id for session in opened), good.id])]
+
+    def test_one_by_one(self):
+        """A store without `are_revoked` is asked for one after the other, up to the first that isn't revoked, and for each
+        once."""
+        opened = [self.saved_session() for _ in range(4)]
+        asked = []
+
+        class Plain:
+            def is_revoked(self, id):
+                asked.append(id)
+                return id in (opened[0].id, opened[1].id)
+
+            revoke = None
+
+        sessions = Sessions([KEY], "s", HOUR, 60, revocations=Plain())
+        found = sessions.open(b"; ".join(opened[place].header for place in (0, 1, 0, 2, 3)), NOON)
+        assert (found.id, asked) == (opened[2].id, [session.id for session in opened[:3]])
+
+    def test_not_asked(self):
+        """Without an open session the store isn't asked."""
+        over = pair_of(self.sessions.save(self.sessions.start(NOON - HOUR)))
+        self.store.is_revoked = self.store.are_revoked = None
+        for header in (None, "", "a=1", "s=junk", over):
+            assert self.sessions.open(header, NOON).is_new
+
+    def test_copies(self):
+        """A copy of a session is saved as the session is, though revoked cookies come before it."""
+        planted, good = self.saved_session(), self.saved_session(user="ann")
+        self.sessions.revoke(planted)
+        opened = self.sessions.open(planted.header + b"; " + good.header, NOON)
+        self.store.is_revoked = self.store.are_revoked = None
+        for copied in (copy.copy(opened), pickle.loads(pickle.dumps(opened))):
+            text = pair_of(self.sessions.save(copied))
+            saved = Sessions([KEY], "s", HOUR, 60).open(text, NOON)
+            assert (saved["user"], saved.id, saved.end) == ("ann", good.id, good.end)
 
     def test_in_flight(self):
         """What a request saves that was under way at the logout doesn't open."""
@@ -469,6 +581,10 @@ class RevocationFacts(unittest.TestCase):
             assert sessions.open("s=junk", NOON).is_new
         for wrong in (None, 0, 1, "", [], asyncio.Future):
             self.store.is_revoked = lambda id: wrong
+            with pytest.raises(RevocationsError):
+                self.sessions.open(text, NOON)
+        for wrong in (None, True, [], [None], [False, False], (False,)):
+            self.store.are_revoked = lambda ids: wrong
             with pytest.raises(RevocationsError):
                 self.sessions.open(text, NOON)
 

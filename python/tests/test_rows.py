@@ -186,46 +186,85 @@ def play_agent(inputs, wanted):
             fault("the agent answers something else")
 
 
-def make_session(rest, now, is_new, handle, session):
-    """Starts a session with another id, or opens the request's, and gives it the row's texts. The one that started is
-    renewed, so that it has the row's id. A text is put into it and dropped again."""
-    header, revoked, form, random = ((value or None, len(value)) for value in rest[:4])
-    if is_new:
-        status = library.SESSION_START(bytes(16), 16, now, session)
+def told_of(session, *names):
+    """What is told of a session."""
+    facts = library.SESSION_DESCRIBE(session)
+    return [getattr(facts, name) for name in names], bytes(facts.id)
+
+
+def find_session(header, revoked, now, handle, session):
+    """Opens the request's session. If no id is revoked, the call that opens the first one finds the same."""
+    opened, first = library.Handle(), library.Handle()
+    status = library.OPENED_NEW(handle, header or None, len(header), now, opened)
+    if status == library.DONE:
+        status = library.OPENED_TAKE(opened, revoked or None, len(revoked), session)
+    other = library.SESSION_OPEN(handle, header or None, len(header), now, first)
+    names = "status is_opened index started seen end idle".split()
+    if not revoked and (other, told_of(first, *names)) != (status, told_of(session, *names)):
+        fault("another session is the first")
+    library.OPENED_FREE(opened)
+    library.SESSION_FREE(first)
+    return status
+
+
+def start_session(random, now, limits, handle, session):
+    """Starts a session with another id, and renews it, so that it has the row's id."""
+    for call in (
+        lambda: library.SESSION_START(handle, bytes(16), 16, now, session),
+        lambda: library.SESSION_RENEW(handle, session, random[12:], 16, now),
+    ):
+        status = call()
+        if status != library.DONE:
+            return status
+        if told_of(session, "started", "seen", "end", "idle")[0] != [now, now, now + limits[0], limits[1]]:
+            fault("a session starts at another time or with other limits")
+    return library.DONE
+
+
+def site_of(keys, cookie, limits, handle):
+    """Makes a site's sessions with these limits."""
+    return library.SESSIONS_NEW(library.Settings(keys, len(keys), cookie, len(cookie), *limits), handle)
+
+
+def make_session(inputs, now, starts, handle, session):
+    """Starts a session, under the limits that `starts` has, or opens the request's, and gives it the row's texts. A text is
+    put into it and dropped again."""
+    keys, cookie, _, header, revoked, form, random = inputs
+    if starts[0]:
+        site = library.Handle()
+        site_of(keys, cookie, starts[1:], site)
+        status = start_session(random, now, starts[1:], site, session)
+        library.SESSIONS_FREE(site)
     else:
-        status = library.SESSION_OPEN(handle, *header, *revoked, now, session)
+        status = find_session(header, revoked, now, handle, session)
     if status != library.DONE:
         return status
-    library.SESSION_SET_TEXTS(session, *form)
+    library.SESSION_SET_TEXTS(session, form or None, len(form))
     library.SESSION_SET(session, b"rows.py", 7, b"kept", 4)
     buffer = ctypes.create_string_buffer(4)
     answer = library.SESSION_GET(session, b"rows.py", 7, buffer, 4)
     if (answer.status, answer.length, buffer.raw) != (library.DONE, 4, b"kept"):
         fault("another text is put")
     library.SESSION_REMOVE(session, b"rows.py", 7)
-    return library.SESSION_RENEW(session, random[0][12:], 16, now) if is_new else library.DONE
+    return library.DONE
 
 
 def play_session(call, inputs, out, length):
-    """A row on sessions, whose numbers are the two limits, the second, and whether the session is renewed."""
+    """A row on sessions, whose numbers are the two limits, the second, and whether the session starts: 1, or 2 with other
+    limits after it."""
     keys, cookie, numbers, *rest = inputs
-    lifetime, idle, now, *renew = (int(number) for number in numbers.split())
+    lifetime, idle, now, *starts = (int(number) for number in numbers.split())
     handle, session = library.Handle(), library.Handle()
-    settings = library.Settings(keys, len(keys), cookie, len(cookie), lifetime, idle)
-    answer = library.Answer(library.SESSIONS_NEW(settings, handle), 0)
+    answer = library.Answer(site_of(keys, cookie, (lifetime, idle), handle), 0)
     if answer.status == library.DONE and call == "session_open":
-        texts = [part for value in rest[:2] for part in (value or None, len(value))]
-        answer.status = library.SESSION_OPEN(handle, *texts, now, session)
+        answer.status = find_session(*rest[:2], now, handle, session)
     if call == "session_open":
-        facts = library.SESSION_DESCRIBE(session)
-        if [facts.index, facts.started, facts.seen] != numbers_in(rest[-2], 3):
-            fault("another key or another time")
-        if bytes(facts.id) != rest[-1]:
-            fault("another id")
+        if told_of(session, "index", "started", "seen") != (numbers_in(rest[-2], 3), rest[-1]):
+            fault("another key, another time or another id")
         if answer.status == library.DONE:
             answer = library.SESSION_TEXTS(session, out, length)
     elif answer.status == library.DONE and call == "session_save":
-        answer.status = make_session(rest, now, renew == [1], handle, session)
+        answer.status = make_session(inputs, now, [*starts, lifetime, idle][:3], handle, session)
         if answer.status == library.DONE:
             answer = library.SESSION_SAVE(handle, session, rest[-1][:12], 12, now, out, length)
     elif answer.status == library.DONE:

@@ -14,8 +14,9 @@ from deomigal.flask import FlaskSession, SessionInterface
 
 MOST = 4096
 NAME = "session"
-# The most that a cookie of `compress=True` may have, as a part of Flask's.
-RATIO = 1.4
+# The most that a cookie of `compress=True` may have, as a part of Flask's. Without a session's own limits in it, some 38
+# characters, it was 1.4.
+RATIO = 1.51
 GREEK = "αβγδεζηθικλμνξοπρστυφχψω"
 THINGS = ("Blue mug", "Tea, 100 g", "Candle", "Notebook A5", "Umbrella", "Scarf")
 app = flask.Flask(__name__)
@@ -117,7 +118,7 @@ def table():
 
 
 def test_table():
-    """Each session of the page has at most 1.4 times the bytes of Flask's own, and the page has this table."""
+    """Each session of the page has at most 1.51 times the bytes of Flask's own, and the page has this table."""
     lines, ratios = table()
     assert max(ratios[1:]) <= RATIO, ratios
     assert "\n".join(lines) in page("python/README.md")

@@ -29,7 +29,17 @@ class Coroutines:
 
     async def revoke(self, id, until):
         await asyncio.sleep(0)
-        self.store.revoke(id, until)
+        return self.store.revoke(id, until)
+
+
+class ManyCoroutines(Coroutines):
+    """The same, which look up many at once."""
+
+    is_revoked = None
+
+    async def are_revoked(self, ids):
+        await asyncio.sleep(0)
+        return self.store.are_revoked(ids)
 
 
 async def page(scope, receive, send):
@@ -87,7 +97,7 @@ class WaitingFacts(unittest.TestCase):
     def test_logout(self):
         """With each kind of store a logout ends all copies."""
         with tempfile.TemporaryDirectory() as folder:
-            for store in (Coroutines(), MemoryRevocations(), SqliteRevocations(folder + "/revoked")):
+            for store in (Coroutines(), ManyCoroutines(), MemoryRevocations(), SqliteRevocations(folder + "/revoked")):
                 site, cookie = self.site(store)
                 for path, user in (("/", b"ann"), ("/logout", b"None"), ("/", b"None")):
                     status, _, body = asyncio.run(ask(site, path, cookie))
@@ -128,12 +138,14 @@ class WaitingFacts(unittest.TestCase):
                 client = redis.asyncio.Redis(unix_socket_path=path)
                 sessions = Sessions([KEY], "s", 60, 60, revocations=AsyncRedisRevocations(client))
                 texts = [pair_of(sessions.save(sessions.start())) for _ in range(2)]
-                await sessions.arevoke(await sessions.aopen(texts[0]))
-                found = [(await sessions.aopen(text)).is_new for text in texts]
+                opened = await sessions.aopen(texts[0])
+                # At the same moment.
+                already = await asyncio.gather(*(sessions.arevoke(opened) for _ in range(4)))
+                found = [(await sessions.aopen(text)).is_new for text in (*texts, "; ".join(texts))]
                 await client.close()
-                return found
+                return sorted(already), found
 
-            assert asyncio.run(play()) == [True, False]
+            assert asyncio.run(play()) == ([False, True, True, True], [True, False, False])
 
     def test_locked_file(self):
         """Nor does a file that another process holds."""

@@ -10,7 +10,7 @@ use Rattle.cookie.specs.Sealing.{IsSealingOf}
 use Rattle.cookie.specs.Walk.{Walks}
 use Rattle.cookie_session.specs.Seconds.{second_of}
 use Rattle.cookie_session.specs.Session.{SessionState}
-use Rattle.cookie_session.specs.Sessions.{IsStored, OpensFirst}
+use Rattle.cookie_session.specs.Sessions.{IsStored, OpensFirst, started_at}
 use Rattle.cookie_session.specs.declared.sessions.Sessions.{Sessions}
 
 -- the cookie that the response sets or drops at a name
@@ -47,9 +47,5 @@ abbrev pub KeepsTexts : Sessions → List Record → JarState → DateTime → L
 KeepsTexts site cookies after now user =
     (place : ℕ) (session : SessionState)
     → OpensFirst site cookies now place session
-    → (id : List ℕ) × IsStored site (view after site.cookie.now.fields.name) (record {
-      id = id;
-      started = second_of now;
-      seen = second_of now;
-      texts = insert session.texts (codes "user") user;
-    })
+    → (id : List ℕ) × IsStored site (view after site.cookie.now.fields.name)
+    (started_at site now id (insert session.texts (codes "user") user))

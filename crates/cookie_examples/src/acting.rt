@@ -25,11 +25,11 @@ pub fn act<R: TryRng>(
     rng: &mut R,
 ) -> Result<(), SessionError> {
     let opened = sessions.open(alloc, cookies, now)?;
-    let mut visit = Visit::of(alloc, opened, now, rng)?;
+    let mut visit = Visit::of(alloc, opened, sessions, now, rng)?;
     match action {
         Action::None => {}
         Action::LogIn(user) => {
-            visit.renew(now, rng)?;
+            visit.renew(sessions, now, rng)?;
             visit.set("user", user)?;
         }
         Action::LogOut => return Ok(sessions.end(alloc, jar, now)?),

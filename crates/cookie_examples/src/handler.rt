@@ -5,7 +5,7 @@ ghost use Rattle.cookie.specs.Jar.{Remove, after};
 ghost use Rattle.cookie_examples.specs.Words.{IsLoggedIn, KeepsTexts};
 
 use cookie::{Cookie, CookieJar};
-use cookie_session::{Session, SessionError, Sessions};
+use cookie_session::{SessionError, Sessions};
 use jiff::civil::DateTime;
 use rand_core::TryRng;
 use std::alloc::Global;
@@ -35,9 +35,9 @@ pub fn handle<R: TryRng>(
     };
     let mut session = match sessions.open(alloc, cookies, now)? {
         Some(opened) => opened.session,
-        None => Session::start(alloc, now, rng)?,
+        None => sessions.start(alloc, now, rng)?,
     };
-    session.renew(now, rng)?;
+    sessions.renew(&mut session, now, rng)?;
     session.set("user", user)?;
     sessions.save(alloc, jar, &session, now, rng)?;
     Ok(())

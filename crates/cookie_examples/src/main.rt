@@ -36,7 +36,6 @@ fn main(rt: HostRuntime) -> Result<()> {
     show::texts(&rt, now)?;
     show::session(&rt)?;
     show::handler(&rt, now)?;
-    show::visit(&rt, now)?;
     show::flash(&rt, now)?;
     show::calls(&rt, now)?;
     show::browser(&rt, now)?;

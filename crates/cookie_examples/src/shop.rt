@@ -28,7 +28,7 @@ pub fn answer<R: TryRng>(
     let cookies = field_cookies(alloc, request.cookies)?;
     let opened = sessions.open(alloc, &cookies, now)?;
     let mut jar = CookieJar::with_hasher(alloc, state).with_cookies(cookies)?;
-    let mut visit = Visit::of(alloc, opened, now, rng)?;
+    let mut visit = Visit::of(alloc, opened, sessions, now, rng)?;
     respond(alloc, sessions, &mut jar, &mut visit, request, now, rng)
 }
 
@@ -41,7 +41,7 @@ fn respond<R: TryRng>(
     now: DateTime,
     rng: &mut R,
 ) -> Result<Response> {
-    let status = change(alloc, jar, visit, request, now, rng)?;
+    let status = change(alloc, sessions, jar, visit, request, now, rng)?;
     let page = page::print(alloc, jar, visit, status)?;
     sessions.save_if_needed(alloc, jar, visit, now, rng)?;
     Ok(Response {
@@ -54,6 +54,7 @@ fn respond<R: TryRng>(
 // Makes the change that the request is for, and returns the response's status.
 fn change<R: TryRng>(
     alloc: Global,
+    sessions: &Sessions<'_>,
     jar: &mut CookieJar,
     visit: &mut Visit,
     request: &Request<'_>,
@@ -63,8 +64,8 @@ fn change<R: TryRng>(
     match request.route {
         "GET /" => Ok(200),
         "POST /cart" => cart::add(alloc, visit, request.form),
-        "POST /login" => login::log_in(alloc, visit, request.form, now, rng),
-        "POST /logout" => login::log_out(alloc, visit, now, rng),
+        "POST /login" => login::log_in(alloc, sessions, visit, request.form, now, rng),
+        "POST /logout" => login::log_out(alloc, sessions, visit, now, rng),
         "POST /theme" => theme::choose(alloc, jar, request.form),
         _ => Ok(404),
     }

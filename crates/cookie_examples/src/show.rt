@@ -82,7 +82,8 @@ pub fn handler(rt: &HostRuntime, now: DateTime) -> Result<()> {
         idle: 1800,
     };
     print_login(rt, &sessions, now, &mut rng)?;
-    print_actions(rt, &sessions, now, &mut rng)
+    print_actions(rt, &sessions, now, &mut rng)?;
+    print_visit(rt, &sessions, now)
 }
 
 // A server reads its keys, the newest first.
@@ -151,8 +152,8 @@ fn print_action(
     print_counts(rt, &jar)
 }
 
-pub fn visit(rt: &HostRuntime, now: DateTime) -> Result<()> {
-    let mut visit = Visit::of(rt.alloc(), None, now, &mut generator())?;
+fn print_visit(rt: &HostRuntime, sessions: &Sessions<'_>, now: DateTime) -> Result<()> {
+    let mut visit = Visit::of(rt.alloc(), None, sessions, now, &mut generator())?;
     visit.set_flash("saved")?;
     visit.set_as(rt.alloc(), "count", &3u32)?;
     print_message(rt, &mut visit)?;

@@ -1,11 +1,11 @@
 -- What a ring opens once a key came in front, or the last one left.
-use Rattle.std.proofs.Common.{◌≡◌, ℕ, zero, suc, ◌+◌, ◌<◌, ◌≤◌, List, [], ◌∷◌, ◌++◌, length, Option, None, Some, ⊎_elim, arith, refl, sym, subst, add-one}
+use Rattle.std.proofs.Common.{◌≡◌, ℕ, zero, suc, ◌<◌, ◌≤◌, List, [], ◌∷◌, ◌++◌, length, Option, None, Some, ⊎_elim, arith, refl, sym, subst}
 use Rattle.std.proofs.lemmas.Bool.{cases_lt}
 use Rattle.std.proofs.lemmas.Option.{slice_get_past}
 use Rattle.std.specs.Option.{option_to_list}
 use Rattle.std.specs.Prelude.{IfSome, MatchOption, slice_get}
 use Rattle.cookie.specs.Keys.{encryption_half}
-use Rattle.cookie_session.specs.KeyRing.{IsSealedUnder, KeepsOpening, KeyOpensText, LeavesOpening, OpensTextAt}
+use Rattle.cookie_session.specs.KeyRing.{IsSealedUnder, KeyOpensText, LeavesOpening, OpensTextAt}
 
 get_front : (xs ys : List (List ℕ)) (i : ℕ) → i < length xs → slice_get (xs ++ ys) i ≡ slice_get xs i
 get_front [] ys i below = absurd (omega arith)

@@ -1,10 +1,8 @@
 -- The text of a session: its pairs are read back.
-use Rattle.std.proofs.Common.{◌≡◌, ℕ, zero, suc, ◌^◌, ◌<◌, false, List, [], ◌∷◌, ◌++◌, map, All, IsUtf8, append_assoc, append-nil, codes, refl, sym, ap, subst, ◌∙◌}
-use Rattle.std.proofs.lemmas.Fmt.{IsAscii-decimal}
+use Rattle.std.proofs.Common.{◌≡◌, ℕ, zero, suc, ◌<◌, false, List, [], ◌∷◌, ◌++◌, map, All, IsUtf8, append_assoc, append-nil, codes, refl, sym, ap, subst, ◌∙◌}
 use Rattle.std.proofs.lemmas.List.Elements.{All-nil, All-cons, All-head, All-tail, All-weaker}
 use Rattle.std.proofs.lemmas.Simd.{map-map}
-use Rattle.std.proofs.lemmas.Str.{IsUtf8-from_ascii, utf8_lossy-IsUtf8}
-use Rattle.std.specs.Fmt.{decimal}
+use Rattle.std.proofs.lemmas.Str.{utf8_lossy-IsUtf8}
 use Rattle.std.specs.List.{list_any}
 use Rattle.std.specs.Str.Lossy.{utf8_lossy}
 use Rattle.form_urlencoded.specs.Form.{decode, extend_pairs, raw_pairs}
@@ -13,7 +11,7 @@ use Rattle.cookie.specs.Bytes.{IsBytes}
 use Rattle.cookie.proofs.SealingLemmas.{bytes_text}
 use Rattle.cookie_session.specs.Form.{compact_form, compact_pair, escape_marks, form_pairs, form_text, is_mark}
 use Rattle.cookie_session.specs.Id.{id_text}
-use Rattle.cookie_session.proofs.MarkLemmas.{compact_nonempty, compact_pair_nonempty, decode-escape_marks, escape_marks-decimal, escape_marks-id_text, escape_marks_unmarked}
+use Rattle.cookie_session.proofs.MarkLemmas.{compact_nonempty, compact_pair_nonempty, decode-escape_marks, escape_marks-id_text, escape_marks_unmarked}
 
 abbrev IsTextPair : List ℕ × List ℕ → Type 0
 IsTextPair e = IsUtf8 e.0 × IsUtf8 e.1

@@ -9,27 +9,33 @@ const ANN: [u8; 16] = [1; 16];
 
 const BOB: [u8; 16] = [2; 16];
 
-// Calls on a new set: `ann 100` revokes Ann until 100, `forget 150` forgets at 150, and `only ann` says who is revoked
-// then. A call after `late` is refused for its second. Then the number of rows of the table, and the greatest second.
+// Calls on a new set: `ann 100` revokes Ann until 100, who isn't revoked yet, and `again ann 100` Ann, who is already.
+// `forget 150` forgets at 150, and `only ann` says who is revoked then. A call after `late` is refused for its second.
+// Then the number of rows of the table, and the greatest second.
 const ROWS: &str = "\
-only none, ann 100, ann 100, ann 200, ann 50, only ann -> 2 200
+only none, ann 100, again ann 100, again ann 200, again ann 50, only ann -> 2 200
 ann 9223372036854775807, late bob 9223372036854775808, only ann -> 1 9223372036854775807
-ann 100, ann 200, bob 150, forget 149, only ann bob, forget 150, only ann -> 1 200
-ann 100, ann 200, bob 150, forget 149, forget 150, forget 200, only none -> 0 0
-ann 100, ann 200, bob 150, forget 150, only ann, forget 120, only ann, \
+ann 100, again ann 200, bob 150, forget 149, only ann bob, forget 150, only ann -> 1 200
+ann 100, again ann 200, bob 150, forget 149, forget 150, forget 200, only none -> 0 0
+ann 100, again ann 200, bob 150, forget 150, only ann, forget 120, only ann, \
 bob 150, forget 149, only ann bob -> 2 200
-ann 100, ann 200, bob 150, late forget 9223372036854775808, forget 0, only ann bob -> 3 200";
+ann 100, again ann 200, bob 150, late forget 9223372036854775808, forget 0, only ann bob -> 3 200
+ann 100, again ann 100, forget 100, only none, ann 50, again ann 100, only ann -> 2 100";
 
+// Revokes or forgets. Returns whether the session was revoked already.
 fn change<S: Alter + Drop>(
     set: &mut SqliteRevocations<S>,
     call: &str,
-) -> Result<(), RevocationError> {
+) -> Result<bool, RevocationError> {
     let (verb, second) = call.split_once(' ').unwrap_or((call, ""));
     let second = second.parse().unwrap_or(0);
     match verb {
         "ann" => set.revoke(&ANN, second),
         "bob" => set.revoke(&BOB, second),
-        _ => set.forget(second),
+        _ => {
+            set.forget(second)?;
+            Ok(false)
+        }
     }
 }
 
@@ -49,21 +55,31 @@ fn holds<S: Alter + Drop>(
                 return Ok(false);
             }
         } else {
-            change(set, call)?;
+            let again = call.strip_prefix("again ");
+            if change(set, again.unwrap_or(call))? != again.is_some() {
+                return Ok(false);
+            }
         }
     }
     Ok(true)
 }
 
-// As a site calls a new set: Ann is revoked until the later second, and Bob until 150.
+// As a site calls a new set: Ann is revoked until the later second, and Bob until 150. Of two calls for one id only the
+// first says that it wasn't revoked.
 fn revokes<R: Revocations>(set: &mut R) -> Result<bool, R::Error> {
-    set.revoke(&ANN, 200)?;
-    set.revoke(&ANN, 100)?;
-    set.revoke(&BOB, 150)?;
+    let already = [
+        set.revoke(&ANN, 200)?,
+        set.revoke(&ANN, 100)?,
+        set.revoke(&BOB, 150)?,
+    ];
+    let none = set.first_unrevoked(&[ANN, BOB])?;
     set.forget(150)?;
     let only_ann = set.is_revoked(&ANN)? && !set.is_revoked(&BOB)?;
+    let second = set.first_unrevoked(&[ANN, BOB, ANN])?;
     set.forget(200)?;
-    Ok(only_ann && !set.is_revoked(&ANN)?)
+    let first = set.first_unrevoked(&[ANN, BOB])?;
+    let right = (none, second, first) == (None, Some(1), Some(0));
+    Ok(already == [false, true, false] && right && only_ann && !set.is_revoked(&ANN)?)
 }
 
 #[test]
@@ -87,9 +103,9 @@ fn calls_return_what_they_have_to(rt: HostRuntime) -> Result<(), Fail> {
 #[test]
 fn revokes_in_memory(rt: HostRuntime) -> Result<(), Fail> {
     let mut revocations = MemoryRevocations::new(rt.alloc());
-    revocations.revoke(&ANN, 200)?;
-    revocations.revoke(&ANN, 100)?;
-    revocations.revoke(&BOB, 150)?;
+    assert!(rt; !revocations.revoke(&ANN, 200)?);
+    assert!(rt; revocations.revoke(&ANN, 100)?);
+    assert!(rt; !revocations.revoke(&BOB, 150)?);
     revocations.forget(150);
     assert!(rt; revocations.is_revoked(&ANN)?);
     assert!(rt; !revocations.is_revoked(&BOB)?);
@@ -130,14 +146,19 @@ fn outlives_its_connection(rt: HostRuntime) -> Result<(), Fail> {
     let _ = fs::remove_dir_all(&rt, folder);
     fs::create_dir(&rt, folder)?;
     let mut revocations = SqliteRevocations::new(Connection::open(&rt, path)?)?;
-    assert!(rt; holds(&mut revocations, "ann 100, ann 100, ann 200, ann 50")?);
+    assert!(rt;
+        holds(
+            &mut revocations,
+            "ann 100, again ann 100, again ann 200, again ann 50"
+        )?
+    );
     assert_eq!(rt; refusal_of(&rt, path), Some(RevocationError::Busy));
     let mut again = revocations.reopen(rt.alloc(), Options::new(7))?;
     assert!(rt; again.is_revoked(&ANN)?);
     drop(again);
     let mut last = SqliteRevocations::new(Connection::open(&rt, path)?)?;
     assert!(rt; last.is_revoked(&ANN)?);
-    assert!(rt; holds(&mut last, "only ann, bob 150, forget 150")?);
+    assert!(rt; holds(&mut last, "only ann, again ann 60, bob 150, forget 150")?);
     drop(last);
     let mut last = SqliteRevocations::new(Connection::open(&rt, path)?)?;
     let calls = "forget 0, only ann, bob 150, only ann bob, forget 150";

@@ -4,7 +4,7 @@ use Rattle.std.proofs.lemmas.Option.{none-some, same_Some}
 use Rattle.std.specs.List.{AllZip}
 use Rattle.jiff.specs.Types.{DateTime}
 use Rattle.cookie.specs.Originals.{field_cookies}
-use Rattle.cookie_session.specs.Revocations.{AreSame, IsRevoked, IsRevokedToo, end_of}
+use Rattle.cookie_session.specs.Revocations.{AreSame, IsRevoked, IsRevokedToo}
 use Rattle.cookie_session.specs.Session.{SessionState}
 use Rattle.cookie_session.specs.declared.sessions.Sessions.{Sessions}
 use Rattle.login_core.specs.Answers.{HasSession}
@@ -52,16 +52,16 @@ counts_alike old new same sessions time (Other field) standing counting counts =
 )
 
 -- and the same is revoked after it
-pub revoked_alike : (Keeps : Type 0) (sessions : Sessions) (route : Result Route Refusal) (counting : Option Standing) (old new : Set) → AreSame old new
-    → AreSame (revoked_after Keeps sessions route counting old) (revoked_after Keeps sessions route counting new)
-revoked_alike Keeps sessions (Ok Home) counting old new same = same
-revoked_alike Keeps sessions (Ok LogIn) counting old new same = same
-revoked_alike Keeps sessions (Ok LogOut) None old new same = same
-revoked_alike Keeps sessions (Ok LogOut) (Some current) old new same = λ id second. (
+pub revoked_alike : (Keeps : Type 0) (route : Result Route Refusal) (counting : Option Standing) (old new : Set) → AreSame old new
+    → AreSame (revoked_after Keeps route counting old) (revoked_after Keeps route counting new)
+revoked_alike Keeps (Ok Home) counting old new same = same
+revoked_alike Keeps (Ok LogIn) counting old new same = same
+revoked_alike Keeps (Ok LogOut) None old new same = same
+revoked_alike Keeps (Ok LogOut) (Some current) old new same = λ id second. (
   λ is. elim is [ inl here ↦ inl here | inr before ↦ inr ((same id second).0 before) ],
   λ is. elim is [ inl here ↦ inl here | inr before ↦ inr ((same id second).1 before) ],
 )
-revoked_alike Keeps sessions (Err refusal) counting old new same = same
+revoked_alike Keeps (Err refusal) counting old new same = same
 
 -- so the pages are the same
 pub pages_alike : (Keeps : Type 0) (site : LoginSite) (requests : List TimedRequest) (pages : List Page) (standing : Option Standing) (old new : Set) → AreSame old new
@@ -77,20 +77,20 @@ pages_alike Keeps site (request ∷ requests) (page ∷ pages) standing old new 
       counts_alike old new same site.sessions request.time request.sender standing counting counts,
       shows,
       ends,
-      pages_alike Keeps site requests pages (after_request site id request counting standing) (revoked_after Keeps site.sessions route counting old)
-          (revoked_after Keeps site.sessions route counting new) (revoked_alike Keeps site.sessions route counting old new same) rest,
+      pages_alike Keeps site requests pages (after_request site id request counting standing) (revoked_after Keeps route counting old)
+          (revoked_after Keeps route counting new) (revoked_alike Keeps route counting old new same) rest,
     )
 
 -- ---- no copy greets
 
 -- what is revoked stays so
-stays_revoked : (Keeps : Type 0) (sessions : Sessions) (route : Result Route Refusal) (counting : Option Standing) (set : Set) (id : List ℕ)
-    → IsRevoked set id → IsRevoked (revoked_after Keeps sessions route counting set) id
-stays_revoked Keeps sessions (Ok Home) counting set id is = is
-stays_revoked Keeps sessions (Ok LogIn) counting set id is = is
-stays_revoked Keeps sessions (Ok LogOut) None set id is = is
-stays_revoked Keeps sessions (Ok LogOut) (Some current) set id is = inr is
-stays_revoked Keeps sessions (Err refusal) counting set id is = is
+stays_revoked : (Keeps : Type 0) (route : Result Route Refusal) (counting : Option Standing) (set : Set) (id : List ℕ)
+    → IsRevoked set id → IsRevoked (revoked_after Keeps route counting set) id
+stays_revoked Keeps (Ok Home) counting set id is = is
+stays_revoked Keeps (Ok LogIn) counting set id is = is
+stays_revoked Keeps (Ok LogOut) None set id is = is
+stays_revoked Keeps (Ok LogOut) (Some current) set id is = inr is
+stays_revoked Keeps (Err refusal) counting set id is = is
 
 -- what counts has another id
 greets_another : (set : Set) (sessions : Sessions) (time : DateTime) (sender : Sender) (standing counting : Option Standing) → Counts (IsRevoked set) sessions time sender standing counting
@@ -117,32 +117,32 @@ no_copy Keeps site gone (request ∷ requests) (page ∷ pages) standing set rev
       λ user greets.
           let (current, is, named) = ((shows.shows.greets user).0 greets).1 in
           greets_another set site.sessions request.time request.sender standing counting counts gone revoked current is user named,
-      no_copy Keeps site gone requests pages (after_request site id request counting standing) (revoked_after Keeps site.sessions route counting set)
-          (stays_revoked Keeps site.sessions route counting set gone revoked) rest,
+      no_copy Keeps site gone requests pages (after_request site id request counting standing) (revoked_after Keeps route counting set)
+          (stays_revoked Keeps route counting set gone revoked) rest,
     )
 
 -- the session that a logout ended is revoked
-ended_revoked : (Keeps : Type 0) (sessions : Sessions) (current : Standing) (set : Set) → Keeps → IsRevoked (ended Keeps sessions current set) current.id
-ended_revoked Keeps sessions current set keeps = inl (keeps, refl, omega arith)
+ended_revoked : (Keeps : Type 0) (current : Standing) (set : Set) → Keeps → IsRevoked (ended Keeps current set) current.id
+ended_revoked Keeps current set keeps = inl (keeps, refl, omega arith)
 
 -- so after a logout none greets
 pub ends_copies : (Keeps : Type 0) (site : LoginSite) (route : Result Route Refusal) (counting : Option Standing) (requests : List TimedRequest) (pages : List Page) (standing : Option Standing) (set : Set)
-    → ArePages Keeps site (revoked_after Keeps site.sessions route counting set) standing requests pages → EndsCopies Keeps site route counting requests pages
+    → ArePages Keeps site (revoked_after Keeps route counting set) standing requests pages → EndsCopies Keeps site route counting requests pages
 ends_copies Keeps site route counting requests pages standing set are keeps current out is =
-    let there : ArePages Keeps site (ended Keeps site.sessions current set) standing requests pages =
-    subst (λ c. ArePages Keeps site (revoked_after Keeps site.sessions (Ok LogOut) c set) standing requests pages) is
-    (subst (λ r. ArePages Keeps site (revoked_after Keeps site.sessions r counting set) standing requests pages) out are) in
-    no_copy Keeps site current.id requests pages standing (ended Keeps site.sessions current set) (ended_revoked Keeps site.sessions current set keeps) there
+    let there : ArePages Keeps site (ended Keeps current set) standing requests pages =
+    subst (λ c. ArePages Keeps site (revoked_after Keeps (Ok LogOut) c set) standing requests pages) is
+    (subst (λ r. ArePages Keeps site (revoked_after Keeps r counting set) standing requests pages) out are) in
+    no_copy Keeps site current.id requests pages standing (ended Keeps current set) (ended_revoked Keeps current set keeps) there
 
 -- ---- what an answered request revoked
 
-module _ (Keeps : Type 0) (sessions : Sessions) (old new : Set) where
+module _ (Keeps : Type 0) (old new : Set) where
   -- a logout revoked the session that was found, and any other request none
   pub revokes_found : (route : Result Route Refusal) (found : Option SessionState)
       → Keeps ⊎ ((id : List ℕ) (second : ℕ) → ¬ old id second × ¬ new id second)
-      → (Keeps → (session : SessionState) → route ≡ Ok LogOut → found ≡ Some session → IsRevokedToo session.id (end_of sessions.lifetime session) old new)
+      → (Keeps → (session : SessionState) → route ≡ Ok LogOut → found ≡ Some session → IsRevokedToo session.id session.end old new)
       → (((session : SessionState) → route ≡ Ok LogOut → ¬ (found ≡ Some session)) → AreSame old new)
-      → AreSame (revoked_after Keeps sessions route (option_map standing_of found) old) new
+      → AreSame (revoked_after Keeps route (option_map standing_of found) old) new
   revokes_found (Ok Home) found can revoked same = same (λ session is. cc)
   revokes_found (Ok LogIn) found can revoked same = same (λ session is. cc)
   revokes_found (Ok LogOut) None can revoked same = same (λ session is. none-some session)

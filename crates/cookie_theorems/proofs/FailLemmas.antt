@@ -3,71 +3,75 @@ use Rattle.std.proofs.Common.{◌≡◌, ℕ, ◌<◌, Bool, true, false, List, 
 use Rattle.std.proofs.lemmas.Option.{none-some, same_Some}
 use Rattle.std.specs.Bool.{MatchBool}
 use Rattle.std.specs.Result.{IsErrAnd}
+use Rattle.std.specs.FinMap.{FinMap}
+use Rattle.cookie.specs.Jar.{name_cmp}
 use Rattle.cookie.specs.Memory.{Gives}
 use Rattle.jiff.specs.Types.{DateTime}
-use Rattle.cookie_session.specs.Seconds.{second_of}
 use Rattle.cookie_session.specs.Session.{SessionState}
-use Rattle.cookie_session.specs.Sessions.{CanSave, LivesAt, meets_prefix}
+use Rattle.cookie_session.specs.Sessions.{CanSave, LivesAt, meets_prefix, started_at}
 use Rattle.cookie_session.specs.declared.session_error.SessionError.{SessionError}
 use Rattle.cookie_session.specs.declared.session_error.SessionError.TheVariants as failure
 use Rattle.cookie_session.specs.declared.sessions.Sessions.{Sessions}
 use Rattle.login_core.specs.Answers.{FailsFor}
 use Rattle.login_core.specs.Plans.{LogsIn, Moves, Plans, Refuses, logged_in, logged_out, shown}
 use Rattle.login_core.specs.Users.{is_known}
+use Rattle.login_core.specs.declared.login_site.LoginSite.{LoginSite}
 use Rattle.login_core.specs.declared.page.Page.{Page}
 use Rattle.login_core.specs.declared.refusal.Refusal.{Refusal}
 use Rattle.login_core.specs.declared.refusal.Refusal.TheVariants.{Forbidden}
 use Rattle.login_core.specs.declared.routes.Route.{Route}
 use Rattle.login_core.specs.declared.routes.Route.TheVariants.{Home, LogIn, LogOut}
-use Rattle.login_core.specs.declared.user.User.{User}
 use Rattle.login_core.specs.declared.visitor.Visitor.{Visitor}
 
 -- ---- what the site saves, it can save, unless a limit is 0
 
-module _ (sessions : Sessions) (now : DateTime) (long : 0 < sessions.lifetime) (used : 0 < sessions.idle) where
+module _ (site : LoginSite) (now : DateTime) (long : 0 < site.sessions.lifetime) (used : 0 < site.sessions.idle) where
   -- a session that starts now
-  starts : (session : SessionState) → session.started ≡ second_of now → CanSave sessions now session
-  starts session is =
+  starts : (id : List ℕ) (texts : FinMap name_cmp (List ℕ)) → CanSave site.sessions now (started_at site.sessions now id texts)
+  starts id texts =
       record {
         begun = omega arith;
-        young = omega arith;
-        used = omega arith;
+        young = omega (arith, long);
+        own = omega (arith, long);
+        used = omega (arith, used);
       }
 
   -- one that lives
-  goes_on : (visitor : Visitor) (session : SessionState) → LivesAt sessions now session → CanSave sessions now (shown visitor session)
-  goes_on visitor session lives = record { begun = lives.begun; young = lives.young; used = omega arith }
+  goes_on : (visitor : Visitor) (session : SessionState) → LivesAt site.sessions now session → CanSave site.sessions now (shown visitor session)
+  goes_on visitor session lives = record { begun = lives.begun; young = lives.young; own = lives.own; used = omega (arith, lives.used) }
 
-  from_form : (IsDrawn : List ℕ → Type 0) (users : List User) (credentials : Option (List ℕ × List ℕ)) (page : Page) (session : SessionState) → LogsIn IsDrawn users credentials now page (Some session)
-      → CanSave sessions now session
-  from_form IsDrawn users None page session plans = absurd (none-some session (sym plans.1))
-  from_form IsDrawn users (Some (user, password)) page session plans = by (is_known user password users) plans
+  from_form : (IsDrawn : List ℕ → Type 0) (credentials : Option (List ℕ × List ℕ)) (page : Page) (session : SessionState) → LogsIn IsDrawn site credentials now page (Some session)
+      → CanSave site.sessions now session
+  from_form IsDrawn None page session plans = absurd (none-some session (sym plans.1))
+  from_form IsDrawn (Some (user, password)) page session plans = by (is_known user password site.users.now) plans
     where
-      by : (b : Bool) → MatchBool b (Moves IsDrawn (λ id. logged_in id now user) page (Some session)) (Refuses Forbidden page (Some session)) → CanSave sessions now session
-      by true moves = subst (CanSave sessions now) (sym (same_Some session (logged_in moves.1 now user) moves.3)) (starts (logged_in moves.1 now user) refl)
+      by : (b : Bool) → MatchBool b (Moves IsDrawn (λ id. logged_in site.sessions id now user) page (Some session)) (Refuses Forbidden page (Some session))
+          → CanSave site.sessions now session
+      by true moves = subst (CanSave site.sessions now) (sym (same_Some session (logged_in site.sessions moves.1 now user) moves.3)) (starts moves.1 _)
       by false refuses = absurd (none-some session (sym refuses.1))
 
-  from_home : (found : Option SessionState) (visitor : Visitor) (session : SessionState) → ((state : SessionState) → found ≡ Some state → LivesAt sessions now state)
-      → Some session ≡ option_map (shown visitor) found → CanSave sessions now session
+  from_home : (found : Option SessionState) (visitor : Visitor) (session : SessionState) → ((state : SessionState) → found ≡ Some state → LivesAt site.sessions now state)
+      → Some session ≡ option_map (shown visitor) found → CanSave site.sessions now session
   from_home None visitor session lives is = absurd (none-some session (sym is))
   from_home (Some state) visitor session lives is =
-      subst (CanSave sessions now) (sym (same_Some session (shown visitor state) is)) (goes_on visitor state (lives state refl))
+      subst (CanSave site.sessions now) (sym (same_Some session (shown visitor state) is)) (goes_on visitor state (lives state refl))
 
-  can_save : (IsDrawn : List ℕ → Type 0) (users : List User) (route : Result Route Refusal) (credentials : Option (List ℕ × List ℕ)) (found : Option SessionState) (page : Page) (session : SessionState)
-      → ((state : SessionState) → found ≡ Some state → LivesAt sessions now state) → Plans IsDrawn users route credentials now found page (Some session) → CanSave sessions now session
-  can_save IsDrawn users (Ok Home) credentials found page session lives plans =
+  can_save : (IsDrawn : List ℕ → Type 0) (route : Result Route Refusal) (credentials : Option (List ℕ × List ℕ)) (found : Option SessionState) (page : Page) (session : SessionState)
+      → ((state : SessionState) → found ≡ Some state → LivesAt site.sessions now state) → Plans IsDrawn site route credentials now found page (Some session)
+      → CanSave site.sessions now session
+  can_save IsDrawn (Ok Home) credentials found page session lives plans =
       let (visitor, is, page_is, saved_is) = plans in
       from_home found visitor session lives saved_is
-  can_save IsDrawn users (Ok LogIn) credentials found page session lives plans = from_form IsDrawn users credentials page session plans
-  can_save IsDrawn users (Ok LogOut) credentials found page session lives plans =
-      subst (CanSave sessions now) (sym (same_Some session (logged_out plans.1 now) plans.3)) (starts (logged_out plans.1 now) refl)
-  can_save IsDrawn users (Err refusal) credentials found page session lives plans = absurd (none-some session (sym plans.1))
+  can_save IsDrawn (Ok LogIn) credentials found page session lives plans = from_form IsDrawn credentials page session plans
+  can_save IsDrawn (Ok LogOut) credentials found page session lives plans =
+      subst (CanSave site.sessions now) (sym (same_Some session (logged_out site.sessions plans.1 now) plans.3)) (starts plans.1 _)
+  can_save IsDrawn (Err refusal) credentials found page session lives plans = absurd (none-some session (sym plans.1))
 
-  pub can_save_it : (IsDrawn : List ℕ → Type 0) (users : List User) (route : Result Route Refusal) (credentials : Option (List ℕ × List ℕ)) (found saved : Option SessionState)
-      (page : Page) → ((state : SessionState) → found ≡ Some state → LivesAt sessions now state) → Plans IsDrawn users route credentials now found page saved
-      → (session : SessionState) → saved ≡ Some session → CanSave sessions now session
-  can_save_it IsDrawn users route credentials found saved page lives plans session is =
-      can_save IsDrawn users route credentials found page session lives (subst (Plans IsDrawn users route credentials now found page) is plans)
+  pub can_save_it : (IsDrawn : List ℕ → Type 0) (route : Result Route Refusal) (credentials : Option (List ℕ × List ℕ)) (found saved : Option SessionState) (page : Page)
+      → ((state : SessionState) → found ≡ Some state → LivesAt site.sessions now state) → Plans IsDrawn site route credentials now found page saved
+      → (session : SessionState) → saved ≡ Some session → CanSave site.sessions now session
+  can_save_it IsDrawn route credentials found saved page lives plans session is =
+      can_save IsDrawn route credentials found page session lives (subst (Plans IsDrawn site route credentials now found page) is plans)
 
 -- ---- why a request fails
 

@@ -1,5 +1,5 @@
 -- What a page shows for the session that was found, and the standing after it.
-use Rattle.std.proofs.Common.{◌≡◌, ◌↔◌, ℕ, Bool, true, false, cond, List, [], Option, Some, None, Result, Ok, Err, is_some, option_map, refl, sym, ap, subst, ◌∙◌, codes}
+use Rattle.std.proofs.Common.{◌≡◌, ◌↔◌, ◌+◌, ℕ, Bool, true, false, cond, List, [], Option, Some, None, Result, Ok, Err, is_some, option_map, refl, sym, ap, subst, ◌∙◌, codes}
 use Rattle.std.proofs.lemmas.Option.{none-some, same_Some}
 use Rattle.std.specs.Bool.{MatchBool}
 use Rattle.std.specs.FinMap.{FinMap, empty, get, insert, remove, get-empty}
@@ -11,6 +11,7 @@ use Rattle.cookie.specs.Jar.{name_cmp}
 use Rattle.cookie.proofs.NameLemmas.{get_inserted, get_removed}
 use Rattle.cookie_session.specs.Seconds.{second_of}
 use Rattle.cookie_session.specs.Session.{SessionState, seen_at}
+use Rattle.cookie_session.specs.declared.sessions.Sessions.{Sessions}
 use Rattle.login_core.specs.Forms.{credentials_of}
 use Rattle.login_core.specs.Pages.{greeted}
 use Rattle.login_core.specs.Plans.{LogsIn, Moves, Plans, Refuses, counted, logged_in, logged_out, shown as shown_session}
@@ -23,7 +24,6 @@ use Rattle.login_core.specs.declared.refusal.Refusal.{Refusal}
 use Rattle.login_core.specs.declared.refusal.Refusal.TheVariants.{Forbidden}
 use Rattle.login_core.specs.declared.routes.Route.{Route}
 use Rattle.login_core.specs.declared.routes.Route.TheVariants.{Home, LogIn, LogOut}
-use Rattle.login_core.specs.declared.user.User.{User}
 use Rattle.login_core.specs.declared.visitor.Visitor.{Visitor}
 use Rattle.cookie_theorems.specs.Browsing.{IsHomeOf, IsHomePage, IsPageOf, Shows, login_page, told}
 use Rattle.cookie_theorems.specs.Standing.{Standing, after_form, after_route, begun, shown, standing_of}
@@ -51,51 +51,51 @@ silent route other standing page no_user no_notice =
       tells = λ notice. (λ e. absurd (none-some notice (sym no_notice ∙ e)), λ h. absurd (other h.0));
     }
 
-silent_form : (IsDrawn : List ℕ → Type 0) (users : List User) (credentials : Option (List ℕ × List ℕ)) (now : DateTime) (page : Page) (saved : Option SessionState) → LogsIn IsDrawn users credentials now page saved
+silent_form : (IsDrawn : List ℕ → Type 0) (site : LoginSite) (credentials : Option (List ℕ × List ℕ)) (now : DateTime) (page : Page) (saved : Option SessionState) → LogsIn IsDrawn site credentials now page saved
     → (greeted page ≡ None) × (told page ≡ None)
-silent_form IsDrawn users None now page saved plans = (ap greeted plans.0, ap told plans.0)
-silent_form IsDrawn users (Some (user, password)) now page saved plans = by (is_known user password users) plans
+silent_form IsDrawn site None now page saved plans = (ap greeted plans.0, ap told plans.0)
+silent_form IsDrawn site (Some (user, password)) now page saved plans = by (is_known user password site.users.now) plans
   where
-    by : (b : Bool) → MatchBool b (Moves IsDrawn (λ id. logged_in id now user) page saved) (Refuses Forbidden page saved) → (greeted page ≡ None) × (told page ≡ None)
+    by : (b : Bool) → MatchBool b (Moves IsDrawn (λ id. logged_in site.sessions id now user) page saved) (Refuses Forbidden page saved) → (greeted page ≡ None) × (told page ≡ None)
     by true moves = (ap greeted moves.0, ap told moves.0)
     by false refuses = (ap greeted refuses.0, ap told refuses.0)
 
 -- the page shows what the standing of the session that was found tells
-pub page_shows : (IsDrawn : List ℕ → Type 0) (users : List User) (route : Result Route Refusal) (credentials : Option (List ℕ × List ℕ)) (now : DateTime) (found : Option SessionState) (page : Page)
-    (saved : Option SessionState) → Plans IsDrawn users route credentials now found page saved → Shows route (option_map standing_of found) page
-page_shows IsDrawn users (Ok Home) credentials now found page saved plans =
+pub page_shows : (IsDrawn : List ℕ → Type 0) (site : LoginSite) (route : Result Route Refusal) (credentials : Option (List ℕ × List ℕ)) (now : DateTime) (found : Option SessionState) (page : Page)
+    (saved : Option SessionState) → Plans IsDrawn site route credentials now found page saved → Shows route (option_map standing_of found) page
+page_shows IsDrawn site (Ok Home) credentials now found page saved plans =
     let (visitor, is, page_is, saved_is) = plans in
     record {
       greets = text_shown found (codes "user") (λ standing. standing.user) (λ _. refl) (greeted page) (ap greeted page_is ∙ is.user);
       tells = text_shown found (codes "notice") (λ standing. standing.notice) (λ _. refl) (told page) (ap told page_is ∙ is.notice);
     }
-page_shows IsDrawn users (Ok LogIn) credentials now found page saved plans =
-    let none = silent_form IsDrawn users credentials now page saved plans in
+page_shows IsDrawn site (Ok LogIn) credentials now found page saved plans =
+    let none = silent_form IsDrawn site credentials now page saved plans in
     silent (Ok LogIn) (λ e. cc) (option_map standing_of found) page none.0 none.1
-page_shows IsDrawn users (Ok LogOut) credentials now found page saved plans =
+page_shows IsDrawn site (Ok LogOut) credentials now found page saved plans =
     silent (Ok LogOut) (λ e. cc) (option_map standing_of found) page (ap greeted plans.0) (ap told plans.0)
-page_shows IsDrawn users (Err refusal) credentials now found page saved plans =
+page_shows IsDrawn site (Err refusal) credentials now found page saved plans =
     silent (Err refusal) (λ e. cc) (option_map standing_of found) page (ap greeted plans.0) (ap told plans.0)
 
 -- ---- which page it is
 
-login_is : (IsDrawn : List ℕ → Type 0) (users : List User) (credentials : Option (List ℕ × List ℕ)) (now : DateTime) (page : Page) (saved : Option SessionState) → LogsIn IsDrawn users credentials now page saved
-    → page ≡ login_page users credentials
-login_is IsDrawn users None now page saved plans = plans.0
-login_is IsDrawn users (Some (user, password)) now page saved plans = by (is_known user password users) plans
+login_is : (IsDrawn : List ℕ → Type 0) (site : LoginSite) (credentials : Option (List ℕ × List ℕ)) (now : DateTime) (page : Page) (saved : Option SessionState) → LogsIn IsDrawn site credentials now page saved
+    → page ≡ login_page site.users.now credentials
+login_is IsDrawn site None now page saved plans = plans.0
+login_is IsDrawn site (Some (user, password)) now page saved plans = by (is_known user password site.users.now) plans
   where
-    by : (b : Bool) → MatchBool b (Moves IsDrawn (λ id. logged_in id now user) page saved) (Refuses Forbidden page saved) → page ≡ cond b Moved (Refused Forbidden)
+    by : (b : Bool) → MatchBool b (Moves IsDrawn (λ id. logged_in site.sessions id now user) page saved) (Refuses Forbidden page saved) → page ≡ cond b Moved (Refused Forbidden)
     by true moves = moves.0
     by false refuses = refuses.0
 
-pub page_is : (IsDrawn : List ℕ → Type 0) (users : List User) (form : List ℕ) (route : Result Route Refusal) (now : DateTime) (found : Option SessionState) (page : Page) (saved : Option SessionState)
-    → Plans IsDrawn users route (credentials_of form) now found page saved → IsPageOf users form route page
-page_is IsDrawn users form (Ok Home) now found page saved plans =
+pub page_is : (IsDrawn : List ℕ → Type 0) (site : LoginSite) (form : List ℕ) (route : Result Route Refusal) (now : DateTime) (found : Option SessionState) (page : Page) (saved : Option SessionState)
+    → Plans IsDrawn site route (credentials_of form) now found page saved → IsPageOf site.users.now form route page
+page_is IsDrawn site form (Ok Home) now found page saved plans =
     let (visitor, is, shown_is, saved_is) = plans in
     subst IsHomePage (sym shown_is) tt
-page_is IsDrawn users form (Ok LogIn) now found page saved plans = login_is IsDrawn users (credentials_of form) now page saved plans
-page_is IsDrawn users form (Ok LogOut) now found page saved plans = plans.0
-page_is IsDrawn users form (Err refusal) now found page saved plans = plans.0
+page_is IsDrawn site form (Ok LogIn) now found page saved plans = login_is IsDrawn site (credentials_of form) now page saved plans
+page_is IsDrawn site form (Ok LogOut) now found page saved plans = plans.0
+page_is IsDrawn site form (Err refusal) now found page saved plans = plans.0
 
 -- ---- the session after it
 
@@ -121,26 +121,44 @@ shown_stands visitor second session =
     counted_at (is_some visitor.user) (decimal visitor.visits) texts (codes "user") refl ∙ get_removed session.texts (codes "notice") (codes "user") in
     let notice : get (counted visitor texts) (codes "notice") ≡ None =
     counted_at (is_some visitor.user) (decimal visitor.visits) texts (codes "notice") refl ∙ get_removed session.texts (codes "notice") (codes "notice") in
-    λ i. record { id = session.id; user = user i; notice = notice i; started = session.started; seen = second }
+    λ i. record { id = session.id; user = user i; notice = notice i; started = session.started; end = session.end; idle = session.idle; seen = second }
 
 -- the session of a login tells that it began
-logged_in_stands : (id : List ℕ) (now : DateTime) (user : List ℕ) → standing_of (seen_at (second_of now) (logged_in id now user)) ≡ begun id (second_of now) (Some user) (codes "You are logged in.")
-logged_in_stands id now user =
+logged_in_stands : (sessions : Sessions) (id : List ℕ) (now : DateTime) (user : List ℕ)
+    → standing_of (seen_at (second_of now) (logged_in sessions id now user)) ≡ begun sessions id (second_of now) (Some user) (codes "You are logged in.")
+logged_in_stands sessions id now user =
     let message : List ℕ = codes "You are logged in." in
     let first : Texts = insert empty (codes "user") user in
     let named : get (insert first (codes "notice") message) (codes "user") ≡ Some user =
     get_inserted first (codes "notice") message (codes "user") ∙ get_inserted empty (codes "user") user (codes "user") in
     let notice : get (insert first (codes "notice") message) (codes "notice") ≡ Some message = get_inserted first (codes "notice") message (codes "notice") in
-    λ i. record { id = id; user = named i; notice = notice i; started = second_of now; seen = second_of now }
+    λ i. record {
+      id = id;
+      user = named i;
+      notice = notice i;
+      started = second_of now;
+      end = second_of now + sessions.lifetime;
+      idle = sessions.idle;
+      seen = second_of now;
+    }
 
 -- and so does that of a logout
-logged_out_stands : (id : List ℕ) (now : DateTime) → standing_of (seen_at (second_of now) (logged_out id now)) ≡ begun id (second_of now) None (codes "You are logged out.")
-logged_out_stands id now =
+logged_out_stands : (sessions : Sessions) (id : List ℕ) (now : DateTime)
+    → standing_of (seen_at (second_of now) (logged_out sessions id now)) ≡ begun sessions id (second_of now) None (codes "You are logged out.")
+logged_out_stands sessions id now =
     let message : List ℕ = codes "You are logged out." in
     let named : get (insert {K = List ℕ} empty (codes "notice") message) (codes "user") ≡ None =
     get_inserted empty (codes "notice") message (codes "user") ∙ get-empty name_cmp (codes "user") in
     let notice : get (insert empty (codes "notice") message) (codes "notice") ≡ Some message = get_inserted empty (codes "notice") message (codes "notice") in
-    λ i. record { id = id; user = named i; notice = notice i; started = second_of now; seen = second_of now }
+    λ i. record {
+      id = id;
+      user = named i;
+      notice = notice i;
+      started = second_of now;
+      end = second_of now + sessions.lifetime;
+      idle = sessions.idle;
+      seen = second_of now;
+    }
 
 -- what the saved session tells is the standing after the request
 abbrev Stands : DateTime → Option SessionState → Option SessionState → Option Standing → Type 0
@@ -160,24 +178,24 @@ home_stands now visitor held (Some session) saved some =
     was_saved now held saved (shown_session visitor session) (shown (second_of now) (standing_of session)) some (shown_stands visitor (second_of now) session)
 
 -- the session that a request started has an id
-form_stands : (IsDrawn : List ℕ → Type 0) (users : List User) (credentials : Option (List ℕ × List ℕ)) (now : DateTime) (held : Option SessionState) (page : Page) (saved : Option SessionState)
-    → LogsIn IsDrawn users credentials now page saved
-    → (id : List ℕ) × Stands now held saved (after_form users id (second_of now) credentials (option_map standing_of held))
-form_stands IsDrawn users None now held page saved plans = ([], unsaved now held saved plans.1)
-form_stands IsDrawn users (Some (user, password)) now held page saved plans = by (is_known user password users) plans
+form_stands : (IsDrawn : List ℕ → Type 0) (site : LoginSite) (credentials : Option (List ℕ × List ℕ)) (now : DateTime) (held : Option SessionState) (page : Page) (saved : Option SessionState)
+    → LogsIn IsDrawn site credentials now page saved
+    → (id : List ℕ) × Stands now held saved (after_form site id (second_of now) credentials (option_map standing_of held))
+form_stands IsDrawn site None now held page saved plans = ([], unsaved now held saved plans.1)
+form_stands IsDrawn site (Some (user, password)) now held page saved plans = by (is_known user password site.users.now) plans
   where
-    by : (b : Bool) → MatchBool b (Moves IsDrawn (λ id. logged_in id now user) page saved) (Refuses Forbidden page saved)
-        → (id : List ℕ) × Stands now held saved (cond b (Some (begun id (second_of now) (Some user) (codes "You are logged in."))) (option_map standing_of held))
-    by true moves = (moves.1, was_saved now held saved (logged_in moves.1 now user) _ moves.3 (logged_in_stands moves.1 now user))
+    by : (b : Bool) → MatchBool b (Moves IsDrawn (λ id. logged_in site.sessions id now user) page saved) (Refuses Forbidden page saved)
+        → (id : List ℕ) × Stands now held saved (cond b (Some (begun site.sessions id (second_of now) (Some user) (codes "You are logged in."))) (option_map standing_of held))
+    by true moves = (moves.1, was_saved now held saved (logged_in site.sessions moves.1 now user) _ moves.3 (logged_in_stands site.sessions moves.1 now user))
     by false refuses = ([], unsaved now held saved refuses.1)
 
 pub saved_stands : (IsDrawn : List ℕ → Type 0) (site : LoginSite) (route : Result Route Refusal) (form : List ℕ) (now : DateTime) (held found : Option SessionState) (page : Page) (saved : Option SessionState)
-    → Plans IsDrawn site.users.now route (credentials_of form) now found page saved
+    → Plans IsDrawn site route (credentials_of form) now found page saved
     → (id : List ℕ) × Stands now held saved (after_route site id (second_of now) form route (option_map standing_of found) (option_map standing_of held))
 saved_stands IsDrawn site (Ok Home) form now held found page saved plans =
     let (visitor, is, page_is, saved_is) = plans in
     ([], home_stands now visitor held found saved saved_is)
-saved_stands IsDrawn site (Ok LogIn) form now held found page saved plans = form_stands IsDrawn site.users.now (credentials_of form) now held page saved plans
+saved_stands IsDrawn site (Ok LogIn) form now held found page saved plans = form_stands IsDrawn site (credentials_of form) now held page saved plans
 saved_stands IsDrawn site (Ok LogOut) form now held found page saved plans =
-    (plans.1, was_saved now held saved (logged_out plans.1 now) _ plans.3 (logged_out_stands plans.1 now))
+    (plans.1, was_saved now held saved (logged_out site.sessions plans.1 now) _ plans.3 (logged_out_stands site.sessions plans.1 now))
 saved_stands IsDrawn site (Err refusal) form now held found page saved plans = ([], unsaved now held saved plans.1)

@@ -48,8 +48,8 @@ one_more (first ∷ changes) change jar = one_more changes change (after first j
 live_age : (age : ℕ) → 0 < age → int_lt (pos 0) (int_div (pos age *ℤ pos 1000000000) (pos 1000000000)) ≡ true
 live_age age some = grind (arith, signed_arith)
 
-some_left : (started lifetime idle now : ℕ) → now < started + lifetime → now < now + idle → 0 < min (started + lifetime - now) idle
-some_left started lifetime idle now young used = omega arith
+some_left : (limit end idle now : ℕ) → now < limit → now < end → now - now < idle → 0 < min (min limit end - now) idle
+some_left limit end idle now young own used = omega (arith, young, own, used)
 
 -- ---- what the calls and the save make of a jar
 
@@ -96,7 +96,8 @@ module _ (site : Sessions) (nonce : List ℕ) (now later : DateTime) (session : 
   fit =
       record {
         name = can.named;
-        live = live_age (time_left site (second_of now) session) (some_left session.started site.lifetime site.idle (second_of now) saves.young saves.used);
+        live = live_age (time_left site (second_of now) session) (some_left (session.started + site.lifetime) session.end (min session.idle site.idle) (second_of now)
+            saves.young saves.own saves.used);
         uncut = record { path = can.uncut.path; domain = can.uncut.domain };
       }
 

@@ -1,36 +1,20 @@
 -- Requests after a session was revoked, one after the other.
-use Rattle.std.proofs.Common.{◌≡◌, ◌⊎◌, ◌≤◌, ◌<◌, ◌+◌, inl, inr, ℕ, ℤ, pos, negsuc, ◌≤ℤ◌, All, List, [], ◌∷◌, ◌++◌, drop, drop_of_length-le, get_or, length, take, Option, None, Some, Result, Ok, Err, OnErr, OnOk, refl, sym, ap, subst, ◌∙◌, arith}
+use Rattle.std.proofs.Common.{◌≡◌, ◌⊎◌, ◌≤◌, ◌<◌, ◌+◌, inl, inr, ℕ, All, List, [], ◌∷◌, ◌++◌, drop, drop_of_length-le, get_or, length, take, Option, None, Some, Result, Ok, Err, OnErr, OnOk, refl, sym, ap, subst, ◌∙◌, arith}
 use Rattle.std.proofs.lemmas.Bool.Decides.{leb_tells}
 use Rattle.std.proofs.lemmas.List.{append-nil, append_assoc, drop_more, take_all, take_more}
 use Rattle.std.proofs.lemmas.List.Elements.{All-cons, All-head, All-nil, All-tail, All-take}
 use Rattle.std.proofs.lemmas.Slice.Zip.{all_zipped_more}
 use Rattle.std.specs.List.{AllZip}
 use Rattle.jiff.specs.Types.{DateTime}
-use Rattle.jiff.specs.Words.{civil_seconds}
-use Rattle.jiff.proofs.Family.{civil_nanos-civil_seconds, civil_nanos_range}
-use Rattle.jiff.proofs.SpanFacts.{signed_arith}
 use Rattle.cookie.specs.Record.{Record}
-use Rattle.cookie_session.specs.Revocations.{AreForgotten, AreSame, IsRevoked, IsRevokedToo, end_of}
-use Rattle.cookie_session.specs.Seconds.{from_zero, second_of}
+use Rattle.cookie_session.specs.Revocations.{AreForgotten, AreSame, IsRevoked, IsRevokedToo}
+use Rattle.cookie_session.specs.Seconds.{second_of}
 use Rattle.cookie_session.specs.Session.{SessionState}
 use Rattle.cookie_session.specs.Sessions.{IsClosed, OpensUnrevoked}
 use Rattle.cookie_session.specs.declared.opened.Opened.{Opened}
 use Rattle.cookie_session.specs.declared.sessions.Sessions.{Sessions}
-use Rattle.cookie_theorems.specs.Revoking.{AreAnswers, AreBefore, AreInOrder, AreLeft, HaveLifetime, IsAmong, IsAnswer, IsOther, IsRevokedToEnd, OpensOther, left_after, left_at, revoked_too}
+use Rattle.cookie_theorems.specs.Revoking.{AreAnswers, AreBefore, AreInOrder, AreLeft, IsAmong, IsAnswer, IsOther, IsRevokedToEnd, OpensOther, left_after, left_at, revoked_too}
 use Rattle.cookie_theorems.specs.declared.site_request.SiteRequest.{SiteRequest}
-
--- ---- a second is a small number
-
-most_seconds : (now : DateTime) → civil_seconds now ≤ℤ pos 253402300799
-unfolding civil_seconds
-most_seconds now = omega (arith, signed_arith, civil_nanos-civil_seconds now, civil_nanos_range now)
-
-small_from_zero : (n : ℤ) → n ≤ℤ pos 253402300799 → from_zero n < 18446744073709551615
-small_from_zero (pos n) most = omega (arith, signed_arith, most)
-small_from_zero (negsuc n) most = omega arith
-
-small : (now : DateTime) → second_of now < 18446744073709551615
-small now = small_from_zero (civil_seconds now) (most_seconds now)
 
 -- ---- what is revoked alike
 
@@ -102,26 +86,25 @@ fewer_left : (now : ℕ) (start set : Set) → ((id : List ℕ) (second : ℕ) �
 fewer_left now start set fewer id second is = fewer id second is.1
 
 -- before its end a session stays revoked
-stays_at : (lifetime : ℕ) (gone : SessionState) (now : ℕ) (set : Set) → now < end_of lifetime gone → IsRevokedToEnd set lifetime gone
-    → IsRevokedToEnd (left_at now set) lifetime gone
-stays_at lifetime gone now set early revoked second within = (revoked (now + 1) (omega (arith, early)), revoked second within)
+stays_at : (gone : SessionState) (now : ℕ) (set : Set) → now < gone.end → IsRevokedToEnd set gone → IsRevokedToEnd (left_at now set) gone
+stays_at gone now set early revoked second within = (revoked (now + 1) (omega (arith, early)), revoked second within)
 
-pub stays_after : (lifetime : ℕ) (gone : SessionState) (requests : List SiteRequest) (set : Set) → AreBefore (end_of lifetime gone) requests
-    → IsRevokedToEnd set lifetime gone → IsRevokedToEnd (left_after requests set) lifetime gone
-stays_after lifetime gone [] set before revoked = revoked
-stays_after lifetime gone (request ∷ requests) set before revoked =
-    let Early : SiteRequest → Type 0 = λ r. second_of r.time < end_of lifetime gone in
-    stays_after lifetime gone requests (left_at (second_of request.time) set) (All-tail Early request requests before)
-    (stays_at lifetime gone (second_of request.time) set (All-head Early request requests before) revoked)
+pub stays_after : (gone : SessionState) (requests : List SiteRequest) (set : Set) → AreBefore gone.end requests
+    → IsRevokedToEnd set gone → IsRevokedToEnd (left_after requests set) gone
+stays_after gone [] set before revoked = revoked
+stays_after gone (request ∷ requests) set before revoked =
+    let Early : SiteRequest → Type 0 = λ r. second_of r.time < gone.end in
+    stays_after gone requests (left_at (second_of request.time) set) (All-tail Early request requests before)
+    (stays_at gone (second_of request.time) set (All-head Early request requests before) revoked)
 
-pub still_revoked : (lifetime : ℕ) (gone : SessionState) (old new : Set) → AreSame old new → IsRevokedToEnd old lifetime gone → IsRevokedToEnd new lifetime gone
-still_revoked lifetime gone old new same revoked second within = (same gone.id second).1 (revoked second within)
+pub still_revoked : (gone : SessionState) (old new : Set) → AreSame old new → IsRevokedToEnd old gone → IsRevokedToEnd new gone
+still_revoked gone old new same revoked second within = (same gone.id second).1 (revoked second within)
 
-pub stays_left : (lifetime : ℕ) (gone : SessionState) (requests : List SiteRequest) (old new : Set) → AreLeft requests old new → AreBefore (end_of lifetime gone) requests
-    → IsRevokedToEnd old lifetime gone → IsRevokedToEnd new lifetime gone
-stays_left lifetime gone requests old new left before revoked =
-    still_revoked lifetime gone (left_after (take left.0 requests) old) new left.1
-    (stays_after lifetime gone (take left.0 requests) old (All-take (λ r. second_of r.time < end_of lifetime gone) left.0 requests before) revoked)
+pub stays_left : (gone : SessionState) (requests : List SiteRequest) (old new : Set) → AreLeft requests old new → AreBefore gone.end requests
+    → IsRevokedToEnd old gone → IsRevokedToEnd new gone
+stays_left gone requests old new left before revoked =
+    still_revoked gone (left_after (take left.0 requests) old) new left.1
+    (stays_after gone (take left.0 requests) old (All-take (λ r. second_of r.time < gone.end) left.0 requests before) revoked)
 
 -- after a request more
 left_more : (requests : List SiteRequest) (request : SiteRequest) (set : Set)
@@ -158,45 +141,43 @@ pub others_open : (requests : List SiteRequest) (answers : List (Option Opened))
     → AllZip (OpensOther (IsRevoked set)) requests answers
 others_open requests answers set are = others_from set requests answers set (λ id second is. is) are
 
-module _ (lifetime : ℕ) (gone : SessionState) where
+module _ (gone : SessionState) where
   -- revoked to its end, or over since this second
   abbrev IsGone : Set → ℕ → Type 0
-  IsGone set last = IsRevokedToEnd set lifetime gone ⊎ (end_of lifetime gone ≤ last)
+  IsGone set last = IsRevokedToEnd set gone ⊎ (gone.end ≤ last)
 
   -- so it goes on
   goes_on : (set : Set) (last now : ℕ) → last ≤ now → IsGone set last → IsGone (left_at now set) now
   goes_on set last now later (inr past) = inr (omega (arith, past, later))
-  goes_on set last now later (inl revoked) = elim (leb_tells (end_of lifetime gone) now) [
+  goes_on set last now later (inl revoked) = elim (leb_tells gone.end now) [
     | inl past ↦ inr past.1
-    | inr early ↦ inl (stays_at lifetime gone now set early.1 revoked)
+    | inr early ↦ inl (stays_at gone now set early.1 revoked)
   ]
 
   -- no copy of it opens
-  no_copy : (set : Set) (request : SiteRequest) → request.sessions.lifetime ≡ lifetime → (answer : Option Opened) → IsAnswer set request answer
-      → IsGone set (second_of request.time) → IsOther gone answer
-  no_copy set request same None is state = tt
-  no_copy set request same (Some o) is state = λ copies.
+  no_copy : (set : Set) (request : SiteRequest) (answer : Option Opened) → IsAnswer set request answer → IsGone set (second_of request.time) → IsOther gone answer
+  no_copy set request None is state = tt
+  no_copy set request (Some o) is state = λ copies.
       let first = (is o.place o.session).0 refl in
       elim state [
         | inl revoked ↦ first.unrevoked (subst (λ id. set id 0) (sym copies.0) (revoked 0 (omega arith)))
-        | inr past ↦ let lives = first.opens.lives.young in omega (arith, past, small request.time, lives, copies.1, same)
+        | inr past ↦ let lives = first.opens.lives.own in omega (arith, past, lives, copies.1)
       ]
 
-  refused_from : (requests : List SiteRequest) (answers : List (Option Opened)) (set : Set) (last : ℕ) → HaveLifetime lifetime requests → AreInOrder last requests
+  refused_from : (requests : List SiteRequest) (answers : List (Option Opened)) (set : Set) (last : ℕ) → AreInOrder last requests
       → IsGone set last → AreAnswers set requests answers → All (IsOther gone) answers
-  refused_from [] [] set last have order state are = All-nil (IsOther gone)
-  refused_from [] (answer ∷ answers) set last have order state are = absurd are
-  refused_from (request ∷ requests) [] set last have order state are = absurd are
-  refused_from (request ∷ requests) (answer ∷ answers) set last have order state are =
-      let Has : SiteRequest → Type 0 = λ r. r.sessions.lifetime ≡ lifetime in
+  refused_from [] [] set last order state are = All-nil (IsOther gone)
+  refused_from [] (answer ∷ answers) set last order state are = absurd are
+  refused_from (request ∷ requests) [] set last order state are = absurd are
+  refused_from (request ∷ requests) (answer ∷ answers) set last order state are =
       let now = second_of request.time in
       let then = goes_on set last now order.0 state in
-      All-cons (IsOther gone) answer answers (no_copy (left_at now set) request (All-head Has request requests have) answer are.0 then)
-      (refused_from requests answers (left_at now set) now (All-tail Has request requests have) order.1 then are.1)
+      All-cons (IsOther gone) answer answers (no_copy (left_at now set) request answer are.0 then)
+      (refused_from requests answers (left_at now set) now order.1 then are.1)
 
-  pub none_opens : (requests : List SiteRequest) (answers : List (Option Opened)) (set : Set) → HaveLifetime lifetime requests → AreInOrder 0 requests
-      → IsRevokedToEnd set lifetime gone → AreAnswers set requests answers → All (IsOther gone) answers
-  none_opens requests answers set have order revoked are = refused_from requests answers set 0 have order (inl revoked) are
+  pub none_opens : (requests : List SiteRequest) (answers : List (Option Opened)) (set : Set) → AreInOrder 0 requests
+      → IsRevokedToEnd set gone → AreAnswers set requests answers → All (IsOther gone) answers
+  none_opens requests answers set order revoked are = refused_from requests answers set 0 order (inl revoked) are
 
 -- ---- what is opened is among the cookies
 
@@ -279,12 +260,12 @@ on_err (Err error) is = is
 
 -- ---- once the session was revoked
 
-module _ (lifetime : ℕ) (gone : SessionState) (old new : Set) (too : IsRevokedToo gone.id (end_of lifetime gone) old new) where
-  pub revoked_to_end : IsRevokedToEnd new lifetime gone
+module _ (gone : SessionState) (old new : Set) (too : IsRevokedToo gone.id gone.end old new) where
+  pub revoked_to_end : IsRevokedToEnd new gone
   revoked_to_end second within = (too gone.id second).1 (inl (refl, within))
 
   -- what is revoked is that
-  pub is_too : AreSame (revoked_too gone.id (end_of lifetime gone) old) new
+  pub is_too : AreSame (revoked_too gone.id gone.end old) new
   is_too = too
 
   other_opens_too : (request : SiteRequest) (answer : Option Opened) → OpensOther (IsRevoked new) request answer
@@ -301,9 +282,9 @@ module _ (lifetime : ℕ) (gone : SessionState) (old new : Set) (too : IsRevoked
   others_too (request ∷ requests) (answer ∷ answers) all = (other_opens_too request answer all.0, others_too requests answers all.1)
 
   -- what is left of what is revoked then
-  pub left_too : (requests : List SiteRequest) (now : Set) → AreSame (left_after requests new) now → AreSame (left_after requests (revoked_too gone.id (end_of lifetime gone) old)) now
-  left_too requests now same = same_then (left_after requests (revoked_too gone.id (end_of lifetime gone) old)) (left_after requests new) now
-      (all_left_alike requests (revoked_too gone.id (end_of lifetime gone) old) new is_too) same
+  pub left_too : (requests : List SiteRequest) (now : Set) → AreSame (left_after requests new) now → AreSame (left_after requests (revoked_too gone.id gone.end old)) now
+  left_too requests now same = same_then (left_after requests (revoked_too gone.id gone.end old)) (left_after requests new) now
+      (all_left_alike requests (revoked_too gone.id gone.end old) new is_too) same
 
-  pub left_too_far : (requests : List SiteRequest) (now : Set) → AreLeft requests new now → AreLeft requests (revoked_too gone.id (end_of lifetime gone) old) now
+  pub left_too_far : (requests : List SiteRequest) (now : Set) → AreLeft requests new now → AreLeft requests (revoked_too gone.id gone.end old) now
   left_too_far requests now left = (left.0, left_too (take left.0 requests) now left.1)

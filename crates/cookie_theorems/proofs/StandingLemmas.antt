@@ -1,5 +1,5 @@
 -- The standing that a session tells: whether it counts, and what comes of it.
-use Rattle.std.proofs.Common.{◌≡◌, ◌↔◌, ℕ, suc, ◌+◌, Bool, true, false, ◌&&◌, cond, List, Option, Some, None, option_map, refl, sym, ap, subst, ◌∙◌}
+use Rattle.std.proofs.Common.{◌≡◌, ◌↔◌, ℕ, suc, ◌+◌, ◌-◌, min, Bool, true, false, ◌&&◌, cond, List, Option, Some, None, option_map, refl, sym, ap, subst, ◌∙◌}
 use Rattle.std.proofs.lemmas.Bool.{and_parts, leb-true, ltb-true, le-leb}
 use Rattle.std.proofs.lemmas.Option.{none-some, same_Some}
 use Rattle.jiff.specs.Types.{DateTime}
@@ -20,7 +20,8 @@ within_lives : (sessions : Sessions) (now : DateTime) (session : SessionState) �
 within_lives sessions now session lives =
     let second : ℕ = second_of now in
     both _ _ (le-leb session.started second lives.begun)
-    (both _ _ (le-leb (suc second) (session.started + sessions.lifetime) lives.young) (le-leb (suc second) (session.seen + sessions.idle) lives.used))
+    (both _ _ (le-leb (suc second) (session.started + sessions.lifetime) lives.young)
+    (both _ _ (le-leb (suc second) session.end lives.own) (le-leb (suc (second - session.seen)) (min session.idle sessions.idle) lives.used)))
 
 -- and only such a one
 lives_within : (sessions : Sessions) (now : DateTime) (session : SessionState) → is_within sessions (second_of now) (standing_of session) ≡ true
@@ -29,10 +30,12 @@ lives_within sessions now session is =
     let second : ℕ = second_of now in
     let first = and_parts _ _ is in
     let rest = and_parts _ _ first.1 in
+    let last = and_parts _ _ rest.1 in
     record {
       begun = leb-true session.started second first.0;
       young = ltb-true second (session.started + sessions.lifetime) rest.0;
-      used = ltb-true second (session.seen + sessions.idle) rest.1;
+      own = ltb-true second session.end last.0;
+      used = ltb-true (second - session.seen) (min session.idle sessions.idle) last.1;
     }
 
 -- the session that was found is the one that was held, if it lives and isn't revoked

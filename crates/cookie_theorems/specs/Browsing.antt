@@ -109,7 +109,7 @@ ArePages Keeps site set standing (request ∷ requests) (page ∷ pages) =
     × IsPage site counting request page
     × EndsCopies Keeps site (route_asked request) counting requests pages
     × ArePages Keeps site
-    (revoked_after Keeps site.sessions (route_asked request) counting set)
+    (revoked_after Keeps (route_asked request) counting set)
     (after_request site id request counting standing) requests pages
 
 -- the site's cookie has a name, and no `;` in its path and its domain

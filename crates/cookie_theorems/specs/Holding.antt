@@ -47,11 +47,11 @@ pub record IsResponse (IsDrawn IsNonce : List ℕ → Type 0) (Keeps : Type 0)
   pub saved : Option SessionState
   pub jar : JarState
   pub finds : HasSession (IsRevoked old) site.sessions (field_cookies field) request.time found
-  pub plans : Plans IsDrawn site.users.now (route_asked request) (credentials_of request.form.now)
+  pub plans : Plans IsDrawn site (route_asked request) (credentials_of request.form.now)
       request.time found response.page saved
   pub saves : Saves IsNonce site.sessions request.time saved (jar_for field) jar
   pub once : AreDeltaTextsOnce jar.delta (map string_bytes response.cookies.items)
-  pub revoked : AreSame (revoked_after Keeps site.sessions (route_asked request)
+  pub revoked : AreSame (revoked_after Keeps (route_asked request)
       (option_map standing_of found) old) new
 
 -- A request is answered, and the client holds the session that follows. Between the sets is what it revoked.
@@ -67,4 +67,4 @@ pub record IsAnswered (Keeps : Type 0) (old new : List ℕ → ℕ → Type 0) (
   pub holds : Holds site.sessions client later
   pub stands : option_map standing_of later
       ≡ after_request site id request counting (option_map standing_of held)
-  pub revoked : AreSame (revoked_after Keeps site.sessions (route_asked request) counting old) new
+  pub revoked : AreSame (revoked_after Keeps (route_asked request) counting old) new

@@ -1,7 +1,7 @@
 -- Requests to a site that can revoke sessions, and what is revoked at each of them.
 use Rattle.std.specs.Prelude.{◌≡◌, ◌⊎◌, ◌≤◌, ◌<◌, ◌+◌, ◌↔◌, ℕ, All, List, [], ◌∷◌, Option, Some, IfSome, take, ⊤}
 use Rattle.cookie.specs.Originals.{field_cookies}
-use Rattle.cookie_session.specs.Revocations.{AreSame, IsRevoked, end_of}
+use Rattle.cookie_session.specs.Revocations.{AreSame, IsRevoked}
 use Rattle.cookie_session.specs.Seconds.{second_of}
 use Rattle.cookie_session.specs.Session.{SessionState}
 use Rattle.cookie_session.specs.Sessions.{OpensFirst, OpensOne, OpensUnrevoked}
@@ -28,9 +28,9 @@ left_after (request ∷ requests) set =
 abbrev pub AreLeft : List SiteRequest → (List ℕ → ℕ → Type 0) → (List ℕ → ℕ → Type 0) → Type 0
 AreLeft requests old new = (done : ℕ) × AreSame (left_after (take done requests) old) new
 
--- the session is revoked until its lifetime ends
-abbrev pub IsRevokedToEnd : (List ℕ → ℕ → Type 0) → ℕ → SessionState → Type 0
-IsRevokedToEnd set lifetime gone = (second : ℕ) → second ≤ end_of lifetime gone → set gone.id second
+-- the session is revoked until it is over
+abbrev pub IsRevokedToEnd : (List ℕ → ℕ → Type 0) → SessionState → Type 0
+IsRevokedToEnd set gone = (second : ℕ) → second ≤ gone.end → set gone.id second
 
 -- ---- what the requests open
 
@@ -65,17 +65,13 @@ OpensOther IsGone request answer = (place : ℕ) (session : SessionState)
 
 -- the two are the same session, saved at any times, with any texts
 abbrev pub AreCopies : SessionState → SessionState → Type 0
-AreCopies session other = (other.id ≡ session.id) × (other.started ≡ session.started)
+AreCopies session other = (other.id ≡ session.id) × (other.end ≡ session.end)
 
 -- what is opened, if anything, is another session
 abbrev pub IsOther : SessionState → Option Opened → Type 0
 IsOther gone answer = IfSome answer (λ opened. ¬ AreCopies gone opened.session)
 
 -- ---- when the requests come
-
--- the site has this lifetime at each request
-abbrev pub HaveLifetime : ℕ → List SiteRequest → Type 0
-HaveLifetime lifetime requests = All (λ request. request.sessions.lifetime ≡ lifetime) requests
 
 -- no request comes before this second, and none in an earlier second than the one before it
 abbrev pub AreInOrder : ℕ → List SiteRequest → Type 0

@@ -1,5 +1,5 @@
 -- How a client stands with the site, and what a request changes of that and of what is revoked.
-use Rattle.std.specs.Prelude.{◌≡◌, ◌↔◌, ◌⊎◌, ◌≤◌, ℕ, ◌+◌, ◌&&◌, Bool, List, Option, Some, None, Result, Ok, Err, min, nat_le, nat_lt, codes, option_map, if◌then◌else◌}
+use Rattle.std.specs.Prelude.{◌≡◌, ◌↔◌, ◌⊎◌, ◌≤◌, ℕ, ◌+◌, ◌-◌, ◌&&◌, Bool, List, Option, Some, None, Result, Ok, Err, min, nat_le, nat_lt, codes, option_map, if◌then◌else◌}
 use Rattle.std.specs.FinMap.{get}
 use Rattle.std.specs.Option.{option_or}
 use Rattle.jiff.specs.Types.{DateTime}
@@ -15,18 +15,19 @@ use Rattle.login_core.specs.declared.login_site.LoginSite.{LoginSite}
 use Rattle.login_core.specs.declared.refusal.Refusal.{Refusal}
 use Rattle.login_core.specs.declared.routes.Route.{Route}
 use Rattle.login_core.specs.declared.routes.Route.TheVariants.{Home, LogIn, LogOut}
-use Rattle.login_core.specs.declared.user.User.{User}
 use Rattle.cookie_theorems.specs.declared.sender.Sender.{Sender}
 use Rattle.cookie_theorems.specs.declared.sender.Sender.TheVariants.{Client, Other}
 use Rattle.cookie_theorems.specs.declared.timed_request.TimedRequest.{TimedRequest}
 
--- the id of the session, who is logged in, the message that waits to be shown, the second of the login or logout, and the
--- second in which the site last saved the session
+-- the id of the session, who is logged in, the message that waits to be shown, the second of the login or logout, the
+-- limits of that time, and the second in which the site last saved the session
 pub record Standing : Type 0 where
   pub id : List ℕ
   pub user : Option (List ℕ)
   pub notice : Option (List ℕ)
   pub started : ℕ
+  pub end : ℕ
+  pub idle : ℕ
   pub seen : ℕ
 
 -- the standing that a session tells
@@ -37,17 +38,21 @@ standing_of session =
       user = get session.texts (codes "user");
       notice = get session.texts (codes "notice");
       started = session.started;
+      end = session.end;
+      idle = session.idle;
       seen = session.seen;
     }
 
 -- ---- what counts
 
--- it has begun by this second, and neither limit is over: at its end a limit is over (RFC 7519 4.1.4)
+-- it has begun by this second, and no limit is over, neither the site's nor its own: at its end a limit is over (RFC 7519
+-- 4.1.4)
 abbrev pub is_within : Sessions → ℕ → Standing → Bool
 is_within sessions now standing =
     nat_le standing.started now
     && (nat_lt now (standing.started + sessions.lifetime)
-    && nat_lt now (standing.seen + sessions.idle))
+    && (nat_lt now standing.end
+    && nat_lt (now - standing.seen) (min standing.idle sessions.idle)))
 
 -- the standing that is within its limits in this second, if it is
 abbrev pub standing_at : Sessions → ℕ → Option Standing → Option Standing
@@ -82,10 +87,18 @@ Counts IsRevoked sessions time (Other field) standing counting =
 
 -- ---- what comes after
 
--- a login or a logout was accepted, and a session with this id started: nothing of before counts
-abbrev pub begun : List ℕ → ℕ → Option (List ℕ) → List ℕ → Standing
-begun id now user notice =
-    record { id = id; user = user; notice = Some notice; started = now; seen = now }
+-- a login or a logout was accepted, and a session with this id started, with the site's limits: nothing of before counts
+abbrev pub begun : Sessions → List ℕ → ℕ → Option (List ℕ) → List ℕ → Standing
+begun sessions id now user notice =
+    record {
+      id = id;
+      user = user;
+      notice = Some notice;
+      started = now;
+      end = now + sessions.lifetime;
+      idle = sessions.idle;
+      seen = now;
+    }
 
 -- the home page was shown: its message is gone, and the idle time counts from now
 abbrev pub shown : ℕ → Standing → Standing
@@ -96,12 +109,12 @@ abbrev pub after_home : ℕ → Option Standing → Option Standing → Option S
 after_home now counting standing = option_or (option_map (shown now) counting) standing
 
 -- after a form to log in: it is accepted if it names a user with the right password
-abbrev pub after_form : List User → List ℕ → ℕ → Option (List ℕ × List ℕ) → Option Standing
+abbrev pub after_form : LoginSite → List ℕ → ℕ → Option (List ℕ × List ℕ) → Option Standing
     → Option Standing
-after_form users id now None standing = standing
-after_form users id now (Some (user, password)) standing =
-    if is_known user password users
-    then Some (begun id now (Some user) (codes "You are logged in."))
+after_form site id now None standing = standing
+after_form site id now (Some (user, password)) standing =
+    if is_known user password site.users.now
+    then Some (begun site.sessions id now (Some user) (codes "You are logged in."))
     else standing
 
 -- after the client asked for a page with this form, of what counts and how it stands; a session that starts has this id,
@@ -110,9 +123,9 @@ abbrev pub after_route : LoginSite → List ℕ → ℕ → List ℕ → Result 
     → Option Standing → Option Standing
 after_route site id now form (Ok Home) counting standing = after_home now counting standing
 after_route site id now form (Ok LogIn) counting standing =
-    after_form site.users.now id now (credentials_of form) standing
+    after_form site id now (credentials_of form) standing
 after_route site id now form (Ok LogOut) counting standing =
-    Some (begun id now None (codes "You are logged out."))
+    Some (begun site.sessions id now None (codes "You are logged out."))
 after_route site id now form (Err refusal) counting standing = standing
 
 -- the client's own request changes how it stands, and no other one does
@@ -135,21 +148,19 @@ after_request site id request counting standing =
 
 -- ---- what is revoked
 
--- once this session is revoked too, until its lifetime ends, if the store keeps what is revoked
-abbrev pub ended : Type 0 → Sessions → Standing → (List ℕ → ℕ → Type 0) → List ℕ → ℕ → Type 0
-ended Keeps sessions current set id second =
-    (Keeps × (id ≡ current.id)
-    × (second ≤ min (current.started + sessions.lifetime) 18446744073709551615))
-    ⊎ set id second
+-- once this session is revoked too, until it is over, if the store keeps what is revoked
+abbrev pub ended : Type 0 → Standing → (List ℕ → ℕ → Type 0) → List ℕ → ℕ → Type 0
+ended Keeps current set id second =
+    (Keeps × (id ≡ current.id) × (second ≤ current.end)) ⊎ set id second
 
 -- after a request: a logout, whoever sends it, revokes the session that counts
-abbrev pub revoked_after : Type 0 → Sessions → Result Route Refusal → Option Standing
+abbrev pub revoked_after : Type 0 → Result Route Refusal → Option Standing
     → (List ℕ → ℕ → Type 0) → List ℕ → ℕ → Type 0
-revoked_after Keeps sessions (Ok Home) counting set = set
-revoked_after Keeps sessions (Ok LogIn) counting set = set
-revoked_after Keeps sessions (Ok LogOut) None set = set
-revoked_after Keeps sessions (Ok LogOut) (Some current) set = ended Keeps sessions current set
-revoked_after Keeps sessions (Err refusal) counting set = set
+revoked_after Keeps (Ok Home) counting set = set
+revoked_after Keeps (Ok LogIn) counting set = set
+revoked_after Keeps (Ok LogOut) None set = set
+revoked_after Keeps (Ok LogOut) (Some current) set = ended Keeps current set
+revoked_after Keeps (Err refusal) counting set = set
 
 -- A store keeps what is revoked, or no session is ever revoked there, as in `NeverRevoked`.
 abbrev pub KeepsOrNever : {Store : Type 0} → Type 0 → (Store → List ℕ → ℕ → Type 0) → Type 0

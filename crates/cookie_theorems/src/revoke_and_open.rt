@@ -1,11 +1,11 @@
 //! A session that is revoked, and the requests after that.
-ghost use Rattle.std.specs.Prelude.{◌≡◌, ◌↔◌, ◌⊎◌, ℕ, Some, All, IfOk, OnErr, OnOk};
+ghost use Rattle.std.specs.Prelude.{◌≡◌, ◌⊎◌, All, IfOk, OnErr, OnOk};
 ghost use Rattle.std.specs.List.{AllZip};
 ghost use Rattle.cookie.specs.Originals.{field_cookies};
-ghost use Rattle.cookie_session.specs.Revocations.{AreForgotten, AreSame, IsRevoked, end_of};
+ghost use Rattle.cookie_session.specs.Revocations.{AreForgotten, AreSame, IsRevoked};
 ghost use Rattle.cookie_session.specs.Seconds.{second_of};
 ghost use Rattle.cookie_session.specs.Session.{SessionState};
-ghost use Rattle.cookie_theorems.specs.Revoking.{AreAnswers, AreBefore, AreInOrder, AreLeft, HaveLifetime, IsAmong, IsAnswer, IsOther, IsRevokedToEnd, OpensOther, left_after, revoked_too};
+ghost use Rattle.cookie_theorems.specs.Revoking.{AreAnswers, AreBefore, AreInOrder, AreLeft, IsAmong, IsAnswer, IsOther, IsRevokedToEnd, OpensOther, left_after, revoked_too};
 
 use crate::site_request::SiteRequest;
 use cookie::field_cookies;
@@ -15,9 +15,9 @@ use std::alloc::Global;
 /// Revokes a session, and then opens the sessions of requests, as [`open_each`] does.
 ///
 /// No request opens the session from a copy of its cookie, whoever sends it, whenever the copy was saved, and whichever
-/// keys the site has then. This requires that the times of the requests don't go back, that the site keeps its lifetime,
-/// and that what is revoked is kept. Nobody else is logged out: a request whose first open session is another one opens
-/// that, unless it was revoked before.
+/// keys and limits the site has then. This requires that the times of the requests don't go back, and that what is
+/// revoked is kept. Nobody else is logged out: a request whose first open session is another one opens that, unless it
+/// was revoked before.
 ///
 /// Fails if the session can't be revoked, if a session can't be looked up, if what is over can't be forgotten, or if out
 /// of memory. Each session that was revoked before stays so until its second.
@@ -30,16 +30,14 @@ pub fn revoke_and_open<R: Revocations>(
 ) -> Result<Vec<Option<Opened>>, OpenError<R::Error>>
     // Each request opens exactly the session that its cookies open, by what is revoked then.
     ensures answers { R.is_intact revocations.new → R.can_revoke → IfOk result (λ answers. AreAnswers
-        (revoked_too session.now.id (end_of sessions.now.lifetime session.now)
-        (R.revoked_until revocations.old))
+        (revoked_too session.now.id session.now.end (R.revoked_until revocations.old))
         requests.now answers.items) }
 
     // Whatever the look-ups say, only a session opens that is open in one of the request's cookies.
     ensures sealed { IfOk result (λ answers. AllZip IsAmong requests.now answers.items) }
 
     // No copy of the session opens.
-    ensures refused { R.is_intact revocations.new → R.can_revoke
-        → HaveLifetime sessions.now.lifetime requests.now → AreInOrder 0 requests.now
+    ensures refused { R.is_intact revocations.new → R.can_revoke → AreInOrder 0 requests.now
         → IfOk result (λ answers. All (IsOther session.now) answers.items) }
 
     // Nobody else is logged out.
@@ -49,14 +47,13 @@ pub fn revoke_and_open<R: Revocations>(
 
     // The session is still revoked after these requests, as `open_each` requires of one that it refuses.
     ensures stays { R.is_intact revocations.new → R.can_revoke
-        → AreBefore (end_of sessions.now.lifetime session.now) requests.now
-        → OnOk result (IsRevokedToEnd (R.revoked_until revocations.new)
-        sessions.now.lifetime session.now) }
+        → AreBefore session.now.end requests.now
+        → OnOk result (IsRevokedToEnd (R.revoked_until revocations.new) session.now) }
 
     // Exactly this session is revoked too, and exactly what is over at one of the requests is forgotten.
     ensures forgotten { R.is_intact revocations.new → R.can_revoke
-        → OnOk result (AreSame (left_after requests.now (revoked_too session.now.id
-        (end_of sessions.now.lifetime session.now) (R.revoked_until revocations.old)))
+        → OnOk result (AreSame (left_after requests.now
+        (revoked_too session.now.id session.now.end (R.revoked_until revocations.old)))
         (R.revoked_until revocations.new)) }
 
     // After an error each session is revoked as before, or this one is revoked too, and exactly what is over at one of
@@ -64,13 +61,12 @@ pub fn revoke_and_open<R: Revocations>(
     ensures err { R.is_intact revocations.new → R.can_revoke
         → OnErr result (AreSame (R.revoked_until revocations.old) (R.revoked_until revocations.new)
         ⊎ AreLeft requests.now
-        (revoked_too session.now.id (end_of sessions.now.lifetime session.now)
-        (R.revoked_until revocations.old))
+        (revoked_too session.now.id session.now.end (R.revoked_until revocations.old))
         (R.revoked_until revocations.new)) }
     ensures kept { R.is_intact revocations.new → R.is_intact revocations.old }
 {
     match sessions.revoke(session, revocations) {
-        Ok(()) => open_each(alloc, requests, revocations),
+        Ok(_) => open_each(alloc, requests, revocations),
         Err(error) => Err(OpenError::Revocations(error)),
     }
 }
@@ -79,8 +75,8 @@ pub fn revoke_and_open<R: Revocations>(
 /// that are over, and opens the request's session by [`Sessions::open_unrevoked`].
 ///
 /// No request opens a session that is revoked until its end, whatever cookies it sends. This requires that the times of
-/// the requests don't go back, that the site keeps its lifetime, and that what is revoked is kept. A request whose first
-/// open session isn't revoked opens that.
+/// the requests don't go back, and that what is revoked is kept. A request whose first open session isn't revoked opens
+/// that.
 ///
 /// Fails if a session can't be looked up, if what is over can't be forgotten, or if out of memory. Each session that was
 /// revoked stays so until its second.
@@ -97,9 +93,8 @@ pub fn open_each<R: Revocations>(
     ensures sealed { IfOk result (λ answers. AllZip IsAmong requests.now answers.items) }
 
     // No copy of a session opens that is revoked until its end.
-    ensures refused { R.is_intact revocations.new → (lifetime : ℕ) (gone : SessionState)
-        → HaveLifetime lifetime requests.now → AreInOrder 0 requests.now
-        → IsRevokedToEnd (R.revoked_until revocations.old) lifetime gone
+    ensures refused { R.is_intact revocations.new → (gone : SessionState)
+        → AreInOrder 0 requests.now → IsRevokedToEnd (R.revoked_until revocations.old) gone
         → IfOk result (λ answers. All (IsOther gone) answers.items) }
 
     // What isn't revoked opens.
@@ -108,10 +103,10 @@ pub fn open_each<R: Revocations>(
         requests.now answers.items) }
 
     // What is revoked stays so until its end, also after an error.
-    ensures stays { R.is_intact revocations.new → (lifetime : ℕ) (gone : SessionState)
-        → AreBefore (end_of lifetime gone) requests.now
-        → IsRevokedToEnd (R.revoked_until revocations.old) lifetime gone
-        → IsRevokedToEnd (R.revoked_until revocations.new) lifetime gone }
+    ensures stays { R.is_intact revocations.new → (gone : SessionState)
+        → AreBefore gone.end requests.now
+        → IsRevokedToEnd (R.revoked_until revocations.old) gone
+        → IsRevokedToEnd (R.revoked_until revocations.new) gone }
 
     // Exactly what is over at one of the requests is forgotten, and after an error at one of the first of them.
     ensures forgotten { R.is_intact revocations.new → OnOk result (AreSame

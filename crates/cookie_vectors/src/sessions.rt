@@ -23,6 +23,7 @@ use jiff::civil::DateTime;
 use login_core::session_cookie;
 use requests::open_requests;
 pub use revoked::Revoked;
+use revoked::ids_of;
 pub use site::Site;
 use std::alloc::Global;
 
@@ -45,14 +46,17 @@ pub struct Visitors<'s> {
 
 impl<'s> Visitors<'s> {
     pub fn new(alloc: Global, suffixes: &'s Suffixes) -> Option<Visitors<'s>> {
+        let site = Site::new(alloc, session_cookie(true), 1200, 600)?;
+        let mut rng = Sevens { left: 16 };
+        let session = site.sessions().start(alloc, moment(), &mut rng).ok()?;
         Some(Visitors {
-            site: Site::new(alloc, session_cookie(true), 1200, 600)?,
+            site,
             jars: Jars::new(alloc),
             client: Client::new(alloc),
             browser: Browser::new(alloc, suffixes),
             now: moment(),
             left: 28,
-            session: Session::start(alloc, moment(), &mut Sevens { left: 16 }).ok()?,
+            session,
             revoked: None,
         })
     }
@@ -66,14 +70,7 @@ impl<'s> Visitors<'s> {
         match step.call {
             "at" => self.now = after(step.words)?,
             "generator" => self.left = step.words.parse().ok()?,
-            "start" => match Session::start(step.alloc, self.now, &mut self.rng()) {
-                Ok(session) => self.session = session,
-                Err(refusal) => return step.printed(refusal),
-            },
-            "renew" => {
-                let mut rng = self.rng();
-                return step.done_or_why(self.session.renew(self.now, &mut rng));
-            }
+            "start" | "renew" => return self.start(step),
             "set" => self.set(step)?,
             "generation" => {
                 let number = step.words.parse().ok()?;
@@ -83,6 +80,20 @@ impl<'s> Visitors<'s> {
             "form" => self.session.set_form(step.alloc, &step.bytes()?).ok()?,
             "revoked" => self.revoked = Some(Revoked::of(step)?),
             _ => self.jars.jar = self.next_jar(step.alloc)?,
+        }
+        step.done()
+    }
+
+    // Starts a new session, or the same one anew.
+    fn start(&mut self, step: Step<'_>) -> Answer {
+        let (now, sessions) = (self.now, self.site.sessions());
+        let (session, mut rng) = (&mut self.session, Sevens { left: self.left });
+        if step.call == "renew" {
+            return step.done_or_why(sessions.renew(session, now, &mut rng));
+        }
+        match sessions.start(step.alloc, now, &mut rng) {
+            Ok(started) => *session = started,
+            Err(refusal) => return step.printed(refusal),
         }
         step.done()
     }
@@ -116,6 +127,7 @@ impl<'s> Visitors<'s> {
         let found = match step.call {
             "session" => return self.texts(step),
             "times" => return self.times(step),
+            "own" => return self.own_limits(step),
             "as_form" => return step.shown(self.session.to_form(step.alloc).ok()?.as_bytes()),
             "id" => return encode(step.alloc, self.session.id()).ok(),
             "since" => return step.yes(self.session.is_since(step.words.parse().ok()?)),
@@ -141,6 +153,12 @@ impl<'s> Visitors<'s> {
         let started = self.session.started().saturating_sub(FIRST);
         let seen = self.session.seen().saturating_sub(FIRST);
         format!(in step.alloc; "{started} {seen}").ok()
+    }
+
+    fn own_limits(&self, step: Step<'_>) -> Answer {
+        let end = self.session.end().saturating_sub(FIRST);
+        let idle = self.session.idle();
+        format!(in step.alloc; "{end} {idle}").ok()
     }
 
     // Takes the session that was opened, and says the place of its key.
@@ -215,12 +233,19 @@ impl<'s> Visitors<'s> {
         }
     }
 
-    // Revokes the session, or forgets which ones are over.
+    // Revokes the session, forgets which ones are over, or looks for an id that isn't revoked.
     fn revoke(&mut self, step: Step<'_>) -> Answer {
         let (sessions, revoked) = (self.site.sessions(), self.revoked.as_mut()?);
         match step.call {
-            "revoke" => step.outcome(sessions.revoke(&self.session, revoked)),
-            _ => step.outcome(revoked.forget(second_of(after(step.words)?))),
+            "revoke" => match sessions.revoke(&self.session, revoked) {
+                Ok(already) => step.said(if already { "already" } else { "done" }),
+                Err(refusal) => step.refused(&refusal),
+            },
+            "forget" => step.outcome(revoked.forget(second_of(after(step.words)?))),
+            _ => match revoked.first_unrevoked(&ids_of(step)?) {
+                Ok(place) => step.optional(place),
+                Err(refusal) => step.refused(&refusal),
+            },
         }
     }
 
@@ -245,6 +270,20 @@ impl<'s> Visitors<'s> {
             Ok(opened) => self.take(step, opened),
             Err(refusal) => step.refused(&refusal),
         }
+    }
+
+    // Opens each session of a `Cookie` field. Returns the places of their keys, and their ids.
+    fn open_all(&self, step: Step<'_>) -> Answer {
+        let (alloc, sessions) = (step.alloc, self.site.sessions());
+        let cookies = field_cookies(alloc, &step.bytes()?).ok()?;
+        let mut texts = Vec::new(alloc);
+        for opened in &sessions.open_all(alloc, &cookies, self.now).ok()? {
+            let id = encode(alloc, opened.session.id()).ok()?;
+            texts
+                .push(format!(in alloc; "{} {id}", opened.place).ok()?)
+                .ok()?;
+        }
+        step.list(&texts)
     }
 
     // Opens the session of the jar, or of the user agent's request.
@@ -304,12 +343,13 @@ impl Player for Visitors<'_> {
             "start" | "renew" | "set" | "unset" | "form" | "generation" => self.change(step),
             "make_token" | "read_token" => self.token(step),
             "open_for" => self.open_for(step),
-            "text" | "session" | "as_form" | "times" | "id" | "since" | "kept" | "held" => {
+            "text" | "session" | "as_form" | "times" | "own" | "id" | "since" | "kept" | "held" => {
                 self.looked(step)
             }
-            "revoke" | "forget" => self.revoke(step),
+            "revoke" | "forget" | "first_unrevoked" => self.revoke(step),
             "revoke_and_open" | "open_each" => self.open_requests(step),
             "open_field" => self.open_field(step),
+            "open_all" => self.open_all(step),
             "open" | "open_for_agent" => self.open(step),
             "save_and_return" | "save_over_headers" => self.come_back(step),
             "save" | "end" | "keep" => self.settle(step),

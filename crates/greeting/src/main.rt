@@ -82,7 +82,7 @@ fn respond(
     now: DateTime,
 ) -> Result<()> {
     if let Some(name) = name_sent(rt)? {
-        visit.renew(now, &mut SysRng::new(rt))?;
+        visit.renew(sessions, now, &mut SysRng::new(rt))?;
         visit.set("name", name.as_str())?;
     }
     let cookies = save(rt, sessions, visit, now)?;
@@ -98,7 +98,7 @@ fn answer(rt: &HostRuntime, sessions: &Sessions<'_>) -> Result<()> {
     let field = variable(rt, "HTTP_COOKIE")?;
     let cookies = field_cookies(rt.alloc(), field.as_bytes())?;
     let opened = sessions.open(rt.alloc(), &cookies, now)?;
-    let mut visit = Visit::of(rt.alloc(), opened, now, &mut SysRng::new(rt))?;
+    let mut visit = Visit::of(rt.alloc(), opened, sessions, now, &mut SysRng::new(rt))?;
     respond(rt, sessions, &mut visit, now)
 }
 

@@ -79,7 +79,7 @@ impl Revocations for Revoked {
         found
     }
 
-    fn revoke(&mut self, id: &[u8; 16], until: u64) -> Result<(), RevocationError> {
+    fn revoke(&mut self, id: &[u8; 16], until: u64) -> Result<bool, RevocationError> {
         let done = Revocations::revoke(&mut self.sessions, id, until);
         self.failure = done.as_ref().err().copied();
         done

@@ -33,7 +33,6 @@ use Rattle.login_core.specs.declared.refusal.Refusal.TheVariants.{Forbidden}
 use Rattle.login_core.specs.declared.request.Request.{Request}
 use Rattle.login_core.specs.declared.routes.Route.{Route}
 use Rattle.login_core.specs.declared.routes.Route.TheVariants.{Home, LogIn, LogOut}
-use Rattle.login_core.specs.declared.user.User.{User}
 
 -- ---- which session is found
 
@@ -97,13 +96,13 @@ is_home (Ok LogIn) = false
 is_home (Ok LogOut) = false
 is_home (Err refusal) = false
 
-module _ (IsDrawn : List ℕ → Type 0) (users : List User) (now : DateTime) (page : Page) (saved : Option SessionState) where
+module _ (IsDrawn : List ℕ → Type 0) (site : LoginSite) (now : DateTime) (page : Page) (saved : Option SessionState) where
   -- a form to log in greets nobody yet
-  entering : (credentials : Option (List ℕ × List ℕ)) → LogsIn IsDrawn users credentials now page saved → greeted page ≡ None
+  entering : (credentials : Option (List ℕ × List ℕ)) → LogsIn IsDrawn site credentials now page saved → greeted page ≡ None
   entering None (refused, same) = ap greeted refused
-  entering (Some (user, password)) answered = by (is_known user password users) answered
+  entering (Some (user, password)) answered = by (is_known user password site.users.now) answered
     where
-      by : (known : Bool) → MatchBool known (Moves IsDrawn (λ id. logged_in id now user) page saved) (Refuses Forbidden page saved) → greeted page ≡ None
+      by : (known : Bool) → MatchBool known (Moves IsDrawn (λ id. logged_in site.sessions id now user) page saved) (Refuses Forbidden page saved) → greeted page ≡ None
       by true (moved, id, drawn, is) = ap greeted moved
       by false (refused, is) = ap greeted refused
 
@@ -134,7 +133,7 @@ module _ (IsDrawn : List ℕ → Type 0) (users : List User) (now : DateTime) (p
     )
 
     exactly : (route : Result Route Refusal) (credentials : Option (List ℕ × List ℕ)) (found : Option SessionState)
-        → HasSession IsRevoked sessions cookies now found → Plans IsDrawn users route credentials now found page saved
+        → HasSession IsRevoked sessions cookies now found → Plans IsDrawn site route credentials now found page saved
         → (greeted page ≡ Some user) ↔ ((route ≡ Ok Home) × HasOpenUser)
     exactly (Ok Home) credentials found finds (visitor, is, shows, saves) =
         let same = named found finds in (
@@ -146,20 +145,20 @@ module _ (IsDrawn : List ℕ → Type 0) (users : List User) (now : DateTime) (p
     exactly (Err refusal) credentials found finds (refused, is) = nobody (Err refusal) refl (ap greeted refused)
 
 -- a user who is greeted is that of the session that was found
-pub greets_found : (IsDrawn : List ℕ → Type 0) (users : List User) (route : Result Route Refusal) (credentials : Option (List ℕ × List ℕ)) (now : DateTime)
-    (found : Option SessionState) (page : Page) (saved : Option SessionState) (user : List ℕ) → Plans IsDrawn users route credentials now found page saved
+pub greets_found : (IsDrawn : List ℕ → Type 0) (site : LoginSite) (route : Result Route Refusal) (credentials : Option (List ℕ × List ℕ)) (now : DateTime)
+    (found : Option SessionState) (page : Page) (saved : Option SessionState) (user : List ℕ) → Plans IsDrawn site route credentials now found page saved
     → greeted page ≡ Some user → (session : SessionState) × (found ≡ Some session) × (get session.texts (codes "user") ≡ Some user)
-greets_found IsDrawn users (Ok Home) credentials now found page saved user (visitor, is, shows, saves) greets =
+greets_found IsDrawn site (Ok Home) credentials now found page saved user (visitor, is, shows, saves) greets =
     by found (sym is.user ∙ (sym (ap greeted shows) ∙ greets))
   where
     by : (has : Option SessionState) → text_of has (codes "user") ≡ Some user → (session : SessionState) × (has ≡ Some session) × (get session.texts (codes "user") ≡ Some user)
     by None same = absurd (none-some user same)
     by (Some session) same = (session, refl, same)
-greets_found IsDrawn users (Ok LogIn) credentials now found page saved user answered greets =
-    absurd (none-some user (sym (entering IsDrawn users now page saved credentials answered) ∙ greets))
-greets_found IsDrawn users (Ok LogOut) credentials now found page saved user (moved, id, drawn, is) greets =
+greets_found IsDrawn site (Ok LogIn) credentials now found page saved user answered greets =
+    absurd (none-some user (sym (entering IsDrawn site now page saved credentials answered) ∙ greets))
+greets_found IsDrawn site (Ok LogOut) credentials now found page saved user (moved, id, drawn, is) greets =
     absurd (none-some user (sym (ap greeted moved) ∙ greets))
-greets_found IsDrawn users (Err refusal) credentials now found page saved user (refused, is) greets =
+greets_found IsDrawn site (Err refusal) credentials now found page saved user (refused, is) greets =
     absurd (none-some user (sym (ap greeted refused) ∙ greets))
 
 module _ (IsRevoked IsDrawn : List ℕ → Type 0) (site : LoginSite) (request : Request) (now : DateTime) (page : Page) (saved : Option SessionState) where
@@ -167,31 +166,31 @@ module _ (IsRevoked IsDrawn : List ℕ → Type 0) (site : LoginSite) (request :
   pub greeted_exactly : IsPlan IsRevoked IsDrawn site request now page saved
       → (user : List ℕ) → (greeted page ≡ Some user) ↔ IsGreeted IsRevoked site request now user
   greeted_exactly plan user =
-      exactly IsDrawn site.users.now now page saved IsRevoked site.sessions (cookies_of request) user (route_for request)
+      exactly IsDrawn site now page saved IsRevoked site.sessions (cookies_of request) user (route_for request)
       (credentials_of request.form.now) plan.found plan.finds plan.plans
 
   -- what is planned by the session that the request carries
   pub plan_is : (found : Option SessionState) → HasSession IsRevoked site.sessions (cookies_of request) now found
-      → Plans IsDrawn site.users.now (route_for request) (credentials_of request.form.now) now found page saved
+      → Plans IsDrawn site (route_for request) (credentials_of request.form.now) now found page saved
       → IsPlan IsRevoked IsDrawn site request now page saved
   plan_is found finds plans = record { found = found; finds = finds; plans = plans }
 
 -- ---- what a request without a start draws
 
 -- without a start no id is drawn
-pub no_start : (IsDrawn : List ℕ → Type 0) (users : List User) (route : Result Route Refusal) (credentials : Option (List ℕ × List ℕ)) (now : DateTime)
-    (found : Option SessionState) (page : Page) (saved : Option SessionState) → is_start users route credentials ≡ false
-    → Plans IsDrawn users route credentials now found page saved → Plans (λ _. ⊥) users route credentials now found page saved
-no_start IsDrawn users (Ok Home) credentials now found page saved none plans = plans
-no_start IsDrawn users (Ok LogIn) None now found page saved none plans = plans
-no_start IsDrawn users (Ok LogIn) (Some (user, password)) now found page saved none plans = by (is_known user password users) none plans
+pub no_start : (IsDrawn : List ℕ → Type 0) (site : LoginSite) (route : Result Route Refusal) (credentials : Option (List ℕ × List ℕ)) (now : DateTime)
+    (found : Option SessionState) (page : Page) (saved : Option SessionState) → is_start site.users.now route credentials ≡ false
+    → Plans IsDrawn site route credentials now found page saved → Plans (λ _. ⊥) site route credentials now found page saved
+no_start IsDrawn site (Ok Home) credentials now found page saved none plans = plans
+no_start IsDrawn site (Ok LogIn) None now found page saved none plans = plans
+no_start IsDrawn site (Ok LogIn) (Some (user, password)) now found page saved none plans = by (is_known user password site.users.now) none plans
   where
-    by : (known : Bool) → known ≡ false → MatchBool known (Moves IsDrawn (λ id. logged_in id now user) page saved) (Refuses Forbidden page saved)
-        → MatchBool known (Moves (λ _. ⊥) (λ id. logged_in id now user) page saved) (Refuses Forbidden page saved)
+    by : (known : Bool) → known ≡ false → MatchBool known (Moves IsDrawn (λ id. logged_in site.sessions id now user) page saved) (Refuses Forbidden page saved)
+        → MatchBool known (Moves (λ _. ⊥) (λ id. logged_in site.sessions id now user) page saved) (Refuses Forbidden page saved)
     by true is plans = absurd (cc)
     by false is plans = plans
-no_start IsDrawn users (Ok LogOut) credentials now found page saved none plans = absurd (cc)
-no_start IsDrawn users (Err refusal) credentials now found page saved none plans = plans
+no_start IsDrawn site (Ok LogOut) credentials now found page saved none plans = absurd (cc)
+no_start IsDrawn site (Err refusal) credentials now found page saved none plans = plans
 
 -- ---- what a request revokes
 

@@ -7,7 +7,7 @@ use Rattle.cookie.specs.Memory.{Gives}
 use Rattle.cookie.specs.Originals.{field_cookies, first_of_name}
 use Rattle.cookie.specs.Record.{IsCookie, Record}
 use Rattle.cookie.specs.Sealing.{IsNonce}
-use Rattle.cookie_session.specs.Revocations.{IsRevokedToo, end_of}
+use Rattle.cookie_session.specs.Revocations.{IsRevokedToo}
 use Rattle.cookie_session.specs.Seconds.{second_of}
 use Rattle.cookie_session.specs.Session.{SessionState, seen_at}
 use Rattle.cookie_session.specs.Sessions.{CanSave, CanSealSession, HoldsOne, IsStored, OpensOne, OpensUnrevoked, bare_cookie, meets_prefix, saved_cookie}
@@ -73,19 +73,17 @@ LogsOut IsRevoked site request now session =
     (route_for request ≡ Ok LogOut)
     × ((place : ℕ) × OpensUnrevoked IsRevoked site.sessions (cookies_of request) now place session)
 
--- that session is revoked too, until its lifetime ends, and every other one is as before
-abbrev pub Ends : LoginSite → SessionState → (List ℕ → ℕ → Type 0) → (List ℕ → ℕ → Type 0)
-    → Type 0
-Ends site session old new =
-    IsRevokedToo session.id (end_of site.sessions.lifetime session) old new
+-- that session is revoked too, until it is over, and every other one is as before
+abbrev pub Ends : SessionState → (List ℕ → ℕ → Type 0) → (List ℕ → ℕ → Type 0) → Type 0
+Ends session old new = IsRevokedToo session.id session.end old new
 
 -- what is shown and saved is what the site makes of the request and of the session that it finds there
 pub record IsPlan (IsRevoked IsDrawn : List ℕ → Type 0) (site : LoginSite) (request : Request)
     (now : DateTime) (page : Page) (saved : Option SessionState) : Type 0 where
   pub found : Option SessionState
   pub finds : HasSession IsRevoked site.sessions (cookies_of request) now found
-  pub plans : Plans IsDrawn site.users.now (route_for request) (credentials_of request.form.now)
-      now found page saved
+  pub plans : Plans IsDrawn site (route_for request) (credentials_of request.form.now) now found
+      page saved
 
 -- The session is saved in the jar, under a nonce that was drawn.
 pub record IsSaved (IsDrawn : List ℕ → Type 0) (sessions : Sessions) (now : DateTime)

@@ -5,12 +5,14 @@ use Rattle.std.specs.FinMap.{FinMap, empty, insert, remove}
 use Rattle.std.specs.Fmt.{decimal}
 use Rattle.jiff.specs.Types.{DateTime}
 use Rattle.cookie.specs.Jar.{name_cmp}
-use Rattle.cookie_session.specs.Seconds.{second_of}
 use Rattle.cookie_session.specs.Session.{SessionState}
+use Rattle.cookie_session.specs.Sessions.{started_at}
 use Rattle.cookie_session.specs.declared.session_error.SessionError.{SessionError}
 use Rattle.cookie_session.specs.declared.session_error.SessionError.TheVariants as failure
+use Rattle.cookie_session.specs.declared.sessions.Sessions.{Sessions}
 use Rattle.login_core.specs.Users.{is_known}
 use Rattle.login_core.specs.Visitors.{IsVisitor}
+use Rattle.login_core.specs.declared.login_site.LoginSite.{LoginSite}
 use Rattle.login_core.specs.declared.page.Page.{Page}
 use Rattle.login_core.specs.declared.page.Page.TheVariants.{Home as ShowHome, Moved, Refused}
 use Rattle.login_core.specs.declared.refusal.Refusal.{Refusal}
@@ -30,21 +32,16 @@ abbrev pub shown : Visitor → SessionState → SessionState
 shown visitor session =
     record session { texts = counted visitor (remove session.texts (codes "notice")) }
 
--- a session that starts now, with this id and these texts
-abbrev pub started_with : List ℕ → DateTime → FinMap name_cmp (List ℕ) → SessionState
-started_with id now texts =
-    record { id = id; started = second_of now; seen = second_of now; texts = texts }
-
 -- the session of a user who logs in
-abbrev pub logged_in : List ℕ → DateTime → List ℕ → SessionState
-logged_in id now user =
-    started_with id now
+abbrev pub logged_in : Sessions → List ℕ → DateTime → List ℕ → SessionState
+logged_in sessions id now user =
+    started_at sessions now id
     (insert (insert empty (codes "user") user) (codes "notice") (codes "You are logged in."))
 
 -- the session of a visitor who logs out
-abbrev pub logged_out : List ℕ → DateTime → SessionState
-logged_out id now =
-    started_with id now (insert empty (codes "notice") (codes "You are logged out."))
+abbrev pub logged_out : Sessions → List ℕ → DateTime → SessionState
+logged_out sessions id now =
+    started_at sessions now id (insert empty (codes "notice") (codes "You are logged out."))
 
 -- the home page shows what the session says, and the session, if there is one, is saved as shown
 abbrev pub Shows : Option SessionState → Page → Option SessionState → Type 0
@@ -63,24 +60,25 @@ Moves IsDrawn session page saved =
     (page ≡ Moved) × (id : List ℕ) × IsDrawn id × (saved ≡ Some (session id))
 
 -- a form to log in is answered: a user whose password is right is logged in
-abbrev pub LogsIn : (List ℕ → Type 0) → List User → Option (List ℕ × List ℕ) → DateTime → Page
+abbrev pub LogsIn : (List ℕ → Type 0) → LoginSite → Option (List ℕ × List ℕ) → DateTime → Page
     → Option SessionState → Type 0
-LogsIn IsDrawn users None now page saved = Refuses BadRequest page saved
-LogsIn IsDrawn users (Some (user, password)) now page saved =
-    MatchBool (is_known user password users)
-    (Moves IsDrawn (λ id. logged_in id now user) page saved) (Refuses Forbidden page saved)
+LogsIn IsDrawn site None now page saved = Refuses BadRequest page saved
+LogsIn IsDrawn site (Some (user, password)) now page saved =
+    MatchBool (is_known user password site.users.now)
+    (Moves IsDrawn (λ id. logged_in site.sessions id now user) page saved)
+    (Refuses Forbidden page saved)
 
--- Of the ids that may have been drawn, the site's users, the request's route, its form's user and password, the time and
--- the session that was found: the page that is shown, and the session that is saved.
-abbrev pub Plans : (List ℕ → Type 0) → List User → Result Route Refusal
+-- Of the ids that may have been drawn, the site, the request's route, its form's user and password, the time and the
+-- session that was found: the page that is shown, and the session that is saved.
+abbrev pub Plans : (List ℕ → Type 0) → LoginSite → Result Route Refusal
     → Option (List ℕ × List ℕ) → DateTime → Option SessionState → Page → Option SessionState
     → Type 0
-Plans IsDrawn users (Ok Home) credentials now found page saved = Shows found page saved
-Plans IsDrawn users (Ok LogIn) credentials now found page saved =
-    LogsIn IsDrawn users credentials now page saved
-Plans IsDrawn users (Ok LogOut) credentials now found page saved =
-    Moves IsDrawn (λ id. logged_out id now) page saved
-Plans IsDrawn users (Err refusal) credentials now found page saved = Refuses refusal page saved
+Plans IsDrawn site (Ok Home) credentials now found page saved = Shows found page saved
+Plans IsDrawn site (Ok LogIn) credentials now found page saved =
+    LogsIn IsDrawn site credentials now page saved
+Plans IsDrawn site (Ok LogOut) credentials now found page saved =
+    Moves IsDrawn (λ id. logged_out site.sessions id now) page saved
+Plans IsDrawn site (Err refusal) credentials now found page saved = Refuses refusal page saved
 
 -- the user of the form is logged in
 abbrev pub is_let_in : List User → Option (List ℕ × List ℕ) → Bool

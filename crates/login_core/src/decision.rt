@@ -32,7 +32,7 @@ use std::hash::RandomState;
 /// `revocations`, which may be `NeverRevoked`.
 ///
 /// It fails with `Revocations` if a session can't be looked up there, or its revocation can't be kept. Out of memory
-/// aside, it fails otherwise only if `Session::start` fails for the session that the request starts, if `Sessions::save`
+/// aside, it fails otherwise only if `Sessions::start` fails for the session that the request starts, if `Sessions::save`
 /// fails for the one that it saves, or as `InvalidValue` if that session is saved and a browser would read another
 /// cookie in the path or the domain of the site's. A request that saves none draws nothing from the generator.
 pub fn answer<G: TryRng, R: Revocations>(
@@ -98,11 +98,11 @@ pub fn answer<G: TryRng, R: Revocations>(
         site.now request.now now page saved → ¬ (Draws site.now.sessions now saved))
         → rng.new ≡ rng.old }
 
-    // A logout that is answered has revoked the request's session until its lifetime ends, and revokes no other.
+    // A logout that is answered has revoked the request's session until it is over, and revokes no other.
     ensures revoked { R.is_intact revocations.new → R.can_revoke
         → OnOk result ((session : SessionState)
         → LogsOut (IsRevoked (R.revoked_until revocations.old)) site.now request.now now session
-        → Ends site.now session (R.revoked_until revocations.old)
+        → Ends session (R.revoked_until revocations.old)
         (R.revoked_until revocations.new)) }
 
     // Each other request revokes nothing, nor does a logout without a session.
@@ -116,12 +116,12 @@ pub fn answer<G: TryRng, R: Revocations>(
         → OnErr result (AreSame (R.revoked_until revocations.old) (R.revoked_until revocations.new)
         ⊎ ((session : SessionState)
         × LogsOut (IsRevoked (R.revoked_until revocations.old)) site.now request.now now session
-        × Ends site.now session (R.revoked_until revocations.old)
+        × Ends session (R.revoked_until revocations.old)
         (R.revoked_until revocations.new))) }
     ensures kept { R.is_intact revocations.new → R.is_intact revocations.old }
 {
     let found = find_session(alloc, site, request, now, revocations)?;
-    let plan = make_plan(alloc, site.users, request, found.session, now, rng)?;
+    let plan = make_plan(alloc, site, request, found.session, now, rng)?;
     let mut jar = CookieJar::with_hasher(alloc, state).with_cookies(found.cookies)?;
     respond(alloc, &site.sessions, &mut jar, plan, now, rng)
 }

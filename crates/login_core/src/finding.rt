@@ -1,6 +1,6 @@
 //! The session that a request has, and its end at a logout.
 ghost use Rattle.std.specs.Prelude.{◌≡◌, ◌≢◌, ◌⊎◌, ℕ, Err, IfErr, IfOk, None, Ok, OnErr, OnOk, Some, map, option_map};
-ghost use Rattle.cookie_session.specs.Revocations.{AreSame, IsRevoked, IsRevokedToo, end_of};
+ghost use Rattle.cookie_session.specs.Revocations.{AreSame, IsRevoked, IsRevokedToo};
 ghost use Rattle.cookie_session.specs.Session.{SessionState};
 ghost use Rattle.cookie_session.specs.Sessions.{OpensNone, OpensOne};
 ghost use Rattle.cookie_session.specs.declared.session_error.SessionError.TheVariants as refusal;
@@ -40,14 +40,17 @@ pub(crate) fn find_session<R: Revocations>(
     ensures revoked { R.is_intact revocations.new → R.can_revoke
         → OnOk result ((session : SessionState)
         → LogsOut (IsRevoked (R.revoked_until revocations.old)) site.now request.now now session
-        → Ends site.now session (R.revoked_until revocations.old)
+        → Ends session (R.revoked_until revocations.old)
         (R.revoked_until revocations.new)) }
     ensures same { R.is_intact revocations.new → ((session : SessionState)
         → ¬ (LogsOut (IsRevoked (R.revoked_until revocations.old)) site.now request.now now
         session))
         → AreSame (R.revoked_until revocations.old) (R.revoked_until revocations.new) }
     ensures err { R.is_intact revocations.new → OnErr result
-        (AreSame (R.revoked_until revocations.old) (R.revoked_until revocations.new)) }
+        (AreSame (R.revoked_until revocations.old) (R.revoked_until revocations.new)
+        ⊎ ((session : SessionState)
+        × LogsOut (IsRevoked (R.revoked_until revocations.old)) site.now request.now now session
+        × Ends session (R.revoked_until revocations.old) (R.revoked_until revocations.new))) }
     ensures kept { R.is_intact revocations.new → R.is_intact revocations.old }
 {
     let cookies = field_cookies(alloc, request.cookies)?;
@@ -95,14 +98,18 @@ fn revoke_at_logout<R: Revocations>(
     ensures revoked { R.is_intact revocations.new → R.can_revoke
         → OnOk result ((session : SessionState) → route_for request.now ≡ Ok routes.LogOut
         → option_map (λ s. s.now) found.entry ≡ Some session
-        → IsRevokedToo session.id (end_of sessions.now.lifetime session)
+        → IsRevokedToo session.id session.end
         (R.revoked_until revocations.old) (R.revoked_until revocations.new)) }
     ensures same { R.is_intact revocations.new → ((session : SessionState)
         → route_for request.now ≡ Ok routes.LogOut
         → ¬ (option_map (λ s. s.now) found.entry ≡ Some session))
         → AreSame (R.revoked_until revocations.old) (R.revoked_until revocations.new) }
     ensures err { R.is_intact revocations.new → OnErr result
-        (AreSame (R.revoked_until revocations.old) (R.revoked_until revocations.new)) }
+        (AreSame (R.revoked_until revocations.old) (R.revoked_until revocations.new)
+        ⊎ ((session : SessionState) × (route_for request.now ≡ Ok routes.LogOut)
+        × (option_map (λ s. s.now) found.entry ≡ Some session)
+        × IsRevokedToo session.id session.end
+        (R.revoked_until revocations.old) (R.revoked_until revocations.new))) }
     ensures fails { IfErr result (λ why. (why ≡ failure.Revocations) × R.Error) }
     ensures unasked { option_map (λ s. s.now) found.entry ≡ None
         → (revocations.new ≡ revocations.old) × (result ≢ Err failure.Revocations) }
@@ -117,22 +124,24 @@ fn revoke_at_logout<R: Revocations>(
     }
 }
 
-// Revokes the session until its lifetime ends.
+// Revokes the session until it is over.
 fn revoke<R: Revocations>(
     sessions: &Sessions<'_>,
     session: &Session,
     revocations: &mut R,
 ) -> Result<(), AnswerError>
     ensures revoked { R.is_intact revocations.new → R.can_revoke → OnOk result
-        (IsRevokedToo session.now.id (end_of sessions.now.lifetime session.now)
+        (IsRevokedToo session.now.id session.now.end
         (R.revoked_until revocations.old) (R.revoked_until revocations.new)) }
     ensures err { R.is_intact revocations.new → OnErr result
-        (AreSame (R.revoked_until revocations.old) (R.revoked_until revocations.new)) }
+        (AreSame (R.revoked_until revocations.old) (R.revoked_until revocations.new)
+        ⊎ IsRevokedToo session.now.id session.now.end
+        (R.revoked_until revocations.old) (R.revoked_until revocations.new)) }
     ensures fails { IfErr result (λ why. (why ≡ failure.Revocations) × R.Error) }
     ensures kept { R.is_intact revocations.new → R.is_intact revocations.old }
 {
     match sessions.revoke(session, revocations) {
-        Ok(()) => Ok(()),
+        Ok(_) => Ok(()),
         Err(_) => Err(AnswerError::Revocations),
     }
 }

@@ -6,13 +6,14 @@ ghost use Rattle.login_core.specs.Routes.{route_of};
 ghost use Rattle.login_core.specs.declared.page.Page.TheVariants as shows;
 
 use crate::form::{Credentials, read_credentials};
+use crate::login_site::LoginSite;
 use crate::page::Page;
 use crate::refusal::Refusal;
 use crate::request::Request;
 use crate::routes::{Route, find_route};
-use crate::user::{User, is_known};
+use crate::user::is_known;
 use crate::visitor::{Visitor, read_visitor};
-use cookie_session::{Session, SessionError};
+use cookie_session::{Session, SessionError, Sessions};
 use jiff::civil::DateTime;
 use rand_core::TryRng;
 use std::alloc::{AllocError, Global};
@@ -53,25 +54,25 @@ impl Plan {
 // What is shown and saved, if this session was found.
 pub(crate) fn make_plan<G: TryRng>(
     alloc: Global,
-    users: &[User],
+    site: &LoginSite<'_>,
     request: &Request<'_>,
     found: Option<Session>,
     now: DateTime,
     rng: &mut G,
 ) -> Result<Plan, SessionError>
-    ensures plans { IfOk result (λ plan. Plans (λ id. G.may_fill rng.old id rng.new) users.now
+    ensures plans { IfOk result (λ plan. Plans (λ id. G.may_fill rng.old id rng.new) site.now
         (route_of request.now.method.now request.now.path.now)
         (credentials_of request.now.form.now) now found plan.page plan.session) }
-    ensures fails { IfErr result (FailsToStart G.Error (is_start users.now
+    ensures fails { IfErr result (FailsToStart G.Error (is_start site.now.users.now
         (route_of request.now.method.now request.now.path.now)
         (credentials_of request.now.form.now))) }
-    ensures undrawn { is_start users.now (route_of request.now.method.now request.now.path.now)
+    ensures undrawn { is_start site.now.users.now (route_of request.now.method.now request.now.path.now)
         (credentials_of request.now.form.now) ≡ false → rng.new ≡ rng.old }
 {
     match find_route(request.method, request.path) {
         Ok(Route::Home) => Ok(home(alloc, found)?),
-        Ok(Route::LogIn) => log_in(alloc, users, request.form, now, rng),
-        Ok(Route::LogOut) => log_out(alloc, now, rng),
+        Ok(Route::LogIn) => log_in(alloc, site, request.form, now, rng),
+        Ok(Route::LogOut) => log_out(alloc, &site.sessions, now, rng),
         Err(refusal) => Ok(Plan::refused(refusal)),
     }
 }
@@ -107,20 +108,20 @@ fn shown(alloc: Global, session: Session, visitor: &Visitor) -> Result<Session, 
 // What follows the form to log in.
 fn log_in<G: TryRng>(
     alloc: Global,
-    users: &[User],
+    site: &LoginSite<'_>,
     form: &[u8],
     now: DateTime,
     rng: &mut G,
 ) -> Result<Plan, SessionError>
-    ensures plans { IfOk result (λ plan. LogsIn (λ id. G.may_fill rng.old id rng.new) users.now
+    ensures plans { IfOk result (λ plan. LogsIn (λ id. G.may_fill rng.old id rng.new) site.now
         (credentials_of form.now) now plan.page plan.session) }
     ensures fails { IfErr result (FailsToStart G.Error
-        (is_let_in users.now (credentials_of form.now))) }
-    ensures undrawn { is_let_in users.now (credentials_of form.now) ≡ false
+        (is_let_in site.now.users.now (credentials_of form.now))) }
+    ensures undrawn { is_let_in site.now.users.now (credentials_of form.now) ≡ false
         → rng.new ≡ rng.old }
 {
     match read_credentials(alloc, form)? {
-        Some(found) => admit(alloc, users, &found, now, rng),
+        Some(found) => admit(alloc, site, &found, now, rng),
         None => Ok(Plan::refused(Refusal::BadRequest)),
     }
 }
@@ -128,49 +129,55 @@ fn log_in<G: TryRng>(
 // Logs a user in whose password is right.
 fn admit<G: TryRng>(
     alloc: Global,
-    users: &[User],
+    site: &LoginSite<'_>,
     found: &Credentials,
     now: DateTime,
     rng: &mut G,
 ) -> Result<Plan, SessionError>
-    ensures plans { IfOk result (λ plan. LogsIn (λ id. G.may_fill rng.old id rng.new) users.now
+    ensures plans { IfOk result (λ plan. LogsIn (λ id. G.may_fill rng.old id rng.new) site.now
         (Some (credential_texts found.now)) now plan.page plan.session) }
     ensures fails { IfErr result (FailsToStart G.Error
-        (is_let_in users.now (Some (credential_texts found.now)))) }
-    ensures undrawn { is_let_in users.now (Some (credential_texts found.now)) ≡ false
+        (is_let_in site.now.users.now (Some (credential_texts found.now)))) }
+    ensures undrawn { is_let_in site.now.users.now (Some (credential_texts found.now)) ≡ false
         → rng.new ≡ rng.old }
 {
     let user = found.user.as_str();
-    if !is_known(users, user, found.password.as_str()) {
+    if !is_known(site.users, user, found.password.as_str()) {
         return Ok(Plan::refused(Refusal::Forbidden));
     }
-    Ok(Plan::moved(logged_in(alloc, user, now, rng)?))
+    Ok(Plan::moved(logged_in(alloc, &site.sessions, user, now, rng)?))
 }
 
 // The session of a user who logs in. Nothing that was stored before is in it.
 fn logged_in<G: TryRng>(
     alloc: Global,
+    sessions: &Sessions<'_>,
     user: &str,
     now: DateTime,
     rng: &mut G,
 ) -> Result<Session, SessionError>
     ensures starts { IfOk result (λ session. (id : List ℕ) × G.may_fill rng.old id rng.new
-        × (session ≡ logged_in id now user.now)) }
+        × (session ≡ logged_in sessions.now id now user.now)) }
     ensures fails { IfErr result (FailsToStart G.Error true) }
 {
-    let mut session = Session::start(alloc, now, rng)?;
+    let mut session = sessions.start(alloc, now, rng)?;
     session.set("user", user)?;
     session.set("notice", "You are logged in.")?;
     Ok(session)
 }
 
 // Logs the user out, if there is one: nothing that was stored before is in the session.
-fn log_out<G: TryRng>(alloc: Global, now: DateTime, rng: &mut G) -> Result<Plan, SessionError>
+fn log_out<G: TryRng>(
+    alloc: Global,
+    sessions: &Sessions<'_>,
+    now: DateTime,
+    rng: &mut G,
+) -> Result<Plan, SessionError>
     ensures plans { IfOk result (λ plan. Moves (λ id. G.may_fill rng.old id rng.new)
-        (λ id. logged_out id now) plan.page plan.session) }
+        (λ id. logged_out sessions.now id now) plan.page plan.session) }
     ensures fails { IfErr result (FailsToStart G.Error true) }
 {
-    let mut session = Session::start(alloc, now, rng)?;
+    let mut session = sessions.start(alloc, now, rng)?;
     session.set("notice", "You are logged out.")?;
     Ok(Plan::moved(session))
 }

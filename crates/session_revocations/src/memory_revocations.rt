@@ -1,5 +1,5 @@
 //! The set of revoked sessions in memory.
-ghost use Rattle.std.specs.Prelude.{◌≡◌, ℕ, List, Ok, OnErr, OnOk, is_some};
+ghost use Rattle.std.specs.Prelude.{◌≡◌, ℕ, List, IfOk, Ok, OnErr, OnOk, is_some};
 ghost use Rattle.std.specs.FinMap.{empty, get, insert};
 ghost use Rattle.session_revocations.specs.Memory.{if_after, later};
 
@@ -59,18 +59,19 @@ impl MemoryRevocations {
         Ok(self.untils.get(id).is_some())
     }
 
-    /// Revokes the session with this id until the second `until` since 1970 in UTC, that is until its lifetime ends. If
-    /// it is revoked already, the later of the two seconds counts.
+    /// Revokes the session with this id until the second `until` since 1970 in UTC, in which it is over. Returns whether it
+    /// was revoked already. If it was, the later of the two seconds counts.
     ///
     /// Fails only if out of memory, and then leaves the set as it was.
-    pub fn revoke(&mut self, id: &[u8; 16], until: u64) -> Result<(), AllocError>
+    pub fn revoke(&mut self, id: &[u8; 16], until: u64) -> Result<bool, AllocError>
         ensures ok { OnOk result (self.new
             ≡ insert self.old id.now (later (get self.old id.now) until)) }
+        ensures already { IfOk result (λ already. already ≡ is_some (get self.old id.now)) }
         ensures err { OnErr result (self.new ≡ self.old) }
     {
-        let until = later(self.untils.get(id).copied(), until);
-        self.untils.insert(*id, until)?;
-        Ok(())
+        let old = self.untils.get(id).copied();
+        self.untils.insert(*id, later(old, until))?;
+        Ok(old.is_some())
     }
 
     /// Forgets each id whose second has come. A session is over in that second, so no copy of its cookie opens any
@@ -95,7 +96,7 @@ impl Revocations for MemoryRevocations {
         MemoryRevocations::is_revoked(self, id)
     }
 
-    fn revoke(&mut self, id: &[u8; 16], until: u64) -> Result<(), AllocError> {
+    fn revoke(&mut self, id: &[u8; 16], until: u64) -> Result<bool, AllocError> {
         MemoryRevocations::revoke(self, id, until)
     }
 

@@ -147,12 +147,20 @@ impl<S: Alter + Drop> SqliteRevocations<S> {
         Ok(statements::find(&mut self.conn, id.as_slice())?)
     }
 
-    /// Revokes the session with this id until the second `until` since 1970 in UTC, that is until its lifetime ends. If
-    /// it is revoked already, the later of the two seconds counts. Once it returns `Ok`, the session stays revoked
-    /// after a crash.
+    /// Revokes the session with this id until the second `until` since 1970 in UTC, in which it is over. Returns whether it
+    /// was revoked already. If it was, the later of the two seconds counts. Once it returns `Ok`, the session stays
+    /// revoked after a crash.
     ///
     /// Fails with `TooLate` if `until` is after 2^63 - 1. After any error each session is revoked as before.
-    pub fn revoke(&mut self, id: &[u8; 16], until: u64) -> Result<(), RevocationError>
+    ///
+    /// ```
+    /// let was_revoked = revocations.revoke(&id, until)?;
+    /// ```
+    pub fn revoke(&mut self, id: &[u8; 16], until: u64) -> Result<bool, RevocationError>
+        // Whether a row revoked the id.
+        ensures already { HasCleanDisk (state S.Store self.new) → IfOk result (λ already.
+            already ≡ is_revoked_in (state S.Store self.old) id.now) }
+
         // The id is revoked until then or longer, and every other id is as before.
         ensures revoked { HasCleanDisk (state S.Store self.new) → OnOk result
             (IsTrue (state S.Store self.new).is_open → Revokes id.now until
@@ -177,7 +185,7 @@ impl<S: Alter + Drop> SqliteRevocations<S> {
     {
         match second_of(until) {
             None => Err(RevocationError::TooLate),
-            Some(second) => Ok(statements::extend(&mut self.conn, id.as_slice(), second)?),
+            Some(second) => Ok(statements::revoke(&mut self.conn, id.as_slice(), second)?),
         }
     }
 
@@ -252,7 +260,7 @@ impl<S: Alter + Drop> Revocations for SqliteRevocations<S> {
         SqliteRevocations::is_revoked(self, id)
     }
 
-    fn revoke(&mut self, id: &[u8; 16], until: u64) -> Result<(), RevocationError> {
+    fn revoke(&mut self, id: &[u8; 16], until: u64) -> Result<bool, RevocationError> {
         SqliteRevocations::revoke(self, id, until)
     }
 

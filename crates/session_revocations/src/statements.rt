@@ -101,6 +101,30 @@ pub fn extend<S: Alter>(conn: &mut Connection<S>, id: &[u8], until: i64) -> Resu
     Ok(())
 }
 
+// Revokes the id until this second, unless a row does until this second or a later one. Returns whether one revoked it.
+pub fn revoke<S: Alter>(conn: &mut Connection<S>, id: &[u8], until: i64) -> Result<bool, Error>
+    requires { IsKept (state S.Store conn.old) }
+    ensures already { HasCleanDisk (state S.Store conn.new)
+        → IfOk result (λ already. already ≡ is_revoked_in (state S.Store conn.old) id.now) }
+    ensures revoked { HasCleanDisk (state S.Store conn.new) → OnOk result
+        (IsTrue (state S.Store conn.new).is_open
+        → IsExtended (rows_of (state S.Store conn.old)) id.now until
+        (rows_of (state S.Store conn.new))) }
+    ensures still { OnErr result (IsStill (state S.Store conn.old) (state S.Store conn.new)) }
+    ensures kept { IsKept (state S.Store conn.new) }
+    ensures opened { WasOpen (state S.Store conn.old) (state S.Store conn.new) }
+    ensures crash { Survives (state S.Store conn.old) (state S.Store conn.new)
+        (λ db. IsTrue (state S.Store conn.old).is_open
+        → IsExtended (rows_of (state S.Store conn.old)) id.now until (db 0)) }
+{
+    if find(conn, id)? {
+        extend(conn, id, until)?;
+        return Ok(true);
+    }
+    add(conn, id, until)?;
+    Ok(false)
+}
+
 // Deletes each row whose second isn't after `now`.
 pub fn delete<S: Alter>(conn: &mut Connection<S>, now: i64) -> Result<usize, Error>
     requires { IsKept (state S.Store conn.old) }

@@ -2,7 +2,7 @@
 use crate::shop::request::form_value;
 use anyhow::Result;
 use cookie::are_equal;
-use cookie_session::Visit;
+use cookie_session::{Sessions, Visit};
 use jiff::civil::DateTime;
 use rand_core::TryRng;
 use std::alloc::Global;
@@ -10,6 +10,7 @@ use std::alloc::Global;
 /// Logs in who sends the right password, and keeps the cart.
 pub fn log_in<R: TryRng>(
     alloc: Global,
+    sessions: &Sessions<'_>,
     visit: &mut Visit,
     form: &[u8],
     now: DateTime,
@@ -21,7 +22,7 @@ pub fn log_in<R: TryRng>(
         visit.set_flash("Another user or password, please.")?;
         return Ok(303);
     }
-    visit.renew(now, rng)?;
+    visit.renew(sessions, now, rng)?;
     visit.set("user", user.as_str())?;
     visit.set_flash("Welcome!")?;
     Ok(303)
@@ -30,11 +31,12 @@ pub fn log_in<R: TryRng>(
 /// Logs out: a new session, without the texts of the old one, keeps the message.
 pub fn log_out<R: TryRng>(
     alloc: Global,
+    sessions: &Sessions<'_>,
     visit: &mut Visit,
     now: DateTime,
     rng: &mut R,
 ) -> Result<u16> {
-    *visit = Visit::of(alloc, None, now, rng)?;
+    *visit = Visit::of(alloc, None, sessions, now, rng)?;
     visit.set_flash("Goodbye!")?;
     Ok(303)
 }

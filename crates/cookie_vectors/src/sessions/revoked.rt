@@ -14,9 +14,9 @@ impl Revoked {
     /// The ids that the step's words list, which are never forgotten. With the word `broken` each call fails.
     pub fn of(step: Step<'_>) -> Option<Revoked> {
         let (mut untils, is_broken) = (Vec::new(step.alloc), step.words == "broken");
-        let ids = if is_broken { "" } else { step.words };
-        for id in decode(step.alloc, ids).ok()?.chunks(16) {
-            untils.push((id.try_into().ok()?, u64::MAX)).ok()?;
+        let ids = if is_broken { step.with_words("") } else { step };
+        for id in &ids_of(ids)? {
+            untils.push((*id, u64::MAX)).ok()?;
         }
         Some(Revoked { untils, is_broken })
     }
@@ -24,6 +24,15 @@ impl Revoked {
     fn check(&self) -> Result<(), Error> {
         if self.is_broken { Err(Error) } else { Ok(()) }
     }
+}
+
+/// The ids that the step's words list.
+pub fn ids_of(step: Step<'_>) -> Option<Vec<[u8; 16]>> {
+    let mut ids = Vec::new(step.alloc);
+    for id in decode(step.alloc, step.words).ok()?.chunks(16) {
+        ids.push(id.try_into().ok()?).ok()?;
+    }
+    Some(ids)
 }
 
 impl Revocations for Revoked {
@@ -38,9 +47,10 @@ impl Revocations for Revoked {
         Ok(self.untils.iter().any(|revoked| revoked.0 == *id))
     }
 
-    fn revoke(&mut self, id: &[u8; 16], until: u64) -> Result<(), Error> {
-        self.check()?;
-        self.untils.push((*id, until)).map_err(|_| Error)
+    fn revoke(&mut self, id: &[u8; 16], until: u64) -> Result<bool, Error> {
+        let already = self.is_revoked(id)?;
+        self.untils.push((*id, until)).map_err(|_| Error)?;
+        Ok(already)
     }
 
     fn forget(&mut self, now: u64) -> Result<(), Error> {

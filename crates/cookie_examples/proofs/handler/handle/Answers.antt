@@ -3,8 +3,10 @@ use Rattle.std.specs.FinMap.{get, insert}
 use Rattle.std.specs.Option.{option_copied}
 use Rattle.cookie.specs.Jar.{view}
 use Rattle.cookie.proofs.NameLemmas.{get_inserted}
-use Rattle.cookie_session.specs.Sessions.{IsStored}
+use Rattle.cookie_session.specs.Sessions.{IsStored, started_at}
+use Rattle.jiff.specs.Types.{DateTime}
 use Rattle.cookie_session.specs.declared.opened.Opened.{Opened}
+use Rattle.cookie_session.specs.declared.sessions.Sessions.{Sessions}
 use Rattle.std.proofs.lemmas.Option.{none-some, same_Some}
 use Rattle.cookie_session.specs.Seconds.{second_of}
 use Rattle.cookie_session.specs.Session.{SessionState, seen_at}
@@ -24,17 +26,16 @@ returns-clause-logs_in g c =
     )
 
 -- what holds of the session that was renewed and set holds of it with its parts written out
-stored_parts : (F : SessionState → Type 0) (second : ℕ) (name text : List ℕ) (set renewed before session : SessionState)
+stored_parts : (F : SessionState → Type 0) (site : Sessions) (now : DateTime) (name text : List ℕ) (set renewed before session : SessionState)
     → set ≡ record renewed { texts = insert renewed.texts name text }
-    → renewed ≡ record before { id = renewed.id; started = second; seen = second }
-    → before.texts ≡ session.texts → F (seen_at second set)
-    → F (record { id = renewed.id; started = second; seen = second; texts = insert session.texts name text })
-stored_parts F second name text set renewed before session is_set is_renewed same stored =
-    subst (λ texts. F (record { id = renewed.id; started = second; seen = second; texts = insert texts name text }))
-    (ap (λ (s : SessionState). s.texts) is_renewed ∙ same)
-    (subst (λ started. F (record { id = renewed.id; started = started; seen = second; texts = insert renewed.texts name text }))
-    (ap (λ (s : SessionState). s.started) is_renewed)
-    (subst (λ s. F (seen_at second s)) is_set stored))
+    → renewed ≡ started_at site now renewed.id before.texts
+    → before.texts ≡ session.texts → F (seen_at (second_of now) set)
+    → F (started_at site now renewed.id (insert session.texts name text))
+stored_parts F site now name text set renewed before session is_set is_renewed same stored =
+    let added = λ (s : SessionState). record s { texts = insert s.texts name text } in
+    let is : seen_at (second_of now) set ≡ started_at site now renewed.id (insert session.texts name text) =
+    ap (seen_at (second_of now)) (is_set ∙ ap added is_renewed) ∙ ap (λ texts. started_at site now renewed.id (insert texts name text)) same in
+    subst F is stored
 
 pub returns-clause-keeps : goal.returns-clause-keeps
 returns-clause-keeps g c =
@@ -44,7 +45,7 @@ returns-clause-keeps g c =
     let site = c.args.sessions.now in
     subst (λ o. IfSome (option_copied o) (λ name. KeepsTexts site (map (λ k. k.fields) c.args.cookies.now) c.save.new.jar c.args.now name)) (sym c.in-Some.is) (λ place session opens. (
       renewed.id,
-      stored_parts (IsStored site (view c.save.new.jar site.cookie.now.fields.name)) (second_of c.args.now) (codes "user") c.in-Some.user.now set renewed before session
+      stored_parts (IsStored site (view c.save.new.jar site.cookie.now.fields.name)) site c.args.now (codes "user") c.in-Some.user.now set renewed before session
           c.in_ok-set.ensures.ok c.in_ok-renew.ensures.renewed
           (let answer = (c.in_ok-opened.ensures.answers place session).1 opens in
           elim c.match-branch-3.branch [

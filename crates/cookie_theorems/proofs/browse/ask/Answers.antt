@@ -18,7 +18,7 @@ returns-clause-answers g c kept keeps =
     let old = revocations.revoked_until c.args.revocations.now in
     let new = revocations.revoked_until c.answer.new.revocations in
     let asked : Request = record { method = request.method; path = request.path; cookies = c.args.field; form = request.form } in
-    both_ok {Q = (session : SessionState) → LogsOut (IsRevoked old) site asked request.time session → Ends site session old new} c.answer.result _ _ (
+    both_ok {Q = (session : SessionState) → LogsOut (IsRevoked old) site asked request.time session → Ends session old new} c.answer.result _ _ (
     λ response answered revoked.
     let (middle, saved, jar, idle, plan, saves, once) = answered in (
       middle,
@@ -30,7 +30,7 @@ returns-clause-answers g c kept keeps =
         plans = plan.plans;
         saves = saves;
         once = once;
-        revoked = revokes_found revocations.can_revoke site.sessions old new (route_asked request) plan.found
+        revoked = revokes_found revocations.can_revoke old new (route_asked request) plan.found
             (elim keeps [
               | inl keeps ↦ inl keeps
               | inr never ↦ inr (λ id second. (never c.args.revocations.now id second, never c.answer.new.revocations id second))
@@ -53,7 +53,7 @@ returns-clause-over g c kept long used over =
       | inr refused ↦
           let (middle, page, saved, idle, plan, fails) = refused in
           refused_over {T = Unit {0}} _ _ sessions now (Err failure.Over) saved fails
-          (can_save_it sessions now long used _ site.users.now (route_asked request) (credentials_of request.form.now) plan.found saved page
+          (can_save_it site now long used _ (route_asked request) (credentials_of request.form.now) plan.found saved page
           (λ state found. ((plan.finds.exact state).0 found).1.opens.lives) plan.plans)
           refl
     ]

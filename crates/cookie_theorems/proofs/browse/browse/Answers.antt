@@ -48,7 +48,7 @@ loop-request-preserved g c =
           let (held, holds, more) = c.loop-request.invariant.1 can (c.send.ensures.kept kept) steady in
           let answered = c.in_ok-page.ensures.answered can kept steady held holds in
           let route = route_asked request in
-          let after = revoked_after keeps site.sessions route answered.counting old in (
+          let after = revoked_after keeps route answered.counting old in (
             answered.later,
             answered.holds,
             λ rest h.

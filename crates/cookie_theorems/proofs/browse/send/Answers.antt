@@ -31,8 +31,8 @@ returns-in_ok-response-in-Other-clause-answered g c can kept keeps held holds =
       counts = subst (λ s. Counts (IsRevoked set) site.sessions now s (option_map standing_of held) counting) (sym c.in-Other.is)
           (field_counts (IsRevoked set) site.sessions now field found response.finds);
       shows = record {
-        is = page_is _ site.users.now request.form.now route now found page response.saved response.plans;
-        shows = page_shows _ site.users.now route (credentials_of request.form.now) now found page response.saved response.plans;
+        is = page_is _ site request.form.now route now found page response.saved response.plans;
+        shows = page_shows _ site route (credentials_of request.form.now) now found page response.saved response.plans;
       };
       holds = holds;
       stands =

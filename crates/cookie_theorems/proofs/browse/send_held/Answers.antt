@@ -47,8 +47,8 @@ returns-clause-answered g c can kept keeps held holds own =
       later = held_after now response.saved held;
       counts = subst (λ s. Counts (IsRevoked set) sessions now s (option_map standing_of held) counting) (sym own) counts;
       shows = record {
-        is = page_is _ site.users.now request.form.now route now found page response.saved response.plans;
-        shows = page_shows _ site.users.now route (credentials_of request.form.now) now found page response.saved response.plans;
+        is = page_is _ site request.form.now route now found page response.saved response.plans;
+        shows = page_shows _ site route (credentials_of request.form.now) now found page response.saved response.plans;
       };
       holds = holds_after sessions can now client c.read_texts.new.client (jar_for field) response.jar (fresh field) texts (AreDeltaTexts-once response.jar.delta texts response.once)
           (c.in_ok-read_texts.ensures ∙ ap (λ ts. after_texts now (map string_bytes ts) client) c.deref.ensures.value) _ response.saved held response.saves holds;

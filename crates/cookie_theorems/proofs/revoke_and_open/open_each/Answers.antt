@@ -33,9 +33,9 @@ returns-clause-sealed g c =
     among_all c.args.requests.now c.loop-request.request-index c.loop-request.answers.items c.loop-request.invariant.1 c.loop-request-test.false
 
 pub returns-clause-refused : goal.returns-clause-refused
-returns-clause-refused g c kept lifetime gone have order revoked =
+returns-clause-refused g c kept gone order revoked =
     let set = g.R.Revocations.revoked_until in
-    none_opens lifetime gone c.args.requests.now c.loop-request.answers.items (set c.args.revocations.now) have order revoked
+    none_opens gone c.args.requests.now c.loop-request.answers.items (set c.args.revocations.now) order revoked
     (answered_all (set c.args.revocations.now) c.args.requests.now c.loop-request.request-index (set c.loop-request.revocations) c.loop-request.answers.items
     (c.loop-request.invariant.0 kept).1 c.loop-request-test.false)
 
@@ -47,9 +47,9 @@ returns-clause-others g c kept =
     (c.loop-request.invariant.0 kept).1 c.loop-request-test.false)
 
 pub returns-clause-stays : goal.returns-clause-stays
-returns-clause-stays g c kept lifetime gone early revoked =
+returns-clause-stays g c kept gone early revoked =
     let set = g.R.Revocations.revoked_until in
-    stays_left lifetime gone c.args.requests.now (set c.args.revocations.now) (set c.loop-request.revocations)
+    stays_left gone c.args.requests.now (set c.args.revocations.now) (set c.loop-request.revocations)
     (c.loop-request.request-index, (c.loop-request.invariant.0 kept).1.left) early revoked
 
 pub returns-clause-forgotten : goal.returns-clause-forgotten
@@ -66,9 +66,9 @@ returns-in_err-opened-clause-err g c kept =
     (c.loop-request.invariant.0 (c.open_one.ensures.kept kept)).1 c.request-item.result c.loop-request-test.true c.request-item.is (c.in_err-opened.ensures.err kept))
 
 pub returns-in_err-opened-clause-stays : goal.returns-in_err-opened-clause-stays
-returns-in_err-opened-clause-stays g c kept lifetime gone early revoked =
+returns-in_err-opened-clause-stays g c kept gone early revoked =
     let set = g.R.Revocations.revoked_until in
-    stays_left lifetime gone c.args.requests.now (set c.args.revocations.now) (set c.open_one.new.revocations)
+    stays_left gone c.args.requests.now (set c.args.revocations.now) (set c.open_one.new.revocations)
     (left_by_error (set c.args.revocations.now) c.args.requests.now c.loop-request.request-index (set c.loop-request.revocations) (set c.open_one.new.revocations) c.loop-request.answers.items
     (c.loop-request.invariant.0 (c.open_one.ensures.kept kept)).1 c.request-item.result c.loop-request-test.true c.request-item.is (c.in_err-opened.ensures.err kept)) early revoked
 
@@ -80,8 +80,8 @@ returns-in_err-push-clause-err g c kept =
     (c.loop-request.invariant.0 (c.open_one.ensures.kept kept)).1 c.request-item.result c.loop-request-test.true c.request-item.is (c.in_ok-opened.ensures.forgotten kept))
 
 pub returns-in_err-push-clause-stays : goal.returns-in_err-push-clause-stays
-returns-in_err-push-clause-stays g c kept lifetime gone early revoked =
+returns-in_err-push-clause-stays g c kept gone early revoked =
     let set = g.R.Revocations.revoked_until in
-    stays_left lifetime gone c.args.requests.now (set c.args.revocations.now) (set c.open_one.new.revocations)
+    stays_left gone c.args.requests.now (set c.args.revocations.now) (set c.open_one.new.revocations)
     (left_so_far (set c.args.revocations.now) c.args.requests.now c.loop-request.request-index (set c.loop-request.revocations) (set c.open_one.new.revocations) c.loop-request.answers.items
     (c.loop-request.invariant.0 (c.open_one.ensures.kept kept)).1 c.request-item.result c.loop-request-test.true c.request-item.is (c.in_ok-opened.ensures.forgotten kept)) early revoked

@@ -44,7 +44,7 @@ returns-clause-sealed g c =
     let page = c.in_ok-plan.plan.page in
     IfOk-weaker c.respond.result (λ response. response.page ≡ page) _ (λ response is user greets.
     let has =
-    greets_found _ site.users.now (route_for request) (credentials_of request.form.now) c.args.now c.in_ok-found.found.session page c.in_ok-plan.plan.session user
+    greets_found _ site (route_for request) (credentials_of request.form.now) c.args.now c.in_ok-found.found.session page c.in_ok-plan.plan.session user
     c.in_ok-plan.ensures.plans (sym (ap greeted is) ∙ greets) in
     let opens = c.in_ok-found.ensures.sealed has.0 has.1 in (opens.0, has.0, opens.1, has.2)) c.respond.ensures.page
 
@@ -88,7 +88,7 @@ returns-clause-undrawn g c kept never none =
     let request = c.args.request.now in
     let page = c.in_ok-plan.plan.page in
     let saved = c.in_ok-plan.plan.session in
-    let plans = no_start _ site.users.now (route_for request) (credentials_of request.form.now) c.args.now c.in_ok-found.found.session page saved never c.in_ok-plan.ensures.plans in
+    let plans = no_start _ site (route_for request) (credentials_of request.form.now) c.args.now c.in_ok-found.found.session page saved never c.in_ok-plan.ensures.plans in
     c.respond.ensures.undrawn (none page saved (plan_is _ _ site request c.args.now page saved c.in_ok-found.found.session (c.in_ok-found.ensures.finds kept) plans))
     ∙ c.make_plan.ensures.undrawn never
 

@@ -6,7 +6,7 @@ use Rattle.cookie_session.specs.Sessions.{OpensNone, OpensOne}
 use Rattle.login_core.specs.Answers.{HasSession}
 use Rattle.login_core.specs.declared.answer_error.AnswerError.TheVariants as failure
 use Rattle.login_core.proofs.AnswerLemmas.{none_found, on_err}
-use Rattle.login_core.proofs.SetLemmas.{same_twice, too_after}
+use Rattle.login_core.proofs.SetLemmas.{ended_after, same_twice, too_after}
 use Rattle.login_core.proofs.finding.find_session.Goals as goal
 
 pub returns-clause-read : goal.returns-clause-read
@@ -60,7 +60,20 @@ returns-in_err-revoke_at_logout-clause-unasked g c none =
     let was : c.revoke_at_logout.result ≡ Err p.0 = c.in_err-revoke_at_logout.was ∙ search rules in
     (left.0 ∙ (c.open_session.ensures.unasked tried).0, λ refused. left.1 (let same : Err p.0 ≡ Err failure.Revocations = sym p.1 ∙ refused in cc))
 
+pub returns-in_err-revoke_at_logout-clause-same : goal.returns-in_err-revoke_at_logout-clause-same
+returns-in_err-revoke_at_logout-clause-same g c kept none =
+    let before = c.revoke_at_logout.ensures.kept kept in
+    let finds =
+    subst (λ (cookies : List Record). HasSession (IsRevoked (g.R.Revocations.revoked_until c.args.revocations.now)) c.args.site.now.sessions cookies c.args.now c.in_ok-session.session)
+    (ap (map (λ k. k.fields)) c.deref.ensures.value ∙ c.in_ok-cookies.ensures) (c.in_ok-session.ensures.finds before) in
+    same_twice _ _ _ (c.open_session.ensures.same before) (c.revoke_at_logout.ensures.same kept
+    (λ session out is. none session (out, (finds.exact session).0 (sym c.as_ref.ensures.value ∙ is))))
+
 pub returns-in_err-revoke_at_logout-clause-err : goal.returns-in_err-revoke_at_logout-clause-err
 returns-in_err-revoke_at_logout-clause-err g c kept =
     let before = c.revoke_at_logout.ensures.kept kept in
-    on_err c.from_residual-in_err-revoke_at_logout.result (same_twice _ _ _ (c.open_session.ensures.same before) (c.in_err-revoke_at_logout.ensures.err kept))
+    let finds =
+    subst (λ (cookies : List Record). HasSession (IsRevoked (g.R.Revocations.revoked_until c.args.revocations.now)) c.args.site.now.sessions cookies c.args.now c.in_ok-session.session)
+    (ap (map (λ k. k.fields)) c.deref.ensures.value ∙ c.in_ok-cookies.ensures) (c.in_ok-session.ensures.finds before) in
+    on_err c.from_residual-in_err-revoke_at_logout.result
+    (ended_after _ _ _ (c.open_session.ensures.same before) _ _ _ (λ session is. (finds.exact session).0 (sym c.as_ref.ensures.value ∙ is)) (c.in_err-revoke_at_logout.ensures.err kept))

@@ -1,7 +1,7 @@
-use Rattle.std.proofs.Common.{◌<◌, ◌+◌, ℕ, List, [], ◌∷◌, All, length, get_or, refl, take, subst, sym, ◌∙◌}
+use Rattle.std.proofs.Common.{[], All, get_or, take, subst, sym}
 use Rattle.std.proofs.lemmas.List.{take_more}
 use Rattle.std.proofs.lemmas.List.Elements.{All-append, All-cons, All-nil}
-use Rattle.cookie_session.specs.Revocations.{AreSame, IsRevoked}
+use Rattle.cookie_session.specs.Revocations.{IsRevoked}
 use Rattle.cookie_session.proofs.UnrevokedLemmas.{same_again}
 use Rattle.cookie_session.proofs.revocations.Revocations.first_unrevoked.Goals as goal
 
