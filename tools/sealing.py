@@ -55,9 +55,9 @@ def spelled_for_urls(data):
 
 
 def form(started, seen, texts, limits, version="4", number=ID):
-    """A session's text, with its times in seconds since 1970, and the lifetime and the idle time that it started with: of
-    each name and text only those bytes are escaped that a form's reader gives a meaning."""
+    """A session's text, with its times in seconds since 1970, and the lifetime and the idle time that it started with:
+    of each name and text only those bytes are escaped that a form's reader gives a meaning."""
     lifetime, idle = limits
-    head = [("v", version), ("id", spelled_for_urls(number)), ("started", f"{started}"), ("end", f"{started + lifetime}")]
-    head += [("idle", f"{idle}"), ("seen", f"{seen}")]
+    head = [("v", version), ("id", spelled_for_urls(number)), ("started", f"{started}")]
+    head += [("end", f"{started + lifetime}"), ("idle", f"{idle}"), ("seen", f"{seen}")]
     return "&".join(f"{name.translate(MARKS)}={text.translate(MARKS)}" for name, text in [*head, *texts])

@@ -59,8 +59,8 @@ impl MemoryRevocations {
         Ok(self.untils.get(id).is_some())
     }
 
-    /// Revokes the session with this id until the second `until` since 1970 in UTC, in which it is over. Returns whether it
-    /// was revoked already. If it was, the later of the two seconds counts.
+    /// Revokes the session with this id until the second `until` since 1970 in UTC, in which it is over. Returns whether
+    /// it was revoked already. If it was, the later of the two seconds counts.
     ///
     /// Fails only if out of memory, and then leaves the set as it was.
     pub fn revoke(&mut self, id: &[u8; 16], until: u64) -> Result<bool, AllocError>

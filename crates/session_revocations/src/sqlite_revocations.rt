@@ -147,8 +147,8 @@ impl<S: Alter + Drop> SqliteRevocations<S> {
         Ok(statements::find(&mut self.conn, id.as_slice())?)
     }
 
-    /// Revokes the session with this id until the second `until` since 1970 in UTC, in which it is over. Returns whether it
-    /// was revoked already. If it was, the later of the two seconds counts. Once it returns `Ok`, the session stays
+    /// Revokes the session with this id until the second `until` since 1970 in UTC, in which it is over. Returns whether
+    /// it was revoked already. If it was, the later of the two seconds counts. Once it returns `Ok`, the session stays
     /// revoked after a crash.
     ///
     /// Fails with `TooLate` if `until` is after 2^63 - 1. After any error each session is revoked as before.
