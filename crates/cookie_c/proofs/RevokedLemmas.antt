@@ -1,5 +1,5 @@
 -- The opened sessions one after the other: their ids, and the first whose id isn't one of some others.
-use Rattle.std.proofs.Common.{◌≡◌, ℕ, ◌+◌, ◌<◌, ◌≤◌, List, [], ◌∷◌, ◌++◌, All, Contains, Option, Some, None, IfNone, arith, ap, get_or, length, map, refl, slice_get, subst, sym, take, ◌∙◌}
+use Rattle.std.proofs.Common.{◌≡◌, ℕ, ◌+◌, ◌<◌, ◌≤◌, List, [], ◌∷◌, ◌++◌, All, Contains, Option, Some, None, IfNone, arith, ap, get_or, length, refl, slice_get, subst, sym, take, ◌∙◌}
 use Rattle.std.proofs.lemmas.List.{append-nil, get_or-map, length-map, take_all, take_more}
 use Rattle.std.proofs.lemmas.List.Elements.{All-push}
 use Rattle.std.proofs.lemmas.List.Folds.{concat-append}
@@ -55,7 +55,7 @@ module _ (opened : List Opened) (i : ℕ) (past : length opened ≤ i) where
 pub is_taken : (revoked : List (List ℕ)) (opened : List Opened) (place : ℕ) (first : Opened) → IsFirstUnlisted revoked opened (Some place)
     → first ≡ get_or opened place first → IsTaken revoked opened (record { session = first.session; index = Some first.place })
 is_taken revoked opened place first is at =
-    let (before, id, here, unlisted) = is in
+    let (before, (id, here, unlisted)) = is in
     let inside : place < length (opened_ids opened) = slice_get_within (opened_ids opened) place id here in
     let long = ids_long opened in
     let below : place < length opened = omega (arith, inside, long) in

@@ -39,8 +39,8 @@ returns-in-Ok-None c =
     at_second _ _ _ time c.in-Some.ensures
     (site, c.sessions-sessions.ensures, opening_none site (field_cookies c.args.header.now) time _ _ _ finds (refl, refl))
 
-pub returns-in-Err : goal.returns-in-Err
-returns-in-Err c = at_second _ _ _ c.in-Some.time c.in-Some.ensures (c.sessions-sessions.result, c.sessions-sessions.ensures, inr (refl, refl))
+pub returns : goal.returns
+returns c = at_second _ _ _ c.in-Some.time c.in-Some.ensures (c.sessions-sessions.result, c.sessions-sessions.ensures, inr (refl, refl))
 
 pub returns-in_default-field_cookies : goal.returns-in_default-field_cookies
 returns-in_default-field_cookies c = at_second _ _ _ c.in-Some.time c.in-Some.ensures (c.sessions-sessions.result, c.sessions-sessions.ensures, inr (refl, refl))

@@ -1,5 +1,4 @@
 use Rattle.std.proofs.Common.{List, ap, inl, inr, map, refl, rules, subst, ◌∙◌}
-use Rattle.cookie.specs.Originals.{field_cookies}
 use Rattle.cookie.specs.Record.{Record}
 use Rattle.cookie_session.specs.Sessions.{AreFound, EachHoldsOne, site_cookies}
 use Rattle.cookie_c.specs.Handles.{IsPut}
@@ -7,8 +6,8 @@ use Rattle.cookie_c.specs.OpenedSessions.{opened_of}
 use Rattle.cookie_c.proofs.SiteLemmas.{at_second}
 use Rattle.cookie_c.proofs.sessions.open_all.open_all_at.Goals as goal
 
-pub returns-in-Ok : goal.returns-in-Ok
-returns-in-Ok c =
+pub returns-in-Ok-open_all : goal.returns-in-Ok-open_all
+returns-in-Ok-open_all c =
     let site = c.sessions-sessions.result in
     let time = c.in-Some.time in
     let all = c.in-Ok-open_all.all.items in
@@ -18,8 +17,8 @@ returns-in-Ok c =
     let put : IsPut all c.set.result (opened_of c.args.opened.now) (opened_of (record { handle = c.set.new.self })) = search rules in
     at_second _ _ _ time c.in-Some.ensures (site, c.sessions-sessions.ensures, inl (all, found, once, put))
 
-pub returns-in-Err : goal.returns-in-Err
-returns-in-Err c = at_second _ _ _ c.in-Some.time c.in-Some.ensures (c.sessions-sessions.result, c.sessions-sessions.ensures, inr (refl, refl))
+pub returns : goal.returns
+returns c = at_second _ _ _ c.in-Some.time c.in-Some.ensures (c.sessions-sessions.result, c.sessions-sessions.ensures, inr (refl, refl))
 
 pub returns-in_default-field_cookies : goal.returns-in_default-field_cookies
 returns-in_default-field_cookies c = at_second _ _ _ c.in-Some.time c.in-Some.ensures (c.sessions-sessions.result, c.sessions-sessions.ensures, inr (refl, refl))

@@ -1,4 +1,4 @@
-use Rattle.std.proofs.Common.{◌≡◌, Some, ap}
+use Rattle.std.proofs.Common.{Some, ap}
 use Rattle.cookie_c.specs.Handles.{opened_in}
 use Rattle.cookie_c.specs.declared.handle.content.Content.{Content}
 use Rattle.cookie_c.proofs.RevokedLemmas.{none_left}

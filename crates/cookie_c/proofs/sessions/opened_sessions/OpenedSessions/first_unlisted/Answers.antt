@@ -1,4 +1,4 @@
-use Rattle.std.proofs.Common.{◌≡◌, ◌↔◌, ◌<◌, ◌≤◌, true, false, Contains, get_or, length, subst, sym, ◌∙◌}
+use Rattle.std.proofs.Common.{◌≡◌, ◌↔◌, ◌<◌, ◌≤◌, Contains, get_or, length, subst, sym, true≢false, ◌∙◌}
 use Rattle.std.specs.Prelude.{IsTrue}
 use Rattle.cookie_c.proofs.RevokedLemmas.{id_here, listed_all, listed_more}
 use Rattle.cookie_c.proofs.sessions.opened_sessions.OpenedSessions.first_unlisted.Goals as goal
@@ -13,7 +13,7 @@ returns-then-not-is_listed c =
     let below : i < length opened = subst (λ all. i < length all) same c.loop-place-test.true in
     let at : one ≡ get_or opened i one = subst (λ all. one ≡ get_or all i one) same c.one-item.is in
     let listed = subst (λ id. IsTrue c.is_listed.result ↔ Contains revoked id) c.id.ensures.value c.is_listed.ensures in
-    (c.loop-place.invariant, one.session.id, id_here opened i one below at, λ has. let is : IsTrue c.is_listed.result = listed.1 has in let no = c.if-not-is_listed.true in cc)
+    (c.loop-place.invariant, (one.session.id, id_here opened i one below at, λ has. true≢false (sym (listed.1 has) ∙ c.if-not-is_listed.true)))
 
 pub loop-place-preserved : goal.loop-place-preserved
 loop-place-preserved c =

@@ -1,6 +1,4 @@
-use Rattle.std.proofs.Common.{◌≡◌, ◌++◌, ◌<◌, get_or, length, ap, subst, sym, take, ◌∙◌}
-use Rattle.std.specs.List.{concat}
-use Rattle.cookie_c.specs.Revoked.{opened_ids}
+use Rattle.std.proofs.Common.{◌≡◌, ◌++◌, ◌<◌, get_or, length, ap, subst, sym, ◌∙◌}
 use Rattle.cookie_c.proofs.RevokedLemmas.{bytes_more}
 use Rattle.cookie_c.proofs.sessions.opened_sessions.OpenedSessions.ids.Goals as goal
 
