@@ -16,7 +16,7 @@ use Rattle.cookie_examples.proofs.handler.handle.Goals as goal
 
 pub returns-clause-logs_in : goal.returns-clause-logs_in
 returns-clause-logs_in g c =
-    let renewed : SessionState = c.renew.new.self in
+    let renewed : SessionState = c.renew.new.session in
     let set : SessionState = c.set.new.self in
     subst (λ o. IfSome (option_copied o) (λ name. IsLoggedIn c.args.sessions.now c.save.new.jar c.args.now name)) (sym c.in-Some.is) (
       seen_at (second_of c.args.now) set,
@@ -39,7 +39,7 @@ stored_parts F site now name text set renewed before session is_set is_renewed s
 
 pub returns-clause-keeps : goal.returns-clause-keeps
 returns-clause-keeps g c =
-    let renewed : SessionState = c.renew.new.self in
+    let renewed : SessionState = c.renew.new.session in
     let set : SessionState = c.set.new.self in
     let before : SessionState = c.match-branch-3.session in
     let site = c.args.sessions.now in
