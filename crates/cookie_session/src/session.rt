@@ -206,7 +206,7 @@ impl Session {
         started <= now
             && now - started < lifetime as u64
             && now < end
-            && (now < seen || now - seen < own.min(idle as u64))
+            && now.saturating_sub(seen) < own.min(idle as u64)
     }
 
     // The text of the session, saved in the second `seen`. An id has no escapes.
