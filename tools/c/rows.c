@@ -283,7 +283,8 @@ static uint32_t find_session(const text *in, uint64_t now, cookie_sessions *sess
     if (status == COOKIE_DONE)
         status = take_session(&opened, in[4], session);
     uint32_t other = cookie_session_open(sessions, IN(3), now, &first);
-    bool is_first = are_alike(cookie_session_describe(session), cookie_session_describe(&first));
+    cookie_session_facts facts = cookie_session_describe(session);
+    bool is_first = are_alike(facts, cookie_session_describe(&first));
     if (in[4].length == 0 && (other != status || !is_first))
         fault("another session is the first");
     cookie_session_free(&first);
