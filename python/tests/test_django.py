@@ -279,8 +279,9 @@ class EngineFacts(SimpleTestCase):
             self.reads(cycled, {"user": "bo"})
             self.reads(other, {})
             with mock.patch("time.time", lambda: NOON):
-                revoke = engine.SessionStore(cycled.partition("=")[2]).revoke
-                assert [revoke(), revoke()] == [False, True]
+                session = engine.SessionStore(cycled.partition("=")[2])
+                assert session["user"] == "bo"
+                assert [session.revoke(), session.revoke()] == [False, True]
 
     def test_asked_once(self):
         """A request with many cookies of the name asks the store once, and one that doesn't use its session not at all."""
