@@ -10,8 +10,8 @@ use jiff::civil::DateTime;
 use std::alloc::{AllocError, Global};
 
 impl<'a> Sessions<'a> {
-    /// Opens each session that is open in one of the request's cookies of the site's name, at the time `now` in UTC, in
-    /// the order of the cookies, whether it is revoked or not. Each such cookie is decrypted once.
+    /// Opens each session that is open in the request's cookies of the site's name, at the time `now` in UTC. They come in
+    /// the order of the cookies, whether they are revoked or not. Each such cookie is decrypted once.
     ///
     /// It is for a site that looks the ids up itself, as a server in another language does. `open_unrevoked` asks a
     /// [`Revocations`](crate::Revocations), and returns the first that isn't revoked.

@@ -46,7 +46,8 @@ impl<'a> Sessions<'a> {
             → OpensOne self.now (map (λ c. c.fields) cookies.now) now place s) }
 
         // The cookie that opens holds no other session, whatever the time.
-        ensures once { R.is_intact revocations.new → IfOk result (λ _. (place : ℕ) (s : SessionState)
+        ensures once { R.is_intact revocations.new → IfOk result (λ _.
+            (place : ℕ) (s : SessionState)
             → (first : OpensUnrevoked (IsRevoked (R.revoked_until revocations.old)) self.now
             (map (λ c. c.fields) cookies.now) now place s)
             → HoldsOne self.now (Some first.cookie)) }

@@ -44,8 +44,8 @@ impl<'a> Sessions<'a> {
         Ok(Session::of(id, self.times_at(now), TextMap::new(alloc)))
     }
 
-    /// Starts the session anew at the time `now` in UTC, with the same texts, another id, and the limits that the site
-    /// has now, so that the lifetime counts from now. The id is one draw of sixteen bytes from `rng`, which must be a
+    /// Starts the session anew at the time `now` in UTC, so that the lifetime counts from now. It keeps its texts, and has
+    /// another id and the limits that the site has now. The id is one draw of sixteen bytes from `rng`, which must be a
     /// cryptographic generator. If no text from before the login may survive, use `start`.
     ///
     /// Fails only with `Generator`, if the draw failed, and then leaves the session as it was.

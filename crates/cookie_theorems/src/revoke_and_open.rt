@@ -29,8 +29,8 @@ pub fn revoke_and_open<R: Revocations>(
     revocations: &mut R,
 ) -> Result<Vec<Option<Opened>>, OpenError<R::Error>>
     // Each request opens exactly the session that its cookies open, by what is revoked then.
-    ensures answers { R.is_intact revocations.new → R.can_revoke → IfOk result (λ answers. AreAnswers
-        (revoked_too session.now.id session.now.end (R.revoked_until revocations.old))
+    ensures answers { R.is_intact revocations.new → R.can_revoke → IfOk result (λ answers.
+        AreAnswers (revoked_too session.now.id session.now.end (R.revoked_until revocations.old))
         requests.now answers.items) }
 
     // Whatever the look-ups say, only a session opens that is open in one of the request's cookies.

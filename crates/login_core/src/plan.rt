@@ -66,7 +66,8 @@ pub(crate) fn make_plan<G: TryRng>(
     ensures fails { IfErr result (FailsToStart G.Error (is_start site.now.users.now
         (route_of request.now.method.now request.now.path.now)
         (credentials_of request.now.form.now))) }
-    ensures undrawn { is_start site.now.users.now (route_of request.now.method.now request.now.path.now)
+    ensures undrawn { is_start site.now.users.now
+        (route_of request.now.method.now request.now.path.now)
         (credentials_of request.now.form.now) ≡ false → rng.new ≡ rng.old }
 {
     match find_route(request.method, request.path) {

@@ -117,12 +117,9 @@ pub fn revoke<S: Alter>(conn: &mut Connection<S>, id: &[u8], until: i64) -> Resu
         (λ db. IsTrue (state S.Store conn.old).is_open
         → IsExtended (rows_of (state S.Store conn.old)) id.now until (db 0)) }
 {
-    if find(conn, id)? {
-        extend(conn, id, until)?;
-        return Ok(true);
-    }
-    add(conn, id, until)?;
-    Ok(false)
+    let was_revoked = find(conn, id)?;
+    extend(conn, id, until)?;
+    Ok(was_revoked)
 }
 
 // Deletes each row whose second isn't after `now`.
