@@ -215,6 +215,20 @@ module _ (site : Sessions) (now : DateTime) where
       let (earlier, later, cookie, split, finds, closed) = found_in none_revoked site now (site_cookies site cookies) (found ∷ all) [] all found are refl in
       absurd (none found.place found.session (earlier, later, cookie, split, (finds found.place found.session).0 refl))
 
+  -- where none is found, no session is open in any of them
+  pub empty_none : (cookies : List Record) (all : List Opened) → AreFound site now (site_cookies site cookies) all → all ≡ [] → OpensNone site cookies now
+  empty_none cookies all are empty place s (earlier, later, cookie, split, opens) = closed_at earlier (subst Shut split shut) place s (opens, λ gone. gone)
+    where
+      Shut : List Record → Type 0
+      Shut = Closed none_revoked site now
+
+      shut : Shut (site_cookies site cookies)
+      shut = all_closed none_revoked site now (site_cookies site cookies) all are (subst (All (λ (o : Opened). ⊥)) (sym empty) (All-nil (λ (o : Opened). ⊥)))
+
+      closed_at : (xs : List Record) → Shut (xs ++ cookie ∷ later) → IsClosed none_revoked site now cookie
+      closed_at [] are = All-head (IsClosed none_revoked site now) cookie later are
+      closed_at (x ∷ xs) are = closed_at xs (All-tail (IsClosed none_revoked site now) x (xs ++ cookie ∷ later) are)
+
   -- ---- the first cookie of the name
 
   -- if it opens, it is the first that does

@@ -12,3 +12,4 @@ pub mod SessionLemmas
 pub mod TextLemmas
 pub mod TokenLemmas
 pub mod UnrevokedLemmas
+pub mod VisitLemmas

@@ -1,3 +1,4 @@
+pub mod Endings
 pub mod Flash
 pub mod Form
 pub mod Generation
@@ -13,4 +14,5 @@ pub mod SessionError
 pub mod Sessions
 pub mod Tokens
 pub mod Visit
+pub mod VisitError
 pub use Rattle.cookie.specs.Size

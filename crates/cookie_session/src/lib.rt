@@ -2,20 +2,24 @@
 #![tactic(auto)]
 
 mod decoded_text;
+mod ending;
 mod flash;
 mod generation;
 mod id;
 mod key_ring;
 mod key_text;
 mod key_text_error;
+mod log_out;
 mod never_revoked;
 mod open_all;
 mod open_error;
 mod open_unrevoked;
+mod open_visit;
 mod opened;
 mod opened_text;
 mod opening;
 mod pair_text;
+mod pass;
 mod prefix;
 mod revocations;
 mod save_if_needed;
@@ -32,13 +36,16 @@ mod times;
 mod tokens;
 mod typed;
 mod visit;
+mod visit_error;
 
+pub use ending::Ending;
 pub use key_ring::KeyRing;
 pub use key_text_error::KeyTextError;
 pub use never_revoked::NeverRevoked;
 pub use open_error::OpenError;
 pub use opened::Opened;
 pub use opening::Opening;
+pub use pass::Pass;
 pub use revocations::Revocations;
 pub use seconds::second_of;
 pub use session::Session;
@@ -46,3 +53,4 @@ pub use session_error::SessionError;
 pub use sessions::Sessions;
 pub use tokens::Tokens;
 pub use visit::Visit;
+pub use visit_error::VisitError;

@@ -1,9 +1,9 @@
 //! Opening and revoking sessions that can be revoked.
-ghost use Rattle.std.specs.Prelude.{◌≡◌, ◌≢◌, ◌↔◌, ◌⊎◌, ℕ, MatchOption, None, Some, Err, IfOk, IsTrue, OnErr, OnOk, map, slice_get};
+ghost use Rattle.std.specs.Prelude.{◌≡◌, ◌≢◌, ◌↔◌, ◌⊎◌, [], ℕ, MatchOption, None, Some, Err, IfOk, IsTrue, OnErr, OnOk, map, slice_get};
 ghost use Rattle.cookie.specs.Originals.{first_of_name};
 ghost use Rattle.cookie_session.specs.Revocations.{AreSame, IsRevoked, IsRevokedToo};
 ghost use Rattle.cookie_session.specs.Session.{SessionState};
-ghost use Rattle.cookie_session.specs.Sessions.{HoldsOne, OpensNone, OpensOne, OpensUnrevoked};
+ghost use Rattle.cookie_session.specs.Sessions.{HoldsOne, IsFirstLeft, IsOneOf, OpensNone, OpensOne, OpensUnrevoked};
 ghost use Rattle.cookie_session.specs.declared.open_error.OpenError.TheVariants as refusal;
 
 use crate::open_error::OpenError;
@@ -16,9 +16,9 @@ use jiff::civil::DateTime;
 use std::alloc::{AllocError, Global};
 
 impl<'a> Sessions<'a> {
-    /// Opens the session of a request, as `open` does, unless it is revoked: of several cookies of the site's name the
-    /// first counts in which a session is open that isn't revoked. It looks up only the ids of sessions that are open,
-    /// and all of them at once. Returns `None` if there is no such session.
+    /// Opens the session of a request to read it, as `open` does, unless it is revoked: of several cookies of the site's
+    /// name the first counts in which a session is open that isn't revoked. It looks up only the ids of sessions that are
+    /// open, and all of them at once. Returns `None` if there is no such session. A handler calls `visit`.
     ///
     /// Fails if a session can't be looked up, or if out of memory. Refuse the request then. With no session open in the
     /// cookies only out of memory is possible, since the store isn't asked.
@@ -67,25 +67,18 @@ impl<'a> Sessions<'a> {
         ensures kept { R.is_intact revocations.new → R.is_intact revocations.old }
     {
         let found = self.open_all(alloc, cookies, now)?;
-        if found.is_empty() {
-            return Ok(None);
-        }
-        let ids = ids_of(alloc, &found)?;
-        match revocations.first_unrevoked(&ids) {
-            Ok(place) => Ok(session_at(found, place)),
-            Err(error) => Err(OpenError::Revocations(error)),
-        }
+        first_unrevoked(alloc, found, revocations)
     }
 
-    /// Revokes the session: after it returned `Ok`, no copy of the session's cookie opens any more by `open_unrevoked`,
-    /// whenever the copy was saved. The session is kept as revoked until it is over, whatever limits the site has then.
-    /// Returns whether it was revoked already.
+    /// Revokes one session by its id, as an administrator does: after it returned `Ok`, no copy of the session's cookie opens
+    /// any more, whenever the copy was saved. The session is kept as revoked until it is over, whatever limits the site has
+    /// then. Returns whether it was revoked already. A logout calls `log_out`, which knows of a renewal in the same
+    /// request, and says whether another request came before.
     ///
-    /// Fails if that can't be kept. The session may then be revoked or not: tell the user so.
+    /// Fails if that can't be kept. The session may then be revoked or not.
     ///
     /// ```
     /// let was_revoked = sessions.revoke(&opened.session, &mut revocations)?;
-    /// sessions.end(alloc, &mut jar, now)?;
     /// ```
     pub fn revoke<R: Revocations>(
         &self,
@@ -104,6 +97,31 @@ impl<'a> Sessions<'a> {
         ensures kept { R.is_intact revocations.new → R.is_intact revocations.old }
     {
         revocations.revoke(session.id(), session.end())
+    }
+}
+
+// The first of these sessions that isn't revoked, if there is one. With none of them the store isn't asked.
+pub(crate) fn first_unrevoked<R: Revocations>(
+    alloc: Global,
+    found: Vec<Opened>,
+    revocations: &mut R,
+) -> Result<Option<Opened>, OpenError<R::Error>>
+    ensures first { R.is_intact revocations.new → IfOk result
+        (IsFirstLeft (R.revoked_until revocations.old) found.items) }
+    ensures one { IfOk result (IsOneOf found.items) }
+    ensures unasked { found.items ≡ [] → (revocations.new ≡ revocations.old)
+        × ((error : R.Error) → result ≢ Err (refusal.Revocations error)) }
+    ensures same { R.is_intact revocations.new
+        → AreSame (R.revoked_until revocations.old) (R.revoked_until revocations.new) }
+    ensures kept { R.is_intact revocations.new → R.is_intact revocations.old }
+{
+    if found.is_empty() {
+        return Ok(None);
+    }
+    let ids = ids_of(alloc, &found)?;
+    match revocations.first_unrevoked(&ids) {
+        Ok(place) => Ok(session_at(found, place)),
+        Err(error) => Err(OpenError::Revocations(error)),
     }
 }
 

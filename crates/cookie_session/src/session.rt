@@ -4,10 +4,11 @@ ghost use Rattle.std.specs.FinMap.{empty, entries, get, insert, remove};
 ghost use Rattle.std.specs.Option.{option_copied};
 ghost use Rattle.cookie_session.specs.Form.{form_of_texts, texts_of_form};
 ghost use Rattle.cookie_session.specs.Id.{IsId};
-ghost use Rattle.cookie_session.specs.Session.{IsAlive, IsSessionText, seen_at};
+ghost use Rattle.cookie_session.specs.Session.{IsAlive, IsSessionText, pass_of, seen_at};
 
 use crate::id::ID_LENGTH;
 use crate::pair_text::push_pair;
+use crate::pass::Pass;
 use crate::times::Times;
 use base64::engine::general_purpose::URL_SAFE_NO_PAD;
 use cookie::{Pairs, TextMap};
@@ -117,6 +118,16 @@ impl Session {
         ensures { result ≡ self.now.end }
     {
         self.times.end
+    }
+
+    /// What all copies of its cookie have in common: its id, and the second in which it is over.
+    pub fn pass(&self) -> Pass
+        ensures { result ≡ pass_of self.now }
+    {
+        Pass {
+            id: self.id,
+            end: self.times.end,
+        }
     }
 
     /// The seconds that it lives after it was last saved: the site's idle time when it started or was renewed. Under a

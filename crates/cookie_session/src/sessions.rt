@@ -55,11 +55,15 @@ impl<'a> Sessions<'a> {
     /// first in which a session is open counts. So no cookie that another host set can hide an open session. Returns
     /// `None` if no session is open.
     ///
-    /// The same list makes the request's jar, by [`CookieJar::with_cookies`], so the field is read once. A site that
-    /// revokes sessions calls `open_unrevoked`.
+    /// The same list makes the request's jar, by [`CookieJar::with_cookies`], so the field is read once. A handler calls
+    /// `visit`, and one that only reads and whose site revokes sessions calls `open_unrevoked`.
     ///
     /// Fails only if out of memory.
-    /// Example: `answer` in crates/cookie_examples/src/shop.rt.
+    ///
+    /// ```
+    /// let cookies = cookie::field_cookies(alloc, field)?;
+    /// let opened = sessions.open(alloc, &cookies, now)?;
+    /// ```
     pub fn open(
         &self,
         alloc: Global,
@@ -156,7 +160,8 @@ impl<'a> Sessions<'a> {
     }
 
     /// Saves a session, at the time `now` in UTC: adds the site's cookie with the session's text to the jar, encrypted
-    /// under the newest key. Its `Max-Age` is the number of seconds that the session lives. The nonce is one draw of
+    /// under the newest key. It revokes nothing: a handler calls `save_if_needed`, which ends what a renewed session
+    /// replaces. Its `Max-Age` is the number of seconds that the session lives. The nonce is one draw of
     /// twelve bytes from `rng`. `rng` must be a cryptographic generator, and under one key at most 2^32 nonces may be
     /// drawn (SP 800-38D 8.3).
     ///
@@ -165,7 +170,10 @@ impl<'a> Sessions<'a> {
     /// fails with `TooLong` if its text is past the cipher's limits. In these cases nothing is drawn. Else fails with
     /// `Generator` if the draw failed, with `TooLarge` if name and value have more than 4,096 bytes as printed, and
     /// with `OutOfMemory`. The jar is then as it was.
-    /// Example: `handle` in crates/cookie_examples/src/handler.rt.
+    ///
+    /// ```
+    /// sessions.save(alloc, &mut jar, &session, now, rng)?;
+    /// ```
     pub fn save<R: TryRng>(
         &self,
         alloc: Global,
@@ -224,10 +232,13 @@ impl<'a> Sessions<'a> {
 
     /// Ends the session, at the time `now` in UTC: removes the site's cookie from the jar, with the path and the domain
     /// that the site sets. If the request had the cookie, the response tells the client to drop it. A copy of the
-    /// cookie still opens until the session's limits, unless `revoke` is called too.
+    /// cookie still opens until the session's limits. `log_out` ends the copies too.
     ///
     /// Fails only if out of memory, and then leaves the jar as it was.
-    /// Example: `handle` in crates/cookie_examples/src/handler.rt.
+    ///
+    /// ```
+    /// sessions.end(alloc, &mut jar, now)?;
+    /// ```
     pub fn end(&self, alloc: Global, jar: &mut CookieJar, now: DateTime) -> Result<(), AllocError>
         ensures gives { Gives alloc_error result (λ _.
             jar.new ≡ after (Remove self.now.cookie.now.fields now) jar.old) }

@@ -18,7 +18,8 @@ use rand_core::TryRng;
 use std::alloc::Global;
 
 impl<'a> Sessions<'a> {
-    /// Starts a session at the time `now` in UTC, without texts. It keeps the lifetime and the idle time that the site
+    /// Starts a session at the time `now` in UTC, without texts. In the place of a request's session, as at a login,
+    /// [`Visit::renew`](crate::Visit::renew) or `restart` starts one: they end the other. It keeps the lifetime and the idle time that the site
     /// has now: it is over at the earlier of these limits and those that the site has later. Its id is one draw of
     /// sixteen bytes from `rng`, which must be a cryptographic generator. It doesn't allocate.
     ///
@@ -44,13 +45,8 @@ impl<'a> Sessions<'a> {
         Ok(Session::of(id, self.times_at(now), TextMap::new(alloc)))
     }
 
-    /// Starts the session anew at the time `now` in UTC, so that the lifetime counts from now. It keeps its texts, and has
-    /// another id and the limits that the site has now. The id is one draw of sixteen bytes from `rng`, which must be a
-    /// cryptographic generator. If no text from before the login may survive, use `start`.
-    ///
-    /// Fails only with `Generator`, if the draw failed, and then leaves the session as it was.
-    /// Example: `handle` in crates/cookie_examples/src/handler.rt.
-    pub fn renew<R: TryRng>(
+    // Starts the session anew with the same texts. `Visit::renew` calls it, and knows what the saved session replaces.
+    pub(crate) fn renew<R: TryRng>(
         &self,
         session: &mut Session,
         now: DateTime,
