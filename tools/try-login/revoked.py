@@ -62,7 +62,28 @@ def play_curl_copies(curl, other, site, revoked):
     curl.jar.write_bytes(copies[1])
     status, fields, page = curl.ask("/logout", "-X", "POST")
     check("curl: a logout with the refused copy gives 303 too", status == 303, page)
+    play_second_login(curl, site)
     return copies[1]
+
+
+def play_second_login(curl, site):
+    """Copies from before a second login and after it, once that logs out."""
+    curl.log_in("ann", "open sesame")
+    copies = [curl.jar.read_bytes()]
+    status, fields, page = curl.log_in("<b>bo</b>", "x&y=z")
+    check("curl: a login over ann's session gives 303", status == 303, page)
+    copies.append(curl.jar.read_bytes())
+    page = curl.ask("/")[2]
+    check("curl: and bo is greeted", "Hello, &lt;b&gt;bo&lt;/b&gt;." in page, page)
+    curl.jar.write_bytes(copies[0])
+    page = curl.ask("/")[2]
+    check("curl: the copy from before that login is refused", is_stranger(page), page)
+    curl.jar.write_bytes(copies[1])
+    curl.ask("/logout", "-X", "POST")
+    for name, copy in zip(("before", "after"), copies):
+        curl.jar.write_bytes(copy)
+        page = curl.ask("/")[2]
+        check(f"curl: after the logout the copy from {name} the second login is refused", is_stranger(page), page)
 
 
 def play_chromium_copies(browser, base, site, revoked):

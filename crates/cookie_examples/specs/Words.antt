@@ -10,7 +10,7 @@ use Rattle.cookie.specs.Sealing.{IsSealingOf}
 use Rattle.cookie.specs.Walk.{Walks}
 use Rattle.cookie_session.specs.Seconds.{second_of}
 use Rattle.cookie_session.specs.Session.{SessionState}
-use Rattle.cookie_session.specs.Sessions.{IsStored, OpensFirst, started_at}
+use Rattle.cookie_session.specs.Sessions.{IsStored, OpensUnrevoked, started_at}
 use Rattle.cookie_session.specs.declared.sessions.Sessions.{Sessions}
 
 -- the cookie that the response sets or drops at a name
@@ -41,11 +41,12 @@ IsLoggedIn site jar now user =
     × (get session.texts (codes "user") ≡ Some user)
     × IsStored site (view jar site.cookie.now.fields.name) session
 
--- the session that is open in the request's cookies is stored with the user, its other texts, another id, and its start
--- now
-abbrev pub KeepsTexts : Sessions → List Record → JarState → DateTime → List ℕ → Type 0
-KeepsTexts site cookies after now user =
+-- the session that is open in the request's cookies and isn't revoked is stored with the user, its other texts, another
+-- id, and its start now
+abbrev pub KeepsTexts : (List ℕ → Type 0) → Sessions → List Record → JarState → DateTime → List ℕ
+    → Type 0
+KeepsTexts IsRevoked site cookies after now user =
     (place : ℕ) (session : SessionState)
-    → OpensFirst site cookies now place session
+    → OpensUnrevoked IsRevoked site cookies now place session
     → (id : List ℕ) × IsStored site (view after site.cookie.now.fields.name)
     (started_at site now id (insert session.texts (codes "user") user))

@@ -1,6 +1,6 @@
 //! A request's handler that changes the session by the request's action.
 use cookie::{Cookie, CookieJar};
-use cookie_session::{SessionError, Sessions, Visit};
+use cookie_session::{Ending, Revocations, Sessions, VisitError};
 use jiff::civil::DateTime;
 use rand_core::TryRng;
 use std::alloc::Global;
@@ -14,26 +14,29 @@ pub enum Action<'a> {
 }
 
 /// Opens the session in the request's cookies, changes it by the action at the time `now` in UTC, and saves it if it must
-/// be saved.
-pub fn act<R: TryRng>(
+/// be saved. Returns what a logout came to.
+pub fn act<G: TryRng, R: Revocations>(
     alloc: Global,
     sessions: &Sessions<'_>,
     cookies: &[Cookie<'static>],
     jar: &mut CookieJar,
     action: Action<'_>,
     now: DateTime,
-    rng: &mut R,
-) -> Result<(), SessionError> {
-    let opened = sessions.open(alloc, cookies, now)?;
-    let mut visit = Visit::of(alloc, opened, sessions, now, rng)?;
+    rng: &mut G,
+    revocations: &mut R,
+) -> Result<Option<Ending>, VisitError<R::Error>> {
+    let mut visit = sessions.visit(alloc, cookies, now, rng, revocations)?;
     match action {
         Action::None => {}
         Action::LogIn(user) => {
             visit.renew(sessions, now, rng)?;
             visit.set("user", user)?;
         }
-        Action::LogOut => return Ok(sessions.end(alloc, jar, now)?),
+        Action::LogOut => {
+            let ending = sessions.log_out(alloc, jar, visit, now, revocations)?;
+            return Ok(Some(ending));
+        }
     }
-    sessions.save_if_needed(alloc, jar, &visit, now, rng)?;
-    Ok(())
+    sessions.save_if_needed(alloc, jar, &mut visit, now, rng, revocations)?;
+    Ok(None)
 }

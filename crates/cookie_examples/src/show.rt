@@ -99,20 +99,52 @@ fn print_login(
     now: DateTime,
     rng: &mut StdRng,
 ) -> Result<()> {
-    let mut jar = CookieJar::new(rt.alloc());
-    handler::handle(rt.alloc(), sessions, &[], &mut jar, Some("ann"), now, rng)?;
+    // A server takes `SqliteRevocations` of the crate `session_revocations`.
+    let (alloc, mut revocations) = (rt.alloc(), NeverRevoked);
+    let mut jar = CookieJar::new(alloc);
+    handler::handle(
+        alloc,
+        sessions,
+        &[],
+        &mut jar,
+        "ann",
+        now,
+        rng,
+        &mut revocations,
+    )?;
     print_delta(rt, &jar)?;
     print_visitor(rt, sessions, &jar, now)?;
-    handler::handle(rt.alloc(), sessions, &[], &mut jar, None, now, rng)?;
-    print_visitor(rt, sessions, &jar, now)?;
-    print_logout(rt, sessions, now)
+    print_logout(rt, sessions, &mut jar, now, rng)?;
+    print_visitor(rt, sessions, &jar, now)
 }
 
-// A server takes `SqliteRevocations` of the crate `session_revocations`.
-fn print_logout(rt: &HostRuntime, sessions: &Sessions<'_>, now: DateTime) -> Result<()> {
-    let mut jar = CookieJar::new(rt.alloc());
-    let is_out = logout::log_out(rt.alloc(), sessions, &[], &mut jar, now, &mut NeverRevoked);
-    println!(rt; "logged out: {}", is_out.is_ok())?;
+// The client sends the session back, and logs out. Then it has none.
+fn print_logout(
+    rt: &HostRuntime,
+    sessions: &Sessions<'_>,
+    jar: &mut CookieJar,
+    now: DateTime,
+    rng: &mut StdRng,
+) -> Result<()> {
+    let mut cookies = Vec::new(rt.alloc());
+    for cookie in jar.delta() {
+        cookies.push(cookie.clone(rt.alloc())?)?;
+    }
+    print_ending(rt, sessions, &cookies, jar, now, rng)?;
+    print_ending(rt, sessions, &[], jar, now, rng)
+}
+
+fn print_ending(
+    rt: &HostRuntime,
+    sessions: &Sessions<'_>,
+    cookies: &[Cookie<'static>],
+    jar: &mut CookieJar,
+    now: DateTime,
+    rng: &mut StdRng,
+) -> Result<()> {
+    let (alloc, mut revocations) = (rt.alloc(), NeverRevoked);
+    let page = logout::log_out(alloc, sessions, cookies, jar, now, rng, &mut revocations)?;
+    println!(rt; "{} {}", page.0, page.1)?;
     Ok(())
 }
 
@@ -148,12 +180,22 @@ fn print_action(
     rng: &mut StdRng,
 ) -> Result<()> {
     let mut jar = CookieJar::new(rt.alloc());
-    acting::act(rt.alloc(), sessions, &[], &mut jar, action, now, rng)?;
+    let (alloc, mut revocations) = (rt.alloc(), NeverRevoked);
+    acting::act(
+        alloc,
+        sessions,
+        &[],
+        &mut jar,
+        action,
+        now,
+        rng,
+        &mut revocations,
+    )?;
     print_counts(rt, &jar)
 }
 
 fn print_visit(rt: &HostRuntime, sessions: &Sessions<'_>, now: DateTime) -> Result<()> {
-    let mut visit = Visit::of(rt.alloc(), None, sessions, now, &mut generator())?;
+    let mut visit = Visit::start(rt.alloc(), sessions, now, &mut generator())?;
     visit.set_flash("saved")?;
     visit.set_as(rt.alloc(), "count", &3u32)?;
     print_message(rt, &mut visit)?;

@@ -3,7 +3,7 @@
 
 use anyhow::{Context, Result};
 use cookie::{Cookie, CookieBuilder, CookieJar, Key, SameSite, field_cookies};
-use cookie_session::{KeyRing, Sessions, Visit};
+use cookie_session::{KeyRing, NeverRevoked, Sessions, Visit};
 use jiff::Timestamp;
 use jiff::civil::DateTime;
 use jiff::tz::Offset;
@@ -56,11 +56,12 @@ fn name_sent(rt: &HostRuntime) -> Result<Option<String>> {
 fn save(
     rt: &HostRuntime,
     sessions: &Sessions<'_>,
-    visit: &Visit,
+    visit: &mut Visit,
     now: DateTime,
 ) -> Result<Vec<String>> {
-    let mut jar = CookieJar::with_hasher(rt.alloc(), RandomState::new(rt)?);
-    sessions.save_if_needed(rt.alloc(), &mut jar, visit, now, &mut SysRng::new(rt))?;
+    let (alloc, mut rng) = (rt.alloc(), SysRng::new(rt));
+    let mut jar = CookieJar::with_hasher(alloc, RandomState::new(rt)?);
+    sessions.save_if_needed(alloc, &mut jar, visit, now, &mut rng, &mut NeverRevoked)?;
     Ok(jar.set_cookie_texts()?)
 }
 
@@ -96,9 +97,9 @@ fn respond(
 fn answer(rt: &HostRuntime, sessions: &Sessions<'_>) -> Result<()> {
     let now = Offset::UTC.to_datetime(Timestamp::now(rt)?);
     let field = variable(rt, "HTTP_COOKIE")?;
-    let cookies = field_cookies(rt.alloc(), field.as_bytes())?;
-    let opened = sessions.open(rt.alloc(), &cookies, now)?;
-    let mut visit = Visit::of(rt.alloc(), opened, sessions, now, &mut SysRng::new(rt))?;
+    let (alloc, mut rng) = (rt.alloc(), SysRng::new(rt));
+    let cookies = field_cookies(alloc, field.as_bytes())?;
+    let mut visit = sessions.visit(alloc, &cookies, now, &mut rng, &mut NeverRevoked)?;
     respond(rt, sessions, &mut visit, now)
 }
 

@@ -13,8 +13,8 @@ use cookie_session::{KeyRing, NeverRevoked, Sessions};
 use gateway::Gateway;
 use jiff::civil::DateTime;
 use login_core::{
-    AnswerError, IDLE, LIFETIME, LoginSite, Page, Refusal, Request, Response, Route, User, answer,
-    find_route, session_cookie,
+    AnswerError, IDLE, LIFETIME, LoginSite, Page, Refusal, Request, Response, User, answer,
+    session_cookie,
 };
 use rand::rngs::SysRng;
 use session_revocations::RevocationError;
@@ -54,7 +54,7 @@ fn respond<'s>(
     let state = RandomState::new(rt)?;
     let mut rng = SysRng::new(rt);
     let mut revoked = NeverRevoked;
-    let response = answer(
+    match answer(
         rt.alloc(),
         state,
         &site,
@@ -62,12 +62,14 @@ fn respond<'s>(
         now,
         &mut rng,
         &mut revoked,
-    )?;
-    Ok(response)
+    ) {
+        Err(AnswerError::Gone) => Ok(refused(rt, Refusal::Conflict)),
+        response => Ok(response?),
+    }
 }
 
-// The response to a request that has an open session, if that isn't revoked in the database. If that can't be said, the
-// client is to try again.
+// The response to a request that has an open session, if that isn't revoked in the database. If that can't be said, or if
+// another request has renewed or ended the session, the client is to try again.
 fn respond_looking_up(
     rt: &HostRuntime,
     path: &str,
@@ -91,11 +93,12 @@ fn respond_looking_up(
         &mut revoked,
     ) {
         Ok(response) => {
-            if let Ok(Route::LogOut) = find_route(request.method, request.path) {
+            if let Page::Moved = response.page {
                 revoked.forget_past(rt, now);
             }
             Ok(response)
         }
+        Err(AnswerError::Gone) => Ok(refused(rt, Refusal::Conflict)),
         Err(AnswerError::Revocations) => Ok(unavailable(rt, revoked.failure)),
         Err(error) => Err(error.into()),
     }

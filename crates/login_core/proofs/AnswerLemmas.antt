@@ -1,5 +1,5 @@
 -- Whom an answer greets, and how a call fails that saves a session.
-use Rattle.std.proofs.Common.{◌≡◌, ◌↔◌, ◌⊎◌, inl, inr, OnErr, OnOk, ℕ, List, Bool, true, false, Option, Some, None, Result, Ok, Err, IfOk, codes, map, refl, sym, ap, subst, ◌∙◌}
+use Rattle.std.proofs.Common.{◌≡◌, ◌↔◌, OnErr, OnOk, ℕ, List, Bool, true, false, Option, Some, None, Result, Ok, Err, IfOk, codes, map, refl, sym, ap, subst, ◌∙◌}
 use Rattle.std.proofs.lemmas.Option.{none-some, same_Some}
 use Rattle.std.specs.Bool.{MatchBool}
 use Rattle.std.specs.FinMap.{get}
@@ -192,27 +192,6 @@ no_start IsDrawn site (Ok LogIn) (Some (user, password)) now found page saved no
 no_start IsDrawn site (Ok LogOut) credentials now found page saved none plans = absurd (cc)
 no_start IsDrawn site (Err refusal) credentials now found page saved none plans = plans
 
--- ---- what a request revokes
-
-abbrev is_logout : Result Route Refusal → Bool
-is_logout (Ok Home) = false
-is_logout (Ok LogIn) = false
-is_logout (Ok LogOut) = true
-is_logout (Err refusal) = false
-
--- a logout with a session ends it, and else nothing changes
-pub ends_or_same : (route : Result Route Refusal) (found : Option SessionState) (Has Ends : SessionState → Type 0) (Same : Type 0)
-    → ((session : SessionState) → (found ≡ Some session) ↔ Has session)
-    → ((session : SessionState) → (route ≡ Ok LogOut) × Has session → Ends session)
-    → (((session : SessionState) → ¬ ((route ≡ Ok LogOut) × Has session)) → Same)
-    → Same ⊎ ((session : SessionState) × ((route ≡ Ok LogOut) × Has session) × Ends session)
-ends_or_same (Ok LogOut) (Some session) Has Ends Same exact ends same =
-    let has : Has session = (exact session).0 refl in inr (session, (refl, has), ends session (refl, has))
-ends_or_same (Ok LogOut) None Has Ends Same exact ends same = inl (same (λ session both. none-some session ((exact session).1 both.1)))
-ends_or_same (Ok Home) found Has Ends Same exact ends same = inl (same (λ session both. let never : false ≡ true = ap is_logout both.0 in cc))
-ends_or_same (Ok LogIn) found Has Ends Same exact ends same = inl (same (λ session both. let never : false ≡ true = ap is_logout both.0 in cc))
-ends_or_same (Err refusal) found Has Ends Same exact ends same = inl (same (λ session both. let never : false ≡ true = ap is_logout both.0 in cc))
-
 -- what holds anyway holds after an error
 pub on_err : {T E P : Type 0} (r : Result T E) → P → OnErr r P
 on_err (Ok t) p = tt
@@ -222,6 +201,11 @@ on_err (Err e) p = p
 pub on_ok : {T E P : Type 0} (r : Result T E) → P → OnOk r P
 on_ok (Ok t) p = p
 on_ok (Err e) p = tt
+
+-- and what follows of what holds after an answer
+pub ok_weaker : {T E P Q : Type 0} (r : Result T E) → (P → Q) → OnOk r P → OnOk r Q
+ok_weaker (Ok t) to p = to p
+ok_weaker (Err e) to p = tt
 
 -- ---- how a call fails
 

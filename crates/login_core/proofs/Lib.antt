@@ -1,3 +1,6 @@
 mod AnswerLemmas
+mod FailLemmas
 mod JoinLemmas
+mod PlanLemmas
 mod SetLemmas
+mod SpendLemmas

@@ -1,7 +1,29 @@
 -- Sets of revoked sessions, one after the other.
-use Rattle.std.proofs.Common.{◌⊎◌, inl, inr, ℕ, List}
-use Rattle.cookie_session.specs.Revocations.{AreSame, IsRevokedToo}
-use Rattle.cookie_session.specs.Session.{SessionState}
+use Rattle.std.proofs.Common.{◌⊎◌, inl, inr, ℕ, List, arith}
+use Rattle.jiff.specs.Types.{DateTime}
+use Rattle.cookie.specs.Record.{Record}
+use Rattle.cookie_session.specs.Endings.{IsGone, IsSpent}
+use Rattle.cookie_session.specs.Revocations.{AreSame, IsRevoked, IsRevokedToo}
+use Rattle.cookie_session.specs.Seconds.{second_of}
+use Rattle.cookie_session.specs.Session.{SessionState, pass_of}
+use Rattle.cookie_session.specs.Sessions.{OpensUnrevoked}
+use Rattle.cookie_session.specs.declared.pass.Pass.{Pass}
+use Rattle.cookie_session.specs.declared.sessions.Sessions.{Sessions}
+
+-- each session is revoked as it is
+pub same_set : (set : List ℕ → ℕ → Type 0) → AreSame set set
+same_set set id second = (λ is. is, λ is. is)
+
+-- a pass that was over or revoked already was revoked once more at most
+pub gone_or_same : (now : ℕ) (pass : Pass) (old new : List ℕ → ℕ → Type 0) → IsGone now pass old new
+    → AreSame old new ⊎ IsRevokedToo pass.id pass.end old new
+gone_or_same now pass old new (inl (over, same)) = inl same
+gone_or_same now pass old new (inr (revoked, too)) = inr too
+
+-- one more before nothing
+pub too_before : (old between new : List ℕ → ℕ → Type 0) (id : List ℕ) (until : ℕ) → IsRevokedToo id until old between → AreSame between new → IsRevokedToo id until old new
+too_before old between new id until too still other second =
+    (λ is. (too other second).0 ((still other second).0 is), λ was. (still other second).1 ((too other second).1 was))
 
 module _ (old between new : List ℕ → ℕ → Type 0) (same : AreSame old between) where
   -- as before twice
@@ -21,9 +43,12 @@ module _ (old between new : List ℕ → ℕ → Type 0) (same : AreSame old bet
       on (inl x) = inl x
       on (inr was) = inr ((same other second).1 was)
 
-  -- nothing after that, or the end of a session that was found
-  pub ended_after : (IsOut : Type 0) (Is Has : SessionState → Type 0) → ((session : SessionState) → Is session → Has session)
-      → AreSame between new ⊎ ((session : SessionState) × IsOut × Is session × IsRevokedToo session.id session.end between new)
-      → AreSame old new ⊎ ((session : SessionState) × (IsOut × Has session) × IsRevokedToo session.id session.end old new)
-  ended_after IsOut Is Has has (inl still) = inl (same_twice still)
-  ended_after IsOut Is Has has (inr (session, out, is, too)) = inr (session, (out, has session is), too_after session.id session.end too)
+  -- which was neither over nor revoked
+  pub spent_after : (now : ℕ) (pass : Pass) → IsSpent now pass between new → IsSpent now pass old new
+  spent_after now pass (lives, unrevoked, too) = (lives, λ was. unrevoked ((same pass.id 0).1 was), too_after pass.id pass.end too)
+
+  -- a session that is open and not revoked is neither over nor revoked after that
+  pub never_gone : (sessions : Sessions) (cookies : List Record) (now : DateTime) (place : ℕ) (session : SessionState)
+      → OpensUnrevoked (IsRevoked old) sessions cookies now place session → ¬ (IsGone (second_of now) (pass_of session) between new)
+  never_gone sessions cookies now place session opens (inl (over, still)) = let lives = opens.opens.lives.own in omega arith
+  never_gone sessions cookies now place session opens (inr (revoked, too)) = opens.unrevoked ((same session.id 0).0 revoked)

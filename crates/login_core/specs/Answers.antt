@@ -1,5 +1,5 @@
 -- What the site answers a request.
-use Rattle.std.specs.Prelude.{◌≡◌, ◌↔◌, ◌<◌, ◌≤◌, ℕ, Bool, true, List, Option, Some, None, Result, Ok, Err, IfSome, codes}
+use Rattle.std.specs.Prelude.{◌≡◌, ◌↔◌, ◌<◌, ◌≤◌, ℕ, Bool, true, List, Option, Some, None, Result, Ok, Err, IfSome, codes, option_map}
 use Rattle.std.specs.FinMap.{get}
 use Rattle.jiff.specs.Types.{DateTime}
 use Rattle.cookie.specs.Jar.{Add, JarState, after, view}
@@ -7,11 +7,11 @@ use Rattle.cookie.specs.Memory.{Gives}
 use Rattle.cookie.specs.Originals.{field_cookies, first_of_name}
 use Rattle.cookie.specs.Record.{IsCookie, Record}
 use Rattle.cookie.specs.Sealing.{IsNonce}
-use Rattle.cookie_session.specs.Revocations.{IsRevokedToo}
 use Rattle.cookie_session.specs.Seconds.{second_of}
-use Rattle.cookie_session.specs.Session.{SessionState, seen_at}
+use Rattle.cookie_session.specs.Session.{SessionState, pass_of, seen_at}
 use Rattle.cookie_session.specs.Sessions.{CanSave, CanSealSession, HoldsOne, IsStored, OpensOne, OpensUnrevoked, bare_cookie, meets_prefix, saved_cookie}
 use Rattle.cookie_session.specs.Size.{browser_length, most_bytes}
+use Rattle.cookie_session.specs.Visit.{VisitState}
 use Rattle.cookie_session.specs.declared.session_error.SessionError.{SessionError}
 use Rattle.cookie_session.specs.declared.session_error.SessionError.TheVariants as failure
 use Rattle.cookie_session.specs.declared.sessions.Sessions.{Sessions}
@@ -67,15 +67,28 @@ HasUser site request now user =
     × OpensOne site.sessions (cookies_of request) now place session
     × (get session.texts (codes "user") ≡ Some user)
 
+-- this is the session that the request has
+abbrev pub Has : (List ℕ → Type 0) → LoginSite → Request → DateTime → SessionState → Type 0
+Has IsRevoked site request now session =
+    (place : ℕ) × OpensUnrevoked IsRevoked site.sessions (cookies_of request) now place session
+
 -- the request logs out, and this is the session that it has
 abbrev pub LogsOut : (List ℕ → Type 0) → LoginSite → Request → DateTime → SessionState → Type 0
 LogsOut IsRevoked site request now session =
-    (route_for request ≡ Ok LogOut)
-    × ((place : ℕ) × OpensUnrevoked IsRevoked site.sessions (cookies_of request) now place session)
+    (route_for request ≡ Ok LogOut) × Has IsRevoked site request now session
 
--- that session is revoked too, until it is over, and every other one is as before
-abbrev pub Ends : SessionState → (List ℕ → ℕ → Type 0) → (List ℕ → ℕ → Type 0) → Type 0
-Ends session old new = IsRevokedToo session.id session.end old new
+-- the request logs in or out, and this is the session that it has
+abbrev pub Leaves : (List ℕ → Type 0) → LoginSite → Request → DateTime → SessionState → Type 0
+Leaves IsRevoked site request now session =
+    (starts site request ≡ true) × Has IsRevoked site request now session
+
+-- the session of a visit, if there is one
+abbrev pub session_of : Option VisitState → Option SessionState
+session_of visit = option_map (λ v. v.session) visit
+
+-- the user agent has the session of the visit, if there is one
+abbrev pub IsHeld : Option VisitState → Type 0
+IsHeld found = (visit : VisitState) → found ≡ Some visit → visit.given ≡ Some (pass_of visit.session)
 
 -- what is shown and saved is what the site makes of the request and of the session that it finds there
 pub record IsPlan (IsRevoked IsDrawn : List ℕ → Type 0) (site : LoginSite) (request : Request)

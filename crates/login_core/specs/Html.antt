@@ -6,7 +6,7 @@ use Rattle.login_core.specs.declared.markup.TheConstants.{TOP, NOTICE, HELLO, HE
 use Rattle.login_core.specs.declared.page.Page.{Page}
 use Rattle.login_core.specs.declared.page.Page.TheVariants.{Home, Moved, Refused}
 use Rattle.login_core.specs.declared.refusal.Refusal.{Refusal}
-use Rattle.login_core.specs.declared.refusal.Refusal.TheVariants.{BadRequest, Forbidden, NotFound, OnlyGet, OnlyPost, Unavailable}
+use Rattle.login_core.specs.declared.refusal.Refusal.TheVariants.{BadRequest, Conflict, Forbidden, NotFound, OnlyGet, OnlyPost, Unavailable}
 use Rattle.login_core.specs.declared.visitor.Visitor.{Visitor}
 
 -- a byte as a reader of HTML takes it for text, in an element and in a quoted attribute: `&`, `<`, `>`, `"` and `'` as
@@ -68,6 +68,8 @@ reason_html Forbidden = codes "<h1>No user has this name and this password.</h1>
 reason_html NotFound = codes "<h1>There is no such page.</h1>\n"
 reason_html OnlyGet = codes "<h1>This page answers GET alone.</h1>\n"
 reason_html OnlyPost = codes "<h1>This page answers POST alone.</h1>\n"
+reason_html Conflict =
+    codes "<h1>Another request came in between. Please try again.</h1>\n"
 reason_html Unavailable = codes "<h1>This can't be done now. Please try again.</h1>\n"
 
 -- why the request is refused

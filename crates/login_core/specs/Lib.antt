@@ -3,6 +3,7 @@ pub mod Answers
 pub mod Forms
 pub mod Html
 pub mod Pages
+pub mod Planned
 pub mod Plans
 pub mod Responses
 pub mod Routes

@@ -3,15 +3,16 @@ use Rattle.std.specs.Prelude.{ℕ, List, Option, None, option_map, string_bytes}
 use Rattle.login_core.specs.declared.page.Page.{Page}
 use Rattle.login_core.specs.declared.page.Page.TheVariants.{Home, Moved, Refused}
 use Rattle.login_core.specs.declared.refusal.Refusal.{Refusal}
-use Rattle.login_core.specs.declared.refusal.Refusal.TheVariants.{BadRequest, Forbidden, NotFound, OnlyGet, OnlyPost, Unavailable}
+use Rattle.login_core.specs.declared.refusal.Refusal.TheVariants.{BadRequest, Conflict, Forbidden, NotFound, OnlyGet, OnlyPost, Unavailable}
 
--- the status of a refusal (RFC 9110 15.5.1, 15.5.4, 15.5.5, 15.5.6 and 15.6.4)
+-- the status of a refusal (RFC 9110 15.5.1, 15.5.4, 15.5.5, 15.5.6, 15.5.10 and 15.6.4)
 abbrev pub refusal_status : Refusal → ℕ
 refusal_status BadRequest = 400
 refusal_status Forbidden = 403
 refusal_status NotFound = 404
 refusal_status OnlyGet = 405
 refusal_status OnlyPost = 405
+refusal_status Conflict = 409
 refusal_status Unavailable = 503
 
 -- the status of a page (RFC 9110 15.3.1 and 15.4.4)

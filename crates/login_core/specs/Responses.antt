@@ -4,7 +4,7 @@ use Rattle.std.specs.List.{flat_map}
 use Rattle.login_core.specs.Html.{html_of}
 use Rattle.login_core.specs.declared.page.Page.{Page}
 use Rattle.login_core.specs.declared.page.Page.TheVariants.{Home, Moved, Refused}
-use Rattle.login_core.specs.declared.refusal.Refusal.TheVariants.{BadRequest, Forbidden, NotFound, OnlyGet, OnlyPost, Unavailable}
+use Rattle.login_core.specs.declared.refusal.Refusal.TheVariants.{BadRequest, Conflict, Forbidden, NotFound, OnlyGet, OnlyPost, Unavailable}
 use Rattle.login_core.specs.declared.response.Response.{Response}
 
 -- the status (RFC 3875 6.3.3), of a method that isn't answered those that are (RFC 9110 10.2.1), and of a request that is
@@ -17,6 +17,7 @@ status_line (Refused Forbidden) = codes "Status: 403 Forbidden\r\n"
 status_line (Refused NotFound) = codes "Status: 404 Not Found\r\n"
 status_line (Refused OnlyGet) = codes "Status: 405 Method Not Allowed\r\nAllow: GET, HEAD\r\n"
 status_line (Refused OnlyPost) = codes "Status: 405 Method Not Allowed\r\nAllow: POST\r\n"
+status_line (Refused Conflict) = codes "Status: 409 Conflict\r\n"
 status_line (Refused Unavailable) = codes "Status: 503 Service Unavailable\r\nRetry-After: 2\r\n"
 
 -- where a browser is sent to (RFC 9110 10.2.2)

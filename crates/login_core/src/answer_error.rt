@@ -4,7 +4,7 @@ ghost use Rattle.cookie_session.specs.declared.session_error.SessionError.TheVar
 ghost use Rattle.login_core.specs.declared.answer_error.AnswerError.TheVariants as failure;
 
 use cookie::{JarError, TextsError};
-use cookie_session::SessionError;
+use cookie_session::{SessionError, VisitError};
 use std::alloc::{AllocError, AllocFailed};
 use std::error::Error;
 use std::fmt;
@@ -16,6 +16,9 @@ pub enum AnswerError {
     Session(SessionError),
     /// The path or the domain of the site's cookie holds a control character or a `;` (RFC 6265 4.1.1).
     InvalidValue,
+    /// Another request has renewed or ended the session in the meantime. Answer with 409 (RFC 9110 15.5.10), and never as
+    /// if the user were logged out.
+    Gone,
     /// Whether the request's session is revoked couldn't be looked up, or its revocation couldn't be kept. Answer with
     /// 503 (RFC 9110 15.6.4).
     Revocations,
@@ -32,6 +35,9 @@ impl fmt::Display for AnswerError {
             AnswerError::Session(error) => write!(f, "{error}"),
             AnswerError::InvalidValue => {
                 f.write_str("a cookie's path or domain is no attribute value")
+            }
+            AnswerError::Gone => {
+                f.write_str("the session was renewed or ended by another request")
             }
             AnswerError::Revocations => {
                 f.write_str("whether the session is revoked can't be looked up or kept")
@@ -85,6 +91,20 @@ impl From<TextsError> for AnswerError {
         match error {
             TextsError::OutOfMemory => AnswerError::Session(SessionError::OutOfMemory),
             TextsError::InvalidValue => AnswerError::InvalidValue,
+        }
+    }
+}
+
+impl<E: Drop> From<VisitError<E>> for AnswerError {
+    ghost use Rattle.login_core.specs.AnswerError.{visit_failure};
+
+    ghost from_gives = { λ error e. e ≡ visit_failure error };
+
+    fn from(error: VisitError<E>) -> AnswerError {
+        match error {
+            VisitError::Session(error) => AnswerError::Session(error),
+            VisitError::Gone => AnswerError::Gone,
+            VisitError::Revocations(_) => AnswerError::Revocations,
         }
     }
 }

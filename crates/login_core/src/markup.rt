@@ -126,6 +126,7 @@ fn reason(refusal: Refusal) -> &'static [u8]
         Refusal::NotFound => b"<h1>There is no such page.</h1>\n",
         Refusal::OnlyGet => b"<h1>This page answers GET alone.</h1>\n",
         Refusal::OnlyPost => b"<h1>This page answers POST alone.</h1>\n",
+        Refusal::Conflict => b"<h1>Another request came in between. Please try again.</h1>\n",
         Refusal::Unavailable => b"<h1>This can't be done now. Please try again.</h1>\n",
     }
 }

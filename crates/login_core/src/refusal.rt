@@ -15,6 +15,9 @@ pub enum Refusal {
     OnlyGet,
     /// The page answers only POST.
     OnlyPost,
+    /// Another request has renewed or ended the session in the meantime. `answer` doesn't return it: it is for a program
+    /// that answers its error `Gone`.
+    Conflict,
     /// What the site knows can't be read or kept now. `answer` doesn't return it: it is for a program that can't answer.
     Unavailable,
 }
@@ -29,6 +32,7 @@ impl Refusal {
             Refusal::Forbidden => 403,
             Refusal::NotFound => 404,
             Refusal::OnlyGet | Refusal::OnlyPost => 405,
+            Refusal::Conflict => 409,
             Refusal::Unavailable => 503,
         }
     }

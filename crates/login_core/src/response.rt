@@ -68,6 +68,7 @@ fn status_line(page: &Page) -> &'static [u8]
         Page::Refused(Refusal::OnlyGet) =>
             b"Status: 405 Method Not Allowed\r\nAllow: GET, HEAD\r\n",
         Page::Refused(Refusal::OnlyPost) => b"Status: 405 Method Not Allowed\r\nAllow: POST\r\n",
+        Page::Refused(Refusal::Conflict) => b"Status: 409 Conflict\r\n",
         Page::Refused(Refusal::Unavailable) =>
             b"Status: 503 Service Unavailable\r\nRetry-After: 2\r\n",
     }

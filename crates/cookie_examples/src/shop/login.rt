@@ -1,20 +1,21 @@
 //! Who is logged in.
 use crate::shop::request::form_value;
 use anyhow::Result;
-use cookie::are_equal;
-use cookie_session::{Sessions, Visit};
+use cookie::{CookieJar, are_equal};
+use cookie_session::{Ending, Revocations, Sessions, Visit};
 use jiff::civil::DateTime;
 use rand_core::TryRng;
 use std::alloc::Global;
+use std::mem::replace;
 
-/// Logs in who sends the right password, and keeps the cart.
-pub fn log_in<R: TryRng>(
+/// Logs in who sends the right password, and keeps the cart. Once the session is saved, what the browser had is ended.
+pub fn log_in<G: TryRng>(
     alloc: Global,
     sessions: &Sessions<'_>,
     visit: &mut Visit,
     form: &[u8],
     now: DateTime,
-    rng: &mut R,
+    rng: &mut G,
 ) -> Result<u16> {
     let user = form_value(alloc, form, "user")?;
     let password = form_value(alloc, form, "password")?;
@@ -28,17 +29,26 @@ pub fn log_in<R: TryRng>(
     Ok(303)
 }
 
-/// Logs out: a new session, without the texts of the old one, keeps the message.
-pub fn log_out<R: TryRng>(
+/// Logs out. A new session, without the texts of the old one, keeps the message.
+pub fn log_out<G: TryRng, R: Revocations>(
     alloc: Global,
     sessions: &Sessions<'_>,
+    jar: &mut CookieJar,
     visit: &mut Visit,
     now: DateTime,
-    rng: &mut R,
+    rng: &mut G,
+    revocations: &mut R,
 ) -> Result<u16> {
-    *visit = Visit::of(alloc, None, sessions, now, rng)?;
-    visit.set_flash("Goodbye!")?;
-    Ok(303)
+    let next = Visit::start(alloc, sessions, now, rng)?;
+    let visitor = replace(visit, next);
+    match sessions.log_out(alloc, jar, visitor, now, revocations)? {
+        Ending::Ended => {
+            visit.set_flash("Goodbye!")?;
+            Ok(303)
+        }
+        Ending::Nobody => Ok(303),
+        Ending::Gone => Ok(409),
+    }
 }
 
 // A shop keeps slow hashes of passwords.

@@ -24,6 +24,17 @@ pub struct Response {
     pub page: String,
 }
 
+impl Response {
+    /// Nothing is done, since another request came in between.
+    pub fn try_again(alloc: Global) -> Response {
+        Response {
+            status: 409,
+            cookies: Vec::new(alloc),
+            page: String::new(alloc),
+        }
+    }
+}
+
 /// The form's value of that name, the first if there are several. It is empty if there is none.
 pub fn form_value(alloc: Global, form: &[u8], name: &str) -> Result<String> {
     for pair in form_urlencoded::parse(alloc, form) {

@@ -3,7 +3,7 @@ use crate::shop::{Request, Response, answer};
 use anyhow::Result;
 use cookie::{CookieBuilder, Key, SameSite};
 use cookie_client::Client;
-use cookie_session::{KeyRing, Sessions};
+use cookie_session::{KeyRing, NeverRevoked, Sessions};
 use jiff::civil::DateTime;
 use rand::SeedableRng;
 use rand::rngs::StdRng;
@@ -90,7 +90,17 @@ fn print_visit(
         form: form.as_bytes(),
     };
     let state = RandomState::new(rt)?;
-    let response = answer(rt.alloc(), sessions, state, &request, now, rng)?;
+    // A server takes `SqliteRevocations` of the crate `session_revocations`.
+    let mut revocations = NeverRevoked;
+    let response = answer(
+        rt.alloc(),
+        sessions,
+        state,
+        &request,
+        now,
+        rng,
+        &mut revocations,
+    )?;
     println!(rt; "{route} [{form}]: {}{}", response.status, response.page)?;
     keep_cookies(rt, client, &response, now)
 }

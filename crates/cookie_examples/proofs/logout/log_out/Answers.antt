@@ -1,23 +1,32 @@
-use Rattle.std.proofs.Common.{ap, arith, inl, sym, subst, ◌∙◌}
-use Rattle.std.proofs.lemmas.Option.{same_Some}
-use Rattle.cookie_session.specs.Session.{SessionState}
-use Rattle.cookie_session.specs.declared.opened.Opened.{Opened}
-use Rattle.cookie_examples.proofs.logout.log_out.Goals.{in-Some+in_default-revoke, in_default}
+use Rattle.std.proofs.Common.{inl, inr, Ok, arith, ap, refl, sym, ◌∙◌}
+use Rattle.std.proofs.lemmas.Option.{none-some}
+use Rattle.cookie_session.specs.Session.{pass_of}
+use Rattle.cookie_session.specs.Visit.{VisitState}
 use Rattle.cookie_examples.proofs.logout.log_out.Goals as goal
 
-pub returns : goal.returns
-returns g c = record {
-  revoked = λ kept can place session opens. elim c.match-branch-2.branch [
-    | in-Some+in_default-revoke w ↦
-        let after = subst g.R.Revocations.is_intact w.revocations-is kept in
-        let before = w.revoke.ensures.kept after in
-        let answer = (c.in_ok-opened.ensures.answers before place session).1 opens in
-        let same = ap (λ (o : Opened). o.session) (same_Some _ _ (sym answer ∙ w.in-Some.is)) in
-        let too = w.in_default-revoke.ensures.revoked after can in
-        subst (λ r. g.R.Revocations.revoked_until r session.id 0) (sym w.revocations-is) ((too session.id 0).1 (inl (ap (λ (s : SessionState). s.id) same, grind (arith))))
-    | in_default w ↦
-        let before = subst g.R.Revocations.is_intact w.revocations-is kept in
-        let answer = (c.in_ok-opened.ensures.answers before place session).1 opens in
-        absurd (w.in_default.not-Some _ answer)
-  ];
+pub returns-in-Ended : goal.returns-in-Ended
+returns-in-Ended g c = record {
+  revoked = λ kept can place session opens.
+      let before = c.log_out.ensures.kept kept in
+      let given = ap (λ (v : VisitState). v.given) ((c.in_ok-visit.ensures.answers before place session).1 opens) in
+      let spent = c.log_out.ensures.ended (pass_of session) given kept can (c.in_ok-log_out.was ∙ ap Ok c.in-Ended.is) in
+      (spent.2 session.id 0).1 (inl (refl, grind (arith)));
+}
+
+pub returns-in-Nobody : goal.returns-in-Nobody
+returns-in-Nobody g c = record {
+  revoked = λ kept can place session opens.
+      let given = ap (λ (v : VisitState). v.given) ((c.in_ok-visit.ensures.answers (c.log_out.ensures.kept kept) place session).1 opens) in
+      absurd (none-some (pass_of session) (sym (c.log_out.ensures.nobody.1 (c.in_ok-log_out.was ∙ ap Ok c.in-Nobody.is)) ∙ given));
+}
+
+pub returns-in-Gone : goal.returns-in-Gone
+returns-in-Gone g c = record {
+  revoked = λ kept can place session opens.
+      let before = c.log_out.ensures.kept kept in
+      let given = ap (λ (v : VisitState). v.given) ((c.in_ok-visit.ensures.answers before place session).1 opens) in
+      elim (c.log_out.ensures.gone (pass_of session) given kept can (c.in_ok-log_out.was ∙ ap Ok c.in-Gone.is)) [
+        | inl over ↦ let lives = opens.opens.lives.own in absurd (omega (arith, over.0))
+        | inr again ↦ absurd (opens.unrevoked ((c.visit.ensures.same before session.id 0).0 again.0))
+      ];
 }
