@@ -1,3 +1,4 @@
+pub mod ActLemmas
 pub mod AgentHeaderLemmas
 pub mod AlikeLemmas
 pub mod CountLemmas
@@ -6,6 +7,7 @@ pub mod FailLemmas
 pub mod FollowLemmas
 pub mod HeaderTextLemmas
 pub mod HeldLemmas
+pub mod HistoryLemmas
 pub mod OwnLemmas
 pub mod PageLemmas
 pub mod PlanLemmas
@@ -16,6 +18,7 @@ pub mod ReturnLemmas
 pub mod RevokingLemmas
 pub mod SeenLemmas
 pub mod SentLemmas
+pub mod ServeLemmas
 pub mod StandingLemmas
 pub mod Utf8Lemmas
 pub mod VisitCallLemmas

@@ -1,5 +1,5 @@
 -- What the pages show, one request after the other, of a client and of whoever else sends requests.
-use Rattle.std.specs.Prelude.{◌≡◌, ◌≢◌, ◌↔◌, ℕ, List, [], ◌∷◌, Option, Some, None, Result, Ok, Err, codes, option_map, string_bytes, if◌then◌else◌}
+use Rattle.std.specs.Prelude.{◌≡◌, ◌≢◌, ◌↔◌, ℕ, Bool, List, [], ◌∷◌, Option, Some, None, Result, Ok, Err, codes, option_map, string_bytes, if◌then◌else◌}
 use Rattle.std.specs.FinMap.{get}
 use Rattle.std.specs.List.{AllZip}
 use Rattle.jiff.specs.Types.{DateTime}
@@ -97,19 +97,19 @@ EndsCopies Keeps site route counting requests pages = Keeps → (current : Stand
     → AllZip (GreetsAnother site current.id) requests pages
 
 -- The pages of the requests, one for each, while the client stands so and these sessions are revoked before the first. A
--- session that a request of the client starts has some id.
+-- session that a request of the client starts has some id. A login replaces the session that counts, or not.
 abbrev pub ArePages : Type 0 → LoginSite → (List ℕ → ℕ → Type 0) → Option Standing
     → List TimedRequest → List Page → Type 0
 ArePages Keeps site set standing [] [] = Unit {0}
 ArePages Keeps site set standing [] (page ∷ pages) = ⊥
 ArePages Keeps site set standing (request ∷ requests) [] = ⊥
 ArePages Keeps site set standing (request ∷ requests) (page ∷ pages) =
-    (counting : Option Standing) × (id : List ℕ)
+    (counting : Option Standing) × (id : List ℕ) × (replaces : Bool)
     × Counts (IsRevoked set) site.sessions request.time request.sender standing counting
     × IsPage site counting request page
     × EndsCopies Keeps site (route_asked request) counting requests pages
     × ArePages Keeps site
-    (revoked_after Keeps (route_asked request) counting set)
+    (revoked_after Keeps (route_asked request) replaces counting set)
     (after_request site id request counting standing) requests pages
 
 -- the site's cookie has a name, and no `;` in its path and its domain

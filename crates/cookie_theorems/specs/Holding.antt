@@ -1,5 +1,5 @@
 -- Mirrors private code: the session that a client holds, before and after a request (src/browse.rt).
-use Rattle.std.specs.Prelude.{◌≡◌, ℕ, List, [], Option, Some, None, map, option_map, string_bytes}
+use Rattle.std.specs.Prelude.{◌≡◌, ℕ, Bool, List, [], Option, Some, None, map, option_map, string_bytes}
 use Rattle.std.specs.FinMap.{get}
 use Rattle.jiff.specs.Types.{DateTime}
 use Rattle.cookie.specs.DeltaTexts.{AreDeltaTextsOnce}
@@ -51,7 +51,8 @@ pub record IsResponse (IsDrawn IsNonce : List ℕ → Type 0) (Keeps : Type 0)
       request.time found response.page saved
   pub saves : Saves IsNonce site.sessions request.time saved (jar_for field) jar
   pub once : AreDeltaTextsOnce jar.delta (map string_bytes response.cookies.items)
-  pub revoked : AreSame (revoked_after Keeps (route_asked request)
+  pub replaces : Bool
+  pub revoked : AreSame (revoked_after Keeps (route_asked request) replaces
       (option_map standing_of found) old) new
 
 -- A request is answered, and the client holds the session that follows. Between the sets is what it revoked.
@@ -67,4 +68,5 @@ pub record IsAnswered (Keeps : Type 0) (old new : List ℕ → ℕ → Type 0) (
   pub holds : Holds site.sessions client later
   pub stands : option_map standing_of later
       ≡ after_request site id request counting (option_map standing_of held)
-  pub revoked : AreSame (revoked_after Keeps (route_asked request) counting old) new
+  pub replaces : Bool
+  pub revoked : AreSame (revoked_after Keeps (route_asked request) replaces counting old) new

@@ -1,8 +1,10 @@
+pub mod Acts
 pub mod Agreement
 pub mod Browsing
 pub mod Carrying
 pub mod Exchanges
 pub mod Holding
+pub mod Line
 pub mod OwnSessions
 pub mod PlanCode
 pub mod PlannedCalls

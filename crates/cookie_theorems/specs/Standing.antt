@@ -1,5 +1,5 @@
 -- How a client stands with the site, and what a request changes of that and of what is revoked.
-use Rattle.std.specs.Prelude.{◌≡◌, ◌↔◌, ◌⊎◌, ◌≤◌, ℕ, ◌+◌, ◌-◌, ◌&&◌, Bool, List, Option, Some, None, Result, Ok, Err, min, nat_le, nat_lt, codes, option_map, if◌then◌else◌}
+use Rattle.std.specs.Prelude.{◌≡◌, ◌↔◌, ◌⊎◌, ◌≤◌, ℕ, ◌+◌, ◌-◌, ◌&&◌, Bool, false, true, List, Option, Some, None, Result, Ok, Err, min, nat_le, nat_lt, codes, option_map, if◌then◌else◌}
 use Rattle.std.specs.FinMap.{get}
 use Rattle.std.specs.Option.{option_or}
 use Rattle.jiff.specs.Types.{DateTime}
@@ -153,14 +153,24 @@ abbrev pub ended : Type 0 → Standing → (List ℕ → ℕ → Type 0) → Lis
 ended Keeps current set id second =
     (Keeps × (id ≡ current.id) × (second ≤ current.end)) ⊎ set id second
 
--- after a request: a logout, whoever sends it, revokes the session that counts
-abbrev pub revoked_after : Type 0 → Result Route Refusal → Option Standing
+-- once the session that counts is revoked too, if one counts
+abbrev pub ended_too : Type 0 → Option Standing → (List ℕ → ℕ → Type 0) → List ℕ → ℕ → Type 0
+ended_too Keeps None set = set
+ended_too Keeps (Some current) set = ended Keeps current set
+
+-- after a login, whose session may replace the one that counts
+abbrev pub after_login : Type 0 → Bool → Option Standing → (List ℕ → ℕ → Type 0) → List ℕ → ℕ
+    → Type 0
+after_login Keeps false counting set = set
+after_login Keeps true counting set = ended_too Keeps counting set
+
+-- after a request: a logout, whoever sends it, revokes the session that counts, and so does a login that replaces it
+abbrev pub revoked_after : Type 0 → Result Route Refusal → Bool → Option Standing
     → (List ℕ → ℕ → Type 0) → List ℕ → ℕ → Type 0
-revoked_after Keeps (Ok Home) counting set = set
-revoked_after Keeps (Ok LogIn) counting set = set
-revoked_after Keeps (Ok LogOut) None set = set
-revoked_after Keeps (Ok LogOut) (Some current) set = ended Keeps current set
-revoked_after Keeps (Err refusal) counting set = set
+revoked_after Keeps (Ok Home) replaces counting set = set
+revoked_after Keeps (Ok LogIn) replaces counting set = after_login Keeps replaces counting set
+revoked_after Keeps (Ok LogOut) replaces counting set = ended_too Keeps counting set
+revoked_after Keeps (Err refusal) replaces counting set = set
 
 -- A store keeps what is revoked, or no session is ever revoked there, as in `NeverRevoked`.
 abbrev pub KeepsOrNever : {Store : Type 0} → Type 0 → (Store → List ℕ → ℕ → Type 0) → Type 0

@@ -32,7 +32,7 @@ use std::hash::RandomState;
 /// page greets somebody else by the session that is open and not revoked in the first cookie of the field in which one is.
 /// No other page greets. The message of a login or a logout is shown on the client's first home page after it at such a
 /// time, and once. A logout revokes the session that counts, whoever sends it. After that no copy of its cookie greets.
-/// The times may come in any order.
+/// A login may revoke it too (`replaced` of `answer`). The times may come in any order.
 ///
 /// The site's cookie must have a name, and no `;` in its path and its domain. What is revoked must be kept, or nothing may
 /// ever be revoked, as with `NeverRevoked`: then a copy greets until the session's limits.

@@ -1,7 +1,9 @@
 use Rattle.std.proofs.Common.{inl, inr, Err, refl}
+use Rattle.cookie_session.specs.Endings.{IsSpent}
 use Rattle.cookie_session.specs.Revocations.{IsRevoked}
-use Rattle.cookie_session.specs.Session.{SessionState}
-use Rattle.login_core.specs.Answers.{Ends, LogsOut}
+use Rattle.cookie_session.specs.Seconds.{second_of}
+use Rattle.cookie_session.specs.Session.{SessionState, pass_of}
+use Rattle.login_core.specs.Answers.{LogsOut}
 use Rattle.login_core.specs.Forms.{credentials_of}
 use Rattle.login_core.specs.declared.request.Request.{Request}
 use Rattle.cookie_session.specs.declared.session_error.SessionError.TheVariants as failure
@@ -18,9 +20,20 @@ returns-clause-answers g c kept keeps =
     let old = revocations.revoked_until c.args.revocations.now in
     let new = revocations.revoked_until c.answer.new.revocations in
     let asked : Request = record { method = request.method; path = request.path; cookies = c.args.field; form = request.form } in
-    both_ok {Q = (session : SessionState) → LogsOut (IsRevoked old) site asked request.time session → Ends session old new} c.answer.result _ _ (
+    both_ok {Q = (session : SessionState) → LogsOut (IsRevoked old) site asked request.time session → IsSpent (second_of request.time) (pass_of session) old new} c.answer.result _ _ (
     λ response answered revoked.
-    let (middle, saved, jar, idle, plan, saves, once) = answered in (
+    let (middle, saved, jar, idle, plan, saves, once) = answered in
+    let after = revokes_found revocations.can_revoke old new site.users.now (credentials_of request.form.now) (route_asked request) plan.found
+    (elim keeps [
+      | inl keeps ↦ inl keeps
+      | inr never ↦ inr (λ id second. (never c.args.revocations.now id second, never c.answer.new.revocations id second))
+    ])
+    (λ keeps session route found. (revoked keeps session (route, (plan.finds.exact session).0 found)).2)
+    (λ keeps. elim (c.answer.ensures.only kept keeps) [
+      | inl alike ↦ inl alike
+      | inr one ↦ inr (one.0, (plan.finds.exact one.0).1 one.1.1, one.2)
+    ])
+    (λ none. c.answer.ensures.same kept (λ session leaves. none session leaves.0 ((plan.finds.exact session).1 leaves.1))) in (
       middle,
       record {
         found = plan.found;
@@ -30,13 +43,8 @@ returns-clause-answers g c kept keeps =
         plans = plan.plans;
         saves = saves;
         once = once;
-        revoked = revokes_found revocations.can_revoke old new (route_asked request) plan.found
-            (elim keeps [
-              | inl keeps ↦ inl keeps
-              | inr never ↦ inr (λ id second. (never c.args.revocations.now id second, never c.answer.new.revocations id second))
-            ])
-            (λ keeps session route found. revoked keeps session (route, (plan.finds.exact session).0 found))
-            (λ none. c.answer.ensures.same kept (λ session logs. none session logs.0 ((plan.finds.exact session).1 logs.1)));
+        replaces = after.0;
+        revoked = after.1;
       },
     )
     )

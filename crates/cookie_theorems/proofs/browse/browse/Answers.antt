@@ -48,7 +48,7 @@ loop-request-preserved g c =
           let (held, holds, more) = c.loop-request.invariant.1 can (c.send.ensures.kept kept) steady in
           let answered = c.in_ok-page.ensures.answered can kept steady held holds in
           let route = route_asked request in
-          let after = revoked_after keeps route answered.counting old in (
+          let after = revoked_after keeps route answered.replaces answered.counting old in (
             answered.later,
             answered.holds,
             λ rest h.
@@ -62,9 +62,10 @@ loop-request-preserved g c =
                 (subst (λ rs. ArePages keeps site old (option_map standing_of held) rs (page ∷ rest)) (sym first) (
                   answered.counting,
                   answered.id,
+                  answered.replaces,
                   answered.counts,
                   answered.shows,
-                  ends_copies keeps site route answered.counting later rest standing old follow,
+                  ends_copies keeps site route answered.replaces answered.counting later rest standing old follow,
                   follow,
                 )))),
           ),

@@ -37,5 +37,6 @@ returns-in_ok-response-in-Other-clause-answered g c can kept keeps held holds =
       holds = holds;
       stands =
           ap (λ s. of_sender s (after_route site [] (second_of now) request.form.now route counting (option_map standing_of held)) (option_map standing_of held)) (sym c.in-Other.is);
+      replaces = response.replaces;
       revoked = response.revoked;
     }

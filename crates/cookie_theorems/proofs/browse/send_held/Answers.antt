@@ -54,5 +54,6 @@ returns-clause-answered g c can kept keeps held holds own =
           (c.in_ok-read_texts.ensures ∙ ap (λ ts. after_texts now (map string_bytes ts) client) c.deref.ensures.value) _ response.saved held response.saves holds;
       stands = stands.1
           ∙ ap (λ s. of_sender s (after_route site stands.0 (second_of now) request.form.now route counting (option_map standing_of held)) (option_map standing_of held)) (sym own);
+      replaces = response.replaces;
       revoked = response.revoked;
     }
