@@ -205,6 +205,13 @@ static void settings_that_are_no_sites(void) {
     MUST(cookie_session_renew(&sessions, &session, KEY, 16, NOW) == COOKIE_NO_SESSION);
     MUST(is(cookie_session_save(&sessions, &session, KEY, 12, NOW, NULL, 0), COOKIE_NO_SESSION, 0));
     MUST(cookie_session_describe(&session).status == COOKIE_NO_SESSION);
+    MUST(cookie_session_given(&session).status == COOKIE_NO_SESSION);
+    MUST(cookie_session_replace(&session, LATE, true) == COOKIE_NO_DATE);
+    MUST(cookie_session_replace(&session, NOW, true) == COOKIE_NO_SESSION);
+    MUST(cookie_session_log_out(&session, LATE, true) == COOKIE_NO_DATE);
+    MUST(cookie_session_log_out(&session, NOW, true) == COOKIE_NO_SESSION);
+    MUST(cookie_session_set_generation(&session, 0) == COOKIE_NO_SESSION);
+    MUST(!cookie_session_is_since(&session, 0));
     cookie_sessions_free(&sessions);
 }
 
@@ -242,6 +249,54 @@ static void sessions(void) {
     MUST(!facts.is_opened && has_limits(&facts, NOW + 1, NOW + 3001, 2000) && memcmp(facts.id, KEY, 16) == 0);
     cookie_sessions_free(&sessions);
     cookie_session_free(&session);
+}
+
+/* What the browser has is another pass than that of a handle's session. */
+static bool is_given(cookie_session *session, uint32_t status, const char *id, uint64_t end) {
+    cookie_pass given = cookie_session_given(session);
+    return given.status == status && given.end == end && memcmp(given.id, id, 16) == 0;
+}
+
+/* A renewed session replaces what the browser has. A refusal of a larger one comes first, and nothing is replaced then. */
+static void renewals(void) {
+    static const char NONE[16] = {0};
+    uint8_t keys[64], large[4000];
+    memset(keys, 1, sizeof keys);
+    memset(large, 'a', sizeof large);
+    cookie_sessions sessions = {0};
+    cookie_session session = {0}, other = {0};
+    cookie_session_settings site = settings(keys, 64, "__Host-session=; Path=/; Secure");
+    MUST(cookie_sessions_new(&site, &sessions) == COOKIE_DONE);
+    MUST(cookie_session_start(&sessions, KEY, 16, NOW, &other) == COOKIE_DONE);
+    MUST(is_given(&other, COOKIE_NOT_FOUND, NONE, 0));
+    MUST(cookie_session_replace(&other, NOW, false) == COOKIE_NOT_FOUND);
+    MUST(cookie_session_log_out(&other, NOW, true) == COOKIE_NOT_FOUND);
+    MUST(cookie_session_open(&sessions, T(ANN), NOW, &session) == COOKIE_DONE);
+    MUST(is_given(&session, COOKIE_DONE, ANN_ID, NOW + 1200));
+    MUST(cookie_session_renew(&sessions, &session, (const uint8_t *)BOB_ID, 16, NOW + 5) == COOKIE_DONE);
+    MUST(is_given(&session, COOKIE_DONE, ANN_ID, NOW + 1200));
+    MUST(cookie_session_set(&session, T("a"), large, sizeof large) == COOKIE_DONE);
+    MUST(cookie_session_save(&sessions, &session, KEY, 12, NOW + 5, NULL, 0).status == COOKIE_TOO_LARGE);
+    MUST(cookie_session_remove(&session, T("a")) == COOKIE_DONE);
+    MUST(is(cookie_session_save(&sessions, &session, KEY, 12, NOW + 5, NULL, 0), COOKIE_REPLACES, 0));
+    MUST(cookie_session_replace(&session, NOW + 1200, false) == COOKIE_GONE);
+    MUST(cookie_session_log_out(&session, NOW + 1200, false) == COOKIE_GONE);
+    MUST(cookie_session_replace(&session, NOW + 1199, true) == COOKIE_GONE);
+    MUST(is_given(&session, COOKIE_DONE, ANN_ID, NOW + 1200));
+    MUST(cookie_session_replace(&session, NOW + 1199, false) == COOKIE_DONE);
+    MUST(is_given(&session, COOKIE_NOT_FOUND, NONE, 0));
+    MUST(cookie_session_save(&sessions, &session, KEY, 12, NOW + 5, NULL, 0).status == COOKIE_BUFFER_TOO_SHORT);
+    MUST(is_given(&session, COOKIE_NOT_FOUND, NONE, 0));
+    MUST(cookie_session_save(&sessions, &session, KEY, 12, NOW + 5, large, sizeof large).status == COOKIE_DONE);
+    MUST(is_given(&session, COOKIE_DONE, BOB_ID, NOW + 1205));
+    MUST(cookie_session_set_generation(&session, 18446744073709551615u) == COOKIE_DONE);
+    MUST(cookie_session_is_since(&session, 18446744073709551615u));
+    MUST(is(cookie_session_get(&session, T("generation"), OUT), COOKIE_DONE, 20) && holds("18446744073709551615"));
+    MUST(cookie_session_log_out(&session, NOW + 5, false) == COOKIE_DONE);
+    MUST(cookie_session_describe(&session).status == COOKIE_NO_SESSION);
+    cookie_sessions_free(&sessions);
+    cookie_session_free(&session);
+    cookie_session_free(&other);
 }
 
 /* A handle without opened sessions is refused, also after it was freed. Ids that are cut come first. */
@@ -338,6 +393,7 @@ int main(void) {
     jars();
     settings_that_are_no_sites();
     sessions();
+    renewals();
     handles_without_opened_sessions();
     opened_sessions();
     short_buffers_of_explanations();

@@ -14,7 +14,7 @@
 #include <sys/mman.h>
 #include <unistd.h>
 
-enum { ROOM = 1 << 16, SLOTS = 8, KEPT = 4, MARGIN = 64, LONGEST = 6000, STATUSES = 29, PAIR = 2 };
+enum { ROOM = 1 << 16, SLOTS = 8, KEPT = 4, MARGIN = 64, LONGEST = 6000, STATUSES = 31, PAIR = 2 };
 
 typedef struct text {
     const uint8_t *bytes;
@@ -40,7 +40,7 @@ typedef struct drawing {
     cookie_agent agents[PAIR];
     bool has_jar[PAIR], has_site[PAIR], has_opened[PAIR], has_session[PAIR], has_list[PAIR], has_agent[PAIR];
     char kept[KEPT][LONGEST];
-    size_t met[64][STATUSES];
+    size_t met[72][STATUSES];
 } drawing;
 
 /* The calls, and the statuses that the header has for each, beside COOKIE_DONE and COOKIE_OUT_OF_MEMORY. */
@@ -79,6 +79,11 @@ typedef struct drawing {
     X(session_open, S(NO_SESSIONS) | S(NO_DATE) | S(NO_SESSION)) \
     X(session_start, S(BAD_NONCE) | S(NO_SESSIONS) | S(NO_DATE)) \
     X(session_describe, S(NO_SESSION)) \
+    X(session_given, S(NO_SESSION) | S(NOT_FOUND)) \
+    X(session_replace, S(NO_DATE) | S(NO_SESSION) | S(NOT_FOUND) | S(GONE)) \
+    X(session_log_out, S(NO_DATE) | S(NO_SESSION) | S(NOT_FOUND) | S(GONE)) \
+    X(session_set_generation, S(NO_SESSION)) \
+    X(session_is_since, 0) \
     X(session_get, S(BUFFER_TOO_SHORT) | S(NO_SESSION) | S(NOT_UTF8) | S(NOT_FOUND)) \
     X(session_set, S(NO_SESSION) | S(NOT_UTF8)) \
     X(session_remove, S(NO_SESSION) | S(NOT_UTF8)) \
@@ -86,7 +91,7 @@ typedef struct drawing {
     X(session_set_texts, S(NO_SESSION)) \
     X(session_renew, S(BAD_NONCE) | S(NO_SESSIONS) | S(NO_DATE) | S(NO_SESSION)) \
     X(session_save, S(BUFFER_TOO_SHORT) | S(BAD_NONCE) | S(NO_SESSIONS) | S(NO_DATE) | S(NO_SESSION) | S(BAD_PREFIX) \
-                        | S(OVER) | S(TOO_LONG) | S(TOO_LARGE)) \
+                        | S(OVER) | S(TOO_LONG) | S(TOO_LARGE) | S(REPLACES)) \
     X(session_end, S(BUFFER_TOO_SHORT) | S(NO_SESSIONS) | S(NO_DATE)) \
     X(session_free, 0) \
     X(token_make, S(BUFFER_TOO_SHORT) | S(BAD_NONCE) | S(KEY_TOO_SHORT) | S(NOT_UTF8) | S(NO_DATE) | S(TOO_LONG)) \
@@ -735,6 +740,28 @@ static void play_session(drawing *d, int call) {
     case session_describe_call:
         STATUS(session_describe, cookie_session_describe(session).status);
         break;
+    case session_given_call:
+        STATUS(session_given, cookie_session_given(session).status);
+        break;
+    case session_replace_call:
+        STATUS(session_replace, cookie_session_replace(session, now, one_in(d, 3)));
+        first = S(NO_DATE);
+        break;
+    case session_log_out_call: {
+        bool had = *has;
+        STATUS(session_log_out, cookie_session_log_out(session, now, one_in(d, 3)));
+        *has &= status != COOKIE_DONE;
+        look_at_handle(d, call, status, had, COOKIE_NO_SESSION, S(NO_DATE));
+        return;
+    }
+    case session_set_generation_call:
+        STATUS(session_set_generation, cookie_session_set_generation(session, draw(d)));
+        break;
+    case session_is_since_call:
+        if (cookie_session_is_since(session, draw(d) >> below(d, 64)) && !*has)
+            fault(d, call, "a handle without a session keeps a generation");
+        d->met[call][0]++;
+        return;
     case session_get_call:
         WRITES(session_get, cookie_session_get(session, IN(name), d->out, d->length));
         break;

@@ -368,6 +368,57 @@ static uint32_t make_session(const text *in, const long long n[6], cookie_sessio
     return status;
 }
 
+/* Whether it is told that the browser has this session, or else that it has none. */
+static bool is_given(cookie_session *session, uint32_t status, const cookie_session_facts *facts) {
+    static const uint8_t none[16] = {0};
+    cookie_pass given = cookie_session_given(session);
+    bool is_done = status == COOKIE_DONE;
+    return given.status == status && given.end == (is_done ? facts->end : 0)
+        && memcmp(given.id, is_done ? facts->id : none, sizeof none) == 0;
+}
+
+/* Renews a session that was saved, so that it replaces what the browser has. */
+static void replace_session(cookie_sessions *sessions, cookie_session *session, uint64_t now) {
+    static const uint8_t id[16] = {3}, nonce[12] = {3};
+    uint8_t out[5000] = {0};
+    cookie_session_facts before = cookie_session_describe(session);
+    if (!is_given(session, COOKIE_DONE, &before))
+        fault("the browser hasn't the session that was saved");
+    if (cookie_session_renew(sessions, session, id, sizeof id, now) != COOKIE_DONE)
+        fault("a session that was saved isn't renewed");
+    cookie_answer answer = cookie_session_save(sessions, session, nonce, sizeof nonce, now, out, sizeof out);
+    if (answer.status != COOKIE_REPLACES || answer.length != 0 || out[0] != 0)
+        fault("a session is saved that replaces another one");
+    if (cookie_session_replace(session, now, true) != COOKIE_GONE
+        || cookie_session_replace(session, before.end, false) != COOKIE_GONE || !is_given(session, COOKIE_DONE, &before))
+        fault("a session is replaced that was revoked before, or is over");
+    if (cookie_session_replace(session, now, false) != COOKIE_DONE || !is_given(session, COOKIE_NOT_FOUND, &before)
+        || cookie_session_replace(session, now, false) != COOKIE_NOT_FOUND
+        || cookie_session_log_out(session, now, false) != COOKIE_NOT_FOUND)
+        fault("a session that is replaced is still the browser's");
+    answer = cookie_session_save(sessions, session, nonce, sizeof nonce, now, out, 0);
+    if (answer.status != COOKIE_BUFFER_TOO_SHORT || !is_given(session, COOKIE_NOT_FOUND, &before))
+        fault("the browser has a session that had no room");
+    answer = cookie_session_save(sessions, session, nonce, sizeof nonce, now, out, sizeof out);
+    before = cookie_session_describe(session);
+    if (answer.status != COOKIE_DONE || !is_given(session, COOKIE_DONE, &before))
+        fault("a session that replaced another one isn't saved");
+}
+
+/* Keeps a generation in a session that was saved, and logs out. */
+static void end_saved_session(cookie_session *session, uint64_t now) {
+    if (cookie_session_set_generation(session, 7) != COOKIE_DONE || !cookie_session_is_since(session, 7)
+        || cookie_session_is_since(session, 8))
+        fault("a session keeps another generation");
+    if (cookie_session_log_out(session, now, true) != COOKIE_GONE
+        || cookie_session_describe(session).status != COOKIE_DONE)
+        fault("a session is ended that was revoked before");
+    if (cookie_session_log_out(session, now, false) != COOKIE_DONE
+        || cookie_session_describe(session).status != COOKIE_NO_SESSION
+        || cookie_session_log_out(session, now, false) != COOKIE_NO_SESSION || cookie_session_is_since(session, 0))
+        fault("a session isn't ended");
+}
+
 static cookie_answer save_session(const text *in, uint8_t *out, size_t length) {
     long long n[6];
     cookie_sessions sessions = {0};
@@ -377,6 +428,10 @@ static cookie_answer save_session(const text *in, uint8_t *out, size_t length) {
         answer.status = make_session(in, n, &sessions, &session);
     if (answer.status == COOKIE_DONE)
         answer = cookie_session_save(&sessions, &session, in[6].bytes, 12, (uint64_t)n[2], out, length);
+    if (answer.status == COOKIE_DONE) {
+        replace_session(&sessions, &session, (uint64_t)n[2]);
+        end_saved_session(&session, (uint64_t)n[2]);
+    }
     cookie_session_free(&session);
     cookie_sessions_free(&sessions);
     return answer;
@@ -860,8 +915,10 @@ static uint32_t session_step(int step, site_handles *at) {
         uint8_t ids[16];
         return cookie_opened_ids(&at->opened, ids, sizeof ids).status;
     }
-    default:
+    case 8:
         return cookie_opened_take(&at->opened, NULL, 0, &at->session);
+    default:
+        return cookie_session_set_generation(&at->session, 7);
     }
 }
 
@@ -869,7 +926,7 @@ static uint32_t session_step(int step, site_handles *at) {
 static void starve_sessions(void) {
     site_handles at = {{{0}}, {{0}}, {{0}}};
     int refused = 0;
-    for (int step = 0; step < 9; step++)
+    for (int step = 0; step < 10; step++)
         for (size_t number = 1;; number++) {
             uint8_t before[300] = {0}, after[300] = {0};
             size_t before_length = look_at_session(&at.session, before, sizeof before);

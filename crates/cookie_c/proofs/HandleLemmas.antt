@@ -2,6 +2,7 @@
 use Rattle.std.proofs.Common.{◌≡◌, ℕ, Option, Some, None, refl, sym, ap, subst, ◌∙◌}
 use Rattle.cookie.specs.Jar.{JarState}
 use Rattle.cookie_browser.specs.Storage.{CookieStore}
+use Rattle.cookie_session.specs.Visit.{VisitState}
 use Rattle.cookie_c.specs.Agents.{ChangesStore}
 use Rattle.cookie_c.specs.Codes.{code_of}
 use Rattle.cookie_c.specs.Handles.{Changes, Tells, jar_in, session_in, store_in}
@@ -13,7 +14,6 @@ use Rattle.cookie_c.specs.declared.handle.content.Content.{Content}
 use Rattle.cookie_c.specs.declared.handle.content.Content.TheVariants as content
 use Rattle.cookie_c.specs.declared.jar.Jar.{Jar}
 use Rattle.cookie_c.specs.declared.sessions.Session.{Session}
-use Rattle.cookie_c.specs.declared.sessions.open_session.OpenSession.{OpenSession}
 use Rattle.cookie_c.specs.declared.status.Status.{Status}
 use Rattle.cookie_c.specs.declared.status.Status.TheVariants as status
 
@@ -43,7 +43,7 @@ jar_changed Makes number old new answer held seen had made some same is left tol
     changed jar_in status.NoJar Makes old.handle.held.content new.handle.held.content answer held seen had made number some same
     (ap (λ (c : Content). jar_in (Some c)) is) (ap jar_in left) told makes
 
-pub session_changed : (Makes : Status → OpenSession → OpenSession → Type 0) (number : ℕ) (old new : Session) (answer : Status) (held seen : Content) (had made : OpenSession)
+pub session_changed : (Makes : Status → VisitState → VisitState → Type 0) (number : ℕ) (old new : Session) (answer : Status) (held seen : Content) (had made : VisitState)
     → Some held ≡ old.handle.held.content → seen ≡ held → seen ≡ content.Session had → new.handle.held.content ≡ Some (content.Session made)
     → number ≡ code_of answer → Makes answer had made → AtSession Makes number old new
 session_changed Makes number old new answer held seen had made some same is left told makes =
@@ -51,7 +51,7 @@ session_changed Makes number old new answer held seen had made some same is left
     (ap (λ (c : Content). session_in (Some c)) is) (ap session_in left) told makes
 
 -- the same of a call that returns its answer itself
-pub session_changes : (Makes : Status → OpenSession → OpenSession → Type 0) (old new : Session) (answer : Status) (held seen : Content) (had made : OpenSession)
+pub session_changes : (Makes : Status → VisitState → VisitState → Type 0) (old new : Session) (answer : Status) (held seen : Content) (had made : VisitState)
     → Some held ≡ old.handle.held.content → seen ≡ held → seen ≡ content.Session had → new.handle.held.content ≡ Some (content.Session made)
     → Makes answer had made → Changes status.NoSession Makes answer (session_of old) (session_of new)
 session_changes Makes old new answer held seen had made some same is left makes =

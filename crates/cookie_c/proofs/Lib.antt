@@ -7,6 +7,7 @@ mod HeldBox
 mod JarLemmas
 mod KeyBytesLemmas
 mod KeyedLemmas
+mod LogoutLemmas
 mod OpenLemmas
 mod PairLemmas
 mod PrintLemmas

@@ -6,11 +6,11 @@ use Rattle.cookie.specs.Record.{Record}
 use Rattle.cookie.specs.Originals.{first_of_name}
 use Rattle.cookie_session.specs.Session.{SessionState}
 use Rattle.cookie_session.specs.Sessions.{HoldsOne, OpensFirst}
+use Rattle.cookie_session.specs.Visit.{VisitState, opened_visit}
 use Rattle.cookie_session.specs.declared.opened.Opened.{Opened}
 use Rattle.cookie_session.specs.declared.sessions.Sessions.{Sessions}
 use Rattle.cookie_c.specs.Handles.{IsKept, IsPut}
 use Rattle.cookie_c.specs.OpenedSessions.{HasNone, IsOpening}
-use Rattle.cookie_c.specs.declared.sessions.open_session.OpenSession.{OpenSession}
 use Rattle.cookie_c.specs.declared.status.Status.{Status}
 use Rattle.cookie_c.specs.declared.status.Status.TheVariants as status
 
@@ -35,13 +35,13 @@ module _ (site : Sessions) (cookies : List Record) (time : DateTime) where
   found_none finds place session is = none-some (record { session = session; place = place }) ((finds.exact place session).1 is)
 
   -- if none is found, there is none
-  pub opening_none : (answer : Status) (old new : Option OpenSession) → Finds site cookies time None → IsKept status.NoSession answer old new
+  pub opening_none : (answer : Status) (old new : Option VisitState) → Finds site cookies time None → IsKept status.NoSession answer old new
       → IsOpening site cookies time answer old new
   opening_none answer old new finds kept = inl (finds.first, inr (found_none finds, kept))
 
   -- it is put into the handle, or memory ran out
-  pub opening_put : (opened : Opened) (answer : Status) (old new : Option OpenSession) → Finds site cookies time (Some opened)
-      → IsPut (record { session = opened.session; index = Some opened.place }) answer old new
+  pub opening_put : (opened : Opened) (answer : Status) (old new : Option VisitState) → Finds site cookies time (Some opened)
+      → IsPut (opened_visit opened.session opened.place) answer old new
       → IsOpening site cookies time answer old new
   opening_put opened answer old new finds (inl puts) =
       let first = found_is_open opened finds in

@@ -5,6 +5,7 @@ use Rattle.std.proofs.lemmas.List.Elements.{All-push}
 use Rattle.std.proofs.lemmas.List.Folds.{concat-append}
 use Rattle.std.proofs.lemmas.Option.{same_Some, slice_get_read, slice_get_within}
 use Rattle.std.specs.List.{concat}
+use Rattle.cookie_session.specs.Visit.{opened_visit}
 use Rattle.cookie_session.specs.declared.opened.Opened.{Opened}
 use Rattle.cookie_c.specs.Revoked.{HasNoneLeft, IsFirstUnlisted, IsTaken, bytes_of_ids, opened_ids}
 
@@ -53,7 +54,7 @@ module _ (opened : List Opened) (i : ℕ) (past : length opened ≤ i) where
 
 -- the session at the place of the first is the one that is taken
 pub is_taken : (revoked : List (List ℕ)) (opened : List Opened) (place : ℕ) (first : Opened) → IsFirstUnlisted revoked opened (Some place)
-    → first ≡ get_or opened place first → IsTaken revoked opened (record { session = first.session; index = Some first.place })
+    → first ≡ get_or opened place first → IsTaken revoked opened (opened_visit first.session first.place)
 is_taken revoked opened place first is at =
     let (before, (id, here, unlisted)) = is in
     let inside : place < length (opened_ids opened) = slice_get_within (opened_ids opened) place id here in

@@ -1,5 +1,5 @@
 -- How a session is saved for C, by what the library's call does.
-use Rattle.std.proofs.Common.{◌≡◌, ◌↔◌, ℕ, ◌<◌, ◌≤◌, ◌⊎◌, inl, inr, true, false, List, Some, Result, Err, arith, refl, ap, subst, ◌∙◌}
+use Rattle.std.proofs.Common.{◌≡◌, ◌↔◌, ℕ, ◌<◌, ◌≤◌, ◌⊎◌, inl, inr, true, false, List, length, Some, Result, Err, arith, refl, ap, subst, sym, ◌∙◌}
 use Rattle.jiff.specs.Types.{DateTime}
 use Rattle.cookie.specs.Record.{Record}
 use Rattle.cookie.specs.Sealing.{IsNonce}
@@ -11,7 +11,19 @@ use Rattle.cookie_session.specs.Size.{browser_length, most_bytes}
 use Rattle.cookie_session.specs.declared.session_error.SessionError.{SessionError}
 use Rattle.cookie_session.specs.declared.session_error.SessionError.TheVariants as failure
 use Rattle.cookie_session.specs.declared.sessions.Sessions.{Sessions}
-use Rattle.cookie_c.specs.SavedSessions.{Saves}
+use Rattle.cookie_session.specs.Visit.{Replaces, VisitState, saved_visit}
+use Rattle.cookie_session.specs.declared.pass.Pass.{Pass}
+use Rattle.cookie_c.specs.Answers.{IsGiven, IsGivenInMemory, IsRefused, IsTold}
+use Rattle.cookie_c.specs.Codes.{code_of}
+use Rattle.cookie_c.specs.Handles.{session_in}
+use Rattle.cookie_c.specs.OpenedSessions.{session_of}
+use Rattle.cookie_c.specs.SavedSessions.{GivesSaved, GivesSavedInMemory, Saves, SavesHeld, SavesVisit}
+use Rattle.cookie_c.specs.declared.answer.Answer.{Answer}
+use Rattle.cookie_c.specs.declared.handle.content.Content.{Content}
+use Rattle.cookie_c.specs.declared.handle.content.Content.TheVariants as content
+use Rattle.cookie_c.specs.declared.sessions.Session.{Session}
+use Rattle.cookie_c.specs.declared.status.Status.{Status}
+use Rattle.cookie_c.specs.declared.status.Status.TheVariants as status
 
 module _ (site : Sessions) (nonce : List ℕ) (time : DateTime) (session : SessionState) where
   -- when the library's call refuses a session, under a nonce that is known
@@ -106,3 +118,56 @@ module _ (site : Sessions) (nonce : List ℕ) (time : DateTime) (session : Sessi
               (large.0, large.4 ∙ ap (λ n. browser_length (saved_cookie site n time session)) (only large.1 large.2 large.3));
           drawn = drawn;
         })) fails
+
+-- the status that an answer has
+status_told : (what : Status) (number : ℕ) (answer : Answer) → IsTold what number answer → answer.status ≡ code_of what
+status_told what number answer told = ap (λ (a : Answer). a.status) told
+
+module _ (text : List ℕ) (answer : Answer) (had made : VisitState) (old new : List ℕ) where
+  -- the visit replaces what the user agent has, so it is refused
+  pub gives_replaced : (pass : Pass) → Replaces had pass → IsRefused status.Replaces answer old new → made ≡ had
+      → GivesSaved text answer had made old new
+  gives_replaced pass is refused same = record {
+    replaces = λ _ _. (refused, same);
+    given = λ none. absurd (none pass is);
+    marked = λ none _. absurd (none pass is);
+    kept = λ _. same;
+  }
+
+  -- it replaces nothing, so its text is given
+  gives_free : ((pass : Pass) → ¬ Replaces had pass) → IsGiven text answer old new
+      → (length text ≤ length old → made ≡ saved_visit had) → (length old < length text → made ≡ had)
+      → GivesSaved text answer had made old new
+  gives_free none given marked kept = record {
+    replaces = λ pass is. absurd (none pass is);
+    given = λ _. given;
+    marked = λ _ fits. marked fits;
+    kept = kept;
+  }
+
+module _ (text : List ℕ) (answer : Answer) (had : VisitState) (old new : List ℕ) (none : (pass : Pass) → ¬ Replaces had pass) where
+  -- the text was written, and the visit is marked
+  pub gives_done : IsGivenInMemory text answer old new → answer.status ≡ 0
+      → GivesSavedInMemory text answer had (saved_visit had) old new
+  gives_done (inl given) done =
+      inl (gives_free text answer had (saved_visit had) old new none given (λ _. refl)
+      (λ short. absurd (let e : 0 ≡ 1 = sym done ∙ status_told status.BufferTooShort (length text) answer (given.told short) in cc)))
+  gives_done (inr refused) done =
+      absurd (let e : 0 ≡ 2 = sym done ∙ status_told status.OutOfMemory 0 answer refused.told in cc)
+
+  -- it wasn't, and the visit is as it was
+  pub gives_undone : IsGivenInMemory text answer old new → ¬ (answer.status ≡ 0)
+      → GivesSavedInMemory text answer had had old new
+  gives_undone (inl given) undone =
+      inl (gives_free text answer had had old new none given
+      (λ fits. absurd (undone (status_told status.Done (length text) answer (given.fits fits)))) (λ _. refl))
+  gives_undone (inr refused) undone = inr (refused, refl)
+
+-- what a call that saves makes of a handle's session: `held` is what the handle had, and `seen` what the call saw of it
+pub saves_held : (site : Sessions) (nonce : List ℕ) (time : DateTime) (answer : Answer) (out left : List ℕ) (old new : Session) (held seen : Content) (had made : VisitState)
+    → Some held ≡ old.handle.held.content → seen ≡ held → seen ≡ content.Session had → new.handle.held.content ≡ Some (content.Session made)
+    → SavesVisit site nonce time answer had made out left → SavesHeld site nonce time answer (session_of old) (session_of new) out left
+saves_held site nonce time answer out left old new held seen had made some same is put saves =
+    subst (λ h. SavesHeld site nonce time answer h (session_of new) out left)
+    (sym (ap (λ (c : Content). session_in (Some c)) is) ∙ ap (λ (c : Content). session_in (Some c)) same ∙ ap session_in some)
+    (made, ap session_in put, saves)

@@ -36,6 +36,8 @@ code_of status.BadIds = 25
 code_of status.NoSessions = 26
 code_of status.NoSuffixes = 27
 code_of status.NoAgent = 28
+code_of status.Replaces = 29
+code_of status.Gone = 30
 
 -- the status of a text that is refused as no cookie
 abbrev pub refusal_status : ParseError → Status

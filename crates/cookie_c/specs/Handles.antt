@@ -4,13 +4,13 @@ use Rattle.std.specs.Prelude.{◌≡◌, ℕ, ◌⊎◌, List, Option, Some, Non
 use Rattle.cookie.specs.Jar.{JarState}
 use Rattle.cookie_browser.specs.Storage.{CookieStore}
 use Rattle.cookie_browser.specs.Suffixes.{Rule}
+use Rattle.cookie_session.specs.Visit.{VisitState}
 use Rattle.cookie_session.specs.declared.opened.Opened.{Opened}
 use Rattle.cookie_c.specs.Answers.{IsRefused}
 use Rattle.cookie_c.specs.Codes.{code_of}
 use Rattle.cookie_c.specs.declared.answer.Answer.{Answer}
 use Rattle.cookie_c.specs.declared.handle.content.Content.{Content}
 use Rattle.cookie_c.specs.declared.handle.content.Content.TheVariants as content
-use Rattle.cookie_c.specs.declared.sessions.open_session.OpenSession.{OpenSession}
 use Rattle.cookie_c.specs.declared.sessions.site.Site.{Site}
 use Rattle.cookie_c.specs.declared.status.Status.{Status}
 use Rattle.cookie_c.specs.declared.status.Status.TheVariants as status
@@ -29,8 +29,8 @@ abbrev pub opened_in : Option Content → Option (List Opened)
 opened_in (Some (content.Opened opened)) = Some opened
 opened_in _ = None
 
-abbrev pub session_in : Option Content → Option OpenSession
-session_in (Some (content.Session session)) = Some session
+abbrev pub session_in : Option Content → Option VisitState
+session_in (Some (content.Session visit)) = Some visit
 session_in _ = None
 
 abbrev pub suffixes_in : Option Content → Option (List Rule)

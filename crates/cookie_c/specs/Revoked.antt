@@ -5,9 +5,9 @@ use Rattle.std.specs.List.{concat}
 use Rattle.std.specs.Simd.{first_chunks}
 use Rattle.cookie_session.specs.Id.{id_length}
 use Rattle.cookie_session.specs.Revocations.{IsFirstUnrevoked}
+use Rattle.cookie_session.specs.Visit.{VisitState, opened_visit}
 use Rattle.cookie_session.specs.declared.opened.Opened.{Opened}
 use Rattle.cookie_c.specs.Handles.{IsKept}
-use Rattle.cookie_c.specs.declared.sessions.open_session.OpenSession.{OpenSession}
 use Rattle.cookie_c.specs.declared.status.Status.{Status}
 use Rattle.cookie_c.specs.declared.status.Status.TheVariants as status
 
@@ -33,11 +33,11 @@ IsFirstUnlisted revoked opened place =
     IsFirstUnrevoked (λ id _. Contains revoked id) (opened_ids opened) place
 
 -- the session is the first of the opened ones whose id isn't one of these, with the index of the key that opened it
-abbrev pub IsTaken : List (List ℕ) → List Opened → OpenSession → Type 0
+abbrev pub IsTaken : List (List ℕ) → List Opened → VisitState → Type 0
 IsTaken revoked opened taken =
     (place : ℕ) × (first : Opened) × IsFirstUnlisted revoked opened (Some place)
     × (slice_get opened place ≡ Some first)
-    × (taken ≡ record { session = first.session; index = Some first.place })
+    × (taken ≡ opened_visit first.session first.place)
 
 -- the handle has no opened session whose id isn't one of these
 abbrev pub HasNoneLeft : List (List ℕ) → Option (List Opened) → Type 0
@@ -47,8 +47,8 @@ HasNoneLeft revoked old = (opened : List Opened) → old ≡ Some opened
 -- The first of a handle's opened sessions whose id isn't one of these goes into a session's handle, which had another
 -- one or none, and the others are gone. Or there is no such session, and both handles are as they were.
 abbrev pub Takes : List (List ℕ) → Status → Option (List Opened) → Option (List Opened)
-    → Option OpenSession → Option OpenSession → Type 0
+    → Option VisitState → Option VisitState → Type 0
 Takes revoked answer old left had new =
-    ((opened : List Opened) × (taken : OpenSession) × (old ≡ Some opened)
+    ((opened : List Opened) × (taken : VisitState) × (old ≡ Some opened)
     × IsTaken revoked opened taken × (answer ≡ status.Done) × (left ≡ None) × (new ≡ Some taken))
     ⊎ (HasNoneLeft revoked old × IsKept status.NoSession answer had new × (left ≡ old))

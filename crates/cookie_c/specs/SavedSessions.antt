@@ -1,18 +1,18 @@
 -- A session that is saved for C: `old` is the buffer at the call and `new` at the return.
-use Rattle.std.specs.Prelude.{◌≡◌, ℕ, ◌<◌, ◌≤◌, ◌⊎◌, true, false, List, Option, Some}
+use Rattle.std.specs.Prelude.{◌≡◌, ℕ, ◌<◌, ◌≤◌, ◌⊎◌, true, false, List, length, Option, None, Some}
 use Rattle.jiff.specs.Types.{DateTime}
 use Rattle.cookie.specs.Text.{cookie_text}
 use Rattle.cookie_session.specs.Seconds.{second_of}
 use Rattle.cookie_session.specs.Session.{SessionState, seen_at}
 use Rattle.cookie_session.specs.Sessions.{CanSave, CanSealSession, IsStored, bare_cookie, meets_prefix, saved_cookie}
 use Rattle.cookie_session.specs.Size.{browser_length, most_bytes}
+use Rattle.cookie_session.specs.Visit.{Replaces, VisitState, saved_visit}
+use Rattle.cookie_session.specs.declared.pass.Pass.{Pass}
 use Rattle.cookie_session.specs.declared.session_error.SessionError.{SessionError}
 use Rattle.cookie_session.specs.declared.session_error.SessionError.TheVariants as failure
 use Rattle.cookie_session.specs.declared.sessions.Sessions.{Sessions}
-use Rattle.cookie_c.specs.Answers.{IsGiven, IsTold}
-use Rattle.cookie_c.specs.Handles.{Reads}
+use Rattle.cookie_c.specs.Answers.{IsGiven, IsRefused, IsTold}
 use Rattle.cookie_c.specs.declared.answer.Answer.{Answer}
-use Rattle.cookie_c.specs.declared.sessions.open_session.OpenSession.{OpenSession}
 use Rattle.cookie_c.specs.declared.status.Status.{Status}
 use Rattle.cookie_c.specs.declared.status.Status.TheVariants as status
 
@@ -35,8 +35,8 @@ abbrev pub IsUnsaved : Answer → List ℕ → List ℕ → SessionError → Typ
 IsUnsaved answer old new why =
     IsTold (unsaved_status why) (unsaved_number why) answer × (new ≡ old)
 
--- How a session is saved under this nonce: it fails for a reason, or the text of its cookie is given. Memory may run out
--- in any case.
+-- How a session is saved under this nonce: it fails for a reason, or the text of its cookie is given. Memory may run
+-- out in any case.
 pub record Saves (site : Sessions) (nonce : List ℕ) (time : DateTime) (session : SessionState)
     (Fails : SessionError → Type 0) (Gives : List ℕ → Type 0) : Type 0 where
   pub prefix : ¬ (meets_prefix site.cookie.now.fields ≡ true)
@@ -60,9 +60,36 @@ pub record Saves (site : Sessions) (nonce : List ℕ) (time : DateTime) (session
       (seen_at (second_of time) session))
       ⊎ Fails failure.OutOfMemory
 
--- The same of the session that a handle has, which a handle without one refuses. The text is given.
-abbrev pub SavesHeld : Sessions → List ℕ → DateTime → Option OpenSession → Answer → List ℕ
+-- The text of a visit's cookie is given, and what the user agent has is the session's pass then. If the text has no
+-- room, the visit stays as it was. A visit that replaces what the user agent has is refused, and stays as it was too.
+pub record GivesSaved (text : List ℕ) (answer : Answer) (had made : VisitState) (old new : List ℕ)
+    : Type 0 where
+  pub replaces : (pass : Pass) → Replaces had pass
+      → IsRefused status.Replaces answer old new × (made ≡ had)
+  pub given : ((pass : Pass) → ¬ Replaces had pass) → IsGiven text answer old new
+  pub marked : ((pass : Pass) → ¬ Replaces had pass) → length text ≤ length old
+      → made ≡ saved_visit had
+  pub kept : length old < length text → made ≡ had
+
+-- so it is, or memory ran out, and nothing has changed
+abbrev pub GivesSavedInMemory : List ℕ → Answer → VisitState → VisitState → List ℕ → List ℕ
+    → Type 0
+GivesSavedInMemory text answer had made old new =
+    GivesSaved text answer had made old new
+    ⊎ (IsRefused status.OutOfMemory answer old new × (made ≡ had))
+
+-- how a visit is saved under this nonce, with what its handle has then
+abbrev pub SavesVisit : Sessions → List ℕ → DateTime → Answer → VisitState → VisitState → List ℕ
     → List ℕ → Type 0
-SavesHeld site nonce time =
-    Reads status.NoSession (λ had answer old new. Saves site nonce time had.session
-    (IsUnsaved answer old new) (λ text. IsGiven text answer old new))
+SavesVisit site nonce time answer had made old new =
+    Saves site nonce time had.session
+    (λ why. IsUnsaved answer old new why × (made ≡ had))
+    (λ text. GivesSaved text answer had made old new)
+
+-- the same of the session that a handle has, which a handle without one refuses
+abbrev pub SavesHeld : Sessions → List ℕ → DateTime → Answer → Option VisitState
+    → Option VisitState → List ℕ → List ℕ → Type 0
+SavesHeld site nonce time answer None left old new =
+    (left ≡ None) × IsRefused status.NoSession answer old new
+SavesHeld site nonce time answer (Some had) left old new =
+    (made : VisitState) × (left ≡ Some made) × SavesVisit site nonce time answer had made old new

@@ -5,12 +5,14 @@ ghost use Rattle.cookie_c.specs.Sites.{MakesSite, site_of};
 
 pub(crate) mod ending;
 pub(crate) mod facts;
+pub(crate) mod generation;
 pub(crate) mod given;
 pub(crate) mod keys;
+pub(crate) mod logout;
 pub(crate) mod open;
 pub(crate) mod open_all;
-pub(crate) mod open_session;
 pub(crate) mod opened_sessions;
+pub(crate) mod pass;
 pub(crate) mod save;
 pub(crate) mod site;
 pub(crate) mod start;

@@ -63,6 +63,10 @@ pub enum Status {
     NoSuffixes = 27,
     /// The handle has no user agent.
     NoAgent = 28,
+    /// The session replaces what the user agent has, which must be revoked first.
+    Replaces = 29,
+    /// The session was over or revoked already: another request renewed or ended it.
+    Gone = 30,
 }
 
 impl Status {

@@ -1,11 +1,11 @@
 //! What a handle of C can have.
 
-use crate::sessions::open_session::OpenSession;
 use crate::sessions::opened_sessions::OpenedSessions;
 use crate::sessions::site::Site;
 use cookie::CookieJar;
 use cookie_agent::Store;
 use cookie_browser::Suffixes;
+use cookie_session::Visit;
 
 /// What a handle has.
 #[derive(Drop)]
@@ -16,8 +16,8 @@ pub enum Content {
     Sessions(Site),
     /// The sessions that a request has open.
     Opened(OpenedSessions),
-    /// A session.
-    Session(OpenSession),
+    /// The session of a request.
+    Session(Visit),
     /// The rules of a list of public suffixes.
     Suffixes(Suffixes),
     /// What a user agent stores.

@@ -3,9 +3,9 @@ ghost use Rattle.std.specs.Prelude.{◌≡◌};
 ghost use Rattle.cookie_c.specs.OpenedSessions.{facts_of, session_of};
 
 use super::Session;
-use super::open_session::OpenSession;
 use crate::handle::with_content;
 use crate::status::Status;
+use cookie_session::Visit;
 use std::alloc::Global;
 
 /// What is told of a session.
@@ -41,7 +41,7 @@ pub extern "C" fn cookie_session_describe(alloc: Global, session: &mut Session) 
     ensures told { result ≡ facts_of (session_of session.old) }
 {
     with_content!(alloc, session.handle,
-        Session(opened) => SessionFacts::of(opened),
+        Session(visit) => SessionFacts::of(visit),
         _ => SessionFacts::none(),
     )
 }
@@ -61,18 +61,19 @@ impl SessionFacts {
     }
 
     // What is told of this session.
-    fn of(opened: &OpenSession) -> SessionFacts
-        ensures { result ≡ facts_of (Some opened.now) }
+    fn of(visit: &Visit) -> SessionFacts
+        ensures { result ≡ facts_of (Some visit.now) }
     {
+        let session = visit.session();
         SessionFacts {
             status: Status::Done.code(),
-            is_opened: opened.index.is_some(),
-            index: opened.index.unwrap_or(0),
-            started: opened.session.started(),
-            seen: opened.session.seen(),
-            end: opened.session.end(),
-            idle: opened.session.idle(),
-            id: *opened.session.id(),
+            is_opened: visit.place().is_some(),
+            index: visit.place().unwrap_or(0),
+            started: session.started(),
+            seen: session.seen(),
+            end: session.end(),
+            idle: session.idle(),
+            id: *session.id(),
         }
     }
 }

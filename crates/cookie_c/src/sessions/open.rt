@@ -5,7 +5,6 @@ ghost use Rattle.cookie_c.specs.Handles.{IsKept, Tells};
 ghost use Rattle.cookie_c.specs.OpenedSessions.{IsOpening, session_of};
 ghost use Rattle.cookie_c.specs.Sites.{AtSite, site_of};
 
-use super::open_session::OpenSession;
 use super::site::Site;
 use super::time::time_at;
 use super::{Session, Sessions};
@@ -13,6 +12,7 @@ use crate::handle::content::Content;
 use crate::handle::with_content;
 use crate::status::Status;
 use cookie::field_cookies;
+use cookie_session::Visit;
 use std::alloc::Global;
 
 /// Opens the session of a request, for a site that revokes none: puts it into the handle `session`, and frees the one
@@ -75,11 +75,8 @@ fn open_at(alloc: Global, site: &Site, header: &[u8], now: u64, session: &mut Se
     };
     match sessions.open(alloc, &cookies, time) {
         Ok(Some(opened)) => {
-            let found = OpenSession {
-                session: opened.session,
-                index: Some(opened.place),
-            };
-            session.handle.set(alloc, Content::Session(found))
+            let visit = Visit::of(opened);
+            session.handle.set(alloc, Content::Session(visit))
         }
         Ok(None) => Status::NoSession,
         Err(_) => Status::OutOfMemory,

@@ -2,8 +2,7 @@
 ghost use Rattle.std.specs.Prelude.{◌≡◌, ◌↔◌, Contains, IfNone, IfOk, IfSome, IsTrue, None};
 ghost use Rattle.cookie_c.specs.Revoked.{IsFirstUnlisted, IsTaken, bytes_of_ids};
 
-use super::open_session::OpenSession;
-use cookie_session::Opened;
+use cookie_session::{Opened, Visit};
 use std::alloc::{AllocError, Global};
 use std::marker::Model;
 
@@ -46,17 +45,13 @@ impl OpenedSessions {
     }
 
     // Takes out the first session whose id isn't one of these, if there is one.
-    pub(super) fn take_first(&mut self, revoked: &[[u8; 16]]) -> Option<OpenSession>
+    pub(super) fn take_first(&mut self, revoked: &[[u8; 16]]) -> Option<Visit>
         ensures some { IfSome result (IsTaken revoked.now self.old) }
         ensures none { IfNone result (IsFirstUnlisted revoked.now self.old None) }
         ensures kept { IfNone result (self.new ≡ self.old) }
     {
         let place = self.first_unlisted(revoked)?;
-        let found = self.all.swap_remove(place);
-        Some(OpenSession {
-            session: found.session,
-            index: Some(found.place),
-        })
+        Some(Visit::of(self.all.swap_remove(place)))
     }
 
     // The place of the first session whose id isn't one of these.

@@ -1,8 +1,9 @@
 //! Saving a session for C.
-ghost use Rattle.std.specs.Prelude.{◌≡◌, ◌≢◌, Some, length};
-ghost use Rattle.cookie_c.specs.Answers.{IsGiven, IsRefused};
+ghost use Rattle.std.specs.Prelude.{◌≡◌, ◌≢◌, Some, false, length, true};
+ghost use Rattle.cookie.specs.Text.{cookie_text};
+ghost use Rattle.cookie_c.specs.Answers.{IsRefused};
 ghost use Rattle.cookie_c.specs.OpenedSessions.{session_of};
-ghost use Rattle.cookie_c.specs.SavedSessions.{IsUnsaved, Saves, SavesHeld, unsaved_number, unsaved_status};
+ghost use Rattle.cookie_c.specs.SavedSessions.{GivesSavedInMemory, SavesHeld, SavesVisit, unsaved_number, unsaved_status};
 ghost use Rattle.cookie_c.specs.Sites.{AtSite, site_of};
 ghost use Rattle.cookie_c.specs.declared.status.Status.TheVariants as status;
 
@@ -13,7 +14,8 @@ use crate::answer::Answer;
 use crate::handle::with_content;
 use crate::print::give_text;
 use crate::status::Status;
-use cookie_session::{Session, SessionError, Sessions};
+use cookie::Cookie;
+use cookie_session::{SessionError, Sessions, Visit};
 use jiff::civil::DateTime;
 use std::alloc::Global;
 
@@ -36,14 +38,14 @@ pub extern "C" fn cookie_session_save(
     now: u64,
     out: &mut [u8],
 ) -> Answer
-    ensures kept { (site_of sessions.new ≡ site_of sessions.old)
+    ensures kept { site_of sessions.new ≡ site_of sessions.old }
+    ensures bad_nonce { length nonce.now ≢ 12 → IsRefused status.BadNonce result out.old out.new
         × (session_of session.new ≡ session_of session.old) }
-    ensures bad_nonce { length nonce.now ≢ 12
-        → IsRefused status.BadNonce result out.old out.new }
     ensures saves { length nonce.now ≡ 12 → AtSite (site_of sessions.old) now
-        (λ site time. SavesHeld site nonce.now time (session_of session.old)
-        result out.old out.new)
-        (λ why. IsRefused why result out.old out.new) }
+        (λ site time. SavesHeld site nonce.now time result
+        (session_of session.old) (session_of session.new) out.old out.new)
+        (λ why. IsRefused why result out.old out.new
+        × (session_of session.new ≡ session_of session.old)) }
 {
     if nonce.len() != NONCE_LENGTH {
         return Answer::refusal(Status::BadNonce);
@@ -65,11 +67,11 @@ fn save_at(
     out: &mut [u8],
 ) -> Answer
     requires { length nonce.bytes.now ≡ 12 }
-    ensures kept { session_of session.new ≡ session_of session.old }
-    ensures saves { AtSite (Some site.now) now
-        (λ site time. SavesHeld site nonce.entry.bytes.now time (session_of session.old)
-        result out.old out.new)
-        (λ why. IsRefused why result out.old out.new) }
+    ensures { AtSite (Some site.now) now
+        (λ site time. SavesHeld site nonce.entry.bytes.now time result
+        (session_of session.old) (session_of session.new) out.old out.new)
+        (λ why. IsRefused why result out.old out.new
+        × (session_of session.new ≡ session_of session.old)) }
 {
     match time_at(now) {
         Some(time) => save_held(alloc, &site.sessions(), session, nonce, time, out),
@@ -86,33 +88,47 @@ fn save_held(
     out: &mut [u8],
 ) -> Answer
     requires { length nonce.bytes.now ≡ 12 }
-    ensures kept { session_of session.new ≡ session_of session.old }
-    ensures saves { SavesHeld sessions.now nonce.entry.bytes.now time (session_of session.old)
-        result out.old out.new }
+    ensures { SavesHeld sessions.now nonce.entry.bytes.now time result
+        (session_of session.old) (session_of session.new) out.old out.new }
 {
     with_content!(alloc, session.handle,
-        Session(opened) => save(alloc, sessions, &opened.session, nonce, time, out),
+        Session(visit) => save(alloc, sessions, visit, nonce, time, out),
         _ => Answer::refusal(Status::NoSession),
     )
 }
 
-// The text of the session's cookie, for the buffer.
+// The text of the visit's cookie, for the buffer.
 fn save(
     alloc: Global,
     sessions: &Sessions<'_>,
-    session: &Session,
+    visit: &mut Visit,
     mut nonce: Given<'_>,
     time: DateTime,
     out: &mut [u8],
 ) -> Answer
     requires { length nonce.bytes.now ≡ 12 }
-    ensures { Saves sessions.now nonce.entry.bytes.now time session.now
-        (IsUnsaved result out.old out.new) (λ text. IsGiven text result out.old out.new) }
+    ensures { SavesVisit sessions.now nonce.entry.bytes.now time result
+        visit.old visit.new out.old out.new }
 {
-    match sessions.saved_cookie(alloc, session, time, &mut nonce) {
-        Ok(cookie) => give_text(alloc, &cookie, true, out),
+    match sessions.saved_cookie(alloc, visit.session(), time, &mut nonce) {
+        Ok(cookie) => give(alloc, visit, &cookie, out),
         Err(error) => Answer::of(unsaved_status(error), unsaved_number(error)),
     }
+}
+
+// Gives the text of the visit's cookie, unless it replaces what the user agent has.
+fn give(alloc: Global, visit: &mut Visit, cookie: &Cookie<'_>, out: &mut [u8]) -> Answer
+    ensures { GivesSavedInMemory (cookie_text true false cookie.now.fields) result
+        visit.old visit.new out.old out.new }
+{
+    let None = visit.replaced() else {
+        return Answer::refusal(Status::Replaces);
+    };
+    let answer = give_text(alloc, cookie, true, out);
+    if answer.status == Status::Done.code() {
+        visit.set_saved();
+    }
+    answer
 }
 
 fn unsaved_status(error: SessionError) -> Status

@@ -8,13 +8,12 @@ ghost use Rattle.cookie_c.specs.Sites.{AtSite, site_of};
 ghost use Rattle.cookie_c.specs.declared.status.Status.TheVariants as status;
 
 use super::given::Given;
-use super::open_session::OpenSession;
 use super::site::Site;
 use super::time::time_at;
 use crate::handle::content::Content;
 use crate::handle::with_content;
 use crate::status::Status;
-use cookie_session::{Session, Sessions};
+use cookie_session::{Sessions, Visit};
 use jiff::civil::DateTime;
 use std::alloc::Global;
 
@@ -120,20 +119,17 @@ fn start_at(
     let Some(time) = time_at(now) else {
         return Status::NoDate;
     };
-    let opened = OpenSession {
-        session: started(alloc, &site.sessions(), id, time),
-        index: None,
-    };
-    session.handle.set(alloc, Content::Session(opened))
+    let visit = started(alloc, &site.sessions(), id, time);
+    session.handle.set(alloc, Content::Session(visit))
 }
 
 // The session with this id that starts at this time.
-fn started(alloc: Global, sessions: &Sessions<'_>, mut id: Given<'_>, time: DateTime) -> Session
+fn started(alloc: Global, sessions: &Sessions<'_>, mut id: Given<'_>, time: DateTime) -> Visit
     requires { length id.bytes.now ≡ id_length }
-    ensures { result ≡ (new_session sessions.now id.entry.bytes.now time).session }
+    ensures { result ≡ new_session sessions.now id.entry.bytes.now time }
 {
-    match sessions.start(alloc, time, &mut id) {
-        Ok(session) => session,
+    match Visit::start(alloc, sessions, time, &mut id) {
+        Ok(visit) => visit,
         Err(_) => unreachable!(),
     }
 }
@@ -191,22 +187,22 @@ fn renew_held(
         (session_of session.old) (session_of session.new) }
 {
     with_content!(alloc, session.handle,
-        Session(opened) => renew_session(sessions, opened, id, time),
+        Session(visit) => renew_session(sessions, visit, id, time),
         _ => Status::NoSession,
     )
 }
 
 fn renew_session(
     sessions: &Sessions<'_>,
-    opened: &mut OpenSession,
+    visit: &mut Visit,
     mut id: Given<'_>,
     time: DateTime,
 ) -> Status
     requires { length id.bytes.now ≡ id_length }
     ensures done { result ≡ status.Done }
-    ensures renewed { opened.new ≡ renewed_session sessions.now id.entry.bytes.now time opened.old }
+    ensures renewed { visit.new ≡ renewed_session sessions.now id.entry.bytes.now time visit.old }
 {
-    match sessions.renew(&mut opened.session, time, &mut id) {
+    match visit.renew(sessions, time, &mut id) {
         Ok(()) => Status::Done,
         Err(_) => unreachable!(),
     }

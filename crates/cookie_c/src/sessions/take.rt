@@ -6,10 +6,10 @@ ghost use Rattle.cookie_c.specs.Revoked.{HasIds, HasNoneLeft, IsTaken, Takes, id
 ghost use Rattle.cookie_session.specs.declared.opened.Opened.{Opened as OpenedValue};
 ghost use Rattle.cookie_c.specs.declared.status.Status.TheVariants as status;
 
-use super::open_session::OpenSession;
 use super::{Opened, Session};
 use crate::handle::content::Content;
 use crate::status::Status;
+use cookie_session::Visit;
 use std::alloc::Global;
 use std::mem::replace;
 
@@ -63,7 +63,7 @@ fn take(alloc: Global, opened: &mut Opened, revoked: &[[u8; 16]], session: &mut 
 }
 
 // Takes the first of the opened sessions out of the content whose id isn't one of these, if there is one.
-fn take_first(content: &mut Content, revoked: &[[u8; 16]]) -> Option<OpenSession>
+fn take_first(content: &mut Content, revoked: &[[u8; 16]]) -> Option<Visit>
     ensures some { IfSome result (λ taken. (all : List OpenedValue)
         × (opened_in (Some content.old) ≡ Some all) × IsTaken revoked.now all taken) }
     ensures none { IfNone result (HasNoneLeft revoked.now (opened_in (Some content.old))) }

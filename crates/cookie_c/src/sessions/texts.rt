@@ -8,10 +8,10 @@ ghost use Rattle.cookie_c.specs.SessionCalls.{AtSession, HasForm, IsSet, IsTextG
 ghost use Rattle.cookie_c.specs.declared.status.Status.TheVariants as status;
 
 use super::Session;
-use super::open_session::OpenSession;
 use crate::answer::Answer;
 use crate::handle::with_content;
 use crate::status::Status;
+use cookie_session::Visit;
 use std::alloc::Global;
 
 /// The text at this name in the handle's session, for the buffer. The session is as before.
@@ -30,7 +30,7 @@ pub extern "C" fn cookie_session_get(
         result out.old out.new }
 {
     with_content!(alloc, session.handle,
-        Session(opened) => get(opened, name, out),
+        Session(visit) => get(visit, name, out),
         _ => Answer::refusal(Status::NoSession),
     )
 }
@@ -51,7 +51,7 @@ pub extern "C" fn cookie_session_texts(
         result out.old out.new }
 {
     with_content!(alloc, session.handle,
-        Session(opened) => give_texts(alloc, opened, out),
+        Session(visit) => give_texts(alloc, visit, out),
         _ => Answer::refusal(Status::NoSession),
     )
 }
@@ -70,7 +70,7 @@ pub extern "C" fn cookie_session_set(
     ensures { AtSession (IsSet name.now text.now) result session.old session.new }
 {
     with_content!(alloc, session.handle,
-        Session(opened) => set(opened, name, text).code(),
+        Session(visit) => set(visit, name, text).code(),
         _ => Status::NoSession.code(),
     )
 }
@@ -84,7 +84,7 @@ pub extern "C" fn cookie_session_remove(alloc: Global, session: &mut Session, na
     ensures { AtSession (IsUnset name.now) result session.old session.new }
 {
     with_content!(alloc, session.handle,
-        Session(opened) => remove(opened, name).code(),
+        Session(visit) => remove(visit, name).code(),
         _ => Status::NoSession.code(),
     )
 }
@@ -99,58 +99,58 @@ pub extern "C" fn cookie_session_set_texts(alloc: Global, session: &mut Session,
     ensures { AtSession (HasForm form.now) result session.old session.new }
 {
     with_content!(alloc, session.handle,
-        Session(opened) => set_form(alloc, opened, form).code(),
+        Session(visit) => set_form(alloc, visit, form).code(),
         _ => Status::NoSession.code(),
     )
 }
 
-fn get(opened: &OpenSession, name: &[u8], out: &mut [u8]) -> Answer
-    ensures { IsTextGiven name.now opened.now result out.old out.new }
+fn get(visit: &Visit, name: &[u8], out: &mut [u8]) -> Answer
+    ensures { IsTextGiven name.now visit.now result out.old out.new }
 {
     let Ok(name) = str::from_utf8(name) else {
         return Answer::refusal(Status::NotUtf8);
     };
-    match opened.session.get(name) {
+    match visit.session().get(name) {
         Some(text) => Answer::give(text.as_bytes(), out),
         None => Answer::refusal(Status::NotFound),
     }
 }
 
-fn give_texts(alloc: Global, opened: &OpenSession, out: &mut [u8]) -> Answer
-    ensures { IsGivenInMemory (form_of_texts opened.now.session.texts) result out.old out.new }
+fn give_texts(alloc: Global, visit: &Visit, out: &mut [u8]) -> Answer
+    ensures { IsGivenInMemory (form_of_texts visit.now.session.texts) result out.old out.new }
 {
-    match opened.session.to_form(alloc) {
+    match visit.session().to_form(alloc) {
         Ok(form) => Answer::give(form.as_bytes(), out),
         Err(_) => Answer::refusal(Status::OutOfMemory),
     }
 }
 
-fn set(opened: &mut OpenSession, name: &[u8], text: &[u8]) -> Status
-    ensures { IsSet name.now text.now result opened.old opened.new }
+fn set(visit: &mut Visit, name: &[u8], text: &[u8]) -> Status
+    ensures { IsSet name.now text.now result visit.old visit.new }
 {
     let (Ok(name), Ok(text)) = (str::from_utf8(name), str::from_utf8(text)) else {
         return Status::NotUtf8;
     };
-    match opened.session.set(name, text) {
+    match visit.set(name, text) {
         Ok(()) => Status::Done,
         Err(_) => Status::OutOfMemory,
     }
 }
 
-fn remove(opened: &mut OpenSession, name: &[u8]) -> Status
-    ensures { IsUnset name.now result opened.old opened.new }
+fn remove(visit: &mut Visit, name: &[u8]) -> Status
+    ensures { IsUnset name.now result visit.old visit.new }
 {
     let Ok(name) = str::from_utf8(name) else {
         return Status::NotUtf8;
     };
-    opened.session.remove(name);
+    visit.remove(name);
     Status::Done
 }
 
-fn set_form(alloc: Global, opened: &mut OpenSession, form: &[u8]) -> Status
-    ensures { HasForm form.now result opened.old opened.new }
+fn set_form(alloc: Global, visit: &mut Visit, form: &[u8]) -> Status
+    ensures { HasForm form.now result visit.old visit.new }
 {
-    match opened.session.set_form(alloc, form) {
+    match visit.set_form(alloc, form) {
         Ok(()) => Status::Done,
         Err(_) => Status::OutOfMemory,
     }
