@@ -80,6 +80,10 @@ class SessionFacts(ctypes.Structure):
     ]
 
 
+class Pass(ctypes.Structure):
+    _fields_ = [("status", ctypes.c_uint32), ("end", ctypes.c_uint64), ("id", ctypes.c_uint8 * 16)]
+
+
 def library_at(path: str) -> ctypes.CDLL:
     """The library, or `ImportError` with what to do."""
     try:
@@ -148,8 +152,13 @@ SESSION_SET = declare("session_set", HANDLE + TEXT * 2, ctypes.c_uint32)
 SESSION_REMOVE = declare("session_remove", HANDLE + TEXT, ctypes.c_uint32)
 SESSION_TEXTS = declare("session_texts", HANDLE + TEXT, Answer)
 SESSION_SET_TEXTS = declare("session_set_texts", HANDLE + TEXT, ctypes.c_uint32)
+SESSION_SET_GENERATION = declare("session_set_generation", HANDLE + SECOND, ctypes.c_uint32)
+SESSION_IS_SINCE = declare("session_is_since", HANDLE + SECOND, ctypes.c_bool)
 SESSION_RENEW = declare("session_renew", HANDLE * 2 + TEXT + SECOND, ctypes.c_uint32)
 SESSION_SAVE = declare("session_save", HANDLE * 2 + TEXT + SECOND + TEXT, Answer)
+SESSION_GIVEN = declare("session_given", HANDLE, Pass)
+SESSION_REPLACE = declare("session_replace", HANDLE + SECOND + [ctypes.c_bool], ctypes.c_uint32)
+SESSION_LOG_OUT = declare("session_log_out", HANDLE + SECOND + [ctypes.c_bool], ctypes.c_uint32)
 SESSION_END = declare("session_end", HANDLE + SECOND + TEXT, Answer)
 SESSION_FREE = declare("session_free", HANDLE, None)
 TOKEN_MAKE = declare("token_make", [ctypes.POINTER(TokenSettings)] + TEXT * 2 + SECOND + TEXT, Answer)

@@ -12,8 +12,8 @@ from __future__ import annotations
 
 from typing import Any, Awaitable, Callable, Mapping, MutableMapping
 
-from .errors import RevocationsError, TooLarge
-from .values import UNAVAILABLE, UNAVAILABLE_FIELDS, CookieSession, Middleware, log_failure, session_at
+from .errors import TooLarge
+from .values import FAILURES, CookieSession, Failure, Middleware, answer_to, session_at
 
 __all__ = ["CookieSession", "SessionMiddleware", "session_of"]
 Message = MutableMapping[str, Any]
@@ -39,23 +39,24 @@ class SessionMiddleware(Middleware):
         async def send_with_cookie(message: Message) -> None:
             nonlocal is_begun
             if message["type"] == "http.response.start":
-                message = {**message, "headers": [*message.get("headers", ()), *lines(self.fields(session, scope.get("session")))]}
+                fields = await self.afields(session, scope.get("session"))
+                message = {**message, "headers": [*message.get("headers", ()), *lines(fields)]}
             is_begun = True
             await send(message)
 
         try:
             session = scope["session"] = self.session_from(await self.sessions.aopen(header, self.clock()))
             await self.app(scope, receive, send_with_cookie)
-        except RevocationsError as error:
-            if is_begun:
-                raise
-            log_failure(error)
-            await refuse(scope["type"], send)
         except Exception as error:
             # Starlette raises another one, if the application has a handler of this one.
-            if is_begun or self.too_large is None or TooLarge not in (type(error), type(error.__cause__)):
+            failure = next((one for one in (error, error.__cause__) if isinstance(one, (*FAILURES, TooLarge))), None)
+            if is_begun or failure is None or isinstance(failure, TooLarge) and self.too_large is None:
                 raise
-            await self.too_large(scope, receive, send)
+            if isinstance(failure, TooLarge):
+                assert self.too_large
+                await self.too_large(scope, receive, send)
+            else:
+                await refuse(failure, scope["type"], send)
 
 
 def lines(fields: list[tuple[str, str]]) -> list[tuple[bytes, bytes]]:
@@ -63,11 +64,12 @@ def lines(fields: list[tuple[str, str]]) -> list[tuple[bytes, bytes]]:
     return [(name.lower().encode(), value.encode()) for name, value in fields]
 
 
-async def refuse(kind: str, send: Send) -> None:
-    """Answers a request whose session can't be looked up."""
+async def refuse(error: Failure, kind: str, send: Send) -> None:
+    """Answers a request whose session can't be looked up, or was renewed or ended by another one."""
+    status, fields, page = answer_to(error)
     if kind == "websocket":
         # Try again later (RFC 6455 7.4, and IANA's registry of close codes).
         await send({"type": "websocket.close", "code": 1013})
         return
-    await send({"type": "http.response.start", "status": 503, "headers": lines(UNAVAILABLE_FIELDS)})
-    await send({"type": "http.response.body", "body": UNAVAILABLE})
+    await send({"type": "http.response.start", "status": int(status[:3]), "headers": lines(fields)})
+    await send({"type": "http.response.body", "body": page})

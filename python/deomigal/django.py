@@ -13,18 +13,19 @@ import re
 import sys
 from typing import Any
 
+from asgiref.sync import sync_to_async
 from django.conf import settings
 from django.contrib.auth.signals import user_logged_in
 from django.contrib.sessions.backends.base import SessionBase
 from django.contrib.sessions.middleware import SessionMiddleware as DjangoMiddleware
 from django.core.signals import got_request_exception
 from django.http import HttpResponse
+from django.utils.cache import patch_vary_headers
 
 from .cookies import pairs, print_cookie
-from .errors import RevocationsError
 from .secrets import keys_of
 from .sessions import Session, Sessions
-from .values import UNAVAILABLE, UNAVAILABLE_FIELDS, log_failure, pack, unpack
+from .values import FAILURES, Failure, Generations, answer_to, note_unsaved, pack, unpack
 from .wsgi import header_in
 
 SALT = "deomigal.django"
@@ -68,23 +69,26 @@ def session_of(key: str | None, header: bytes | None = None) -> Session:
     return site().open(header)
 
 
-class SessionStore(SessionBase):
+class SessionStore(Generations, SessionBase):
     """A session, whose key is the value of its cookie. `source` is the session that it was opened from, and `header` the
     request's, if it is opened from that. `failure` is why it couldn't be opened, or the error of its revocations that no
-    view answered."""
+    view answered. `shows_revoked` is whether the request has only sessions that are revoked, and none was begun since. Such
+    a request may be an old tab's, whose browser has another session by now, so this isn't saved. `showed_revoked` stays."""
 
     source: Session | None = None
     header: bytes | None = None
-    failure: RevocationsError | None = None
+    failure: Failure | None = None
+    shows_revoked = showed_revoked = False
     _session_cache: dict[str, Any]
 
     def load(self) -> dict[str, Any]:
         """The values of the session, or none if the cookie holds no session that is open."""
         try:
             self.source = session_of(self.session_key, self.header)
-        except RevocationsError as error:
+        except FAILURES as error:
             self.failure = error
             raise
+        self.shows_revoked = self.showed_revoked = self.source.shows_revoked
         if not self.source.is_new:
             try:
                 values: dict[str, Any] = self.serializer().loads(unpack(self.source))
@@ -113,33 +117,54 @@ class SessionStore(SessionBase):
         self._session_key = text.partition(";")[0].partition("=")[2]
         self.modified = True
 
+    def clear(self) -> None:
+        """Drops the values. Of what the browser has it is known then which session this is."""
+        self._get_session()
+        super().clear()
+
     def create(self) -> None:
-        """Begins another session. It has no key before it is saved."""
-        self.source, self.modified = None, True
+        """Begins another session, with the values that were used. It has no key before it is saved."""
+        is_used = hasattr(self, "_session_cache")
+        self.renew()
+        if not is_used:
+            self._session_cache = {}
 
     def delete(self, session_key: str | None = None) -> None:
-        """Drops the values and the key. `flush` calls it, as at a logout. With DEOMIGAL_REVOCATIONS the session is
-        revoked. Without it a copy of the cookie stays open until its limits."""
+        """Drops the values and the key. `flush` calls it, as at a logout. With DEOMIGAL_REVOCATIONS what the browser has is
+        revoked, in each copy of its cookie. Without it a copy stays open until its limits. Raises `Gone` if another request
+        has renewed or ended the session, and `RevocationsError` if it can't be kept."""
         self.revoke(session_key)
         self.source, self.header, self._session_key, self._session_cache = None, None, "", {}
         self.modified = True
 
     def revoke(self, session_key: str | None = None) -> bool:
-        """Revokes the session, if the site keeps which sessions are revoked. Returns whether it was revoked already."""
+        """Revokes what the browser has, if the site keeps which sessions are revoked. Returns whether it had something."""
         if site().revocations is None:
             return False
         if session_key is not None and session_key != self.session_key:
             return site().revoke(session_of(session_key))
-        return site().revoke(self.source or session_of(self.session_key, self.header))
+        source = self.source or session_of(self.session_key, self.header)
+        if source.shows_revoked:
+            self.shows_revoked = self.showed_revoked = True
+        return site().revoke(source)
 
     def cycle_key(self) -> None:
         """Starts it anew with the same values, so that the lifetime counts from this request. A login calls it. With
-        DEOMIGAL_REVOCATIONS the session of before is revoked."""
+        DEOMIGAL_REVOCATIONS the session of before is revoked, in each copy of its cookie. Raises as `delete` does."""
+        self.renew()
+        self.save()
+
+    async def acycle_key(self) -> None:
+        """The same in a coroutine."""
+        await sync_to_async(self.cycle_key)()
+
+    def renew(self) -> None:
+        """Does the same when it is saved at the end of the request. Call it on a page that keeps something for a login, such
+        as a token against forged requests."""
         self._get_session()
         if self.source:
-            self.revoke()
             self.source.renew()
-        self.save()
+        self.modified, self.shows_revoked = True, False
 
     def exists(self, session_key: str | None = None) -> bool:
         """Nothing is stored, so no key is taken."""
@@ -153,7 +178,8 @@ class SessionStore(SessionBase):
 class SessionMiddleware(DjangoMiddleware):
     """Django's middleware, but it reads the request's header as `deomigal.Sessions` does. So a name that another host
     of the domain disguised doesn't count, and of several cookies of the name the first that holds an open session does.
-    If it can't be looked up whether a session is revoked, the request is answered with status 503.
+    If it can't be looked up whether a session is revoked, the request is answered with status 503, and with 409 if another
+    request has renewed or ended the session that this one renews or ends.
     """
 
     def __init__(self, *arguments: Any, **options: Any) -> None:
@@ -162,17 +188,17 @@ class SessionMiddleware(DjangoMiddleware):
         site()
 
     def __call__(self, request: Any) -> Any:
-        """The response, or one with status 503."""
+        """The response, or one with status 503 or 409."""
         try:
             return super().__call__(request)
-        except RevocationsError as error:
+        except FAILURES as error:
             return Unavailable(error)
 
     async def __acall__(self, request: Any) -> Any:
         """The same under ASGI."""
         try:
             return await super().__acall__(request)
-        except RevocationsError as error:
+        except FAILURES as error:
             return Unavailable(error)
 
     def process_request(self, request: Any) -> None:
@@ -185,25 +211,36 @@ class SessionMiddleware(DjangoMiddleware):
 
     def process_exception(self, request: Any, exception: Exception) -> Any:
         """Answers a view whose session couldn't be looked up, or not be revoked."""
-        return Unavailable(exception) if isinstance(exception, RevocationsError) else None
+        return Unavailable(exception) if isinstance(exception, FAILURES) else None
 
     def process_response(self, request: Any, response: Any) -> Any:
         """Saves the session in the response. In the place of an error page that Django made of such an error, or of a page
         that took the session for empty, this is the answer."""
         if isinstance(response, Unavailable):
             return response
-        failure = getattr(getattr(request, "session", None), "failure", None)
-        return Unavailable(failure) if failure else super().process_response(request, response)
+        session: Any = getattr(request, "session", None)
+        failure = getattr(session, "failure", None)
+        if failure:
+            return Unavailable(failure)
+        is_old = getattr(session, "showed_revoked", False)
+        if not is_old or not session.shows_revoked and not session.is_empty():
+            return super().process_response(request, response)
+        # The browser keeps what it has.
+        if session.modified:
+            note_unsaved()
+        patch_vary_headers(response, ["Cookie"])
+        return response
 
 
 class Unavailable(HttpResponse):
-    """The answer if it isn't known whether a session is revoked. No session is saved in it."""
+    """The answer if it isn't known whether a session is revoked, or if another request has renewed or ended it. No session is
+    saved in it."""
 
-    def __init__(self, error: RevocationsError) -> None:
-        super().__init__(UNAVAILABLE, status=503)
-        for name, value in UNAVAILABLE_FIELDS:
+    def __init__(self, error: Failure) -> None:
+        status, fields, page = answer_to(error)
+        super().__init__(page, status=int(status[:3]))
+        for name, value in fields:
             self[name] = value
-        log_failure(error)
 
 
 def cycle_at_login(request: Any, **_: Any) -> None:
@@ -216,7 +253,7 @@ def cycle_at_login(request: Any, **_: Any) -> None:
 def note_failure(request: Any, **_: Any) -> None:
     """Notes an error of the revocations that left a middleware, before Django makes a page of it."""
     error, session = sys.exc_info()[1], getattr(request, "session", None)
-    if isinstance(session, SessionStore) and isinstance(error, RevocationsError):
+    if isinstance(session, SessionStore) and isinstance(error, FAILURES):
         session.failure = error
 
 

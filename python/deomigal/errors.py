@@ -131,6 +131,16 @@ class NoAgent(CookieError, status=28):
     """The handle has no user agent. No call of this package raises it."""
 
 
+class Replaces(CookieError, status=29):
+    """The session replaces what the browser has, which must be revoked first. `Sessions.save` does so, and raises it
+    never."""
+
+
+class Gone(CookieError, status=30):
+    """The session was over or revoked already: another request renewed or ended it. Set no cookie, don't say that a logout
+    is done, and answer the request with an error, such as status 409 (RFC 9110 15.5.10)."""
+
+
 class RevocationsError(RuntimeError):
     """Whether a session is revoked can't be looked up, or that it is can't be kept. Answer the request with an error,
     such as status 503 (RFC 9110 15.6.4), and never as that of a visitor without a session."""

@@ -20,15 +20,15 @@ from flask.sessions import SecureCookieSession, SecureCookieSessionInterface, Se
 from flask.sessions import SessionInterface as FlaskSessionInterface
 from flask.sessions import session_json_serializer as tagged
 from itsdangerous import BadData
-from werkzeug.exceptions import ServiceUnavailable
+from werkzeug.exceptions import Conflict, HTTPException, ServiceUnavailable
 
 from ._library import header_of
 from .cookies import pairs
-from .errors import RevocationsError
+from .errors import Gone, RevocationsError
 from .revocations import Revocations
 from .secrets import keys_of
 from .sessions import Session, Sessions
-from .values import CODER, log_failure, with_expiry
+from .values import CODER, FAILURES, Failure, Generations, log_failure, note_unsaved, with_expiry
 
 # Where a request's environment has the session that was opened for it, since to read `flask.session` counts as its use; and
 # where the application's extensions have the interface.
@@ -48,7 +48,21 @@ class Unavailable(RevocationsError, ServiceUnavailable):
         log_failure(error)
 
 
-class FlaskSession(SecureCookieSession):
+class Changed(Gone, Conflict):
+    """A `Gone` that Flask answers with status 409, unless the application has an `errorhandler` for it."""
+
+    def __init__(self, error: Gone) -> None:
+        Conflict.__init__(self)
+        self.args = error.args
+        log_failure(error)
+
+
+def answered(error: Failure) -> Failure:
+    """The error as one that Flask answers."""
+    return Changed(error) if isinstance(error, Gone) else Unavailable(error)
+
+
+class FlaskSession(Generations, SecureCookieSession):
     """What `flask.session` is. A change within a value is saved too. `source` is the session that it was opened from, and
     `sessions` how the site keeps it. `is_old` is whether it was a session of Flask's own class. `serializer` prints each
     value."""
@@ -63,7 +77,9 @@ class FlaskSession(SecureCookieSession):
         self.serializer, self.opened, self.loaded = serializer, dict(source.texts), dict(values)
         # The texts that were saved last, and the cookie's text, or None if it was too large.
         self.saved: tuple[dict[str, str], str | None] | None = None
-        # Whether it couldn't be revoked. Then the browser keeps what it has.
+        # Whether the request has only revoked sessions. Then it drops no cookie: the browser may have another one by now.
+        self.showed_revoked = source.shows_revoked
+        # Whether it couldn't be revoked, or was renewed or ended by another request. Then the browser keeps what it has.
         self.is_failed = False
 
     def items(self) -> Any:
@@ -97,9 +113,16 @@ class FlaskSession(SecureCookieSession):
         """Its id, of sixteen bytes: each copy of its cookie has it, whenever it was saved, until it is renewed."""
         return self.source.id
 
+    @property
+    def shows_revoked(self) -> bool:
+        """Whether the request has only sessions that are revoked, and this one, which is new, wasn't renewed since. It may be
+        an old tab's, whose browser has another session by now, so it isn't saved."""
+        return self.source.shows_revoked
+
     def renew(self) -> None:
         """Starts it anew with the same values and another id, so that the lifetime counts from this request. Call it at
-        a login."""
+        a login, and on a page that keeps something for one, such as a token against forged requests. With `revocations` no
+        copy of the session of before opens once this one is saved."""
         self.source.renew()
         self.modified = self.accessed = True
         self.saved = None
@@ -111,31 +134,35 @@ class FlaskSession(SecureCookieSession):
         self.renew()
 
     def revoke(self) -> bool:
-        """Revokes it, and then clears it. Call it at a logout: no copy of its cookie opens any more, whenever it was
-        saved. Returns whether it was revoked already. Raises `RevocationsError` if that can't be kept, and `RuntimeError`
-        if the interface has no `revocations`."""
-        was_revoked = self.end()
+        """Logs the visitor out: revokes what the browser has, drops the values, and has the browser drop its cookie. No copy
+        of the cookie opens any more, whenever it was saved. Returns whether the browser had something. What is put in later
+        is a new session. Raises `Gone` if another request has renewed or ended it, `RevocationsError` if it can't be kept,
+        and `RuntimeError` if the interface has no `revocations`."""
+        is_ended = self.end()
         is_forgotten = self.get(REMEMBER) == "clear"
-        self.clear()
+        super().clear()
         if is_forgotten:
             # So Flask-Login drops the cookie that would log the user in again.
             self[REMEMBER] = "clear"
-        return was_revoked
+        return is_ended
 
     def end(self) -> bool:
-        """Revokes it, and starts it anew with the same values. Returns whether it was revoked already."""
+        """Revokes what the browser has, and is a new session with the same values then. Returns whether the browser had
+        something."""
         try:
-            was_revoked = self.sessions.revoke(self.source)
-        except RevocationsError as error:
+            is_ended = self.sessions.revoke(self.source)
+        except FAILURES as error:
             self.is_failed = True
-            raise Unavailable(error) from error
-        self.renew()
-        return was_revoked
+            raise answered(error) from error
+        if is_ended:
+            self.modified = self.accessed = True
+            self.saved = None
+        return is_ended
 
     def check(self) -> None:
         """Raises `TooLarge` if no browser would store the session as it is now. It is checked so after each view, if
         `SessionInterface.init_app` was called. What is too large isn't saved, and the browser keeps what it has."""
-        if self and self.is_changed():
+        if self and self.is_changed() and not self.shows_revoked:
             self.save()
 
     def save(self) -> str:
@@ -143,7 +170,11 @@ class FlaskSession(SecureCookieSession):
         texts = self.texts()
         if self.saved is None or self.saved[0] != texts or self.saved[1] is None:
             self.source.texts, self.saved = texts, (texts, None)
-            self.saved = texts, self.sessions.save(self.source)
+            try:
+                self.saved = texts, self.sessions.save(self.source)
+            except FAILURES as error:
+                self.is_failed = True
+                raise answered(error) from error
         return cast(str, self.saved[1])
 
     def texts(self) -> dict[str, str]:
@@ -217,7 +248,8 @@ class UnopenedSession(Dict[str, Any], SessionMixin):
     __getitem__ = __setitem__ = __delitem__ = __contains__ = __iter__ = __len__ = __bool__ = __eq__ = fail
     __or__ = __ror__ = __ior__ = __reversed__ = fail  # type: ignore
     get = keys = values = items = pop = popitem = setdefault = update = clear = copy = fail  # type: ignore
-    renew = revoke = check = fail
+    renew = revoke = check = is_since = fail
+    generation = property(fail)
 
 
 # The session of the request, as `flask.session` is, but with the type that it has here.
@@ -233,8 +265,9 @@ class SessionInterface(FlaskSessionInterface):
     is given. `refresh` is how many seconds after it was saved an unchanged session is saved again, by default a tenth
     of `idle`. With `migrate` the sessions of Flask's own class are read too, and saved as these. `clock` returns the
     time, in seconds since 1970. `serializer` prints and reads each value. `revocations`, such as `SqliteRevocations`,
-    keeps which sessions are revoked, by `session.revoke()`. If it fails, the request is answered with status 503, or by
-    `errorhandler(RevocationsError)`. With `compress` a session is saved compressed: see `deomigal.Sessions` for when not
+    keeps which sessions are revoked, by `session.revoke()` and by what is saved after `session.renew()`. If it fails, the
+    request is answered with status 503, or by `errorhandler(RevocationsError)`. If another request has renewed or ended the
+    session, it is answered with status 409, or by `errorhandler(Gone)`. With `compress` a session is saved compressed: see `deomigal.Sessions` for when not
     to.
 
     With Flask-Login each login starts the session anew, and with `revocations` each logout revokes it.
@@ -375,7 +408,12 @@ class SessionInterface(FlaskSessionInterface):
             response.vary.add("Cookie")
         elif not session.modified and (response.status_code >= 400 or is_static()):
             return
-        text = self.text_of(app, session)
+        try:
+            text = self.text_of(app, session)
+        except (Unavailable, Changed) as error:
+            # It was changed after the view, where no `errorhandler` answers.
+            answer_by(error, response)
+            return
         if text is not None:
             response.headers.add("Set-Cookie", text)
             response.vary.add("Cookie")
@@ -384,8 +422,13 @@ class SessionInterface(FlaskSessionInterface):
         """The text of the cookie that saves the session or has it dropped, or None."""
         if session.is_failed:
             return None
+        if session.shows_revoked:
+            if session.modified:
+                note_unsaved()
+            return None
         if not session:
-            return session.sessions.end(session.source.now) if session.modified else None
+            is_dropped = session.modified and not session.showed_revoked
+            return session.sessions.end(session.source.now) if is_dropped else None
         if not self.should_set_cookie(app, session) or session.is_refused():
             return None
         return with_expiry(session.save(), session.source, session.permanent)
@@ -406,6 +449,13 @@ class SessionInterface(FlaskSessionInterface):
 def opened_session() -> SessionMixin | None:
     """The session that was opened for the request, if any."""
     return cast("SessionMixin | None", flask.request.environ.get(KEY))
+
+
+def answer_by(error: HTTPException, response: Response) -> None:
+    """Has the response answer as the error does."""
+    response.status_code, response.data = error.code or 500, error.get_body()
+    for name, value in error.get_headers():
+        response.headers[name] = value
 
 
 def connect_to_logins(login: Callable[..., None], logout: Callable[..., None]) -> None:

@@ -8,16 +8,16 @@ from typing import Any, Awaitable, Callable, Iterator, MutableMapping, Sequence,
 from urllib.parse import parse_qsl, urlencode
 
 from ._library import (
-    OPENED_FREE, OPENED_IDS, OPENED_NEW, OPENED_TAKE, SESSION_DESCRIBE, SESSION_END, SESSION_FREE, SESSION_OPEN, SESSION_SAVE,
-    SESSION_SET_TEXTS, SESSION_START, SESSION_TEXTS, SESSIONS_FREE, SESSIONS_NEW, Handle, Settings, Uncopied, bytes_from,
-    handle_of, header_of, perform, ring_of,
+    DONE, OPENED_FREE, OPENED_IDS, OPENED_NEW, OPENED_TAKE, SESSION_DESCRIBE, SESSION_END, SESSION_FREE, SESSION_GIVEN,
+    SESSION_LOG_OUT, SESSION_OPEN, SESSION_RENEW, SESSION_REPLACE, SESSION_SAVE, SESSION_SET_TEXTS, SESSION_START,
+    SESSION_TEXTS, SESSIONS_FREE, SESSIONS_NEW, Handle, Settings, Uncopied, bytes_from, handle_of, header_of, perform, ring_of,
 )
 from ._locks import Lock
 from ._steps import in_thread, run
 from .compression import expand, shorten
 from .cookies import print_cookie
 from .dates import whole_second
-from .errors import NoSession, NotUtf8, RevocationsError, error_of
+from .errors import BufferTooShort, Gone, NoSession, NotUtf8, Replaces, RevocationsError, error_of
 from .revocations import ID_LENGTH, AsyncRevocations, Revocations, as_revocations_error
 
 # Room for a cookie that a browser stores, and for the texts in it.
@@ -34,6 +34,8 @@ class Session(MutableMapping[str, str]):
     `idle` how many seconds it lives unsaved. It gets both when it is first saved, and keeps them if the site's limits are
     raised. Before that they are None. `place` is the place of the key that opened it: 0 is the newest, and a new session
     has None. `id` has sixteen random bytes: each copy of its cookie has them, whenever it was saved, until it is renewed.
+    `shows_revoked` is whether the request has only sessions that are revoked, and this one, which is new, wasn't renewed
+    since. Such a request may be an old tab's, whose browser has another session by now, so don't save it.
 
     >>> session = Session(1445412480)
     >>> session["user"] = "ann"
@@ -45,15 +47,19 @@ class Session(MutableMapping[str, str]):
         if not isinstance(now, int):
             raise TypeError("a second is an int")
         self.now = whole_second(now)
+        # What the library keeps of the session, once it is opened or saved: also which one the browser has.
+        self.handle = handle_of(self, SESSION_FREE)
+        self.begin()
+
+    def begin(self) -> None:
+        """Makes it a new session without texts, of which the browser has none."""
+        SESSION_FREE(self.handle)
         self.place: int | None = None
-        # The ids that cookies of it may have, each with its end.
-        self.ends: dict[bytes, int | None] = {}
-        # The header that it was opened from, and the ids in it that are revoked, or None before they are looked up.
+        # The header that it was opened from, or its cookie once it is saved; and the ids in it that are revoked, or None
+        # before they are looked up.
         self.header = b""
         self.revoked: bytes | None = None
         self.texts: dict[str, str] = {}
-        # What the library keeps of the session, once it is opened or saved.
-        self.handle = handle_of(self, SESSION_FREE)
         self.renew()
 
     @property
@@ -63,7 +69,7 @@ class Session(MutableMapping[str, str]):
 
     def renew(self) -> None:
         """Starts it anew with the same texts and another id, so that the lifetime counts from this request. Call it at
-        a login.
+        a login. When it is saved, the session of before is revoked, in each copy of its cookie.
 
         >>> session = Session(1445412480)
         >>> session.started = 1445400000
@@ -75,8 +81,9 @@ class Session(MutableMapping[str, str]):
         self.end: int | None = None
         self.idle: int | None = None
         self.id = os.urandom(ID_LENGTH)
-        self.is_renewed = True
-        SESSION_FREE(self.handle)
+        self.shows_revoked = False
+        # Whether it started at this request, and whether the library knows that it did.
+        self.is_renewed, self.is_started = True, False
 
     def is_due(self, idle: float, refresh: float) -> bool:
         """Whether it was last saved so long ago that its use is to count: `refresh` seconds, if the site has this idle time,
@@ -88,6 +95,28 @@ class Session(MutableMapping[str, str]):
         facts = SESSION_DESCRIBE(self.handle)
         self.id, self.started, self.seen, self.end, self.idle = bytes(facts.id), facts.started, facts.seen, facts.end, facts.idle
         self.place = facts.index if facts.is_opened else self.place
+        self.is_started = True
+
+    @property
+    def generation(self) -> int | None:
+        """The number of the user's generation that it keeps, if it does, as the text `generation` in decimal digits. A site
+        keeps one number a user, and adds one where all sessions of the user are to end, as after a change of the password.
+
+        >>> session = Session(1445412480)
+        >>> session.generation = 7
+        >>> session["generation"], session.is_since(7), session.is_since(8)
+        ('7', True, False)
+        """
+        return generation_in(self.texts.get("generation"))
+
+    @generation.setter
+    def generation(self, number: int) -> None:
+        self["generation"] = str(generation_of(number))
+
+    def is_since(self, generation: int) -> bool:
+        """Whether it keeps this generation or a later one. Treat its visitor as nobody if it doesn't."""
+        least, kept = generation_of(generation), self.generation
+        return kept is not None and kept >= least
 
     def __getitem__(self, name: str) -> str:
         return self.texts[name]
@@ -129,8 +158,8 @@ class Sessions(Uncopied):
     a path or a domain with a control character or a `;` with `InvalidValue`, and a limit past 32 bits with
     `OverflowError`.
 
-    With `revocations`, such as `SqliteRevocations`, `revoke` ends a session in each copy of its cookie. In a coroutine
-    await `aopen` and `arevoke`, so that others go on while it is looked up.
+    With `revocations`, such as `SqliteRevocations`, `revoke` ends a session in each copy of its cookie, and so does the
+    first `save` after a renewal. In a coroutine await `aopen`, `asave` and `arevoke`, so that others go on meanwhile.
 
     With `compress` a session is saved compressed, if that is shorter. Then the length of its cookie, which encryption
     doesn't hide, tells of its texts: whoever chooses one of them and sees many lengths learns a secret beside it, byte
@@ -218,9 +247,11 @@ class Sessions(Uncopied):
         try:
             await self.fill(session, ask)
         except NoSession:
-            return self.start(session.now)
+            started = self.start(session.now)
+            started.shows_revoked = bool(session.revoked)
+            return started
         session.describe()
-        session.ends, session.is_renewed = {session.id: session.end}, False
+        session.is_renewed = False
         form = bytes_from(SESSION_TEXTS, session.handle, room=ROOM).decode()
         try:
             session.texts = expand(dict(parse_qsl(form, keep_blank_values=True)))
@@ -267,7 +298,7 @@ class Sessions(Uncopied):
             found = getattr(self.revocations, name)(*words)
         if inspect.iscoroutine(found):
             found.close()
-            raise TypeError(f"{name} of these revocations is a coroutine: await aopen and arevoke")
+            raise TypeError(f"{name} of these revocations is a coroutine: await aopen, asave and arevoke")
         return found
 
     async def ask_async(self, name: str, *words: Any) -> Any:
@@ -279,10 +310,13 @@ class Sessions(Uncopied):
             return await in_thread(function, *words)
 
     def revoke(self, session: Session) -> bool:
-        """Revokes the session: no copy of its cookie opens any more, whenever it was saved. Call it at a logout, and
-        send what `end` returns. Returns whether it was revoked already: of two logouts at the same moment one gets False.
-        Raises `RevocationsError` if that can't be kept: tell the user then that the logout failed. Without `revocations`
-        it raises `RuntimeError`.
+        """Logs the visitor out: revokes what the browser has, in each copy of its cookie, whenever it was saved, and whichever
+        requests renewed it before. Send what `end` returns then. Returns whether there was something to revoke. The object
+        is a new session without texts then, so nothing is saved of the old one.
+
+        Raises `Gone` if what the browser has is over or was revoked already: another request has renewed the session since,
+        or logged out. Don't say then that the user is logged out. Raises `RevocationsError` if it can't be kept: tell the user
+        then that the logout failed. Without `revocations` it raises `RuntimeError`.
 
         >>> from deomigal import derive_key
         >>> from deomigal.revocations import MemoryRevocations
@@ -291,7 +325,7 @@ class Sessions(Uncopied):
         >>> cookie = sessions.save(sessions.start())
         >>> session = sessions.open(cookie)
         >>> sessions.revoke(session), sessions.revoke(session)
-        (False, True)
+        (True, False)
         >>> sessions.open(cookie).is_new
         True
         """
@@ -303,20 +337,46 @@ class Sessions(Uncopied):
         return await self.revoking(session, self.ask_async)
 
     async def revoking(self, session: Session, ask: Ask) -> bool:
-        """Revokes the session. Returns whether it was revoked already."""
+        """Revokes what the browser has, if it has something, and makes the session a new one."""
         if self.revocations is None:
             raise RuntimeError("these sessions can't be revoked: they are made without `revocations`")
-        found = [await ask("revoke", id, end) for id, end in list(session.ends.items())]
-        if not all(isinstance(was_revoked, bool) for was_revoked in found):
-            raise TypeError("revoke of the revocations returns a bool: whether the session was revoked already")
-        return any(found)
+        await self.reopen(session, ask)
+        if SESSION_GIVEN(session.handle).status != DONE:
+            return False
+        await self.spend(session, ask, SESSION_LOG_OUT)
+        session.begin()
+        return True
+
+    async def spend(self, session: Session, ask: Ask, tell: Callable[..., int]) -> None:
+        """Revokes what the browser has, if the site keeps what is revoked, and tells the library so. Raises `Gone` if it was
+        revoked already."""
+        was_revoked, given = False, SESSION_GIVEN(session.handle)
+        if self.revocations is not None:
+            was_revoked = await ask("revoke", bytes(given.id), given.end)
+            if not isinstance(was_revoked, bool):
+                raise TypeError("revoke of the revocations returns a bool: whether the session was revoked already")
+        status = tell(session.handle, session.now, was_revoked)
+        if status != DONE:
+            # Another call for this object may have come first, so that the handle has none any more.
+            raise error_of(Gone.status if was_revoked else status)
+
+    async def reopen(self, session: Session, ask: Ask) -> None:
+        """Opens the session of a copy for its handle, as it was opened or saved."""
+        if not session.handle.is_open and session.header:
+            await self.fill(session, ask)
+            # What was renewed since has another id.
+            session.is_started = bytes(SESSION_DESCRIBE(session.handle).id) == session.id
 
     def save(self, session: Session) -> str:
         """The value of the `Set-Cookie` header that saves the session, encrypted under the newest key.
 
-        Save at each request, so that the idle time counts from it. Raises `TooLarge` if a browser wouldn't store the
-        cookie: there is room for about 2,930 bytes of texts in UTF-8, or of what they are when they are compressed. Raises
-        `NotUtf8` for a text with a lone surrogate.
+        Save at each request, so that the idle time counts from it. The first save after a renewal revokes what the browser
+        has, if the site has `revocations`. Raises `Gone` if that is over or was revoked already: of two requests that renew
+        one session at the same moment one gets it, and so does a renewal after a logout. Raises `RevocationsError` if it
+        can't be kept. Set no cookie after either.
+
+        Raises `TooLarge` if a browser wouldn't store the cookie: there is room for about 2,930 bytes of texts in UTF-8, or of
+        what they are when they are compressed. Raises `NotUtf8` for a text with a lone surrogate. Nothing is revoked then.
 
         >>> from deomigal import derive_key
         >>> from deomigal.errors import TooLarge
@@ -329,25 +389,58 @@ class Sessions(Uncopied):
         ...     print(error.size > 4096)
         True
         """
+        return run(self.saving(session, self.ask))
+
+    async def asave(self, session: Session) -> str:
+        """Does what `save` does. Calls of the revocations that are coroutines are awaited, and others made in a worker
+        thread."""
+        return await self.saving(session, self.ask_async)
+
+    async def saving(self, session: Session, ask: Ask) -> str:
+        """Saves the session, once what it replaces is revoked."""
+        await self.prepare(session, ask)
+        try:
+            text = self.text_of(session)
+        except Replaces:
+            await self.spend(session, ask, SESSION_REPLACE)
+            text = self.text_of(session)
+        # A copy of it opens this cookie again.
+        session.header, session.revoked = text.partition(";")[0].encode(), b""
+        return text
+
+    async def prepare(self, session: Session, ask: Ask) -> None:
+        """Has the library know of the session what this object does."""
         if not isinstance(session, Session):
             raise TypeError("what is saved is a Session")
-        now, handle = session.now, session.handle
-        if not handle.is_open and session.is_renewed:
+        await self.reopen(session, ask)
+        if not (session.is_started and session.handle.is_open):
             with self.lock:
-                perform(SESSION_START, self.handle, session.id, now, handle)
+                if session.handle.is_open:
+                    perform(SESSION_RENEW, self.handle, session.handle, session.id, session.now)
+                else:
+                    perform(SESSION_START, self.handle, session.id, session.now, session.handle)
             session.describe()
-        elif not handle.is_open:
-            run(self.fill(session, self.ask))
         try:
             form = urlencode(shorten(session.texts, self.compress))
         except UnicodeEncodeError:
             # A lone surrogate.
             raise error_of(NotUtf8.status) from None
-        perform(SESSION_SET_TEXTS, handle, form)
+        perform(SESSION_SET_TEXTS, session.handle, form)
+
+    def text_of(self, session: Session) -> str:
+        """The text of the session's cookie, under a nonce of its own."""
         with self.lock:
-            text = bytes_from(SESSION_SAVE, self.handle, handle, os.urandom(12), now, room=ROOM).decode()
-        session.ends[session.id] = session.end
-        return text
+            nonce = os.urandom(12)
+            return bytes_from(SESSION_SAVE, self.handle, session.handle, nonce, session.now, room=ROOM).decode()
+
+    def check(self, session: Session) -> None:
+        """Raises what `save` raises for the session as it is now, but asks no store and revokes nothing."""
+        run(self.prepare(session, self.ask))
+        with self.lock:
+            answer = SESSION_SAVE(self.handle, session.handle, os.urandom(12), 12, session.now, None, 0)
+        # Without room nothing is given.
+        if answer.status not in (BufferTooShort.status, Replaces.status):
+            raise error_of(answer.status, answer.length)
 
     def end(self, now: float | None = None) -> str:
         """The value of the `Set-Cookie` header that has the browser drop the cookie. A copy stays open until its
@@ -367,3 +460,19 @@ def is_true(found: Any) -> bool:
     if not isinstance(found, bool):
         raise RevocationsError(f"a look-up returns a bool, and not a value of the type {type(found).__name__}")
     return found
+
+
+def generation_of(number: int) -> int:
+    """The number of a generation, of 64 bits."""
+    if not isinstance(number, int) or isinstance(number, bool):
+        raise TypeError("a generation is an int")
+    if not 0 <= number < 2**64:
+        raise OverflowError("a generation has at most 64 bits")
+    return number
+
+
+def generation_in(text: Any) -> int | None:
+    """The number of a generation in a session's text, or None if it is none."""
+    if not isinstance(text, str) or not (text.isascii() and text.isdigit() and len(text) <= 20):
+        return None
+    return int(text) if str(int(text)) == text and int(text) < 2**64 else None

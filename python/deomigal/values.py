@@ -5,22 +5,26 @@ import base64
 import json
 import logging
 import time
-from typing import TYPE_CHECKING, Any, Callable, Dict, Iterable, Iterator, Mapping, MutableMapping
+from typing import TYPE_CHECKING, Any, Callable, Dict, Iterable, Iterator, Mapping, MutableMapping, Union
 
+from ._steps import run
 from .compression import MARKS
 from .dates import print_date
-from .errors import RevocationsError
+from .errors import Gone, RevocationsError
 from .explain import date_after
 from .secrets import keys_of
-from .sessions import AnyRevocations, Session, Sessions
+from .sessions import AnyRevocations, Ask, Session, Sessions, generation_of
 
 # The names of the one text that a session of values has: as it is, or in base64url.
 PLAIN, ENCODED = "j", "b"
 # The JSON of no values.
 EMPTY = b"{}"
-# What is answered if it can't be looked up whether a session is revoked (RFC 9110 15.6.4).
-UNAVAILABLE = b"Try again in a moment.\n"
-UNAVAILABLE_FIELDS = [("Content-Type", "text/plain"), ("Retry-After", "1")]
+# What is answered if it can't be looked up whether a session is revoked (RFC 9110 15.6.4), and if another request has
+# renewed or ended the session that this one renews or ends (15.5.10).
+UNAVAILABLE = "503 Service Unavailable", [("Content-Type", "text/plain"), ("Retry-After", "1")], b"Try again in a moment.\n"
+CONFLICT = "409 Conflict", [("Content-Type", "text/plain")], b"Your session has changed meanwhile. Load the page again.\n"
+Failure = Union[RevocationsError, Gone]
+FAILURES = (RevocationsError, Gone)
 LOG = logging.getLogger("deomigal")
 FORTNIGHT = 14 * 24 * 3600
 # How the values of a session are printed: as they are, or in ASCII, with escapes.
@@ -28,9 +32,23 @@ CODER = json.JSONEncoder(separators=(",", ":"), ensure_ascii=False)
 ASCII_CODER = json.JSONEncoder(separators=(",", ":"))
 
 
-def log_failure(error: RevocationsError) -> None:
-    """Logs why a request is answered with status 503."""
-    LOG.error("a request is answered with status 503: %s", error)
+def log_failure(error: Failure) -> None:
+    """Logs why a request is answered with status 503, or with 409."""
+    if isinstance(error, Gone):
+        LOG.warning("a request is answered with status 409: %s", error)
+    else:
+        LOG.error("a request is answered with status 503: %s", error)
+
+
+def note_unsaved() -> None:
+    """Logs that a session isn't saved that shows a revoked one."""
+    LOG.info("a session isn't saved, since the request has a revoked one: renew it on a page that needs it")
+
+
+def answer_to(error: Failure) -> tuple[str, list[tuple[str, str]], bytes]:
+    """The status, the fields and the page of the answer, which sets no cookie. It is logged."""
+    log_failure(error)
+    return CONFLICT if isinstance(error, Gone) else UNAVAILABLE
 
 
 def pack(data: bytes) -> dict[str, str]:
@@ -77,6 +95,30 @@ def with_expiry(text: str, session: Session, is_lasting: bool = True) -> str:
     return f"{text}; Expires={print_date(date_after(session.now, int(age)))}" if is_lasting else head
 
 
+class Generations:
+    """What sessions of values share: the number of the user's generation, as their value `generation`."""
+
+    if TYPE_CHECKING:
+        get: Callable[..., Any]
+        __setitem__: Callable[..., None]
+
+    @property
+    def generation(self) -> int | None:
+        """The number of the user's generation that the session keeps, if it does. A site keeps one number a user, and adds
+        one where all sessions of the user are to end, as after a change of the password."""
+        number = self.get("generation")
+        return number if type(number) is int else None
+
+    @generation.setter
+    def generation(self, number: int) -> None:
+        self["generation"] = generation_of(number)
+
+    def is_since(self, generation: int) -> bool:
+        """Whether the session keeps this generation or a later one. Treat its visitor as nobody if it doesn't."""
+        least, kept = generation_of(generation), self.generation
+        return kept is not None and kept >= least
+
+
 if TYPE_CHECKING:
     Mapped = Dict[str, Any]
 else:
@@ -85,7 +127,7 @@ else:
         """A dict whose calls go through the five of a `MutableMapping`."""
 
 
-class CookieSession(Mapped):
+class CookieSession(Generations, Mapped):
     """The session of a request: a dict of what JSON has. A change within a value is saved too. A copy is a plain dict.
 
     `accessed` is whether the request used it. `source` is the session that it was opened from, and `opened` the JSON that
@@ -95,6 +137,8 @@ class CookieSession(Mapped):
     def __init__(self, sessions: Sessions, source: Session, values: Mapping[str, Any], opened: bytes) -> None:
         dict.__init__(self, values)
         self.sessions, self.source, self.opened, self.accessed = sessions, source, opened, False
+        # Whether the browser has a cookie that it must drop.
+        self.is_ended = False
 
     def __getitem__(self, name: str) -> Any:
         self.accessed = True
@@ -153,9 +197,16 @@ class CookieSession(Mapped):
         """Its id, of sixteen bytes: each copy of its cookie has it, whenever it was saved, until it is renewed."""
         return self.source.id
 
+    @property
+    def shows_revoked(self) -> bool:
+        """Whether the request has only sessions that are revoked, and this one, which is new, wasn't renewed since. It may be
+        an old tab's, whose browser has another session by now, so it isn't saved."""
+        return self.source.shows_revoked
+
     def renew(self) -> None:
         """Starts it anew with the same values and another id, so that the lifetime counts from this request. Call it at
-        a login."""
+        a login, and on a page that keeps something for one, such as a token against forged requests. With `revocations` no
+        copy of the session of before opens once this one is saved."""
         self.accessed = True
         self.source.renew()
 
@@ -166,34 +217,38 @@ class CookieSession(Mapped):
         self.renew()
 
     def revoke(self) -> bool:
-        """Revokes it, and then clears it. Call it at a logout: no copy of its cookie opens any more, whenever it was
-        saved. Returns whether it was revoked already. Raises `RevocationsError` if that can't be kept, and `RuntimeError`
-        if the middleware has no `revocations`."""
-        was_revoked = self.sessions.revoke(self.source)
-        self.clear()
-        return was_revoked
+        """Logs the visitor out: revokes what the browser has, drops the values, and has the browser drop its cookie. No copy
+        of the cookie opens any more, whenever it was saved. Returns whether the browser had something. What is put in later
+        is a new session. Raises `Gone` if another request has renewed or ended it, `RevocationsError` if it can't be kept,
+        and `RuntimeError` if the middleware has no `revocations`."""
+        return self.ended(self.sessions.revoke(self.source))
 
     async def arevoke(self) -> bool:
         """Does what `revoke` does, in a coroutine: others go on meanwhile."""
-        was_revoked = await self.sessions.arevoke(self.source)
-        self.clear()
-        return was_revoked
+        return self.ended(await self.sessions.arevoke(self.source))
+
+    def ended(self, is_ended: bool) -> bool:
+        """Drops the values after a logout. Returns whether the browser had a session."""
+        super().clear()
+        self.is_ended = self.is_ended or is_ended
+        return is_ended
 
     def check(self) -> None:
         """Raises `TooLarge` if no browser would store the session as it is now. Else that is raised where the response
         starts."""
         data = self.json()
         if data not in (self.opened, EMPTY):
-            self.save(data)
+            self.source.texts = pack(data)
+            self.sessions.check(self.source)
 
     def json(self) -> bytes:
         """Its values in JSON."""
         return json_of(dict(dict.items(self)))
 
-    def save(self, data: bytes) -> str:
+    async def saving(self, data: bytes, ask: Ask) -> str:
         """The text of the `Set-Cookie` header that saves these values."""
         self.source.texts = pack(data)
-        return self.sessions.save(self.source)
+        return await self.sessions.saving(self.source, ask)
 
     def replace(self, values: Mapping[str, Any] | None) -> None:
         """Has these values, if an application put another dict in its place."""
@@ -218,10 +273,11 @@ class Middleware:
     seconds after its start, and `idle` seconds after it was last saved, if `idle` is given. If `max_age` is None, the
     browser drops the cookie when it closes, and the session is over after 14 days. `refresh` is how many seconds after
     it was saved a session that was only read is saved again, by default a tenth of `idle`. Settings that no session
-    could be saved with are refused at once. `revocations` keeps which sessions are revoked, by their `revoke`. If it
-    fails, the request is answered with status 503, and the logger `deomigal` has the cause. `too_large` is another
-    application, which answers a request that raises `TooLarge` before its response has begun. With `compress` a session
-    is saved compressed: see `Sessions` for when not to.
+    could be saved with are refused at once. `revocations` keeps which sessions are revoked, by their `revoke` and by the
+    first save after their `renew`. If it fails, the request is answered with status 503, and with 409 if another request
+    has renewed or ended the session. The logger `deomigal` has the cause. `too_large` is another application, which answers
+    a request that raises `TooLarge` before its response has begun. With `compress` a session is saved compressed: see
+    `Sessions` for when not to.
     """
 
     def __init__(
@@ -276,20 +332,34 @@ class Middleware:
     def fields(self, session: CookieSession, values: Mapping[str, Any] | None) -> list[tuple[str, str]]:
         """The fields that the response needs: the cookie of a session that is to be saved or dropped, and that the page
         depends on cookies, if it does. `values` is what the application left in the session's place."""
+        return run(self.fields_by(session, values, self.sessions.ask))
+
+    async def afields(self, session: CookieSession, values: Mapping[str, Any] | None) -> list[tuple[str, str]]:
+        """The same in a coroutine: others go on meanwhile."""
+        return await self.fields_by(session, values, self.sessions.ask_async)
+
+    async def fields_by(
+        self, session: CookieSession, values: Mapping[str, Any] | None, ask: Ask
+    ) -> list[tuple[str, str]]:
+        """The fields, by what the revocations answer."""
         session.replace(values)
-        text = self.cookie_of(session)
+        text = await self.cookie_of(session, ask)
         fields = [] if text is None else [("Set-Cookie", text)]
         return [*fields, ("Vary", "Cookie")] if session.accessed or fields else fields
 
-    def cookie_of(self, session: CookieSession) -> str | None:
+    async def cookie_of(self, session: CookieSession, ask: Ask) -> str | None:
         """The text of the `Set-Cookie` header that saves the session or has it dropped, or None."""
         source, data = session.source, session.json()
         is_changed = data != session.opened or source.is_renewed
         if data == EMPTY:
-            return self.sessions.end(source.now) if is_changed and not source.is_new else None
+            is_dropped = session.is_ended or is_changed and not source.is_new
+            return self.sessions.end(source.now) if is_dropped else None
+        if source.shows_revoked:
+            note_unsaved()
+            return None
         if not (is_changed or self.is_due(session)):
             return None
-        return with_expiry(session.save(data), source, self.is_lasting)
+        return with_expiry(await session.saving(data, ask), source, self.is_lasting)
 
     def is_due(self, session: CookieSession) -> bool:
         """Whether to save a session that was only read: an older key opened it, or its idle time is to count from now."""

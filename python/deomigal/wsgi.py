@@ -11,13 +11,15 @@ from __future__ import annotations
 import sys
 from typing import Any, Callable, Iterable, Iterator, Mapping
 
-from .errors import RevocationsError, TooLarge
-from .values import UNAVAILABLE, UNAVAILABLE_FIELDS, CookieSession, Middleware, log_failure, session_at
+from .errors import TooLarge
+from .values import FAILURES, CookieSession, Middleware, answer_to, session_at
 
 __all__ = ["CookieSession", "SessionMiddleware", "session_of"]
 # The session's name in the environment.
 KEY = "deomigal.session"
 Start = Callable[..., Any]
+# What this answers in the place of the application.
+ANSWERED = (*FAILURES, TooLarge)
 
 
 def session_of(environ: Mapping[str, Any]) -> CookieSession:
@@ -47,7 +49,7 @@ class SessionMiddleware(Middleware):
         try:
             session = environ[KEY] = self.session_from(self.sessions.open(header_in(environ), self.clock()))
             pages: Iterable[bytes] = self.app(environ, start_with_cookie)
-        except (RevocationsError, TooLarge) as error:
+        except ANSWERED as error:
             return self.answer(error, environ, start_response)
         # What is sent as it is can't fail any more.
         is_whole = hasattr(pages, "__len__") or type(pages) is environ.get("wsgi.file_wrapper")
@@ -57,7 +59,7 @@ class SessionMiddleware(Middleware):
         """The pages of an application that may fail when one of them is taken, such as a generator."""
         try:
             yield from pages
-        except (RevocationsError, TooLarge) as error:
+        except ANSWERED as error:
             yield from self.answer(error, environ, start_response)
         finally:
             if hasattr(pages, "close"):
@@ -70,10 +72,10 @@ class SessionMiddleware(Middleware):
         def start_again(status: str, headers: list[tuple[str, str]], *_: Any) -> Any:
             return start_response(status, headers, failure)
 
-        if isinstance(error, RevocationsError):
-            start_again("503 Service Unavailable", [*UNAVAILABLE_FIELDS])
-            log_failure(error)
-            return [UNAVAILABLE]
+        if isinstance(error, FAILURES):
+            line, fields, page = answer_to(error)
+            start_again(line, [*fields])
+            return [page]
         if self.too_large is None:
             raise error
         return self.too_large(environ, start_again)  # type: ignore[no-any-return]

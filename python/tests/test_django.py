@@ -281,7 +281,7 @@ class EngineFacts(SimpleTestCase):
             with mock.patch("time.time", lambda: NOON):
                 session = engine.SessionStore(cycled.partition("=")[2])
                 assert session["user"] == "bo"
-                assert [session.revoke(), session.revoke()] == [False, True]
+                assert [session.revoke(), session.revoke()] == [True, False]
 
     def test_asked_once(self):
         """A request with many cookies of the name asks the store once, and one that doesn't use its session not at all."""

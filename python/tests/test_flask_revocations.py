@@ -4,7 +4,7 @@ import unittest
 import unittest.mock
 
 import pytest
-from deomigal.errors import RevocationsError
+from deomigal.errors import Gone, RevocationsError
 from helpers import NOON, SECRET, Breaking, Failing, pair_of
 
 flask = pytest.importorskip("flask")
@@ -59,20 +59,27 @@ class FlaskFacts(unittest.TestCase):
         assert (self.user(cookie), self.user(other)) == (None, "ann")
 
     def test_already(self):
-        """A logout says whether the session was revoked already."""
-        cookie, found = pair_of(self.ask("/login")[1]), []
+        """A logout says whether there was something to end. If another request has ended it meanwhile, the status is 409, and
+        no cookie is set. The application can answer that too."""
+        cookie = pair_of(self.ask("/login")[1])
 
         def slow():
             assert session["user"] == "ann"
             self.ask("/logout", cookie)
-            found.append(session.revoke())
-            found.append(session.revoke())
-            return ""
+            return str(session.revoke())
 
         self.app.view_functions["/slow"] = slow
-        self.ask("/slow", cookie)
-        self.app.view_functions["/plain"] = lambda: str(session.revoke())
-        assert (found, self.ask("/plain", pair_of(self.ask("/login")[1]))[0].text) == ([True, True], "False")
+        with self.assertLogs("deomigal", logging.WARNING) as logs:
+            response, text = self.ask("/slow", cookie)
+        assert (response.status_code, text, len(logs.output)) == (409, None, 1)
+        self.app.view_functions["/plain"] = lambda: f"{session.revoke()} {session.revoke()}"
+        assert self.ask("/plain", pair_of(self.ask("/login")[1]))[0].text == "True False"
+        assert self.ask("/plain")[0].text == "False False"
+        self.app = flask_app(revocations=self.store)
+        self.app.register_error_handler(Gone, lambda error: ("Again", 299))
+        self.app.view_functions["/slow"] = slow
+        cookie = pair_of(self.ask("/login")[1])
+        assert self.ask("/slow", cookie)[0].status_code == 299
 
     def test_in_flight(self):
         """A request that is under way at the logout doesn't log the user in again."""

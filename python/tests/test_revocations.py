@@ -22,7 +22,7 @@ from wsgiref.util import setup_testing_defaults
 import pytest
 from deomigal import Sessions
 from deomigal.asgi import SessionMiddleware
-from deomigal.errors import CookieError, RevocationsError
+from deomigal.errors import CookieError, Gone, RevocationsError
 from deomigal.revocations import TABLE, MemoryRevocations, RedisRevocations, SqliteRevocations
 from deomigal.wsgi import SessionMiddleware as WsgiMiddleware
 from helpers import NOON, SECRET, Breaking, Failing, age_of, pair_of, redis_server
@@ -332,17 +332,18 @@ class RedisFacts(Stores, unittest.TestCase):
     def test_kill(self):
         """What was revoked stays so if the server is killed. While it is away no session is opened."""
         sessions = Sessions([KEY], "s", HOUR, HOUR, revocations=self.new_store())
-        revoked, other = (sessions.open(pair_of(sessions.save(sessions.start()))) for _ in range(2))
-        sessions.revoke(revoked)
+        revoked, other = (pair_of(sessions.save(sessions.start())) for _ in range(2))
+        sessions.revoke(sessions.open(revoked))
+        opened = sessions.open(other)
         self.server.kill()
-        for opened in (revoked, other):
+        for header in (revoked, other):
             with pytest.raises(RevocationsError):
-                sessions.open(opened.header)
-            with pytest.raises(RevocationsError):
-                sessions.revoke(opened)
+                sessions.open(header)
+        with pytest.raises(RevocationsError):
+            sessions.revoke(opened)
         self.server.start()
-        assert sessions.open(revoked.header).is_new
-        assert not sessions.open(other.header).is_new
+        assert sessions.open(revoked).is_new
+        assert not sessions.open(other).is_new
 
     def test_hangs(self):
         """A server that hangs is waited for up to the client's limit."""
@@ -439,8 +440,9 @@ class RevocationFacts(unittest.TestCase):
             header = self.saved_session(NOON).header
             site = Sessions([KEY], "s", lifetime, 60, revocations=self.store)
             opened = site.open(header, NOON + 5)
-            assert site.revoke(opened) is False
-            assert self.store.until.pop(opened.id) == opened.end == NOON + HOUR
+            id, end = opened.id, opened.end
+            assert site.revoke(opened) is True
+            assert self.store.until.pop(id) == end == NOON + HOUR
 
     def test_limits(self):
         """A session keeps its limits. If the site raises its own, they count for what starts then, or is renewed. Lower
@@ -461,21 +463,24 @@ class RevocationFacts(unittest.TestCase):
     def test_raised_lifetime(self):
         """A session that was revoked, and forgotten after its end, opens in no copy if the site raises its limits."""
         opened = self.saved_session(user="ann")
+        header, id = opened.header, opened.id
         self.sessions.revoke(opened)
         self.store.forget(NOON + HOUR)
-        assert not self.store.is_revoked(opened.id)
+        assert not self.store.is_revoked(id)
         raised = Sessions([KEY], "s", 24 * HOUR, 24 * HOUR, revocations=self.store)
-        assert raised.open(opened.header, NOON + HOUR).is_new
+        assert raised.open(header, NOON + HOUR).is_new
 
     def test_already(self):
-        """The first call says that it revoked the session, and the next ones that it was revoked already, whichever copy of
-        the session they are of."""
-        opened = self.saved_session()
-        others = [self.sessions.open(opened.header, NOON) for _ in range(2)]
-        others[1].renew()
-        self.sessions.save(others[1])
-        assert [self.sessions.revoke(session) for session in (opened, *others, opened)] == [False, True, True, True]
-        assert self.sessions.revoke(self.saved_session()) is False
+        """The first call says that it revoked the session. Other copies of it are gone then, and the object is a new session,
+        of which the browser has none."""
+        opened = self.saved_session(user="ann")
+        other = self.sessions.open(opened.header, NOON)
+        assert [self.sessions.revoke(opened), self.sessions.revoke(opened)] == [True, False]
+        for _ in range(2):
+            with pytest.raises(Gone):
+                self.sessions.revoke(other)
+        assert other["user"] == "ann"
+        assert self.sessions.revoke(self.saved_session()) is True
 
     def test_no_bool(self):
         """A store of before, whose `revoke` returns None, is an error of the program. It keeps what is revoked."""
@@ -491,9 +496,9 @@ class RevocationFacts(unittest.TestCase):
         opened = self.saved_session()
         before, first = opened.header, opened.id
         opened.renew()
-        after = pair_of(self.sessions.save(opened))
+        after, second = pair_of(self.sessions.save(opened)), opened.id
         self.sessions.revoke(opened)
-        assert set(self.store.until) == {first, opened.id}
+        assert set(self.store.until) == {first, second}
         for header in (before, after):
             assert self.sessions.open(header, NOON).is_new
 

@@ -267,6 +267,9 @@ def play_session(call, inputs, out, length):
         answer.status = make_session(inputs, now, [*starts, lifetime, idle][:3], handle, session)
         if answer.status == library.DONE:
             answer = library.SESSION_SAVE(handle, session, rest[-1][:12], 12, now, out, length)
+            library.SESSION_SET_GENERATION(session, 7)
+            if [library.SESSION_IS_SINCE(session, number) for number in (6, 7, 8)] != [True, True, False]:
+                fault("a session keeps another generation")
     elif answer.status == library.DONE:
         answer = library.SESSION_END(handle, now, out, length)
     library.SESSION_FREE(session)

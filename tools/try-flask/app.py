@@ -102,6 +102,13 @@ def log_in():
     return redirect("/", 303)
 
 
+@app.post("/renew")
+def renew():
+    """Starts the session anew, as a login does, with the same values."""
+    session.renew()
+    return redirect("/", 303)
+
+
 @app.post("/fill")
 def fill():
     """Puts a text of that many letters into the session."""

@@ -1,10 +1,11 @@
 """Logs users out under load, while workers and the store are killed: tools/try-flask/run --revocations.
 
 The workers are forked after the store is made. Each client logs in, visits, keeps copies of its cookies, logs out, and
-later sends the copies again. Some requests are under way at the logout. A worker of two is killed every second. With Redis
-the server is killed too, and started again; with SQLite a process that is writing to the file. Once a logout was answered,
-no copy may be greeted; before, none may be unknown. An answer 503, or none of a worker that was killed, says nothing, and
-the client asks again. At last SQLite's file is moved away, and Redis is stopped.
+later sends the copies again. Some requests are under way at the logout, and some sessions are renewed by two requests at
+once, of which one gets the new cookie. A worker of two is killed every second. With Redis the server is killed too, and
+started again; with SQLite a process that is writing to the file. Once a logout or a renewal was answered, no copy of before
+may be greeted; before, none may be unknown. An answer 503, or none of a worker that was killed, says nothing, and the client
+asks again. At last SQLite's file is moved away and deleted, Redis is stopped, and a site raises its lifetime.
 """
 import contextlib
 import http.client
@@ -95,7 +96,7 @@ class Client:
 
     def __init__(self, tool, number):
         self.tool, self.number, self.draw = tool, number, random.Random(number)
-        self.count = self.unanswered = self.logouts = self.flights = 0
+        self.count = self.unanswered = self.logouts = self.flights = self.renewals = self.conflicts = 0
         # The users whose session is open, with copies of their cookies, and the copies of those that were logged out.
         self.open, self.revoked, self.wrong = {}, [], []
 
@@ -153,6 +154,33 @@ class Client:
         self.revoked.append((user, cookies))
         self.send_again(user, cookies)
 
+    def renew(self, user):
+        """Two requests renew the session at once, each by a copy of its cookie."""
+        cookies, answers = self.open.pop(user), []
+        each = [
+            threading.Thread(target=lambda cookie=cookie: answers.append(self.ask("/renew", cookie, "")))
+            for cookie in (cookies[0], cookies[-1])
+        ]
+        for thread in each:
+            thread.start()
+        for thread in each:
+            thread.join()
+        made = [self.tool.pair_of(answer[1]) for answer in answers if answer and answer[0] == 303 and answer[1]]
+        self.conflicts += sum(answer is not None and answer[0] == 409 for answer in answers)
+        if len(made) > 1 or any(answer and answer[0] not in (303, 409) for answer in answers):
+            self.wrong.append(f"{user} is renewed otherwise: {answers}")
+        if made:
+            self.renewals += 1
+            self.open[user] = made
+        elif None not in answers:
+            self.wrong.append(f"{user} is renewed by nobody: {answers}")
+        elif f"Hello, {user}." in self.until_answered("/", cookies[0])[2]:
+            # A renewal that wasn't answered has revoked nothing, or has revoked the session without another one.
+            self.open[user] = cookies
+            return
+        self.revoked.append((user, cookies))
+        self.send_again(user, cookies)
+
     def send_again(self, user, cookies, is_last=False):
         for cookie in cookies if is_last else [self.draw.choice(cookies), cookies[-1]]:
             answer = self.until_answered("/", cookie) if is_last else self.ask("/", cookie)
@@ -169,6 +197,8 @@ class Client:
                     self.send_again(*self.draw.choice(self.revoked))
                 if self.draw.random() < 0.2:
                     self.log_out(self.draw.choice(list(self.open)))
+                if self.open and self.draw.random() < 0.2:
+                    self.renew(self.draw.choice(list(self.open)))
         except Exception as error:
             self.wrong.append(repr(error))
 
@@ -208,13 +238,16 @@ def play_store(tool, python, folder, keys, store, seconds):
     try:
         with tool.site_of(python, folder, keys, count=2, **settings) as site:
             killed = storm(site, store, clients, seconds)
-            count, unanswered, logouts, flights = (
-                sum(getattr(client, name) for client in clients) for name in ("count", "unanswered", "logouts", "flights")
+            names = ("count", "unanswered", "logouts", "flights", "renewals", "conflicts")
+            count, unanswered, logouts, flights, renewals, conflicts = (
+                sum(getattr(client, name) for client in clients) for name in names
             )
             wrong = [fault for client in clients for fault in client.wrong]
             told = f"{store.name}: {count} requests, {logouts} logouts, {unanswered} without an answer or with 503"
             check(f"{told}: no revoked session opens, and no other is lost", logouts and not wrong, "\n".join(wrong[:5]))
             check(f"{killed[0]} workers were killed in between, and the store {killed[1]} times", all(killed), killed)
+            told = f"{renewals} sessions were renewed by two requests at once, of which {conflicts} were answered with 409"
+            check(f"{told}, and one had each", renewals and conflicts, (renewals, conflicts))
             check(f"{flights} cookies were saved by requests under way at a logout, and none opens", flights, flights)
             check("then each copy is sent once more", *all_right(clients))
         # The site is started again over what the store kept.
@@ -251,6 +284,31 @@ def play_gone(tool, python, folder, keys):
             (folder / "away/moved").rename(store.path)
             tool.check("when it is back, the session is open", tool.greets(cookie, "ann"))
             tool.check("and the revoked one isn't", not tool.greets(revoked, "bo"))
+        for path in store.path.parent.iterdir():
+            path.unlink()
+        found = [tool.ask("/", text)[0] for text in [cookie, revoked] * 50] + [tool.ask("/logout", cookie, "")[0]]
+        tool.check("once it is deleted, 100 requests and a logout are answered with 503", set(found) == {503}, found)
+
+
+def play_raised(tool, python, folder, keys):
+    """A site raises its lifetime, once what was revoked is forgotten: no copy opens again."""
+    (folder / "raised").mkdir()
+    store, clock = Sqlite(python, folder / "raised"), folder / "raised/clock"
+    settings = {"TRY_CLOCK": clock, "TRY_REVOCATIONS": store.words}
+    clock.write_text(str(tool.NOON))
+    with tool.site_of(python, folder, keys, count=2, TRY_IDLE=3600, TRY_LIFETIME=3600, **settings):
+        copies = [tool.log_in("ann")]
+        copies.append(tool.pair_of(tool.ask("/renew", copies[0], "")[1]))
+        tool.check("a renewed session is open, and its copy of before isn't", [tool.greets(copy, "ann") for copy in copies] == [False, True])
+        tool.check("then it is logged out", tool.ask("/logout", copies[1], "")[0] == 303)
+    clock.write_text(str(tool.NOON + 3600))
+    words = f"from deomigal.revocations import SqliteRevocations; SqliteRevocations({str(store.path)!r}).forget({tool.NOON + 3600})"
+    subprocess.run([str(python), "-c", words], check=True)
+    with contextlib.closing(sqlite3.connect(store.path)) as connection:
+        tool.check("what was revoked is forgotten", connection.execute("SELECT count(*) FROM revoked").fetchone() == (0,))
+    with tool.site_of(python, folder, keys, count=2, TRY_IDLE=tool.LIFETIME, TRY_LIFETIME=tool.LIFETIME, **settings):
+        tool.check("with a longer lifetime no copy opens again", not any(tool.greets(copy, "ann") for copy in copies))
+        tool.check("and a new session lives longer", tool.greets(tool.log_in("ann"), "ann"))
 
 
 def play_broken(tool, python, folder, keys):
@@ -286,3 +344,4 @@ def play(tool, python, folder, seconds):
         play_store(tool, python, folder, keys, kind(python, folder), seconds)
     play_gone(tool, python, folder, keys)
     play_broken(tool, python, folder, keys)
+    play_raised(tool, python, folder, keys)
