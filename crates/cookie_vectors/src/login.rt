@@ -9,8 +9,8 @@ use cookie_theorems::browse::browse;
 use cookie_theorems::{Sender, TimedRequest};
 use jiff::civil::DateTime;
 use login_core::{
-    AnswerError, IDLE, LIFETIME, LoginSite, Page, Request, Response, User, Visitor, answer, html,
-    session_cookie,
+    AnswerError, IDLE, LIFETIME, LoginSite, Page, Refusal, Request, Response, User, Visitor,
+    answer, html, session_cookie,
 };
 use std::alloc::Global;
 use std::hash::RandomState;
@@ -108,6 +108,21 @@ impl Logins {
         summary(step, response)
     }
 
+    // Keeps the text of a response with this refusal, as a program answers that can't answer otherwise.
+    fn refuse(&mut self, step: Step<'_>) -> Answer {
+        let refusal = match step.words {
+            "Conflict" => Refusal::Conflict,
+            "Unavailable" => Refusal::Unavailable,
+            _ => return None,
+        };
+        let response = Response {
+            page: Page::Refused(refusal),
+            cookies: Vec::new(step.alloc),
+        };
+        self.keep(step, &response)?;
+        step.printed(refusal.status())
+    }
+
     // Logs a new user in whose name is this many `x`. Returns the status.
     fn log_in_long(&mut self, step: Step<'_>) -> Answer {
         let name = "x".repeat(step.alloc, step.words.parse().ok()?).ok()?;
@@ -137,6 +152,7 @@ impl Player for Logins {
         match step.call {
             "request" => self.request(step),
             "log_in_long" => self.log_in_long(step),
+            "refusal" => self.refuse(step),
             "between" | "field" => part(step, &self.text),
             "browse" => self.browse(step),
             "generator" | "revoked" | "plain" | "home" => self.change(step),

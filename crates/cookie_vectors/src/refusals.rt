@@ -6,9 +6,9 @@ use cookie::prefix::{Host, Prefix, Secure};
 use cookie::{Error, Expiration, JarError, KeyError, ParseError, SameSite, TextsError};
 use cookie_client::{ClientError, PrefixKind, RunError};
 use cookie_http::HttpError;
-use cookie_session::{KeyTextError, OpenError, SessionError};
+use cookie_session::{KeyTextError, OpenError, SessionError, VisitError};
 use cookie_theorems::ReturnError;
-use login_core::{Refusal, Route};
+use login_core::{AnswerError, Refusal, Route};
 use std::fmt;
 use std::fmt::{Debug, Display};
 
@@ -83,6 +83,10 @@ fn session_answer(step: Step<'_>) -> Answer {
         "KeyTextError::TooShort(2, 63)" => told(step, KeyTextError::TooShort(2, 63)),
         "OpenError::OutOfMemory" => told::<OpenError<fmt::Error>>(step, OpenError::OutOfMemory),
         "OpenError::Revocations" => told(step, OpenError::Revocations(fmt::Error)),
+        "VisitError::Session" => told::<VisitError<fmt::Error>>(step, SessionError::Over.into()),
+        "VisitError::Gone" => told::<VisitError<fmt::Error>>(step, VisitError::Gone),
+        "VisitError::Revocations" => told(step, VisitError::Revocations(fmt::Error)),
+        "AnswerError::Gone" => told(step, AnswerError::Gone),
         "ReturnError::Session" => told(step, ReturnError::Session(SessionError::Over)),
         "ReturnError::Http" => told(step, ReturnError::Http(HttpError::TooManyFields)),
         _ => name_answer(step),
@@ -103,6 +107,7 @@ fn name_answer(step: Step<'_>) -> Answer {
         "Refusal::NotFound" => named(step, Refusal::NotFound),
         "Refusal::OnlyGet" => named(step, Refusal::OnlyGet),
         "Refusal::OnlyPost" => named(step, Refusal::OnlyPost),
+        "Refusal::Conflict" => named(step, Refusal::Conflict),
         "Route::Home" => named(step, Route::Home),
         "Route::LogIn" => named(step, Route::LogIn),
         "Route::LogOut" => named(step, Route::LogOut),

@@ -1,20 +1,23 @@
 //! Sessions: rings of keys, sites that open and save sessions, and what clients and user agents bring back.
 //! data/sessions.tsv says what its calls return.
+mod acts;
 mod browser;
 mod requests;
 mod revoked;
 mod site;
+mod visits;
 
 use crate::browsing::site_of;
 use crate::jar_calls::{after, calls_of, moment, test_key};
 use crate::jars::Jars;
 use crate::sources::Sevens;
 use crate::step::{Answer, Player, Step};
+use acts::do_acts;
 use browser::Browser;
 use cookie::{Cookie, CookieJar, field_cookies};
 use cookie_browser::Suffixes;
 use cookie_client::{Client, JarCall};
-use cookie_session::{NeverRevoked, Opened, Revocations, Session, Tokens, second_of};
+use cookie_session::{NeverRevoked, Opened, Revocations, Tokens, Visit, second_of};
 use cookie_theorems::open_for_agent::open_for_agent;
 use cookie_theorems::save_and_return::save_and_return;
 use cookie_theorems::save_over_headers::save_over_headers;
@@ -26,12 +29,14 @@ pub use revoked::Revoked;
 use revoked::ids_of;
 pub use site::Site;
 use std::alloc::Global;
+use std::mem::swap;
+use visits::{ended, pass_text, visit_answer};
 
 // The second of the rows' time, counted from 1970 on.
 const FIRST: u64 = 1_445_412_480;
 
-/// A site, the jar of a request, a client, a user agent, the time, how many bytes a generator returns, a session, and
-/// what the site keeps as revoked.
+/// A site, the jar of a request, a client, a user agent, the time, how many bytes a generator returns, a visit, another one
+/// that is put aside, and what the site keeps as revoked.
 #[derive(Drop)]
 pub struct Visitors<'s> {
     site: Site,
@@ -40,15 +45,20 @@ pub struct Visitors<'s> {
     browser: Browser<'s>,
     now: DateTime,
     left: usize,
-    session: Session,
+    visit: Visit,
+    aside: Visit,
     revoked: Option<Revoked>,
+}
+
+// The visit of a request without a session, at the first second.
+fn started(alloc: Global, site: &Site) -> Option<Visit> {
+    Visit::start(alloc, &site.sessions(), moment(), &mut Sevens { left: 16 }).ok()
 }
 
 impl<'s> Visitors<'s> {
     pub fn new(alloc: Global, suffixes: &'s Suffixes) -> Option<Visitors<'s>> {
         let site = Site::new(alloc, session_cookie(true), 1200, 600)?;
-        let mut rng = Sevens { left: 16 };
-        let session = site.sessions().start(alloc, moment(), &mut rng).ok()?;
+        let (visit, aside) = (started(alloc, &site)?, started(alloc, &site)?);
         Some(Visitors {
             site,
             jars: Jars::new(alloc),
@@ -56,7 +66,8 @@ impl<'s> Visitors<'s> {
             browser: Browser::new(alloc, suffixes),
             now: moment(),
             left: 28,
-            session,
+            visit,
+            aside,
             revoked: None,
         })
     }
@@ -70,32 +81,46 @@ impl<'s> Visitors<'s> {
         match step.call {
             "at" => self.now = after(step.words)?,
             "generator" => self.left = step.words.parse().ok()?,
-            "start" | "renew" => return self.start(step),
+            "start" | "renew" | "start_anew" => return self.start(step),
             "set" => self.set(step)?,
-            "generation" => {
-                let number = step.words.parse().ok()?;
-                self.session.set_generation(step.alloc, number).ok()?;
-            }
-            "unset" => self.session.remove(&step.text()?),
-            "form" => self.session.set_form(step.alloc, &step.bytes()?).ok()?,
+            "generation" => self.set_generation(step)?,
+            "unset" => self.visit.remove(&step.text()?),
+            "form" => self.visit.set_form(step.alloc, &step.bytes()?).ok()?,
+            "swap" => swap(&mut self.visit, &mut self.aside),
+            "set_saved" => self.visit.set_saved(),
             "revoked" => self.revoked = Some(Revoked::of(step)?),
             _ => self.jars.jar = self.next_jar(step.alloc)?,
         }
         step.done()
     }
 
-    // Starts a new session, or the same one anew.
+    // Starts a new session, or the same one anew, with its texts or without.
     fn start(&mut self, step: Step<'_>) -> Answer {
-        let (now, sessions) = (self.now, self.site.sessions());
-        let (session, mut rng) = (&mut self.session, Sevens { left: self.left });
-        if step.call == "renew" {
-            return step.done_or_why(sessions.renew(session, now, &mut rng));
+        let (alloc, now, sessions) = (step.alloc, self.now, self.site.sessions());
+        let (visit, mut rng) = (&mut self.visit, Sevens { left: self.left });
+        match step.call {
+            "renew" => step.done_or_why(visit.renew(&sessions, now, &mut rng)),
+            "start_anew" => step.done_or_why(visit.restart(alloc, &sessions, now, &mut rng)),
+            _ => match Visit::start(alloc, &sessions, now, &mut rng) {
+                Ok(started) => {
+                    *visit = started;
+                    step.done()
+                }
+                Err(refusal) => step.printed(refusal),
+            },
         }
-        match sessions.start(step.alloc, now, &mut rng) {
-            Ok(started) => *session = started,
-            Err(refusal) => return step.printed(refusal),
+    }
+
+    // Keeps a generation, whose text is that of a session which keeps it.
+    fn set_generation(&mut self, step: Step<'_>) -> Option<()> {
+        let (mut rng, sessions) = (Sevens { left: 16 }, self.site.sessions());
+        let mut session = sessions.start(step.alloc, self.now, &mut rng).ok()?;
+        let number = step.words.parse().ok()?;
+        session.set_generation(step.alloc, number).ok()?;
+        for (name, text) in session.iter() {
+            self.visit.set(name, text).ok()?;
         }
-        step.done()
+        Some(())
     }
 
     // Sets a text, as `user=ann`, or one of a number of `y`, as `user*12`.
@@ -108,7 +133,7 @@ impl<'s> Visitors<'s> {
             }
         };
         let name = step.with_words(name).text()?;
-        self.session.set(&name, &content).ok()
+        self.visit.set(&name, &content).ok()
     }
 
     // The jar of the next request, of a client that had no cookie: those that the response sets.
@@ -123,16 +148,16 @@ impl<'s> Visitors<'s> {
 
     // What the session has, or the client.
     fn looked(&self, step: Step<'_>) -> Answer {
-        let name = step.text()?;
+        let (name, session) = (step.text()?, self.visit.session());
         let found = match step.call {
             "session" => return self.texts(step),
             "times" => return self.times(step),
             "own" => return self.own_limits(step),
-            "as_form" => return step.shown(self.session.to_form(step.alloc).ok()?.as_bytes()),
-            "id" => return encode(step.alloc, self.session.id()).ok(),
-            "since" => return step.yes(self.session.is_since(step.words.parse().ok()?)),
-            "kept" => return step.optional(self.session.generation()),
-            "text" => self.session.get(&name),
+            "as_form" => return step.shown(session.to_form(step.alloc).ok()?.as_bytes()),
+            "id" => return encode(step.alloc, session.id()).ok(),
+            "since" => return step.yes(session.is_since(step.words.parse().ok()?)),
+            "kept" => return step.optional(session.generation()),
+            "text" => session.get(&name),
             _ => self.client.get(&name),
         };
         match found {
@@ -143,21 +168,23 @@ impl<'s> Visitors<'s> {
 
     fn texts(&self, step: Step<'_>) -> Answer {
         let mut texts = Vec::new(step.alloc);
-        for (name, content) in self.session.iter() {
+        for (name, content) in self.visit.session().iter() {
             texts.push(step.pair(name, content)?).ok()?;
         }
         step.list(&texts)
     }
 
     fn times(&self, step: Step<'_>) -> Answer {
-        let started = self.session.started().saturating_sub(FIRST);
-        let seen = self.session.seen().saturating_sub(FIRST);
+        let session = self.visit.session();
+        let started = session.started().saturating_sub(FIRST);
+        let seen = session.seen().saturating_sub(FIRST);
         format!(in step.alloc; "{started} {seen}").ok()
     }
 
     fn own_limits(&self, step: Step<'_>) -> Answer {
-        let end = self.session.end().saturating_sub(FIRST);
-        let idle = self.session.idle();
+        let session = self.visit.session();
+        let end = session.end().saturating_sub(FIRST);
+        let idle = session.idle();
         format!(in step.alloc; "{end} {idle}").ok()
     }
 
@@ -166,16 +193,20 @@ impl<'s> Visitors<'s> {
         let Some(opened) = opened else {
             return step.said("-");
         };
-        self.session = opened.session;
-        step.printed(opened.place)
+        self.visit = Visit::of(opened);
+        step.optional(self.visit.place())
     }
 
     // The answer of a call that may be refused. The jar then has to be as it was.
     fn settle(&mut self, step: Step<'_>) -> Answer {
         let before = format!(in step.alloc; "{:?}", self.jars.jar).ok()?;
-        let answer = self.change_jar(step)?;
+        let answer = match step.call {
+            "save" | "keep" | "end" => self.change_jar(step)?,
+            _ => self.visit(step)?,
+        };
         let after = format!(in step.alloc; "{:?}", self.jars.jar).ok()?;
-        if answer.as_str() != "done" && before != after {
+        let is_done = matches!(answer.as_str(), "done" | "saved" | "ended");
+        if !is_done && before != after {
             return step.said("the jar changed");
         }
         Some(answer)
@@ -186,9 +217,40 @@ impl<'s> Visitors<'s> {
         let (alloc, now, sessions) = (step.alloc, self.now, self.site.sessions());
         let (jar, mut rng) = (&mut self.jars.jar, Sevens { left: self.left });
         match step.call {
-            "save" => step.done_or_why(sessions.save(alloc, jar, &self.session, now, &mut rng)),
+            "save" => {
+                let session = self.visit.session();
+                step.done_or_why(sessions.save(alloc, jar, session, now, &mut rng))
+            }
             "keep" => step.done_or_why(sessions.keys.add(jar, step.cookie()?, &mut rng)),
             _ => step.done_or_why(sessions.end(alloc, jar, now)),
+        }
+    }
+
+    // Opens the visit of a `Cookie` field, saves the visit if needed, or logs out by it.
+    fn visit(&mut self, step: Step<'_>) -> Answer {
+        let (now, mut rng) = (self.now, Sevens { left: self.left });
+        let next = started(step.alloc, &self.site)?;
+        let sessions = self.site.sessions();
+        let (jar, visit) = (&mut self.jars.jar, &mut self.visit);
+        match &mut self.revoked {
+            Some(revoked) => {
+                visit_answer(step, &sessions, jar, visit, next, now, &mut rng, revoked)
+            }
+            None => {
+                let never = &mut NeverRevoked;
+                visit_answer(step, &sessions, jar, visit, next, now, &mut rng, never)
+            }
+        }
+    }
+
+    // What is known of the visit.
+    fn known(&self, step: Step<'_>) -> Answer {
+        let visit = &self.visit;
+        match step.call {
+            "given" => pass_text(step, visit.given(), FIRST),
+            "replaced" => pass_text(step, visit.replaced(), FIRST),
+            "must_save" => step.yes(self.site.sessions().must_save(visit, self.now)),
+            _ => step.yes(visit.shows_revoked()),
         }
     }
 
@@ -237,7 +299,7 @@ impl<'s> Visitors<'s> {
     fn revoke(&mut self, step: Step<'_>) -> Answer {
         let (sessions, revoked) = (self.site.sessions(), self.revoked.as_mut()?);
         match step.call {
-            "revoke" => match sessions.revoke(&self.session, revoked) {
+            "revoke" => match sessions.revoke(self.visit.session(), revoked) {
                 Ok(already) => step.said(if already { "already" } else { "done" }),
                 Err(refusal) => step.refused(&refusal),
             },
@@ -251,10 +313,20 @@ impl<'s> Visitors<'s> {
 
     // Opens the sessions of requests, one after the other. `revoke_and_open` revokes the session first.
     fn open_requests(&mut self, step: Step<'_>) -> Answer {
-        let (sessions, session) = (self.site.sessions(), &self.session);
+        let (sessions, session) = (self.site.sessions(), self.visit.session());
         match &mut self.revoked {
             Some(revoked) => open_requests(step, sessions, session, revoked),
             None => open_requests(step, sessions, session, &mut NeverRevoked),
+        }
+    }
+
+    // Does acts of the site's handlers.
+    fn serve(&mut self, step: Step<'_>) -> Answer {
+        let mut rng = Sevens { left: self.left };
+        let sessions = self.site.sessions();
+        match &mut self.revoked {
+            Some(revoked) => do_acts(step, sessions, &mut rng, revoked),
+            None => do_acts(step, sessions, &mut rng, &mut NeverRevoked),
         }
     }
 
@@ -321,7 +393,7 @@ impl<'s> Visitors<'s> {
         later: DateTime,
     ) -> Option<Option<Opened>> {
         let (alloc, now, sessions) = (step.alloc, self.now, self.site.sessions());
-        let (mut rng, session) = (Sevens { left: self.left }, &self.session);
+        let (mut rng, session) = (Sevens { left: self.left }, self.visit.session());
         let (jar, client) = (&mut self.jars.jar, &mut self.client);
         if step.call == "save_and_return" {
             return save_and_return(
@@ -341,6 +413,12 @@ impl Player for Visitors<'_> {
         match step.call {
             "at" | "generator" | "revoked" | "back" => self.change(step),
             "start" | "renew" | "set" | "unset" | "form" | "generation" => self.change(step),
+            "start_anew" | "swap" | "set_saved" => self.change(step),
+            "given" | "replaced" | "must_save" | "shows_revoked" => self.known(step),
+            "end_given" => {
+                let was_revoked = step.words == "revoked";
+                ended(step, self.visit.end_given(self.now, was_revoked))
+            }
             "make_token" | "read_token" => self.token(step),
             "open_for" => self.open_for(step),
             "text" | "session" | "as_form" | "times" | "own" | "id" | "since" | "kept" | "held" => {
@@ -348,11 +426,12 @@ impl Player for Visitors<'_> {
             }
             "revoke" | "forget" | "first_unrevoked" => self.revoke(step),
             "revoke_and_open" | "open_each" => self.open_requests(step),
+            "serve" => self.serve(step),
             "open_field" => self.open_field(step),
             "open_all" => self.open_all(step),
             "open" | "open_for_agent" => self.open(step),
             "save_and_return" | "save_over_headers" => self.come_back(step),
-            "save" | "end" | "keep" => self.settle(step),
+            "save" | "end" | "keep" | "save_if_needed" | "log_out" | "visit" => self.settle(step),
             "find" => self.find(step),
             "read" | "retrieve" | "drop" | "evict" | "clear" | "trim" | "restart" => {
                 self.browser.answer(step, self.now)

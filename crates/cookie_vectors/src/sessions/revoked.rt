@@ -8,17 +8,29 @@ use std::fmt::Error;
 pub struct Revoked {
     untils: Vec<([u8; 16], u64)>,
     is_broken: bool,
+    is_late: bool,
 }
 
 impl Revoked {
-    /// The ids that the step's words list, which are never forgotten. With the word `broken` each call fails.
+    /// The ids that the step's words list, which are never forgotten. With the word `broken` each call fails. With the word
+    /// `late` another request revokes each session between its look-up and its revocation.
     pub fn of(step: Step<'_>) -> Option<Revoked> {
         let (mut untils, is_broken) = (Vec::new(step.alloc), step.words == "broken");
-        let ids = if is_broken { step.with_words("") } else { step };
+        let is_late = step.words == "late";
+        let has_no_ids = is_broken || is_late;
+        let ids = if has_no_ids {
+            step.with_words("")
+        } else {
+            step
+        };
         for id in &ids_of(ids)? {
             untils.push((*id, u64::MAX)).ok()?;
         }
-        Some(Revoked { untils, is_broken })
+        Some(Revoked {
+            untils,
+            is_broken,
+            is_late,
+        })
     }
 
     fn check(&self) -> Result<(), Error> {
@@ -44,11 +56,11 @@ impl Revocations for Revoked {
 
     fn is_revoked(&mut self, id: &[u8; 16]) -> Result<bool, Error> {
         self.check()?;
-        Ok(self.untils.iter().any(|revoked| revoked.0 == *id))
+        Ok(!self.is_late && self.untils.iter().any(|revoked| revoked.0 == *id))
     }
 
     fn revoke(&mut self, id: &[u8; 16], until: u64) -> Result<bool, Error> {
-        let already = self.is_revoked(id)?;
+        let already = self.is_revoked(id)? || self.is_late;
         self.untils.push((*id, until)).map_err(|_| Error)?;
         Ok(already)
     }
