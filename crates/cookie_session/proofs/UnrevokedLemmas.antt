@@ -1,14 +1,14 @@
 -- The session that opens, of those that are open, by what the store says of their ids.
-use Rattle.std.proofs.Common.{◌≡◌, ◌↔◌, ℕ, zero, suc, List, [], ◌∷◌, ◌++◌, All, drop, map, take, Option, None, Some, MatchOption, option_map, Result, Ok, Err, IfOk, refl, sym, ap, subst, ◌∙◌}
+use Rattle.std.proofs.Common.{◌≡◌, ◌↔◌, ℕ, zero, suc, List, [], ◌∷◌, ◌++◌, All, drop, map, take, Option, None, Some, option_map, Result, Ok, Err, IfOk, refl, sym, ap, subst, ◌∙◌}
 use Rattle.std.proofs.lemmas.List.{take-map}
 use Rattle.std.proofs.lemmas.List.Elements.{All-cons, All-head, All-nil, All-tail}
 use Rattle.std.proofs.lemmas.Option.{none-some, same_Some, slice_get-map}
 use Rattle.std.specs.List.{slice_get}
 use Rattle.jiff.specs.Types.{DateTime}
 use Rattle.cookie.specs.Record.{Record}
-use Rattle.cookie_session.specs.Revocations.{AreSame, IsFirstUnrevoked, IsRevoked}
+use Rattle.cookie_session.specs.Revocations.{AreSame, IsRevoked}
 use Rattle.cookie_session.specs.Session.{SessionState}
-use Rattle.cookie_session.specs.Sessions.{AreFound, IsAtPlace, IsFirstLeft, IsOneOf, OpensOne, OpensUnrevoked, site_cookies}
+use Rattle.cookie_session.specs.Sessions.{AreFound, IsFirstLeft, IsOneOf, OpensOne, OpensUnrevoked, site_cookies}
 use Rattle.cookie_session.specs.declared.opened.Opened.{Opened}
 use Rattle.cookie_session.specs.declared.sessions.Sessions.{Sessions}
 use Rattle.cookie_session.proofs.FirstLemmas.{all_closed, found_first, found_in, found_none}

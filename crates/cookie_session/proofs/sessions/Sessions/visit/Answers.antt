@@ -1,4 +1,4 @@
-use Rattle.std.proofs.Common.{rules, ◌≡◌, ℕ, Bool, true, false, List, None, Option, Some, map, refl, sym, ap, ◌∙◌}
+use Rattle.std.proofs.Common.{rules, ◌≡◌, ℕ, Bool, true, false, List, None, map, refl, sym, ap, ◌∙◌}
 use Rattle.std.proofs.lemmas.Option.{none-some, same_Some}
 use Rattle.cookie.specs.Record.{CookieView, Record}
 use Rattle.cookie_session.specs.Session.{SessionState}
@@ -8,7 +8,7 @@ use Rattle.cookie_session.specs.declared.opened.Opened.{Opened}
 use Rattle.cookie_session.proofs.FirstLemmas.{empty_none, none_found}
 use Rattle.cookie_session.proofs.SessionLemmas.{opened}
 use Rattle.cookie_session.proofs.UnrevokedLemmas.{first_opens, one_opens}
-use Rattle.cookie_session.proofs.VisitLemmas.{is_none, is_some, same_visit, told_failure}
+use Rattle.cookie_session.proofs.VisitLemmas.{is_none, is_some, same_visit}
 use Rattle.cookie_session.proofs.sessions.Sessions.visit.Goals as goal
 
 abbrev fields : List CookieView → List Record
