@@ -5,6 +5,7 @@ mod browser;
 mod requests;
 mod revoked;
 mod site;
+mod tokens;
 mod visits;
 
 use crate::browsing::site_of;
@@ -17,7 +18,7 @@ use browser::Browser;
 use cookie::{Cookie, CookieJar, field_cookies};
 use cookie_browser::Suffixes;
 use cookie_client::{Client, JarCall};
-use cookie_session::{NeverRevoked, Opened, Revocations, Tokens, Visit, second_of};
+use cookie_session::{NeverRevoked, Opened, Revocations, Visit, second_of};
 use cookie_theorems::open_for_agent::open_for_agent;
 use cookie_theorems::save_and_return::save_and_return;
 use cookie_theorems::save_over_headers::save_over_headers;
@@ -30,6 +31,7 @@ use revoked::ids_of;
 pub use site::Site;
 use std::alloc::Global;
 use std::mem::swap;
+use tokens::token_answer;
 use visits::{ended, pass_text, visit_answer};
 
 // The second of the rows' time, counted from 1970 on.
@@ -264,23 +266,11 @@ impl<'s> Visitors<'s> {
         format!(in step.alloc; "{} {cookie}", opening.place).ok()
     }
 
-    // Makes a token for a purpose, or reads one, as `invitation | ann`.
-    fn token(&self, step: Step<'_>) -> Answer {
-        let (alloc, now, site) = (step.alloc, self.now, self.site.sessions());
-        let (purpose, text) = step.halves();
-        let (purpose, text) = (purpose.text()?, text.text()?);
-        let tokens = Tokens {
-            keys: site.keys,
-            purpose: &purpose,
-            lifetime: site.lifetime,
-        };
-        if step.call == "make_token" {
-            return step.printed(tokens.make(alloc, &text, now, &mut self.rng()).ok()?);
-        }
-        match tokens.read(alloc, &text, now).ok()? {
-            Some(value) => step.pair(&purpose, &value),
-            None => step.said("-"),
-        }
+    // Makes a token for a purpose, or reads one.
+    fn token(&mut self, step: Step<'_>) -> Answer {
+        let (now, mut rng) = (self.now, self.rng());
+        let site = self.site.sessions();
+        token_answer(step, site, now, FIRST, &mut rng, &mut self.revoked)
     }
 
     // Opens a text that was sealed for a purpose and a name, as `token | invitation | TEXT`.
@@ -419,7 +409,7 @@ impl Player for Visitors<'_> {
                 let was_revoked = step.words == "revoked";
                 ended(step, self.visit.end_given(self.now, was_revoked))
             }
-            "make_token" | "read_token" => self.token(step),
+            "make_token" | "read_token" | "token_times" | "read_token_once" => self.token(step),
             "open_for" => self.open_for(step),
             "text" | "session" | "as_form" | "times" | "own" | "id" | "since" | "kept" | "held" => {
                 self.looked(step)
