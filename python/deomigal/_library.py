@@ -73,6 +73,13 @@ class TokenSettings(ctypes.Structure):
     ]
 
 
+class TokenReading(ctypes.Structure):
+    _fields_ = [
+        ("status", ctypes.c_uint32), ("length", ctypes.c_size_t), ("made", ctypes.c_uint64), ("end", ctypes.c_uint64),
+        ("id", ctypes.c_uint8 * 16),
+    ]
+
+
 class SessionFacts(ctypes.Structure):
     _fields_ = [
         ("status", ctypes.c_uint32), ("is_opened", ctypes.c_bool), ("index", ctypes.c_size_t),
@@ -162,7 +169,7 @@ SESSION_LOG_OUT = declare("session_log_out", HANDLE + SECOND + [ctypes.c_bool], 
 SESSION_END = declare("session_end", HANDLE + SECOND + TEXT, Answer)
 SESSION_FREE = declare("session_free", HANDLE, None)
 TOKEN_MAKE = declare("token_make", [ctypes.POINTER(TokenSettings)] + TEXT * 2 + SECOND + TEXT, Answer)
-TOKEN_READ = declare("token_read", [ctypes.POINTER(TokenSettings)] + TEXT + SECOND + TEXT, Answer)
+TOKEN_READ = declare("token_read", [ctypes.POINTER(TokenSettings)] + TEXT + SECOND + TEXT, TokenReading)
 SUFFIXES_NEW = declare("suffixes_new", TEXT + HANDLE, ctypes.c_uint32)
 SUFFIXES_FREE = declare("suffixes_free", HANDLE, None)
 

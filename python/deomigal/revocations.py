@@ -8,15 +8,16 @@ Whatever one of these raises, `Sessions` raises as `RevocationsError`, and the s
 from __future__ import annotations
 
 import contextlib
+import inspect
 import os
 import pathlib
 import sqlite3
 import time
 import weakref
-from typing import Any, Iterable, Iterator, Protocol, Sequence
+from typing import Any, Awaitable, Callable, Iterable, Iterator, Protocol, Sequence, Union
 
 from ._locks import Lock
-from ._steps import awaited, run
+from ._steps import awaited, in_thread, run
 from .errors import RevocationsError
 
 ID_LENGTH = 16
@@ -59,6 +60,37 @@ class AsyncRevocations(Protocol):
 
     async def revoke(self, id: bytes, until: int) -> bool:
         """Revokes the session with this id until that second, or a later one. Returns whether it was revoked already."""
+
+
+AnyRevocations = Union[Revocations, AsyncRevocations]
+# Makes a call of revocations.
+Ask = Callable[..., Awaitable[Any]]
+
+
+async def ask(revocations: Any, name: str, *words: Any) -> Any:
+    """What this call of the revocations returns. Raises `RevocationsError` for whatever it raises."""
+    with as_revocations_error(f"{name} of the revocations failed"):
+        found = getattr(revocations, name)(*words)
+    if inspect.iscoroutine(found):
+        found.close()
+        raise TypeError(f"{name} of these revocations is a coroutine: await the call whose name begins with `a`")
+    return found
+
+
+async def ask_async(revocations: Any, name: str, *words: Any) -> Any:
+    """The same, awaited."""
+    function = getattr(revocations, name)
+    with as_revocations_error(f"{name} of the revocations failed"):
+        if inspect.iscoroutinefunction(function):
+            return await function(*words)
+        return await in_thread(function, *words)
+
+
+def was_revoked(found: Any) -> bool:
+    """What `revoke` returned: whether the id was revoked already."""
+    if not isinstance(found, bool):
+        raise TypeError("revoke of the revocations returns a bool: whether the id was revoked already")
+    return found
 
 
 def id_of(id: bytes) -> bytes:

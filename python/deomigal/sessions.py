@@ -2,9 +2,8 @@
 store the cookie."""
 from __future__ import annotations
 
-import inspect
 import os
-from typing import Any, Awaitable, Callable, Iterator, MutableMapping, Sequence, Union
+from typing import Any, Callable, Iterator, MutableMapping, Sequence
 from urllib.parse import parse_qsl, urlencode
 
 from ._library import (
@@ -13,18 +12,15 @@ from ._library import (
     SESSION_TEXTS, SESSIONS_FREE, SESSIONS_NEW, Handle, Settings, Uncopied, bytes_from, handle_of, header_of, perform, ring_of,
 )
 from ._locks import Lock
-from ._steps import in_thread, run
+from ._steps import run
 from .compression import expand, shorten
 from .cookies import print_cookie
 from .dates import whole_second
 from .errors import BufferTooShort, Gone, NoSession, NotUtf8, Replaces, RevocationsError, error_of
-from .revocations import ID_LENGTH, AsyncRevocations, Revocations, as_revocations_error
+from .revocations import ID_LENGTH, AnyRevocations, Ask, ask, ask_async, was_revoked
 
 # Room for a cookie that a browser stores, and for the texts in it.
 ROOM = 5000
-AnyRevocations = Union[Revocations, AsyncRevocations]
-# Makes a call of the revocations, by its name.
-Ask = Callable[..., Awaitable[Any]]
 
 
 class Session(MutableMapping[str, str]):
@@ -294,20 +290,11 @@ class Sessions(Uncopied):
 
     async def ask(self, name: str, *words: Any) -> Any:
         """What this call of the revocations returns. Raises `RevocationsError` for whatever it raises."""
-        with as_revocations_error(f"{name} of the revocations failed"):
-            found = getattr(self.revocations, name)(*words)
-        if inspect.iscoroutine(found):
-            found.close()
-            raise TypeError(f"{name} of these revocations is a coroutine: await aopen, asave and arevoke")
-        return found
+        return await ask(self.revocations, name, *words)
 
     async def ask_async(self, name: str, *words: Any) -> Any:
         """The same, awaited."""
-        function = getattr(self.revocations, name)
-        with as_revocations_error(f"{name} of the revocations failed"):
-            if inspect.iscoroutinefunction(function):
-                return await function(*words)
-            return await in_thread(function, *words)
+        return await ask_async(self.revocations, name, *words)
 
     def revoke(self, session: Session) -> bool:
         """Logs the visitor out: revokes what the browser has, in each copy of its cookie, whenever it was saved, and whichever
@@ -350,15 +337,13 @@ class Sessions(Uncopied):
     async def spend(self, session: Session, ask: Ask, tell: Callable[..., int]) -> None:
         """Revokes what the browser has, if the site keeps what is revoked, and tells the library so. Raises `Gone` if it was
         revoked already."""
-        was_revoked, given = False, SESSION_GIVEN(session.handle)
+        was, given = False, SESSION_GIVEN(session.handle)
         if self.revocations is not None:
-            was_revoked = await ask("revoke", bytes(given.id), given.end)
-            if not isinstance(was_revoked, bool):
-                raise TypeError("revoke of the revocations returns a bool: whether the session was revoked already")
-        status = tell(session.handle, session.now, was_revoked)
+            was = was_revoked(await ask("revoke", bytes(given.id), given.end))
+        status = tell(session.handle, session.now, was)
         if status != DONE:
             # Another call for this object may have come first, so that the handle has none any more.
-            raise error_of(Gone.status if was_revoked else status)
+            raise error_of(Gone.status if was else status)
 
     async def reopen(self, session: Session, ask: Ask) -> None:
         """Opens the session of a copy for its handle, as it was opened or saved."""

@@ -2,11 +2,25 @@
 from __future__ import annotations
 
 import os
-from typing import Sequence
+from typing import NamedTuple, Sequence
 
-from ._library import TOKEN_MAKE, TOKEN_READ, TokenSettings, Uncopied, bytes_of, bytes_from, text_or_none, ring_of
+from ._library import DONE, TOKEN_MAKE, TOKEN_READ, TokenSettings, Uncopied, answer_and_bytes, bytes_from, bytes_of, ring_of
+from ._steps import run
 from .dates import whole_second
-from .errors import NotSealed, NotUtf8
+from .errors import NotSealed, NotUtf8, error_of
+from .revocations import AnyRevocations, Ask, ask, ask_async, was_revoked
+
+# Room for most values.
+ROOM = 256
+
+
+class Token(NamedTuple):
+    """A token that was read: its value, when it was made and when it is over, in seconds since 1970, and its id."""
+
+    value: str
+    made: int
+    end: int
+    id: bytes
 
 
 class Tokens(Uncopied):
@@ -14,8 +28,7 @@ class Tokens(Uncopied):
     `lifetime` seconds. It has only letters, digits, `-` and `_`, so a link can have it as it is. Threads may share it.
 
     `keys` are the site's keys, each of at least 64 random bytes, the newest first. The newest encrypts, and each of them
-    decrypts. They may be those of its `Sessions`. Nothing is stored, so a token can be read again until it is over.
-    Raises `KeyTooShort`, or `OverflowError` for a lifetime past 32 bits.
+    decrypts. They may be those of its `Sessions`. Raises `KeyTooShort`, or `OverflowError` for a lifetime past 32 bits.
 
     >>> from deomigal import derive_key
     >>> keys = [derive_key(b"a master key of at least 32 bytes")]
@@ -28,11 +41,15 @@ class Tokens(Uncopied):
     """
 
     def __init__(self, keys: Sequence[bytes], purpose: str, lifetime: int) -> None:
-        ring, purpose_bytes = ring_of(keys), bytes_of(purpose)
+        self.ring, self.purpose = ring_of(keys), bytes_of(purpose)
+        self.settings = self.settings_for(lifetime)
+        self.make("")
+
+    def settings_for(self, lifetime: int) -> TokenSettings:
+        """The settings with this lifetime."""
         if not 0 <= lifetime < 2**32:
             raise OverflowError("a lifetime has at most 32 bits")
-        self.settings = TokenSettings(ring, len(ring), purpose_bytes, len(purpose_bytes), lifetime)
-        self.make("")
+        return TokenSettings(self.ring, len(self.ring), self.purpose, len(self.purpose), lifetime)
 
     def make(self, value: str, now: float | None = None) -> str:
         """A token of the value. `now` is in seconds since 1970; without it the clock's time counts.
@@ -40,9 +57,60 @@ class Tokens(Uncopied):
         It draws twelve random bytes: let at most 2^32 be drawn under one key (SP 800-38D 8.3). Raises `NotUtf8`,
         `TooLong` or `NoDate`.
         """
-        return bytes_from(TOKEN_MAKE, self.settings, value, os.urandom(12), whole_second(now), room=len(value) + 256).decode()
+        return bytes_from(TOKEN_MAKE, self.settings, value, os.urandom(12), whole_second(now), room=len(value) + ROOM).decode()
 
-    def read(self, token: str | bytes, now: float | None = None) -> str | None:
-        """The value of a token that `make` made for the same purpose under one of the keys, or None if it is over. Raises
-        `NoDate`."""
-        return text_or_none(TOKEN_READ, (NotSealed, NotUtf8), self.settings, token, whole_second(now))
+    def read(self, token: str | bytes, now: float | None = None, *, max_age: int | None = None) -> str | None:
+        """The value of a token that `make` made for the same purpose under one of the keys, or None if it is over: `lifetime`
+        or `max_age` seconds after it was made, or at the end that it was made with. Raises `NoDate`. Nothing is stored, so a
+        token can be read again."""
+        found = self.open(token, now, max_age=max_age)
+        return found.value if found else None
+
+    def open(self, token: str | bytes, now: float | None = None, *, max_age: int | None = None) -> Token | None:
+        """What `read` returns, with the times and the id of the token.
+
+        >>> from deomigal import derive_key
+        >>> resets = Tokens([derive_key(b"a master key of at least 32 bytes")], "password reset", lifetime=3600)
+        >>> found = resets.open(resets.make("ann", now=1445412480), now=1445412539, max_age=60)
+        >>> found.value, found.made, found.end
+        ('ann', 1445412480, 1445416080)
+        """
+        settings = self.settings if max_age is None else self.settings_for(min(max_age, self.settings.lifetime))
+        reading, value = answer_and_bytes(TOKEN_READ, settings, token, whole_second(now), room=ROOM)
+        if reading.status in (NotSealed.status, NotUtf8.status):
+            return None
+        if reading.status != DONE:
+            raise error_of(reading.status)
+        return Token(value.decode(), reading.made, reading.end, bytes(reading.id))
+
+    def read_once(
+        self, token: str | bytes, revocations: AnyRevocations, now: float | None = None, *, max_age: int | None = None
+    ) -> str | None:
+        """The value of a token, as `read` returns it, or None too if it was read before. `revocations` keep until its end that
+        it was read: they may be those of the site's sessions. Of two calls at the same moment one gets the value. Raises
+        `RevocationsError` if that can't be kept. It may be kept then, or not.
+
+        >>> from deomigal import derive_key
+        >>> from deomigal.revocations import MemoryRevocations
+        >>> resets = Tokens([derive_key(b"a master key of at least 32 bytes")], "password reset", lifetime=3600)
+        >>> token, revocations = resets.make("ann"), MemoryRevocations()
+        >>> resets.read_once(token, revocations), resets.read_once(token, revocations)
+        ('ann', None)
+        """
+        return run(self.reading_once(token, revocations, now, max_age, ask))
+
+    async def aread_once(
+        self, token: str | bytes, revocations: AnyRevocations, now: float | None = None, *, max_age: int | None = None
+    ) -> str | None:
+        """Does what `read_once` does. Calls of the revocations that are coroutines are awaited, and others made in a worker
+        thread."""
+        return await self.reading_once(token, revocations, now, max_age, ask_async)
+
+    async def reading_once(
+        self, token: str | bytes, revocations: AnyRevocations, now: float | None, max_age: int | None, ask_by: Ask
+    ) -> str | None:
+        """Reads a token once, by what the revocations answer."""
+        found = self.open(token, now, max_age=max_age)
+        if found is None or was_revoked(await ask_by(revocations, "revoke", found.id, found.end)):
+            return None
+        return found.value

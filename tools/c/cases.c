@@ -381,6 +381,28 @@ static void lists_and_times(void) {
     MUST(why.status == COOKIE_DONE && why.stored.path.length == 1);
 }
 
+/* A token's times and its id are told, also where its value has no room, and of no other text. */
+static void tokens(void) {
+    cookie_token_settings settings = {KEY, 64, T("password reset"), 1200};
+    uint8_t text[128];
+    cookie_answer made = cookie_token_make(&settings, T("ann"), KEY, 12, NOW, text, sizeof text);
+    MUST(made.status == COOKIE_DONE && made.length > 16);
+    for (size_t room = 2; room < 4; room++) {
+        cookie_token token = cookie_token_read(&settings, text, made.length, NOW + 1199, ROOM(room));
+        MUST(token.status == (room < 3 ? COOKIE_BUFFER_TOO_SHORT : COOKIE_DONE) && token.length == 3);
+        MUST(token.made == NOW && token.end == NOW + 1200 && memcmp(token.id, text, 16) == 0);
+        MUST(holds(room < 3 ? "" : "ann"));
+    }
+    cookie_token over = cookie_token_read(&settings, text, made.length, NOW + 1200, OUT), none = {0};
+    none.status = COOKIE_NOT_SEALED;
+    MUST(over.status == none.status && over.length == 0 && over.made == 0 && over.end == 0);
+    MUST(memcmp(over.id, none.id, 16) == 0);
+    settings.lifetime = 60;
+    MUST(cookie_token_read(&settings, text, made.length, NOW + 59, OUT).status == COOKIE_DONE);
+    MUST(cookie_token_read(&settings, text, made.length, NOW + 60, OUT).status == COOKIE_NOT_SEALED);
+    MUST(holds("ann"));
+}
+
 int main(void) {
     memset(KEY, 7, sizeof KEY);
     holds("");
@@ -398,6 +420,7 @@ int main(void) {
     opened_sessions();
     short_buffers_of_explanations();
     lists_and_times();
+    tokens();
     printf("cases: %d faults\n", faults);
     return faults != 0;
 }

@@ -425,6 +425,11 @@ static bool is_within(cookie_span at, size_t length) { return at.start <= length
         look(d, it##_call, status, 0, starved); \
     } while (0)
 
+/* What is told of a token's value. */
+static cookie_answer answer_of_token(cookie_token token) {
+    return (cookie_answer){token.status, token.length};
+}
+
 /* Makes a call that writes a text, and again with a buffer of the length that it needs. */
 #define WRITES(it, expression) \
     do { \
@@ -508,7 +513,7 @@ static void play_plain(drawing *d, int call) {
         cookie_token_settings settings = {IN(keys), IN(purpose), one_in(d, 9) ? (uint32_t)draw(d) : 60};
         WRITES(token_make, cookie_token_make(&settings, IN(value), IN(nonce), now, d->out, d->length));
         text made = answer.status == COOKIE_DONE && !one_in(d, 4) ? text_of(d, d->out, answer.length) : value;
-        WRITES(token_read, cookie_token_read(&settings, IN(made), later, d->out, d->length));
+        WRITES(token_read, answer_of_token(cookie_token_read(&settings, IN(made), later, d->out, d->length)));
         break;
     }
     case read_date_call: {

@@ -459,8 +459,10 @@ static cookie_answer play_token(const char *name, const text *in, uint8_t *out, 
         .purpose_length = in[1].length,
         .lifetime = (uint32_t)n[0],
     };
-    return strcmp(name, "token_make") == 0 ? cookie_token_make(&settings, IN(3), IN(4), (uint64_t)n[1], out, length)
-                                           : cookie_token_read(&settings, IN(3), (uint64_t)n[1], out, length);
+    if (strcmp(name, "token_make") == 0)
+        return cookie_token_make(&settings, IN(3), IN(4), (uint64_t)n[1], out, length);
+    cookie_token token = cookie_token_read(&settings, IN(3), (uint64_t)n[1], out, length);
+    return (cookie_answer){token.status, token.length};
 }
 
 /* Whether the spans have these lengths, and are one right after the other; or all are 0. */

@@ -1,7 +1,7 @@
 -- Tokens for C, by what the library's calls do.
 use Rattle.std.proofs.Common.{◌≡◌, ℕ, inl, List, sym, ap, subst, ◌∙◌}
 use Rattle.jiff.specs.Types.{DateTime}
-use Rattle.cookie_session.specs.Tokens.{CanMakeToken, IsReadUntil, made_token, token_end}
+use Rattle.cookie_session.specs.Tokens.{CanMakeToken, IsReadUntilEnd, made_token, new_token}
 use Rattle.cookie_session.specs.declared.tokens.Tokens.{Tokens}
 use Rattle.cookie_c.specs.Answers.{IsGiven, IsRefused}
 use Rattle.cookie_c.specs.Sites.{AreKeys}
@@ -32,12 +32,12 @@ call_holds settings text now call site Holds Refuses is are holds =
 module _ (site : Tokens) (nonce : List ℕ) (time : DateTime) (value : List ℕ) (answer : Answer) (old new : List ℕ) where
   -- the token is made under this nonce, and given
   pub makes_given : (other token : List ℕ) → other ≡ nonce → token ≡ made_token site other time value → CanMakeToken site time value
-      → IsReadUntil site (token_end site time) token value → IsGiven token answer old new → MakesToken site nonce time value answer old new
+      → IsReadUntilEnd site token (new_token site time value) → IsGiven token answer old new → MakesToken site nonce time value answer old new
   makes_given other token drawn is can reads given =
       let same : token ≡ made_token site nonce time value = is ∙ ap (λ n. made_token site n time value) drawn in
       record {
         too_long = λ cannot. absurd (cannot can);
-        made = λ _. inl (subst (λ t. IsGiven t answer old new) same given, subst (λ t. IsReadUntil site (token_end site time) t value) same reads);
+        made = λ _. inl (subst (λ t. IsGiven t answer old new) same given, subst (λ t. IsReadUntilEnd site t (new_token site time value)) same reads);
       }
 
   pub makes_too_long : ¬ (CanMakeToken site time value) → IsRefused status.TooLong answer old new → MakesToken site nonce time value answer old new

@@ -1,15 +1,17 @@
 -- Tokens for C: `old` is the buffer at the call and `new` at the return.
-use Rattle.std.specs.Prelude.{◌≡◌, ℕ, ◌<◌, ◌≤◌, ◌⊎◌, List, IsUtf8}
+use Rattle.std.specs.Prelude.{◌≡◌, ℕ, ◌<◌, ◌≤◌, ◌⊎◌, List, IsUtf8, replicate}
 use Rattle.jiff.specs.Types.{DateTime}
-use Rattle.cookie_session.specs.Tokens.{CanMakeToken, IsReadUntil, made_token, token_end}
+use Rattle.cookie_session.specs.Tokens.{CanMakeToken, IsReadUntilEnd, IsToken, TokenState, made_token, new_token, token_id}
 use Rattle.cookie_session.specs.declared.tokens.Tokens.{Tokens}
 use Rattle.cookie_c.specs.Answers.{IsGiven, IsRefused}
 use Rattle.cookie_c.specs.Sites.{AreKeys, HasKeys, IsAtSecond, last_second}
+use Rattle.cookie_c.specs.Codes.{code_of}
 use Rattle.cookie_c.specs.declared.answer.Answer.{Answer}
 use Rattle.cookie_c.specs.declared.status.Status.{Status}
 use Rattle.cookie_c.specs.declared.status.Status.TheVariants as status
 use Rattle.cookie_c.specs.declared.tokens.TokenSettings.{TokenSettings}
 use Rattle.cookie_c.specs.declared.tokens.call.TokenCall.{TokenCall}
+use Rattle.cookie_c.specs.declared.tokens.reading.TokenReading.{TokenReading}
 
 -- the settings' purpose and the text that is passed in are UTF-8
 abbrev pub AreUtf8 : TokenSettings → List ℕ → Type 0
@@ -51,8 +53,30 @@ pub record MakesToken (site : Tokens) (nonce : List ℕ) (time : DateTime) (valu
       → IsRefused status.TooLong answer old new ⊎ IsRefused status.OutOfMemory answer old new
   pub made : CanMakeToken site time value
       → (IsGiven (made_token site nonce time value) answer old new
-      × IsReadUntil site (token_end site time) (made_token site nonce time value) value)
+      × IsReadUntilEnd site (made_token site nonce time value) (new_token site time value))
       ⊎ IsRefused status.OutOfMemory answer old new
+
+-- what is told where there is no token, for this reason
+abbrev pub unread_token : Status → TokenReading
+unread_token why =
+    record { status = code_of why; length = 0; made = 0; end = 0; id = replicate 16 0 }
+
+-- the token's value is given, and its times and its id are told
+pub record IsGivenToken (token : TokenState) (id : List ℕ) (reading : TokenReading)
+    (old new : List ℕ) : Type 0 where
+  pub value : IsGiven token.value (record { status = reading.status; length = reading.length })
+      old new
+  pub times : (reading.made ≡ token.made) × (reading.end ≡ token.end)
+  pub named : reading.id ≡ id
+
+-- how a text is read: it is a token, which is given; or it is none; or memory ran out
+abbrev pub ReadsToken : Tokens → DateTime → List ℕ → TokenReading → List ℕ → List ℕ → Type 0
+ReadsToken site time text reading old new =
+    ((token : TokenState) × IsToken site time text token
+    × IsGivenToken token (token_id text) reading old new)
+    ⊎ ((((token : TokenState) → ¬ IsToken site time text token)
+    × (reading ≡ unread_token status.NotSealed) × (new ≡ old))
+    ⊎ ((reading ≡ unread_token status.OutOfMemory) × (new ≡ old)))
 
 -- ---- Mirrors private code (src/tokens.rt, src/tokens/call.rt)
 

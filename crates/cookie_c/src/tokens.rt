@@ -1,11 +1,11 @@
 //! Tokens for C, such as the link of an email that resets a password.
 ghost use Rattle.std.specs.Prelude.{◌≡◌, ◌≢◌, length};
-ghost use Rattle.cookie_session.specs.Tokens.{IsToken};
-ghost use Rattle.cookie_c.specs.Answers.{IsReadInMemory, IsRefused};
-ghost use Rattle.cookie_c.specs.Tokens.{CallsTokens, MakesToken};
+ghost use Rattle.cookie_c.specs.Answers.{IsRefused};
+ghost use Rattle.cookie_c.specs.Tokens.{CallsTokens, MakesToken, ReadsToken, unread_token};
 ghost use Rattle.cookie_c.specs.declared.status.Status.TheVariants as status;
 
 pub(crate) mod call;
+pub mod reading;
 
 use crate::answer::Answer;
 use crate::sessions::given::Given;
@@ -14,6 +14,7 @@ use call::TokenCall;
 use cookie::JarError;
 use cookie_session::Tokens;
 use jiff::civil::DateTime;
+use reading::TokenReading;
 use std::alloc::Global;
 
 const NONCE_LENGTH: usize = 12;
@@ -62,8 +63,9 @@ pub extern "C" fn cookie_token_make(
     }
 }
 
-/// Reads a token that `cookie_token_make` made for the same purpose under one of the keys. Its value is for the buffer.
-/// `now` is the time in seconds since 1970 in UTC.
+/// Reads a token that `cookie_token_make` made for the same purpose under one of the keys. Its value is for the buffer, and
+/// its times and its id are told. It is over at the earlier of its end and the lifetime of these settings. `now` is the time
+/// in seconds since 1970 in UTC.
 ///
 /// Refuses keys that aren't 64 bytes each, or none, then a purpose or a token that isn't UTF-8, then a time after
 /// 9999-12-30 22:00:00, and then with `NotSealed` what isn't such a token, or is over. It may also run out of memory.
@@ -74,15 +76,14 @@ pub extern "C" fn cookie_token_read(
     token: &[u8],
     now: u64,
     out: &mut [u8],
-) -> Answer
+) -> TokenReading
     ensures { CallsTokens settings.now token.now now
-        (λ site time. IsReadInMemory (IsToken site time token.now) status.NotSealed
-        result out.old out.new)
-        (λ why. IsRefused why result out.old out.new) }
+        (λ site time. ReadsToken site time token.now result out.old out.new)
+        (λ why. (result ≡ unread_token why) × (out.new ≡ out.old)) }
 {
     match TokenCall::of(alloc, settings, token, now) {
         Ok(call) => give_read(alloc, &call.tokens(), call.text, call.time, out),
-        Err(why) => Answer::refusal(why),
+        Err(why) => TokenReading::none(why),
     }
 }
 
@@ -106,20 +107,19 @@ fn give_made(
     }
 }
 
-// The token's value, for the buffer.
+// What the text is read as. A token's value is for the buffer.
 fn give_read(
     alloc: Global,
     tokens: &Tokens<'_>,
-    token: &str,
+    text: &str,
     time: DateTime,
     out: &mut [u8],
-) -> Answer
-    ensures { IsReadInMemory (IsToken tokens.now time token.now) status.NotSealed
-        result out.old out.new }
+) -> TokenReading
+    ensures { ReadsToken tokens.now time text.now result out.old out.new }
 {
-    match tokens.read(alloc, token, time) {
-        Ok(Some(value)) => Answer::give(value.as_bytes(), out),
-        Ok(None) => Answer::refusal(Status::NotSealed),
-        Err(_) => Answer::refusal(Status::OutOfMemory),
+    match tokens.read(alloc, text, time) {
+        Ok(Some(token)) => TokenReading::give(&token, text, out),
+        Ok(None) => TokenReading::none(Status::NotSealed),
+        Err(_) => TokenReading::none(Status::OutOfMemory),
     }
 }
