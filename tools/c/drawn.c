@@ -90,6 +90,7 @@ typedef struct drawing {
     X(session_texts, S(BUFFER_TOO_SHORT) | S(NO_SESSION)) \
     X(session_set_texts, S(NO_SESSION)) \
     X(session_renew, S(BAD_NONCE) | S(NO_SESSIONS) | S(NO_DATE) | S(NO_SESSION)) \
+    X(session_must_save, S(NO_SESSIONS) | S(NO_DATE) | S(NO_SESSION)) \
     X(session_save, S(BUFFER_TOO_SHORT) | S(BAD_NONCE) | S(NO_SESSIONS) | S(NO_DATE) | S(NO_SESSION) | S(BAD_PREFIX) \
                         | S(OVER) | S(TOO_LONG) | S(TOO_LARGE) | S(REPLACES)) \
     X(session_end, S(BUFFER_TOO_SHORT) | S(NO_SESSIONS) | S(NO_DATE)) \
@@ -786,6 +787,15 @@ static void play_session(drawing *d, int call) {
         STATUS(session_renew, cookie_session_renew(&d->sites[j], session, IN(id), now));
         look_at_handle(d, call, status, d->has_site[j], COOKIE_NO_SESSIONS, S(BAD_NONCE));
         first = S(BAD_NONCE) | S(NO_SESSIONS) | S(NO_DATE);
+        break;
+    }
+    case session_must_save_call: {
+        cookie_need need;
+        STATUS(session_must_save, (need = cookie_session_must_save(&d->sites[j], session, now)).status);
+        if (need.must_save && status != COOKIE_DONE)
+            fault(d, call, "a refused session must be saved");
+        look_at_handle(d, call, status, d->has_site[j], COOKIE_NO_SESSIONS, 0);
+        first = S(NO_SESSIONS) | S(NO_DATE);
         break;
     }
     default: {

@@ -389,6 +389,9 @@ static void replace_session(cookie_sessions *sessions, cookie_session *session, 
     cookie_answer answer = cookie_session_save(sessions, session, nonce, sizeof nonce, now, out, sizeof out);
     if (answer.status != COOKIE_REPLACES || answer.length != 0 || out[0] != 0)
         fault("a session is saved that replaces another one");
+    cookie_need need = cookie_session_must_save(sessions, session, now);
+    if (need.status != COOKIE_DONE || !need.must_save)
+        fault("a renewed session needn't be saved");
     if (cookie_session_replace(session, now, true) != COOKIE_GONE
         || cookie_session_replace(session, before.end, false) != COOKIE_GONE || !is_given(session, COOKIE_DONE, &before))
         fault("a session is replaced that was revoked before, or is over");
