@@ -110,6 +110,7 @@ typedef struct drawing {
     X(agent_trim, S(NO_AGENT) | S(NO_DATE)) \
     X(agent_remove, S(NO_AGENT) | S(NOT_FOUND)) \
     X(agent_clear, S(NO_AGENT)) \
+    X(agent_count, S(NO_AGENT)) \
     X(agent_cookie, S(BUFFER_TOO_SHORT) | S(NO_AGENT) | S(NO_DATE) | S(NOT_FOUND)) \
     X(agent_save, S(BUFFER_TOO_SHORT) | S(NO_AGENT) | S(BAD_ATTRIBUTE) | S(NO_DATE)) \
     X(agent_load, S(NO_SUFFIXES) | S(NO_AGENT) | S(BAD_ATTRIBUTE) | S(NO_DATE)) \
@@ -908,6 +909,9 @@ static void play_agent(drawing *d, int call) {
         first = S(NO_SUFFIXES);
         break;
     }
+    case agent_count_call:
+        STATUS(agent_count, cookie_agent_count(agent).status);
+        break;
     case agent_clear_call:
         STATUS(agent_clear, cookie_agent_clear(agent, IN(host)));
         break;

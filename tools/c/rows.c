@@ -528,6 +528,16 @@ static cookie_answer request_step(cookie_agent *agent, cookie_suffixes *suffixes
     return (cookie_answer){reading.status, reading.refusal};
 }
 
+/* How many cookies an agent has: one at each index below. */
+static void count(cookie_agent *agent) {
+    cookie_answer told = cookie_agent_count(agent);
+    bool has_last = told.length == 0
+        || cookie_agent_cookie(agent, told.length - 1, 0, NULL, 0).status != COOKIE_NOT_FOUND;
+    if (told.status != COOKIE_DONE || !has_last
+        || cookie_agent_cookie(agent, told.length, 0, NULL, 0).status != COOKIE_NOT_FOUND)
+        fault("another number of cookies");
+}
+
 static cookie_answer agent_step(cookie_agent *agent, cookie_suffixes *suffixes, text step, uint8_t *out, size_t length) {
     text rest, in[4];
     long long n[3];
@@ -579,6 +589,7 @@ static cookie_answer play_agent(const text *in, uint8_t *out, size_t length) {
             fault("a step before the last is refused");
         answer = agent_step(&agent, &suffixes, in[i], is_last ? out : NULL, is_last ? length : 0);
     }
+    count(&agent);
     cookie_agent_free(&agent);
     cookie_suffixes_free(&suffixes);
     return answer;
