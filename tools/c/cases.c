@@ -180,6 +180,10 @@ static cookie_session_settings settings(const uint8_t *keys, size_t length, cons
     return made;
 }
 
+static bool needs(cookie_need need, uint32_t status, bool must_save) {
+    return need.status == status && need.must_save == must_save;
+}
+
 static void settings_that_are_no_sites(void) {
     const uint64_t LATE = 253402207201;
     cookie_sessions sessions = {0};
@@ -196,12 +200,15 @@ static void settings_that_are_no_sites(void) {
     MUST(cookie_session_start(&sessions, KEY, 16, LATE, &session) == COOKIE_NO_SESSIONS);
     MUST(cookie_session_renew(&sessions, &session, KEY, 17, LATE) == COOKIE_BAD_NONCE);
     MUST(cookie_session_renew(&sessions, &session, KEY, 16, LATE) == COOKIE_NO_SESSIONS);
+    MUST(needs(cookie_session_must_save(&sessions, &session, LATE), COOKIE_NO_SESSIONS, false));
     site = settings(KEY, 64, "s=");
     MUST(cookie_sessions_new(&site, &sessions) == COOKIE_DONE);
     MUST(cookie_opened_new(&sessions, NULL, 0, LATE, &opened) == COOKIE_NO_DATE);
     MUST(cookie_session_open(&sessions, NULL, 0, LATE, &session) == COOKIE_NO_DATE);
     MUST(cookie_session_start(&sessions, KEY, 16, LATE, &session) == COOKIE_NO_DATE);
     MUST(cookie_session_renew(&sessions, &session, KEY, 16, LATE) == COOKIE_NO_DATE);
+    MUST(needs(cookie_session_must_save(&sessions, &session, LATE), COOKIE_NO_DATE, false));
+    MUST(needs(cookie_session_must_save(&sessions, &session, NOW), COOKIE_NO_SESSION, false));
     MUST(cookie_session_renew(&sessions, &session, KEY, 16, NOW) == COOKIE_NO_SESSION);
     MUST(is(cookie_session_save(&sessions, &session, KEY, 12, NOW, NULL, 0), COOKIE_NO_SESSION, 0));
     MUST(cookie_session_describe(&session).status == COOKIE_NO_SESSION);
@@ -297,6 +304,39 @@ static void renewals(void) {
     cookie_sessions_free(&sessions);
     cookie_session_free(&session);
     cookie_session_free(&other);
+}
+
+/* An opened session is saved once a tenth of its idle time has passed, of 600 seconds or of the site's, and before it if
+ * it was changed or an older key opened it. A new one without texts isn't. */
+static void needed_saves(void) {
+    uint8_t keys[128];
+    memset(keys, 2, 64);
+    memset(keys + 64, 1, 64);
+    cookie_sessions sessions = {0};
+    cookie_session session = {0};
+    cookie_session_settings site = settings(keys + 64, 64, "__Host-session=; Path=/; Secure");
+    MUST(cookie_sessions_new(&site, &sessions) == COOKIE_DONE);
+    MUST(cookie_session_open(&sessions, T(ANN), NOW, &session) == COOKIE_DONE);
+    MUST(needs(cookie_session_must_save(&sessions, &session, NOW), COOKIE_DONE, false));
+    MUST(needs(cookie_session_must_save(&sessions, &session, NOW + 59), COOKIE_DONE, false));
+    MUST(needs(cookie_session_must_save(&sessions, &session, NOW + 60), COOKIE_DONE, true));
+    MUST(cookie_session_set(&session, T("a"), T("1")) == COOKIE_DONE);
+    MUST(needs(cookie_session_must_save(&sessions, &session, NOW), COOKIE_DONE, true));
+    site.idle = 100;
+    MUST(cookie_sessions_new(&site, &sessions) == COOKIE_DONE);
+    MUST(cookie_session_open(&sessions, T(ANN), NOW, &session) == COOKIE_DONE);
+    MUST(needs(cookie_session_must_save(&sessions, &session, NOW + 9), COOKIE_DONE, false));
+    MUST(needs(cookie_session_must_save(&sessions, &session, NOW + 10), COOKIE_DONE, true));
+    site = settings(keys, 128, "__Host-session=; Path=/; Secure");
+    MUST(cookie_sessions_new(&site, &sessions) == COOKIE_DONE);
+    MUST(cookie_session_open(&sessions, T(ANN), NOW, &session) == COOKIE_DONE);
+    MUST(needs(cookie_session_must_save(&sessions, &session, NOW), COOKIE_DONE, true));
+    MUST(cookie_session_start(&sessions, KEY, 16, NOW, &session) == COOKIE_DONE);
+    MUST(needs(cookie_session_must_save(&sessions, &session, NOW + 1199), COOKIE_DONE, false));
+    MUST(cookie_session_set(&session, T("a"), T("1")) == COOKIE_DONE);
+    MUST(needs(cookie_session_must_save(&sessions, &session, NOW), COOKIE_DONE, true));
+    cookie_sessions_free(&sessions);
+    cookie_session_free(&session);
 }
 
 /* A handle without opened sessions is refused, also after it was freed. Ids that are cut come first. */
@@ -416,6 +456,7 @@ int main(void) {
     settings_that_are_no_sites();
     sessions();
     renewals();
+    needed_saves();
     handles_without_opened_sessions();
     opened_sessions();
     short_buffers_of_explanations();

@@ -90,6 +90,7 @@ typedef struct drawing {
     X(session_texts, S(BUFFER_TOO_SHORT) | S(NO_SESSION)) \
     X(session_set_texts, S(NO_SESSION)) \
     X(session_renew, S(BAD_NONCE) | S(NO_SESSIONS) | S(NO_DATE) | S(NO_SESSION)) \
+    X(session_must_save, S(NO_SESSIONS) | S(NO_DATE) | S(NO_SESSION)) \
     X(session_save, S(BUFFER_TOO_SHORT) | S(BAD_NONCE) | S(NO_SESSIONS) | S(NO_DATE) | S(NO_SESSION) | S(BAD_PREFIX) \
                         | S(OVER) | S(TOO_LONG) | S(TOO_LARGE) | S(REPLACES)) \
     X(session_end, S(BUFFER_TOO_SHORT) | S(NO_SESSIONS) | S(NO_DATE)) \
@@ -109,6 +110,7 @@ typedef struct drawing {
     X(agent_trim, S(NO_AGENT) | S(NO_DATE)) \
     X(agent_remove, S(NO_AGENT) | S(NOT_FOUND)) \
     X(agent_clear, S(NO_AGENT)) \
+    X(agent_count, S(NO_AGENT)) \
     X(agent_cookie, S(BUFFER_TOO_SHORT) | S(NO_AGENT) | S(NO_DATE) | S(NOT_FOUND)) \
     X(agent_save, S(BUFFER_TOO_SHORT) | S(NO_AGENT) | S(BAD_ATTRIBUTE) | S(NO_DATE)) \
     X(agent_load, S(NO_SUFFIXES) | S(NO_AGENT) | S(BAD_ATTRIBUTE) | S(NO_DATE)) \
@@ -793,6 +795,15 @@ static void play_session(drawing *d, int call) {
         first = S(BAD_NONCE) | S(NO_SESSIONS) | S(NO_DATE);
         break;
     }
+    case session_must_save_call: {
+        cookie_need need;
+        STATUS(session_must_save, (need = cookie_session_must_save(&d->sites[j], session, now)).status);
+        if (need.must_save && status != COOKIE_DONE)
+            fault(d, call, "a refused session must be saved");
+        look_at_handle(d, call, status, d->has_site[j], COOKIE_NO_SESSIONS, 0);
+        first = S(NO_SESSIONS) | S(NO_DATE);
+        break;
+    }
     default: {
         text nonce = draw_bytes(d, 12);
         cookie_sessions *site = &d->sites[j];
@@ -903,6 +914,9 @@ static void play_agent(drawing *d, int call) {
         first = S(NO_SUFFIXES);
         break;
     }
+    case agent_count_call:
+        STATUS(agent_count, cookie_agent_count(agent).status);
+        break;
     case agent_clear_call:
         STATUS(agent_clear, cookie_agent_clear(agent, IN(host)));
         break;
