@@ -428,12 +428,12 @@ static void tokens(void) {
     cookie_answer made = cookie_token_make(&settings, T("ann"), KEY, 12, NOW, text, sizeof text);
     MUST(made.status == COOKIE_DONE && made.length > 16);
     for (size_t room = 2; room < 4; room++) {
-        cookie_token token = cookie_token_read(&settings, text, made.length, NOW + 1199, ROOM(room));
+        cookie_token_reading token = cookie_token_read(&settings, text, made.length, NOW + 1199, ROOM(room));
         MUST(token.status == (room < 3 ? COOKIE_BUFFER_TOO_SHORT : COOKIE_DONE) && token.length == 3);
         MUST(token.made == NOW && token.end == NOW + 1200 && memcmp(token.id, text, 16) == 0);
         MUST(holds(room < 3 ? "" : "ann"));
     }
-    cookie_token over = cookie_token_read(&settings, text, made.length, NOW + 1200, OUT), none = {0};
+    cookie_token_reading over = cookie_token_read(&settings, text, made.length, NOW + 1200, OUT), none = {0};
     none.status = COOKIE_NOT_SEALED;
     MUST(over.status == none.status && over.length == 0 && over.made == 0 && over.end == 0);
     MUST(memcmp(over.id, none.id, 16) == 0);

@@ -428,7 +428,7 @@ static bool is_within(cookie_span at, size_t length) { return at.start <= length
     } while (0)
 
 /* What is told of a token's value. */
-static cookie_answer answer_of_token(cookie_token token) {
+static cookie_answer answer_of_token(cookie_token_reading token) {
     return (cookie_answer){token.status, token.length};
 }
 

@@ -128,7 +128,7 @@ static void play_round(void) {
     text sealed = write_drawn(0), saved = write_drawn(2), token = write_drawn(3);
     cookie_answer opened = cookie_open(key, sizeof key, TEXT("name"), IN(sealed), value, sizeof value);
     check(opened.status == COOKIE_DONE && is(value, opened.length, "value"), "what is sealed doesn't open");
-    cookie_token read = cookie_token_read(&settings, IN(token), NOW, value, sizeof value);
+    cookie_token_reading read = cookie_token_read(&settings, IN(token), NOW, value, sizeof value);
     check(read.status == COOKIE_DONE && is(value, read.length, "value"), "a token isn't read");
     cookie_session found;
     memset(&found, 0, sizeof found);

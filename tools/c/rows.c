@@ -464,7 +464,7 @@ static cookie_answer play_token(const char *name, const text *in, uint8_t *out, 
     };
     if (strcmp(name, "token_make") == 0)
         return cookie_token_make(&settings, IN(3), IN(4), (uint64_t)n[1], out, length);
-    cookie_token token = cookie_token_read(&settings, IN(3), (uint64_t)n[1], out, length);
+    cookie_token_reading token = cookie_token_read(&settings, IN(3), (uint64_t)n[1], out, length);
     return (cookie_answer){token.status, token.length};
 }
 
