@@ -443,6 +443,37 @@ static void tokens(void) {
     MUST(holds("ann"));
 }
 
+static const char FILE_OF_LINES[] = "a.example\tFALSE\t/\tFALSE\t1445500000\tn\tv\nbad\n\nworse\n"
+                                   "b.example\tFALSE\t/\tFALSE\t1445500000\tn\tv\nworst\n";
+
+/* How many cookies are stored, and which lines of a text are bad: as many as the array has room for. */
+static void agents(void) {
+    const uint64_t LATE = 253402207201;
+    size_t lines[4] = {7, 7, 7, 7};
+    cookie_agent agent = {0};
+    cookie_suffixes suffixes = {0};
+    MUST(is(cookie_agent_count(&agent), COOKIE_NO_AGENT, 0));
+    cookie_agent_loading loading = cookie_agent_load(&agent, &suffixes, 2, NULL, 0, LATE, lines, 4);
+    MUST(loading.status == COOKIE_NO_SUFFIXES && loading.bad_lines == 0 && lines[0] == 7);
+    MUST(cookie_suffixes_new(NULL, 0, &suffixes) == COOKIE_DONE && cookie_agent_new(&agent) == COOKIE_DONE);
+    MUST(is(cookie_agent_count(&agent), COOKIE_DONE, 0));
+    loading = cookie_agent_load(&agent, &suffixes, 2, T(FILE_OF_LINES), LATE, lines, 4);
+    MUST(loading.status == COOKIE_BAD_ATTRIBUTE && loading.bad_lines == 0);
+    loading = cookie_agent_load(&agent, &suffixes, 0, T(FILE_OF_LINES), LATE, lines, 4);
+    MUST(loading.status == COOKIE_NO_DATE && loading.bad_lines == 0 && lines[0] == 7);
+    loading = cookie_agent_load(&agent, &suffixes, 0, T(FILE_OF_LINES), NOW, lines, 2);
+    MUST(loading.status == COOKIE_DONE && loading.bad_lines == 3 && lines[0] == 2 && lines[1] == 4 && lines[2] == 7);
+    MUST(is(cookie_agent_count(&agent), COOKIE_DONE, 2));
+    loading = cookie_agent_load(&agent, &suffixes, 0, T(FILE_OF_LINES), NOW, lines, 4);
+    MUST(loading.bad_lines == 3 && lines[0] == 2 && lines[1] == 4 && lines[2] == 6 && lines[3] == 7);
+    loading = cookie_agent_load(&agent, &suffixes, 0, T(FILE_OF_LINES), NOW, NULL, 0);
+    MUST(loading.status == COOKIE_DONE && loading.bad_lines == 3);
+    MUST(is(cookie_agent_count(&agent), COOKIE_DONE, 2));
+    cookie_agent_free(&agent);
+    MUST(is(cookie_agent_count(&agent), COOKIE_NO_AGENT, 0));
+    cookie_suffixes_free(&suffixes);
+}
+
 int main(void) {
     memset(KEY, 7, sizeof KEY);
     holds("");
@@ -462,6 +493,7 @@ int main(void) {
     short_buffers_of_explanations();
     lists_and_times();
     tokens();
+    agents();
     printf("cases: %d faults\n", faults);
     return faults != 0;
 }

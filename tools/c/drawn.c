@@ -825,14 +825,19 @@ static cookie_answer save(drawing *d, cookie_agent *agent, uint32_t form, uint64
     return (cookie_answer){saving.status, saving.length};
 }
 
-/* How a text is loaded. The first bad line is one that it has. */
+/* How a text is loaded. The bad lines are some that it has, in their order, and no more are told than have room. */
 static uint32_t load(drawing *d, cookie_agent *agent, cookie_suffixes *list, uint32_t form, text from, uint64_t now) {
-    cookie_agent_loading loading = cookie_agent_load(agent, list, form, IN(from), now);
-    size_t lines = 1;
+    size_t bad[3] = {0}, room = below(d, 3), lines = 1, last = 0;
+    cookie_agent_loading loading = cookie_agent_load(agent, list, form, IN(from), now, bad, room);
     for (size_t i = 0; i < from.length; i++)
         lines += from.bytes[i] == '\n';
-    if (loading.bad_lines > lines || loading.first_bad_line > lines
-        || (loading.bad_lines == 0) != (loading.first_bad_line == 0))
+    for (size_t i = 0; i < 3; i++) {
+        bool is_told = i < room && i < loading.bad_lines;
+        if (is_told ? bad[i] <= last : bad[i] != 0)
+            fault(d, agent_load_call, "a bad line in another place");
+        last = bad[i];
+    }
+    if (loading.bad_lines > lines || last > lines)
         fault(d, agent_load_call, "a bad line that there isn't");
     return loading.status;
 }

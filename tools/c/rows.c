@@ -530,6 +530,20 @@ static cookie_answer request_step(cookie_agent *agent, cookie_suffixes *suffixes
     return (cookie_answer){reading.status, reading.refusal};
 }
 
+/* A text that is loaded: the bad lines are told with room for all, for the first, and for none. */
+static cookie_answer load(cookie_agent *agent, cookie_suffixes *suffixes, const uint8_t *bytes, size_t length, const long long n[2]) {
+    size_t lines[40] = {0}, first = 0;
+    cookie_agent_loading all = cookie_agent_load(agent, suffixes, (uint32_t)n[0], bytes, length, (uint64_t)n[1], lines, 40);
+    cookie_agent_loading one = cookie_agent_load(agent, suffixes, (uint32_t)n[0], bytes, length, (uint64_t)n[1], &first, 1);
+    cookie_agent_loading none = cookie_agent_load(agent, suffixes, (uint32_t)n[0], bytes, length, (uint64_t)n[1], NULL, 0);
+    if (one.bad_lines != all.bad_lines || none.bad_lines != all.bad_lines || first != lines[0])
+        fault("other bad lines");
+    for (size_t i = 0; i < 40; i++)
+        if ((lines[i] == 0) != (i >= all.bad_lines) || (i > 0 && lines[i] != 0 && lines[i] <= lines[i - 1]))
+            fault("a bad line in another place");
+    return of_status(all.status);
+}
+
 /* How many cookies an agent has: one at each index below. */
 static void count(cookie_agent *agent) {
     cookie_answer told = cookie_agent_count(agent);
@@ -555,7 +569,7 @@ static cookie_answer agent_step(cookie_agent *agent, cookie_suffixes *suffixes, 
     if (is_step("load", step, &rest)) {
         cut_lines(rest, in, 2);
         numbers_in(in[0], 2, n);
-        return of_status(cookie_agent_load(agent, suffixes, (uint32_t)n[0], IN(1), (uint64_t)n[1]).status);
+        return load(agent, suffixes, IN(1), n);
     }
     if (is_step("save", step, &rest)) {
         numbers_in(rest, 2, n);
