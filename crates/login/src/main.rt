@@ -4,6 +4,7 @@
 
 mod clock;
 mod gateway;
+mod members;
 mod revoked;
 mod users;
 
@@ -18,6 +19,7 @@ use login_core::{
 };
 use rand::rngs::SysRng;
 use session_revocations::RevocationError;
+use std::env;
 use std::hash::RandomState;
 use std::io::Write;
 use std::process::ExitCode;
@@ -159,7 +161,27 @@ fn note(
     Ok(())
 }
 
+// Whether the guide's site is to be played. A web server may make arguments of an address (RFC 3875 4.4), so under one
+// they don't count.
+fn plays_members(rt: &HostRuntime) -> Result<bool> {
+    if env::var(rt, "GATEWAY_INTERFACE").is_ok() {
+        return Ok(false);
+    }
+    for word in env::args(rt)? {
+        if word.as_str() == "members" {
+            return Ok(true);
+        }
+    }
+    Ok(false)
+}
+
 fn main(rt: HostRuntime) -> ExitCode {
+    if let Ok(true) = plays_members(&rt) {
+        return match members::main(rt) {
+            Ok(()) => ExitCode::SUCCESS,
+            Err(_) => ExitCode::FAILURE,
+        };
+    }
     match serve(&rt) {
         Ok(()) => ExitCode::SUCCESS,
         Err(error) => {

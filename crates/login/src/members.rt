@@ -1,0 +1,269 @@
+#![tactic(auto)]
+
+use anyhow::{Context, Result};
+use cookie::{CookieBuilder, CookieJar, Key, SameSite, are_equal, field_cookies};
+use cookie_session::{Ending, KeyRing, Sessions, Visit, VisitError, second_of};
+use jiff::Timestamp;
+use jiff::civil::DateTime;
+use jiff::tz::Offset;
+use rand::rngs::SysRng;
+use session_revocations::{RevocationError, SqliteRevocations};
+use sqlite::{Connection, File, FileStore};
+use std::hash::RandomState;
+use std::io::Read;
+use std::time::Duration;
+use std::{env, io, thread};
+
+// The file of revoked sessions.
+type Revoked = SqliteRevocations<FileStore<File>>;
+
+// What a request is for.
+#[derive(Drop)]
+enum Action {
+    Look,
+    LogIn(String),
+    LogOut,
+}
+
+// What the program answers.
+#[derive(Drop)]
+struct Response {
+    status: u16,
+    cookies: Vec<String>,
+    page: String,
+}
+
+// Opens the file, or makes it. While another process has it open, it tries again for about two seconds.
+fn open(rt: &HostRuntime, path: &str) -> Result<Revoked, RevocationError> {
+    for _ in 0..180 {
+        match open_once(rt, path) {
+            Err(RevocationError::Busy) => {
+                thread::sleep(rt, Duration::from_millis(10));
+            }
+            opened => return opened,
+        }
+    }
+    Err(RevocationError::Busy)
+}
+
+fn open_once(rt: &HostRuntime, path: &str) -> Result<Revoked, RevocationError> {
+    SqliteRevocations::new(Connection::open(rt, path)?)
+}
+
+// What a form asks for. Nobody is logged in by a wrong password.
+fn action_of(rt: &HostRuntime, form: &[u8]) -> Result<Action> {
+    let (mut user, mut password) = (String::new(rt.alloc()), String::new(rt.alloc()));
+    for pair in form_urlencoded::parse(rt.alloc(), form) {
+        let (name, value) = pair?;
+        match &*name {
+            "logout" => return Ok(Action::LogOut),
+            "user" => user = String::from_str(rt.alloc(), &*value)?,
+            "password" => password = String::from_str(rt.alloc(), &*value)?,
+            _ => (),
+        }
+    }
+    // A site has slow hashes of its users' passwords.
+    if user.as_str() == "ann" && are_equal(password.as_bytes(), b"secret") {
+        Ok(Action::LogIn(user))
+    } else {
+        Ok(Action::Look)
+    }
+}
+
+// Opens the session of the request, changes it, and saves it if it must be saved. After a logout there is no visit.
+fn act(
+    rt: &HostRuntime,
+    sessions: &Sessions<'_>,
+    revoked: &mut Revoked,
+    jar: &mut CookieJar,
+    cookies: &[u8],
+    action: &Action,
+    now: DateTime,
+) -> Result<Option<Visit>, VisitError<RevocationError>> {
+    let (alloc, mut rng) = (rt.alloc(), SysRng::new(rt));
+    let cookies = field_cookies(alloc, cookies)?;
+    let mut visit = sessions.visit(alloc, &cookies, now, &mut rng, revoked)?;
+    match action {
+        Action::Look => {}
+        Action::LogIn(user) => {
+            visit.renew(sessions, now, &mut rng)?;
+            visit.set("user", user.as_str())?;
+        }
+        Action::LogOut => {
+            return match sessions.log_out(alloc, jar, visit, now, revoked)? {
+                Ending::Ended | Ending::Nobody => Ok(None),
+                Ending::Gone => Err(VisitError::Gone),
+            };
+        }
+    }
+    sessions.save_if_needed(alloc, jar, &mut visit, now, &mut rng, revoked)?;
+    Ok(Some(visit))
+}
+
+// Answers a request. If what is revoked isn't known, or another request came in between, the client is to try again.
+fn answer(
+    rt: &HostRuntime,
+    sessions: &Sessions<'_>,
+    revoked: &mut Revoked,
+    cookies: &[u8],
+    action: &Action,
+    now: DateTime,
+) -> Result<Response> {
+    let mut jar = CookieJar::with_hasher(rt.alloc(), RandomState::new(rt)?);
+    match act(rt, sessions, revoked, &mut jar, cookies, action, now) {
+        Ok(visit) => {
+            forget(rt, revoked, action, now);
+            Ok(Response {
+                status: 200,
+                cookies: jar.set_cookie_texts()?,
+                page: page(rt, visit.as_ref())?,
+            })
+        }
+        Err(VisitError::Gone) => refused(rt, 409, "Another request came in between."),
+        Err(VisitError::Revocations(why)) => unavailable(rt, why),
+        Err(VisitError::Session(why)) => Err(why.into()),
+    }
+}
+
+// At each login and logout drops what is over. If that fails, it is kept.
+fn forget(rt: &HostRuntime, revoked: &mut Revoked, action: &Action, now: DateTime) {
+    if let Action::Look = action {
+        return;
+    }
+    if let Err(why) = revoked.forget(second_of(now)) {
+        let _ = eprintln!(rt; "revoked sessions: {why}");
+    }
+}
+
+fn page(rt: &HostRuntime, visit: Option<&Visit>) -> Result<String> {
+    let Some(visit) = visit else {
+        return Ok(String::from_str(rt.alloc(), "You are logged out.")?);
+    };
+    match visit.session().get("user") {
+        Some(user) => Ok(format!(in rt.alloc(); "Hello, {user}!")?),
+        None => Ok(String::from_str(rt.alloc(), "Who are you?")?),
+    }
+}
+
+fn refused(rt: &HostRuntime, status: u16, why: &str) -> Result<Response> {
+    Ok(Response {
+        status,
+        cookies: Vec::new(rt.alloc()),
+        page: format!(in rt.alloc(); "{why} Please try again.")?,
+    })
+}
+
+fn unavailable(rt: &HostRuntime, why: RevocationError) -> Result<Response> {
+    eprintln!(rt; "revoked sessions: {why}")?;
+    refused(rt, 503, "Nobody can be logged in or out now.")
+}
+
+// The form of a request, empty if it sends none. A longer one isn't read.
+fn form(rt: &HostRuntime) -> Result<String> {
+    let length = variable(rt, "CONTENT_LENGTH");
+    let length = length.as_str().parse::<u64>().unwrap_or(0);
+    if length > 4096 {
+        return Ok(String::new(rt.alloc()));
+    }
+    Ok(io::read_to_string(rt.alloc(), rt.stdin().take(length))?)
+}
+
+// A variable of the request, empty if there is none.
+fn variable(rt: &HostRuntime, name: &str) -> String {
+    env::var(rt, name).unwrap_or(String::new(rt.alloc()))
+}
+
+// Answers one request, as a web server hands it over.
+fn serve(rt: &HostRuntime, sessions: &Sessions<'_>, path: &str, now: DateTime) -> Result<Response> {
+    let form = form(rt)?;
+    let action = action_of(rt, form.as_bytes())?;
+    let cookies = variable(rt, "HTTP_COOKIE");
+    match open(rt, path) {
+        Ok(mut revoked) => answer(rt, sessions, &mut revoked, cookies.as_bytes(), &action, now),
+        Err(why) => unavailable(rt, why),
+    }
+}
+
+fn print(rt: &HostRuntime, response: &Response) -> Result<()> {
+    print!(rt;
+        "Status: {}\r\nContent-Type: text/plain; charset=utf-8\r\n",
+        response.status
+    )?;
+    for text in &response.cookies {
+        print!(rt; "Set-Cookie: {text}\r\n")?;
+    }
+    println!(rt; "Cache-Control: no-store\r\n\r\n{}", response.page)?;
+    Ok(())
+}
+
+// Plays a request without a web server: a machine sends its cookie and a form. Returns the cookie that it has then.
+fn send(
+    rt: &HostRuntime,
+    sessions: &Sessions<'_>,
+    revoked: &mut Revoked,
+    cookie: &str,
+    form: &str,
+    now: DateTime,
+) -> Result<String> {
+    let action = action_of(rt, form.as_bytes())?;
+    let response = answer(rt, sessions, revoked, cookie.as_bytes(), &action, now)?;
+    println!(rt; "[{form}] {} {}", response.status, response.page)?;
+    let text = response
+        .cookies
+        .first()
+        .map_or(cookie, |text| text.as_str());
+    let pair = text.split_once(';').map_or(text, |(pair, _)| pair);
+    Ok(String::from_str(rt.alloc(), pair)?)
+}
+
+// Plays a login, a copy of its cookie on a second machine, and the logout on the first, after which the copy opens no more.
+fn play(rt: &HostRuntime, sessions: &Sessions<'_>, path: &str, now: DateTime) -> Result<()> {
+    let mut revoked = open(rt, path)?;
+    let first = send(
+        rt,
+        sessions,
+        &mut revoked,
+        "",
+        "user=ann&password=secret",
+        now,
+    )?;
+    let second = send(rt, sessions, &mut revoked, first.as_str(), "", now)?;
+    send(rt, sessions, &mut revoked, first.as_str(), "logout=1", now)?;
+    send(rt, sessions, &mut revoked, second.as_str(), "", now)?;
+    Ok(())
+}
+
+fn run(rt: &HostRuntime, sessions: &Sessions<'_>, is_served: bool) -> Result<()> {
+    let now = Offset::UTC.to_datetime(Timestamp::now(rt)?);
+    if !is_served {
+        return play(rt, sessions, "revoked.db", now);
+    }
+    let path = env::var(rt, "REVOKED_SESSIONS").context("REVOKED_SESSIONS")?;
+    print(rt, &serve(rt, sessions, path.as_str(), now)?)
+}
+
+pub fn main(rt: HostRuntime) -> Result<()> {
+    let is_served = env::var(&rt, "GATEWAY_INTERFACE").is_ok();
+    let secret = if is_served {
+        env::var(&rt, "SESSION_SECRET").context("SESSION_SECRET")?
+    } else {
+        String::from_str(
+            rt.alloc(),
+            "a secret of at least thirty-two bytes, only for this run",
+        )?
+    };
+    let keys = KeyRing::new(rt.alloc(), Key::try_derive_from(secret.as_bytes())?)?;
+    let cookie = CookieBuilder::new("__Host-member", "")
+        .path("/")
+        .secure(true)
+        .http_only(true)
+        .same_site(SameSite::Lax)
+        .build();
+    let sessions = Sessions {
+        keys: &keys,
+        cookie: &cookie,
+        lifetime: 12 * 3600,
+        idle: 1800,
+    };
+    run(&rt, &sessions, is_served)
+}
