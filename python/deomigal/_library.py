@@ -100,9 +100,9 @@ def library_at(path: str) -> ctypes.CDLL:
     try:
         return ctypes.CDLL(path)
     except OSError as error:
-        host = platform.system(), platform.machine(), platform.libc_ver()[0]
-        if host != ("Linux", "x86_64", "glibc"):
-            why = f"deomigal's wheel is for Linux on x86-64 with glibc, and this is {' '.join(filter(None, host))}"
+        host = platform.system(), platform.machine()
+        if host != ("Linux", "x86_64"):
+            why = f"deomigal's wheel is for Linux on x86-64, and this is {' '.join(host)}"
             raise ImportError(f"{why}: use a container such as python:3.12-slim.") from error
         raise ImportError(
             f"deomigal lacks its library: {error}. In the project, tools/c/install PREFIX makes a wheel that has it."

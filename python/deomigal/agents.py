@@ -14,7 +14,7 @@ from ._agent import JSON, NETSCAPE, Core, header_bytes
 from ._agent import AgentCookie as AgentCookie
 from ._library import Uncopied, bytes_of
 from ._locks import Lock
-from .addresses import Address, address_of
+from .addresses import Address, address_at, address_of
 from .dates import whole_second
 from .explain import Refusal, second_of, suffix_list
 
@@ -243,6 +243,19 @@ class Agent(Uncopied):
         if context.is_same_site and context.is_top_level:
             return address
         return address._replace(is_same_site=context.is_same_site, is_top_level=context.is_top_level)
+
+    def address_at(self, scheme: str, host: str, path: str, context: Context) -> Address | None:
+        """The address of a request that a client makes in this context. None if that is no URL of http or https with a host:
+        then no cookie is read or sent."""
+        try:
+            address = address_at(scheme, host, path, self.is_localhost_secure)
+        except ValueError:
+            return None
+        return address._replace(is_same_site=context.is_same_site, is_top_level=context.is_top_level)
+
+    def header_for(self, address: Address, method: str, context: Context) -> bytes:
+        """The value of the `Cookie` header of a request that a client makes with the method in this context."""
+        return self.header_at(address, context.is_safe and method.upper() in SAFE_METHODS)
 
     def second(self, now: datetime.datetime | None) -> int:
         """The time in whole seconds since 1970 in UTC, by default the clock's. Raises `NoDate` if a call doesn't take it."""

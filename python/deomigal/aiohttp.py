@@ -23,7 +23,7 @@ from aiohttp.typedefs import LooseCookies
 from yarl import URL
 
 from ._agent import AgentCookie, header_bytes
-from .addresses import Address, address_at
+from .addresses import Address
 from .agents import SAFE_METHODS, SAME_SITE, Agent, Context
 from .dates import print_date
 from .explain import date_after
@@ -85,13 +85,8 @@ class CookieJar(AbstractCookieJar):
         self.agent, self.context = Agent() if agent is None else agent, context
 
     def address_of(self, url: URL) -> Address | None:
-        """Where a request to the URL goes: the host is the one that aiohttp connects to. None if that is no URL of http or
-        https with a host: then no cookie is read or sent."""
-        try:
-            address = address_at(url.scheme, url.raw_host or "", url.raw_path, self.agent.is_localhost_secure)
-        except ValueError:
-            return None
-        return address._replace(is_same_site=self.context.is_same_site, is_top_level=self.context.is_top_level)
+        """Where a request to the URL goes: the host is the one that aiohttp connects to."""
+        return self.agent.address_at(url.scheme, url.raw_host or "", url.raw_path, self.context)
 
     def read(self, texts: Sequence[bytes], url: URL) -> None:
         """Reads the values of the `Set-Cookie` headers of a response from the URL."""

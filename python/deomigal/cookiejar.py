@@ -17,7 +17,7 @@ from urllib.parse import unquote, urlsplit
 
 from ._agent import AgentCookie, header_bytes
 from .addresses import Address, address_at
-from .agents import SAFE_METHODS, SAME_SITE, Agent, Context
+from .agents import SAME_SITE, Agent, Context
 from .cookies import RULES
 
 
@@ -50,7 +50,7 @@ class CookieJar(http.cookiejar.CookieJar):
         address = self.address_of(request)
         if address is not None and not request.has_header("Cookie"):
             method = request.get_method() if hasattr(request, "get_method") else "GET"
-            header = self.agent.header_at(address, self.context.is_safe and method.upper() in SAFE_METHODS)
+            header = self.agent.header_for(address, method, self.context)
             if header:
                 # http.client prints a character as the byte of Latin-1.
                 request.add_unredirected_header("Cookie", header.decode("latin-1"))
@@ -68,10 +68,9 @@ class CookieJar(http.cookiejar.CookieJar):
             host = named.hostname or ""
             # The codec that http.client connects with.
             host = host if host.isascii() else host.encode("idna").decode()
-            address = address_at(parts.scheme, host, parts.path, self.agent.is_localhost_secure)
         except ValueError:
             return None
-        return address._replace(is_same_site=self.context.is_same_site, is_top_level=self.context.is_top_level)
+        return self.agent.address_at(parts.scheme, host, parts.path, self.context)
 
     def set_policy(self, policy: http.cookiejar.CookiePolicy) -> None:
         """Raises `TypeError`: the rules are those of RFC 6265bis."""

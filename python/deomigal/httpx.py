@@ -21,8 +21,8 @@ from typing import Any
 
 import httpx
 
-from .addresses import Address, address_at
-from .agents import SAFE_METHODS, SAME_SITE, Agent, Context
+from .addresses import Address
+from .agents import SAME_SITE, Agent, Context
 from .cookiejar import NoCookies
 
 
@@ -53,8 +53,7 @@ class Cookies:
         fields = [field for field in request.headers.raw if field[0].lower() != b"cookie"]
         address = self.address_of(request.url)
         if address is not None:
-            is_safe = self.context.is_safe and request.method.upper() in SAFE_METHODS
-            header = self.agent.header_at(address, is_safe)
+            header = self.agent.header_for(address, request.method, self.context)
             fields += [(b"Cookie", header)] * bool(header)
         request.headers = httpx.Headers(fields)
         return address
@@ -62,11 +61,7 @@ class Cookies:
     def address_of(self, url: httpx.URL) -> Address | None:
         """Where a request to the URL goes: the host is the one that httpx connects to."""
         path = url.raw_path.partition(b"?")[0].decode("latin-1")
-        try:
-            address = address_at(url.scheme, url.raw_host.decode(), path, self.agent.is_localhost_secure)
-        except ValueError:
-            return None
-        return address._replace(is_same_site=self.context.is_same_site, is_top_level=self.context.is_top_level)
+        return self.agent.address_at(url.scheme, url.raw_host.decode(), path, self.context)
 
     def read(self, address: Address | None, response: httpx.Response) -> None:
         """Reads the cookies of the response."""

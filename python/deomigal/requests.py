@@ -22,8 +22,8 @@ from requests.cookies import RequestsCookieJar
 from urllib3.util import parse_url
 
 from ._library import Uncopied
-from .addresses import Address, address_at
-from .agents import SAFE_METHODS, SAME_SITE, Agent, Context
+from .addresses import Address
+from .agents import SAME_SITE, Agent, Context
 from .cookiejar import CookieJar, texts_of
 
 
@@ -38,13 +38,18 @@ def session_of(agent: Agent | None = None, *, context: Context = SAME_SITE) -> S
     ('en', b'lang=en')
     """
     session, adapter = Session(), CookieAdapter(agent, context=context)
-    session.cookies = SessionCookies(adapter.agent)
+    cookies: Any = SessionCookies(adapter.agent)
+    session.cookies = cookies
     for prefix in ("https://", "http://"):
         session.mount(prefix, adapter)
     return session
 
 
-class AgentJar(CookieJar, RequestsCookieJar):
+# Newer versions of requests have types, by which no jar of theirs could be one of the standard library's too.
+JarOfRequests: Any = RequestsCookieJar
+
+
+class AgentJar(CookieJar, JarOfRequests):
     """An agent's cookies with the calls of a dict that jars of requests have."""
 
 
@@ -65,7 +70,8 @@ class SessionCookies(Uncopied):
         return getattr(self.jar, name)
 
     def __getitem__(self, name: str) -> str | None:
-        return self.jar[name]  # type: ignore[no-any-return]
+        value: str | None = self.jar[name]
+        return value
 
     def __setitem__(self, name: str, value: str | None) -> None:
         self.jar[name] = value
@@ -103,8 +109,7 @@ class CookieAdapter(Uncopied, HTTPAdapter):
         address = self.address_of(request.url or "")
         if address is None:
             return super().send(request, *arguments, **options)
-        is_safe = self.context.is_safe and (request.method or "").upper() in SAFE_METHODS
-        header = self.agent.header_at(address, is_safe)
+        header = self.agent.header_for(address, request.method or "", self.context)
         if header:
             # http.client prints a character as the byte of Latin-1.
             request.headers["Cookie"] = header.decode("latin-1")
@@ -115,14 +120,11 @@ class CookieAdapter(Uncopied, HTTPAdapter):
     def address_of(self, url: str) -> Address | None:
         """Where the request goes, by the two readings of URLs that requests and urllib3 connect by. None if they differ,
         or there is no host: then no cookie is read or sent."""
-        is_local = self.agent.is_localhost_secure
         try:
             parts, named = urlsplit(url), parse_url(url)
-            address = address_at(parts.scheme, parts.hostname or "", parts.path, is_local)
-            other = address_at(named.scheme or "", named.host or "", parts.path, is_local)
-            is_one = address == other and parts.port == named.port and "\\" not in parts.netloc
+            is_one = parts.port == named.port and "\\" not in parts.netloc
         except ValueError:
             return None
-        if not is_one:
-            return None
-        return address._replace(is_same_site=self.context.is_same_site, is_top_level=self.context.is_top_level)
+        address = self.agent.address_at(parts.scheme, parts.hostname or "", parts.path, self.context)
+        other = self.agent.address_at(named.scheme or "", named.host or "", parts.path, self.context)
+        return address if is_one and address == other else None

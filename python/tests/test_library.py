@@ -2,6 +2,7 @@
 import os
 import platform
 import re
+import shutil
 import subprocess
 import sys
 from importlib import metadata
@@ -12,17 +13,15 @@ from deomigal import _library
 from helpers import TOP
 
 
-@pytest.mark.parametrize(
-    "host", [("Darwin", "arm64", ""), ("Windows", "AMD64", ""), ("Linux", "aarch64", "glibc"), ("Linux", "x86_64", "")]
-)
+@pytest.mark.parametrize("host", [("Darwin", "arm64"), ("Windows", "AMD64"), ("Linux", "aarch64")])
 def test_other_platform(monkeypatch, tmp_path, host):
     """Where the wheel's library can't be loaded, one sentence says for which platforms it is, and what to do."""
-    for name, value in zip(("system", "machine", "libc_ver"), (host[0], host[1], (host[2], ""))):
+    for name, value in zip(("system", "machine"), host):
         monkeypatch.setattr(platform, name, lambda value=value: value)
     with pytest.raises(ImportError) as found:
         _library.library_at(str(tmp_path / "libcookie_c.so"))
     text = str(found.value)
-    assert "for Linux on x86-64 with glibc" in text and host[0] in text and text.count(". ") == 0
+    assert "for Linux on x86-64" in text and host[0] in text and text.count(". ") == 0
 
 
 def test_no_library(tmp_path):
@@ -30,6 +29,24 @@ def test_no_library(tmp_path):
     words = {**os.environ, "DEOMIGAL_LIBRARY": str(tmp_path / "none.so")}
     done = subprocess.run([sys.executable, "-c", "import deomigal"], env=words, capture_output=True, text=True)
     assert done.returncode == 1 and "tools/c/install" in done.stderr.splitlines()[-1]
+
+
+MUSL = """
+#include <dlfcn.h>
+int main(int count, char **words) {
+    void *library = dlopen(words[1], RTLD_NOW);
+    return !library || !((unsigned (*)(void))dlsym(library, "cookie_version"))();
+}
+"""
+
+
+def test_musl(tmp_path):
+    """The library is loaded with musl too, as in Alpine."""
+    if not shutil.which("musl-gcc"):
+        pytest.skip("no musl-gcc")
+    (tmp_path / "load.c").write_text(MUSL)
+    subprocess.run(["musl-gcc", "load.c", "-o", "load"], cwd=tmp_path, check=True)
+    assert subprocess.run([tmp_path / "load", _library.LIBRARY._name]).returncode == 0
 
 
 def installed():
