@@ -5,7 +5,9 @@ The drop-ins for clients are `deomigal.requests`, `deomigal.httpx`, `deomigal.ai
 from __future__ import annotations
 
 import datetime
+import errno
 import os
+import stat
 import tempfile
 import time
 from typing import Callable, Iterable, Iterator, NamedTuple
@@ -221,12 +223,14 @@ class Agent(Uncopied):
 
     def load(self, path: str | os.PathLike[str], form: str | None = None) -> list[int]:
         """Reads the cookies of a file that `save`, curl or wget wrote. Returns the numbers, from 1, of the lines that hold
-        no cookie, or one that no user agent could have stored, as one for a public suffix and the hosts below it.
+        no cookie, or one that no user agent could have stored, as one for a public suffix and the hosts below it. A cookie
+        that would last for more than 400 days lasts for 400 days.
 
         They join those that are stored, in the order of their lines. What is expired is left out. Without `form` the
-        file's first byte says which form it has. Raises `ValueError` if the file has more than 64 MiB.
+        file's first byte says which form it has. Raises `ValueError` if the file has more than 64 MiB, and `OSError` if it
+        is no regular file, as a folder or a FIFO.
         """
-        with open(path, "rb") as file:
+        with open(path, "rb", opener=file_opener) as file:
             text = file.read(MOST + 1)
         if len(text) > MOST:
             raise ValueError(f"the file has more than {MOST} bytes")
@@ -267,6 +271,15 @@ def form_of(form: str) -> str:
     if form not in (JSON, NETSCAPE):
         raise ValueError(f"a form is {JSON!r} or {NETSCAPE!r}")
     return form
+
+
+def file_opener(path: str, flags: int) -> int:
+    """Opens a regular file. Of a FIFO it doesn't wait for somebody who writes."""
+    handle = os.open(path, flags | os.O_NONBLOCK)
+    if not stat.S_ISREG(os.fstat(handle).st_mode):
+        os.close(handle)
+        raise OSError(errno.EINVAL, "no regular file", path)
+    return handle
 
 
 def replace(path: str, text: bytes) -> None:

@@ -19,6 +19,8 @@ CALLS = {"derive_key": library.DERIVE_KEY, "sign": library.SIGN, "verify": libra
          "refusal_sentence": _agent.REFUSAL_SENTENCE, "refusal_section": _agent.REFUSAL_SECTION}
 # The names of the statuses in the rows, such as NOT_UTF8 for `NotUtf8`.
 STATUSES = ["DONE"] + [re.sub(r"(?<!^)(?=[A-Z])", "_", error.__name__).upper() for _, error in sorted(errors.ERRORS.items())]
+# The names of the forms of a file, by their numbers.
+FORMS = {number: form for form, number in _agent.FORMS.items()}
 FIELDS = ("year", "month", "day", "hour", "minute", "second")
 STEPS = TOP / "tools/c/steps"
 
@@ -146,9 +148,9 @@ def agent_step(agent, step):
     numbers, *texts = rest.split(b"\n", 1 if word == b"load" else 3)
     numbers = [int(number) for number in numbers.split()]
     if word == b"load":
-        agent.core.load(_agent.NETSCAPE, *texts, numbers[1])
+        agent.core.load(FORMS[numbers[0]], *texts, numbers[1])
     elif word == b"save":
-        text, _ = agent.core.save(_agent.NETSCAPE, numbers[1])
+        text, _ = agent.core.save(FORMS[numbers[0]], numbers[1])
         return "DONE", len(text), text
     elif word in (b"evict", b"trim"):
         (agent.core.evict if word == b"evict" else agent.core.trim)(*numbers)

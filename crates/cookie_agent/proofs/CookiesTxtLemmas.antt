@@ -1,5 +1,5 @@
 -- What is written in a `cookies.txt` is read again.
-use Rattle.std.proofs.Common.{◌≡◌, ℕ, ℤ, ◌+◌, ◌-◌, ◌<◌, ◌^◌, ◌==◌, ◌&&◌, Bool, true, false, cond, not, List, [], ◌∷◌, ◌++◌, length, get_or, drop, map, Option, Some, None, refl, sym, ap, ◌∙◌, append_assoc, arith, eqb}
+use Rattle.std.proofs.Common.{◌≡◌, ℕ, ℤ, ◌-◌, ◌<◌, ◌^◌, ◌==◌, ◌&&◌, Bool, true, false, cond, not, List, [], ◌∷◌, ◌++◌, length, get_or, drop, map, Option, Some, None, refl, sym, ap, ◌∙◌, append_assoc, arith, eqb}
 use denote.Ref.{Bor}
 use Rattle.std.specs.Prelude.{◌≢◌, codes, decimal, is_some, nat_le, nat_lt, option_map, pos, unwrap_or}
 use Rattle.std.specs.Char.{is_ascii_digit, to_ascii_lowercase}
@@ -25,12 +25,13 @@ use Rattle.cookie_browser.specs.declared.enforcement.Enforcement.TheVariants as 
 use Rattle.cookie_agent.specs.CookiesTxt.{cookie_line, cookie_of, domain_field, expiry_seconds, fields_of, flag_of, flag_text, has_fields, head_line, http_only_mark, is_carried, is_field_byte, is_one_field, line_of, line_of_fields, line_read, read_line, seconds_from_1970, split_fields, txt_cookie}
 use Rattle.cookie_agent.specs.CookiesTxtCode.{carried_seconds, cookie_as, line_at}
 use Rattle.cookie_agent.specs.Saved.{is_persistent, lines_of, saved}
-use Rattle.cookie_agent.specs.Storable.{is_domain, is_domain_byte, is_received_pair, is_storable, meets_name_prefix, meets_same_site}
+use Rattle.cookie_agent.specs.Storable.{can_be_set, is_domain, is_path, is_received_pair, is_storable, limited, meets_name_prefix, meets_same_site}
 use Rattle.cookie_agent.specs.declared.saved.cookies_txt.Fields.{Fields}
 use Rattle.cookie_agent.specs.declared.saved.cookies_txt.Kind.{Kind}
 use Rattle.cookie_agent.specs.declared.saved.line.Line.{Line}
 use Rattle.cookie_agent.specs.declared.saved.line.Line.TheVariants as line
 use Rattle.cookie_agent.proofs.SavedLemmas.{lines_for}
+use Rattle.cookie_agent.proofs.StorableLemmas.{domain_begins, domain_bytes, is_domain_byte}
 
 -- ---- bytes
 
@@ -184,17 +185,11 @@ lower_domain (b ∷ bs) h =
 abbrev dotted : Bool → List ℕ → List ℕ
 dotted is_host_only domain = cond is_host_only domain (46 ∷ domain)
 
-domain_bytes : (domain : List ℕ) → is_domain domain ≡ true → list_all is_domain_byte domain ≡ true
-domain_bytes [] h = absurd (false≢true h)
-domain_bytes (b ∷ bs) h = (and_parts (not (b == 35)) _ (and_parts (not (b == 46)) _ h).1).1
-
 dotted_is_read : (is_host_only : Bool) (domain : List ℕ) → is_domain domain ≡ true
     → str_to_ascii_lowercase (without_leading_dot (dotted is_host_only domain)) ≡ domain
 dotted_is_read is_host_only [] h = absurd (false≢true h)
 dotted_is_read true (b ∷ bs) h =
-    let k = (and_parts (not (b == 46)) _ h).0 in
-    let bare : (b == 46) ≡ false = grind (arith, nat_tests, k) in
-    ap str_to_ascii_lowercase (cond-false (b == 46) bs (b ∷ bs) bare) ∙ lower_domain (b ∷ bs) (domain_bytes (b ∷ bs) h)
+    ap str_to_ascii_lowercase (cond-false (b == 46) bs (b ∷ bs) (domain_begins b bs h).undotted) ∙ lower_domain (b ∷ bs) (domain_bytes (b ∷ bs) h)
 dotted_is_read false (b ∷ bs) h = lower_domain (b ∷ bs) (domain_bytes (b ∷ bs) h)
 
 dotted_is_plain : (is_host_only : Bool) (domain : List ℕ) → is_domain domain ≡ true
@@ -226,21 +221,22 @@ body_is_quiet cookie h =
     (mark_is_quiet cookie.is_http_only) (join_is_quiet (fields_of cookie) (fields_are_plain cookie h))
 
 -- nothing that the test looks at is lost
-keeps : (a b c d e f : Bool) → ((a && (b && (c && (d && e)))) && f) ≡ true → ((a && (b && (c && (d && true)))) && f) ≡ true
-keeps false b c d e f h = h
-keeps true false c d e f h = h
-keeps true true false d e f h = h
-keeps true true true false e f h = h
-keeps true true true true false f h = absurd (false≢true h)
-keeps true true true true true f h = h
+keeps : (a b c d e f g : Bool) → ((a && (b && (c && (d && (e && f))))) && g) ≡ true → ((a && (b && (c && (d && (e && true))))) && g) ≡ true
+keeps false b c d e f g h = h
+keeps true false c d e f g h = h
+keeps true true false d e f g h = h
+keeps true true true false e f g h = h
+keeps true true true true false f g h = h
+keeps true true true true true false g h = absurd (false≢true h)
+keeps true true true true true true g h = h
 
 read_fields : (now : DateTime) (cookie : KeptView) → Carried cookie
     → line_of_fields now cookie.is_http_only (fields_of cookie) ≡ line.Cookie (txt_cookie now cookie)
 read_fields now cookie h =
     let n = h.seconds in
-    let read = txt_cookie now cookie in
+    let read = record cookie { same_site = enforcement.Default; expiry = option_map nanos_of_seconds (expiry_seconds cookie.expiry); last_access = civil_nanos now } in
     let has : has_fields read ≡ true =
-    keeps (is_received_pair cookie.name cookie.value) (is_domain cookie.domain) _ (meets_name_prefix cookie) (meets_same_site cookie) _ h.fields in
+    keeps (is_received_pair cookie.name cookie.value) (is_domain cookie.domain) (can_be_set cookie) (is_path cookie.path) (meets_name_prefix cookie) (meets_same_site cookie) _ h.fields in
     let whole : seconds_of_digits (decimal (unwrap_or (expiry_seconds cookie.expiry) 0)) ≡ Some n =
     ap (λ e. seconds_of_digits (decimal (unwrap_or e 0))) h.expiry ∙ seconds_of-decimal n h.small in
     let made : cookie_of now cookie.is_http_only (domain_field cookie) (not cookie.is_host_only) cookie.path cookie.is_secure_only n cookie.name cookie.value ≡ read =
@@ -249,9 +245,9 @@ read_fields now cookie h =
     ap (λ s. read_line now cookie.is_http_only (domain_field cookie) (flag_of (flag_text (not cookie.is_host_only))) cookie.path (flag_of (flag_text cookie.is_secure_only)) s cookie.name cookie.value) whole
     ∙ ap (λ s. read_line now cookie.is_http_only (domain_field cookie) (flag_of (flag_text (not cookie.is_host_only))) cookie.path s (Some n) cookie.name cookie.value) (flag_of-flag_text cookie.is_secure_only)
     ∙ ap (λ s. read_line now cookie.is_http_only (domain_field cookie) s cookie.path (Some cookie.is_secure_only) (Some n) cookie.name cookie.value) (flag_of-flag_text (not cookie.is_host_only))
-    ∙ ap (line_of n) made
-    ∙ ap (λ b. cond (not b) line.Bad (cond (n == 0) line.Other (line.Cookie read))) has
-    ∙ cond-false (n == 0) line.Other (line.Cookie read) (positive n h.some)
+    ∙ ap (line_of now n) made
+    ∙ ap (λ b. cond (not b) line.Bad (cond (n == 0) line.Other (line.Cookie (txt_cookie now cookie)))) has
+    ∙ cond-false (n == 0) line.Other (line.Cookie (txt_cookie now cookie)) (positive n h.some)
   where
     positive : (n : ℕ) → 0 < n → (n == 0) ≡ false
     positive n some = grind (arith, nat_tests)
@@ -278,9 +274,7 @@ unmarked now b bs h =
 no_comment : (now : DateTime) (is_host_only : Bool) (domain rest : List ℕ) → is_domain domain ≡ true
     → line_read now (dotted is_host_only domain ++ rest) ≡ line_of_fields now false (split_fields (dotted is_host_only domain ++ rest))
 no_comment now is_host_only [] rest h = absurd (false≢true h)
-no_comment now true (b ∷ bs) rest h =
-    let k = (and_parts (not (b == 35)) _ (and_parts (not (b == 46)) _ h).1).0 in
-    unmarked now b (bs ++ rest) (grind (arith, nat_tests, k))
+no_comment now true (b ∷ bs) rest h = unmarked now b (bs ++ rest) (domain_begins b bs h).unmarked
 no_comment now false (b ∷ bs) rest h = unmarked now 46 ((b ∷ bs) ++ rest) refl
 
 read_marked : (now : DateTime) (is_http_only is_host_only : Bool) (domain rest : List ℕ) → is_domain domain ≡ true
@@ -352,11 +346,24 @@ marked now (b ∷ bs) h = cond-true (starts_with eqb (b ∷ bs) http_only_mark) 
 pub read_of : (now : DateTime) (is_http_only : Bool) (domain path name value : List ℕ) (b s : Option Bool) (e : Option ℕ)
     (below secure : Bool) (count : ℕ) → b ≡ Some below → s ≡ Some secure → e ≡ Some count
     → read_line now is_http_only domain b path s e name value
-    ≡ line_of count (cookie_of now is_http_only domain below path secure count name value)
+    ≡ line_of now count (cookie_of now is_http_only domain below path secure count name value)
 read_of now is_http_only domain path name value b s e below secure count is_b is_s is_e =
     ap (λ x. read_line now is_http_only domain x path s e name value) is_b
     ∙ ap (λ x. read_line now is_http_only domain (Some below) path x e name value) is_s
     ∙ ap (λ x. read_line now is_http_only domain (Some below) path (Some secure) x name value) is_e
+
+pub nonzero : (n : ℕ) → pos n ≢ pos 0 → (n == 0) ≡ false
+nonzero n h = by (n == 0) refl
+  where
+    by : (t : Bool) → (n == 0) ≡ t → t ≡ false
+    by true e = let none : n ≡ 0 = grind (arith, nat_tests, e) in absurd (h (ap pos none))
+    by false e = refl
+
+pub line_of-is : (now : DateTime) (n : ℕ) (cookie : KeptView) → has_fields cookie ≡ true → (n == 0) ≡ false
+    → line_of now n cookie ≡ line.Cookie (record cookie { expiry = limited now cookie.expiry })
+line_of-is now n cookie has some =
+    ap (λ b. cond (not b) line.Bad (cond (n == 0) line.Other (line.Cookie (record cookie { expiry = limited now cookie.expiry })))) has
+    ∙ cond-false (n == 0) line.Other (line.Cookie (record cookie { expiry = limited now cookie.expiry })) some
 
 -- the count that was read as an integer
 pub counted : (e : Option ℕ) (z : ℤ) → option_map pos e ≡ Some z → (count : ℕ) × (e ≡ Some count) × (z ≡ pos count)

@@ -83,7 +83,7 @@ trim_nil : trim_wsp [] ≡ []
 unfolding trim_wsp
 trim_nil = refl
 
-trim_twice : (t : List ℕ) → trim_wsp (trim_wsp t) ≡ trim_wsp t
+pub trim_twice : (t : List ℕ) → trim_wsp (trim_wsp t) ≡ trim_wsp t
 trim_twice t = by (trim_wsp t) refl
   where
     by : (u : List ℕ) → trim_wsp t ≡ u → trim_wsp u ≡ u

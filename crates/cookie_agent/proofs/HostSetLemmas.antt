@@ -1,5 +1,5 @@
 -- What is stored under a name with the prefix `__Host-`, and what is left of stored cookies later.
-use Rattle.std.proofs.Common.{◌≡◌, ℕ, ℤ, ◌≤ℤ◌, ◌&&◌, ◌||◌, not, Bool, true, false, cond, List, [], ◌∷◌, codes, map, Option, Some, None, Ok, Err, option_map, refl, sym, ap, ◌∙◌, All, inl, arith}
+use Rattle.std.proofs.Common.{◌≡◌, ℕ, ℤ, ◌≤ℤ◌, ◌&&◌, not, Bool, true, false, cond, List, [], ◌∷◌, codes, map, Option, Some, None, Ok, Err, option_map, refl, sym, ap, ◌∙◌, All, inl, arith}
 use Rattle.std.proofs.lemmas.Bool.{and_parts, false≢true}
 use Rattle.std.proofs.lemmas.List.Elements.{All-head, All-tail, filter_agree}
 use Rattle.std.proofs.lemmas.Slice.Eq.{bytes_eq-Decides}
@@ -109,11 +109,11 @@ module _ (P : KeptView → Bool) (respects : (a b : KeptView) → is_same_cookie
 
 -- ---- what is stored under such a name
 
-both_none : (a b : Option Refusal) → or_next_refusal a b ≡ None → (a ≡ None) × (b ≡ None)
+pub both_none : (a b : Option Refusal) → or_next_refusal a b ≡ None → (a ≡ None) × (b ≡ None)
 both_none None b e = (refl, e)
 both_none (Some f) b e = cc
 
-not_refused : (t : Bool) (f : Refusal) (l : Option Refusal) → refused_if t f l ≡ None → (t ≡ false) × (l ≡ None)
+pub not_refused : (t : Bool) (f : Refusal) (l : Option Refusal) → refused_if t f l ≡ None → (t ≡ false) × (l ≡ None)
 not_refused true f l e = cc
 not_refused false f l e = (refl, e)
 

@@ -1,7 +1,6 @@
 -- What a store knows of its cookies: their hashes, and until when none is expired.
-use Rattle.std.proofs.Common.{◌≡◌, ℕ, ℤ, ◌<◌, ◌≤◌, ◌≤ℤ◌, ◌+◌, Bool, true, false, cond, [], ◌∷◌, ◌++◌, length, get_or, map, refl, sym, ap, ◌∙◌, All, arith, subst}
+use Rattle.std.proofs.Common.{◌≡◌, ℕ, ℤ, ◌<◌, ◌≤ℤ◌, Bool, true, false, cond, [], ◌∷◌, ◌++◌, length, get_or, map, refl, sym, ap, ◌∙◌, All, arith, subst}
 use Rattle.std.proofs.Math.ListN.{set}
-use Rattle.std.proofs.lemmas.Bool.{and_right}
 use Rattle.std.proofs.lemmas.Int.{ints}
 use Rattle.std.proofs.lemmas.List.{get_or-map, map-set, set-get_or}
 use Rattle.std.proofs.lemmas.List.Elements.{All-cons, All-filter, All-head, All-map, All-nil, All-tail, All-weaker}
@@ -10,10 +9,10 @@ use Rattle.std.specs.Prelude.{int_lt}
 use Rattle.jiff.specs.Types.{DateTime}
 use Rattle.jiff.specs.Words.{civil_nanos}
 use Rattle.cookie_browser.specs.Request.{RequestView}
-use Rattle.cookie_browser.specs.Storage.{KeptView, CookieStore, is_same_cookie, is_sent, lasting, lasts}
+use Rattle.cookie_browser.specs.Storage.{KeptView, CookieStore, is_same_cookie, is_sent, lasting}
 use Rattle.cookie_agent.specs.Sent.{accessed}
 use Rattle.cookie_agent.specs.Stored.{IsApart}
-use Rattle.cookie_agent.specs.StoredCode.{AreIndexed, IsFreshUntil, gives_place, hash_after, hash_of}
+use Rattle.cookie_agent.specs.StoredCode.{AreIndexed, IsFreshUntil, hash_after, hash_of}
 use Rattle.cookie_agent.proofs.KeyLemmas.{alike}
 use Rattle.cookie_agent.proofs.PutLemmas.{apart-accessed, apart-filter}
 

@@ -7,6 +7,7 @@ use Rattle.std.proofs.lemmas.Bool.{cond-false, cond-true, false≢true}
 use Rattle.std.proofs.lemmas.Str.{IsUtf8-from_is_utf8, is_utf8-from_IsUtf8}
 use Rattle.std.proofs.lemmas.Bool.Decides.{nat_tests}
 use Rattle.std.proofs.lemmas.List.Sums.{AllPass-from_list_all}
+use Rattle.jiff.specs.Types.{DateTime}
 use Rattle.serde_json.specs.Data.{Data, number}
 use Rattle.serde_json.specs.Find.{of_integer}
 use Rattle.serde_json.specs.Read.{read}
@@ -106,16 +107,16 @@ same_texts F a b c d p q r s e f g h =
 
 -- ---- a line that isn't empty
 
-pub whole_line : (text : List ℕ) (found : Data) → (length text == 0) ≡ false → IsUtf8 text → read text ≡ Some found
-    → json_line_read text ≡ line_of_data (Some found)
-whole_line [] found filled utf8 is = absurd (false≢true (sym filled))
-whole_line (b ∷ bs) found filled utf8 is =
-    cond-true (is_utf8 (b ∷ bs)) (line_of_data (read (b ∷ bs))) line.Bad (is_utf8-from_IsUtf8 (b ∷ bs) utf8) ∙ ap line_of_data is
+pub whole_line : (now : DateTime) (text : List ℕ) (found : Data) → (length text == 0) ≡ false → IsUtf8 text → read text ≡ Some found
+    → json_line_read now text ≡ line_of_data now (Some found)
+whole_line now [] found filled utf8 is = absurd (false≢true (sym filled))
+whole_line now (b ∷ bs) found filled utf8 is =
+    cond-true (is_utf8 (b ∷ bs)) (line_of_data now (read (b ∷ bs))) line.Bad (is_utf8-from_IsUtf8 (b ∷ bs) utf8) ∙ ap (line_of_data now) is
 
-pub broken_line : (text : List ℕ) → (length text == 0) ≡ false → (IsUtf8 text → read text ≡ None) → json_line_read text ≡ line.Bad
-broken_line [] filled none = absurd (false≢true (sym filled))
-broken_line (b ∷ bs) filled none = by (is_utf8 (b ∷ bs)) refl
+pub broken_line : (now : DateTime) (text : List ℕ) → (length text == 0) ≡ false → (IsUtf8 text → read text ≡ None) → json_line_read now text ≡ line.Bad
+broken_line now [] filled none = absurd (false≢true (sym filled))
+broken_line now (b ∷ bs) filled none = by (is_utf8 (b ∷ bs)) refl
   where
-    by : (u : Bool) → is_utf8 (b ∷ bs) ≡ u → cond (is_utf8 (b ∷ bs)) (line_of_data (read (b ∷ bs))) line.Bad ≡ line.Bad
-    by true u = cond-true (is_utf8 (b ∷ bs)) (line_of_data (read (b ∷ bs))) line.Bad u ∙ ap line_of_data (none (IsUtf8-from_is_utf8 (b ∷ bs) u))
-    by false u = cond-false (is_utf8 (b ∷ bs)) (line_of_data (read (b ∷ bs))) line.Bad u
+    by : (u : Bool) → is_utf8 (b ∷ bs) ≡ u → cond (is_utf8 (b ∷ bs)) (line_of_data now (read (b ∷ bs))) line.Bad ≡ line.Bad
+    by true u = cond-true (is_utf8 (b ∷ bs)) (line_of_data now (read (b ∷ bs))) line.Bad u ∙ ap (line_of_data now) (none (IsUtf8-from_is_utf8 (b ∷ bs) u))
+    by false u = cond-false (is_utf8 (b ∷ bs)) (line_of_data now (read (b ∷ bs))) line.Bad u

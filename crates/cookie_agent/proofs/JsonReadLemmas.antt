@@ -33,7 +33,7 @@ use Rattle.cookie_core.proofs.ByteLemmas.{all-append, all-weaker}
 use Rattle.cookie_browser.specs.Storage.{KeptView, CookieStore}
 use Rattle.cookie_browser.specs.declared.enforcement.Enforcement.{Enforcement}
 use Rattle.cookie_browser.specs.declared.enforcement.Enforcement.TheVariants as enforcement
-use Rattle.cookie_agent.specs.JsonLines.{bytes_of, cookie_data, cookie_of_data, cookie_with, enforcement_of_word, enforcement_word, flags_with, has_bytes, is_byte, is_json_carried, is_json_expiry, is_json_time, json_line, json_line_at, json_line_read, line_of_cookie, line_of_data, texts_with, times_with}
+use Rattle.cookie_agent.specs.JsonLines.{bytes_of, cookie_data, cookie_of_data, cookie_with, enforcement_of_word, enforcement_word, flags_with, has_bytes, is_byte, is_json_carried, is_json_expiry, is_json_time, json_cookie, json_line, json_line_at, json_line_read, line_of_cookie, line_of_data, texts_with, times_with}
 use Rattle.cookie_agent.specs.Saved.{is_persistent, lines_of, saved}
 use Rattle.cookie_agent.specs.Storable.{is_storable}
 use Rattle.cookie_agent.specs.declared.saved.line.Line.{Line}
@@ -405,36 +405,36 @@ read_cookie cookie h =
 
 -- ---- a line
 
-read_body : (cookie : KeptView) (h : Carried cookie) → json_line_read (compact_text (cookie_data cookie h.expiry)) ≡ line.Cookie cookie
-read_body cookie h =
+read_body : (now : DateTime) (cookie : KeptView) (h : Carried cookie) → json_line_read now (compact_text (cookie_data cookie h.expiry)) ≡ line.Cookie (json_cookie now cookie)
+read_body now cookie h =
     let text = compact_text (cookie_data cookie h.expiry) in
-    cond-true (is_utf8 text) (line_of_data (read text)) line.Bad (is_utf8-from_IsUtf8 text (body_is_utf8 cookie h))
-    ∙ ap line_of_data (read_object cookie h)
-    ∙ ap line_of_cookie (read_cookie cookie h)
-    ∙ cond-true (is_storable cookie) (line.Cookie cookie) line.Bad h.storable
+    cond-true (is_utf8 text) (line_of_data now (read text)) line.Bad (is_utf8-from_IsUtf8 text (body_is_utf8 cookie h))
+    ∙ ap (line_of_data now) (read_object cookie h)
+    ∙ ap (line_of_cookie now) (read_cookie cookie h)
+    ∙ cond-true (is_storable cookie) (line.Cookie (json_cookie now cookie)) line.Bad h.storable
 
 -- ---- the text
 
 -- what the lines of a text hold
-abbrev pub read_lines : List ℕ → List Line
-read_lines text = map json_line_read (lines_of text)
+abbrev pub read_lines : DateTime → List ℕ → List Line
+read_lines now text = map (json_line_read now) (lines_of text)
 
 abbrev AreCarried : CookieStore → Type 0
 AreCarried [] = Unit {0}
 AreCarried (cookie ∷ store) = Carried cookie × AreCarried store
 
-read_cookies : (store : CookieStore) → AreCarried store → read_lines (concat (map json_line store)) ≡ lines_for (λ c. c) store
-read_cookies [] h = refl
-read_cookies (cookie ∷ store) h =
+read_cookies : (now : DateTime) (store : CookieStore) → AreCarried store → read_lines now (concat (map json_line store)) ≡ lines_for (json_cookie now) store
+read_cookies now [] h = refl
+read_cookies now (cookie ∷ store) h =
     let rest = concat (map json_line store) in
     let body = compact_text (cookie_data cookie h.0.expiry) in
     let quiet = body_is_quiet cookie h.0 in
-    ap (λ e. read_lines (json_line_at cookie e ++ rest)) h.0.expires
-    ∙ ap read_lines (append_assoc body (10 ∷ []) rest)
-    ∙ ap (λ ts. map json_line_read (map strip_carriage_return ts)) (slice_split_at (λ b. b == 10) body 10 rest (quiet_lacks_feed body quiet) refl)
-    ∙ ap (λ t. json_line_read t ∷ read_lines rest) (strip_quiet body quiet)
-    ∙ ap (λ l. l ∷ read_lines rest) (read_body cookie h.0)
-    ∙ ap (λ ls. line.Cookie cookie ∷ ls) (read_cookies store h.1)
+    ap (λ e. read_lines now (json_line_at cookie e ++ rest)) h.0.expires
+    ∙ ap (read_lines now) (append_assoc body (10 ∷ []) rest)
+    ∙ ap (λ ts. map (json_line_read now) (map strip_carriage_return ts)) (slice_split_at (λ b. b == 10) body 10 rest (quiet_lacks_feed body quiet) refl)
+    ∙ ap (λ t. json_line_read now t ∷ read_lines now rest) (strip_quiet body quiet)
+    ∙ ap (λ l. l ∷ read_lines now rest) (read_body now cookie h.0)
+    ∙ ap (λ ls. line.Cookie (json_cookie now cookie) ∷ ls) (read_cookies now store h.1)
 
 saved_are_carried : (moment : DateTime) (store : CookieStore) → list_all has_bytes store ≡ true → AreCarried (saved moment is_json_carried store)
 saved_are_carried moment [] h = tt
@@ -447,6 +447,6 @@ saved_are_carried moment (cookie ∷ store) h =
     by true h bytes others = (carried cookie (and_parts (is_persistent moment cookie) (is_json_carried cookie) h).1 bytes, others)
     by false h bytes others = others
 
-pub read_text : (moment : DateTime) (store : CookieStore) → list_all has_bytes store ≡ true
-    → read_lines (concat (map json_line (saved moment is_json_carried store))) ≡ lines_for (λ c. c) (saved moment is_json_carried store)
-read_text moment store h = read_cookies (saved moment is_json_carried store) (saved_are_carried moment store h)
+pub read_text : (moment now : DateTime) (store : CookieStore) → list_all has_bytes store ≡ true
+    → read_lines now (concat (map json_line (saved moment is_json_carried store))) ≡ lines_for (json_cookie now) (saved moment is_json_carried store)
+read_text moment now store h = read_cookies now (saved moment is_json_carried store) (saved_are_carried moment store h)

@@ -11,6 +11,7 @@ pub mod JsonReadLemmas
 pub mod KeptLemmas
 pub mod KeyLemmas
 pub mod LimitLemmas
+pub mod LoadedLemmas
 pub mod MissLemmas
 pub mod OrderLemmas
 pub mod PairLemmas
@@ -26,6 +27,7 @@ pub mod SavedFormLemmas
 pub mod SavedLemmas
 pub mod SentFieldLemmas
 pub mod SiteLemmas
+pub mod StorableLemmas
 pub mod StoreLemmas
 pub mod TrimLemmas
 pub mod VerdictLemmas

@@ -1,5 +1,5 @@
 -- A browser that receives a printed text receives the name and the value, whatever the attributes hold.
-use Rattle.std.proofs.Common.{◌≡◌, ℕ, Bool, true, false, cond, List, [], ◌∷◌, ◌++◌, length, codes, nat_lt, Option, Some, None, Ok, Err, refl, sym, ap, ◌∙◌, ◌+◌}
+use Rattle.std.proofs.Common.{◌≡◌, ℕ, Bool, true, false, cond, List, ◌∷◌, ◌++◌, length, nat_lt, Option, Some, None, Ok, Err, refl, sym, ap, ◌∙◌, ◌+◌}
 use Rattle.std.specs.List.{list_any}
 use Rattle.cookie_core.specs.Escapes.{escape}
 use Rattle.cookie_core.specs.Pieces.{Lacks}

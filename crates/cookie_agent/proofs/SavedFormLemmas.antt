@@ -6,7 +6,7 @@ use Rattle.jiff.specs.Types.{DateTime}
 use Rattle.cookie_browser.specs.Storage.{CookieStore}
 use Rattle.cookie_browser.specs.Suffixes.{Rule}
 use Rattle.cookie_agent.specs.CookiesTxt.{txt_cookie}
-use Rattle.cookie_agent.specs.JsonLines.{has_bytes}
+use Rattle.cookie_agent.specs.JsonLines.{has_bytes, json_cookie}
 use Rattle.cookie_agent.specs.Saved.{bad_lines_of, cookies_of, lines_of, saved, taken}
 use Rattle.cookie_agent.specs.SavedForms.{IsReadAgain, carries, line_read, lines_taken, saved_text}
 use Rattle.cookie_agent.specs.SavedFormsCode.{lines_taken_of}
@@ -51,9 +51,9 @@ txt_again rules moment now store =
 pub json_again : (rules : List Rule) (moment now : DateTime) (store : CookieStore) → list_all has_bytes store ≡ true → IsReadAgain form.JsonLines rules moment now store
 json_again rules moment now store bytes =
     let kept = saved moment (carries form.JsonLines) store in
-    let lines : lines_taken form.JsonLines rules now (saved_text form.JsonLines moment store) ≡ map (taken rules) (lines_for (λ c. c) kept)
-    = taken_lines form.JsonLines rules now (saved_text form.JsonLines moment store) ∙ ap (map (taken rules)) (json.read_text moment store bytes) in
+    let lines : lines_taken form.JsonLines rules now (saved_text form.JsonLines moment store) ≡ map (taken rules) (lines_for (json_cookie now) kept)
+    = taken_lines form.JsonLines rules now (saved_text form.JsonLines moment store) ∙ ap (map (taken rules)) (json.read_text moment now store bytes) in
     record {
-      cookies = ap cookies_of lines ∙ taken_cookies rules (λ c. c) (λ c. refl) kept;
-      bad_lines = λ none. ap bad_lines_of lines ∙ none_bad rules (λ c. c) (λ c. refl) 1 kept none;
+      cookies = ap cookies_of lines ∙ taken_cookies rules (json_cookie now) (λ c. refl) kept;
+      bad_lines = λ none. ap bad_lines_of lines ∙ none_bad rules (json_cookie now) (λ c. refl) 1 kept none;
     }

@@ -12,7 +12,7 @@ use Rattle.cookie_core.specs.Record.{without_leading_dot}
 use Rattle.cookie_browser.specs.Received.{spells}
 use Rattle.cookie_browser.specs.Storage.{KeptView}
 use Rattle.cookie_browser.specs.declared.enforcement.Enforcement.TheVariants as enforcement
-use Rattle.cookie_agent.specs.Storable.{is_storable}
+use Rattle.cookie_agent.specs.Storable.{is_storable, limited}
 use Rattle.cookie_agent.specs.declared.saved.line.Line.{Line}
 use Rattle.cookie_agent.specs.declared.saved.line.Line.TheVariants as line
 
@@ -110,16 +110,17 @@ cookie_of now http_only domain below path secure seconds name value =
     }
 
 -- A line with 0 seconds holds a cookie that ended with the browser which wrote it.
-abbrev pub line_of : ℕ → KeptView → Line
-line_of seconds cookie =
+abbrev pub line_of : DateTime → ℕ → KeptView → Line
+line_of now seconds cookie =
     if not (has_fields cookie) then line.Bad
-    else if seconds == 0 then line.Other else line.Cookie cookie
+    else if seconds == 0 then line.Other
+    else line.Cookie (record cookie { expiry = limited now cookie.expiry })
 
 -- the line of fields of which the flags and the seconds were read
 abbrev pub read_line : DateTime → Bool → List ℕ → Option Bool → List ℕ → Option Bool → Option ℕ
     → List ℕ → List ℕ → Line
 read_line now http_only domain (Some below) path (Some secure) (Some seconds) name value =
-    line_of seconds (cookie_of now http_only domain below path secure seconds name value)
+    line_of now seconds (cookie_of now http_only domain below path secure seconds name value)
 read_line now http_only domain _ path _ _ name value = line.Bad
 
 -- seven fields; without the last one the value is empty
@@ -151,6 +152,6 @@ abbrev pub txt_cookie : DateTime → KeptView → KeptView
 txt_cookie now cookie =
     record cookie {
       same_site = enforcement.Default;
-      expiry = option_map nanos_of_seconds (expiry_seconds cookie.expiry);
+      expiry = limited now (option_map nanos_of_seconds (expiry_seconds cookie.expiry));
       last_access = civil_nanos now;
     }

@@ -2,14 +2,16 @@
 use Rattle.std.specs.Prelude.{ℕ, ℤ, ◌^◌, ◌&&◌, pos, neg_ℤ, int_le, int_lt, nat_lt, Bool, false, List, [], ◌∷◌, ◌++◌, codes, Option, Some, None, option_and_then, if◌then◌else◌}
 use Rattle.std.specs.List.{list_all}
 use Rattle.std.specs.Str.{bytes_eq, chars, encode_utf8_all, is_utf8}
+use Rattle.jiff.specs.Types.{DateTime}
+use Rattle.jiff.specs.Words.{civil_nanos}
 use Rattle.serde_json.specs.Data.{Data, boolean, member, no_members, number, object, string}
 use Rattle.serde_json.specs.Find.{as_bool, as_i64, as_number, as_str, get, of_integer}
 use Rattle.serde_json.specs.Read.{read}
 use Rattle.serde_json.specs.Written.{compact_text}
-use Rattle.cookie_browser.specs.Storage.{KeptView}
+use Rattle.cookie_browser.specs.Storage.{KeptView, earlier_of}
 use Rattle.cookie_browser.specs.declared.enforcement.Enforcement.{Enforcement}
 use Rattle.cookie_browser.specs.declared.enforcement.Enforcement.TheVariants as enforcement
-use Rattle.cookie_agent.specs.Storable.{is_storable}
+use Rattle.cookie_agent.specs.Storable.{is_storable, limited}
 use Rattle.cookie_agent.specs.declared.saved.json_lines.Flags.{Flags}
 use Rattle.cookie_agent.specs.declared.saved.json_lines.Times.{Times}
 use Rattle.cookie_agent.specs.declared.saved.line.Line.{Line}
@@ -164,20 +166,29 @@ cookie_with _ _ _ = None
 abbrev pub cookie_of_data : Data → Option KeptView
 cookie_of_data value = cookie_with (texts_of value) (flags_of value) (times_of value)
 
--- a cookie that a user agent could have stored
-abbrev pub line_of_cookie : Option KeptView → Line
-line_of_cookie None = line.Bad
-line_of_cookie (Some cookie) = if is_storable cookie then line.Cookie cookie else line.Bad
+-- a cookie as the form carries it: one whose times aren't after those that it could have been stored with by then
+abbrev pub json_cookie : DateTime → KeptView → KeptView
+json_cookie now cookie =
+    record cookie {
+      expiry = limited now cookie.expiry;
+      last_access = earlier_of cookie.last_access (civil_nanos now);
+    }
 
-abbrev pub line_of_data : Option Data → Line
-line_of_data None = line.Bad
-line_of_data (Some value) = line_of_cookie (cookie_of_data value)
+-- a cookie that a user agent could have stored
+abbrev pub line_of_cookie : DateTime → Option KeptView → Line
+line_of_cookie now None = line.Bad
+line_of_cookie now (Some cookie) =
+    if is_storable cookie then line.Cookie (json_cookie now cookie) else line.Bad
+
+abbrev pub line_of_data : DateTime → Option Data → Line
+line_of_data now None = line.Bad
+line_of_data now (Some value) = line_of_cookie now (cookie_of_data value)
 
 -- what a line holds; other members of the object are passed over
-abbrev pub json_line_read : List ℕ → Line
-json_line_read [] = line.Other
-json_line_read (byte ∷ bytes) =
-    if is_utf8 (byte ∷ bytes) then line_of_data (read (byte ∷ bytes)) else line.Bad
+abbrev pub json_line_read : DateTime → List ℕ → Line
+json_line_read now [] = line.Other
+json_line_read now (byte ∷ bytes) =
+    if is_utf8 (byte ∷ bytes) then line_of_data now (read (byte ∷ bytes)) else line.Bad
 
 -- the texts of the cookie are bytes, as they always are in the code
 abbrev pub has_bytes : KeptView → Bool

@@ -38,7 +38,7 @@ saved_text form now store =
 -- what a line holds
 abbrev pub line_read : SavedForm → DateTime → List ℕ → Line
 line_read form.CookiesTxt now line = txt.line_read now line
-line_read form.JsonLines now line = json.json_line_read line
+line_read form.JsonLines now line = json.json_line_read now line
 
 -- what is taken of the lines of a text
 abbrev pub lines_taken : SavedForm → List Rule → DateTime → List ℕ → List Line
@@ -56,7 +56,7 @@ bad_lines form rules now text = bad_lines_of (lines_taken form rules now text)
 -- a cookie as the form carries it
 abbrev pub as_carried : SavedForm → DateTime → KeptView → KeptView
 as_carried form.CookiesTxt now cookie = txt.txt_cookie now cookie
-as_carried form.JsonLines now cookie = cookie
+as_carried form.JsonLines now cookie = json.json_cookie now cookie
 
 -- what was written of a store at a moment is read as: its persistent cookies that the form can carry, in their order, but
 -- for those that are for a public suffix

@@ -1,16 +1,18 @@
 -- Cookies that a user agent could have stored (RFC 6265bis, Storage Model). A file that someone else wrote must not
 -- bring in others: a `;` in a value would be a second cookie in the next header.
-use Rattle.std.specs.Prelude.{ℕ, ◌+◌, ◌==◌, ◌&&◌, ◌||◌, not, nat_lt, nat_le, Bool, false, List, [], ◌∷◌, length, codes, eqb}
-use Rattle.std.specs.Char.{to_ascii_lowercase}
-use Rattle.std.specs.List.{list_all, starts_with}
+use Rattle.std.specs.Prelude.{ℕ, ℤ, ◌+◌, ◌-◌, ◌==◌, ◌&&◌, ◌||◌, not, nat_lt, nat_le, int_le, Bool, true, List, [], ◌∷◌, length, drop, take, codes, eqb, Option, Some, None, if◌then◌else◌}
+use Rattle.std.specs.Char.{is_ascii_digit, is_ascii_lowercase}
+use Rattle.std.specs.List.{ends_with, list_all, starts_with}
 use Rattle.std.specs.Str.{bytes_eq}
+use Rattle.jiff.specs.Types.{DateTime}
+use Rattle.jiff.specs.Words.{civil_nanos}
 use Rattle.cookie_core.specs.NamePrefixes.{has_any_prefix, meets_prefixes}
 use Rattle.cookie_core.specs.Separators.{equals_sign, semicolon}
 use Rattle.cookie_core.specs.Size.{most_bytes}
 use Rattle.cookie_core.specs.Wsp.{trim_wsp}
 use Rattle.cookie_core.specs.declared.guards.Guards.{Guards}
-use Rattle.cookie_browser.specs.Received.{is_control}
-use Rattle.cookie_browser.specs.Storage.{KeptView, is_site_bound}
+use Rattle.cookie_browser.specs.Received.{age_limit, is_control}
+use Rattle.cookie_browser.specs.Storage.{KeptView, is_site_bound, seconds_after}
 
 -- a byte that a received name or value can have: no control character but a tab, and no `;`
 abbrev pub is_received_byte : ℕ → Bool
@@ -35,15 +37,70 @@ is_received_pair name value =
     && (is_received_text value
     && (lacks_equals_sign name && is_received_length (length name + length value)))
 
--- no space, no control character, and no upper case letter of ASCII
-abbrev pub is_domain_byte : ℕ → Bool
-is_domain_byte byte = nat_lt 32 byte && (not (byte == 127) && byte == to_ascii_lowercase byte)
+-- ---- the domain: a host, as one is written in a URL (Canonicalized Host Names)
 
--- a domain: not empty, such bytes, and neither `.` nor `#` at the front
+-- a letter in lower case, a digit, `-`, or `_`, which the names of many hosts have, though no label should
+abbrev pub is_label_byte : ℕ → Bool
+is_label_byte byte =
+    is_ascii_lowercase byte || (is_ascii_digit byte || (byte == 45 || byte == 95))
+
+-- a host name goes on with the byte: a dot ends a label, which isn't empty
+abbrev pub can_follow : Bool → ℕ → Bool
+can_follow is_label_due byte = if byte == 46 then not is_label_due else is_label_byte byte
+
+-- the rest of a host name: labels with a dot between them, and maybe one after the last. A label is due at the front of
+-- the name, and after a dot.
+abbrev pub is_name_rest : Bool → List ℕ → Bool
+is_name_rest is_label_due [] = true
+is_name_rest is_label_due (byte ∷ bytes) =
+    can_follow is_label_due byte && is_name_rest (byte == 46) bytes
+
+-- a name, or an IPv4 address
+abbrev pub is_host_name : List ℕ → Bool
+is_host_name host = nat_lt 0 (length host) && is_name_rest true host
+
+-- a hexadecimal digit in lower case, `:` or `.`
+abbrev pub is_six_byte : ℕ → Bool
+is_six_byte byte =
+    is_ascii_digit byte || (nat_le 97 byte && nat_le byte 102 || (byte == 58 || byte == 46))
+
+-- an IPv6 address in brackets
+abbrev pub is_six : List ℕ → Bool
+is_six host =
+    nat_lt 2 (length host)
+    && (starts_with eqb host (codes "[")
+    && (ends_with eqb host (codes "]")
+    && list_all is_six_byte (drop 1 (take (length host - 1) host))))
+
 abbrev pub is_domain : List ℕ → Bool
-is_domain [] = false
-is_domain (byte ∷ bytes) =
-    not (byte == 46) && (not (byte == 35) && list_all is_domain_byte (byte ∷ bytes))
+is_domain domain = is_host_name domain || is_six domain
+
+-- the domain is that of a host, or can be the value of an attribute, of which one that is longer is passed over (The
+-- Set-Cookie Header Field)
+abbrev pub is_attribute_length : ℕ → Bool
+is_attribute_length count = nat_le count 1024
+
+abbrev pub can_be_set : KeptView → Bool
+can_be_set cookie = cookie.is_host_only || is_attribute_length (length cookie.domain)
+
+-- ---- the path
+
+-- neither a control character nor a space: a byte of a request's path (RFC 9112, Request Target)
+abbrev pub is_request_byte : ℕ → Bool
+is_request_byte byte = nat_lt 32 byte && not (byte == 127)
+
+abbrev pub is_request_path : List ℕ → Bool
+is_request_path path = starts_with eqb path (codes "/") && list_all is_request_byte path
+
+-- the value of an attribute
+abbrev pub is_path_value : List ℕ → Bool
+is_path_value path =
+    starts_with eqb path (codes "/")
+    && (is_received_text path && is_attribute_length (length path))
+
+-- a path that an attribute asks for, or a folder of a request's path, which may have a `;` (Paths and Path-Match)
+abbrev pub is_path : List ℕ → Bool
+is_path path = is_path_value path || is_request_path path
 
 -- ---- prefixes (Cookie Name Prefixes)
 
@@ -70,10 +127,29 @@ meets_name_prefix cookie =
 abbrev pub meets_same_site : KeptView → Bool
 meets_same_site cookie = is_site_bound cookie.same_site || cookie.is_secure_only
 
--- the cookie could have been stored, whatever the public suffixes are
+-- the cookie could have been stored, whatever the public suffixes and the time are
 abbrev pub is_storable : KeptView → Bool
 is_storable cookie =
     is_received_pair cookie.name cookie.value
     && (is_domain cookie.domain
-    && (starts_with eqb cookie.path (codes "/")
-    && (meets_name_prefix cookie && meets_same_site cookie)))
+    && (can_be_set cookie
+    && (is_path cookie.path
+    && (meets_name_prefix cookie && meets_same_site cookie))))
+
+-- ---- the times
+
+-- the expiry is at most 400 days after the time (Cookie Lifetime Limits)
+abbrev pub is_limited : DateTime → Option ℤ → Bool
+is_limited now None = true
+is_limited now (Some time) = int_le time (seconds_after now age_limit)
+
+-- the expiry, cut to that
+abbrev pub limited : DateTime → Option ℤ → Option ℤ
+limited now expiry =
+    if is_limited now expiry then expiry else Some (seconds_after now age_limit)
+
+-- the cookie could have been stored at this time or before, whatever the public suffixes are
+abbrev pub is_storable_by : DateTime → KeptView → Bool
+is_storable_by now cookie =
+    is_storable cookie
+    && (is_limited now cookie.expiry && int_le cookie.last_access (civil_nanos now))

@@ -7,6 +7,7 @@ ghost use Rattle.cookie_agent.specs.Saved as spec;
 mod cookies_txt;
 mod form;
 mod json_lines;
+mod limited;
 mod line;
 mod loaded;
 mod storable;

@@ -82,6 +82,19 @@ impl<'r> Agents<'r> {
         step.shown(saved.text.get(28..)?)
     }
 
+    // What is written of the cookies that a text holds: a cookies.txt, or JSON lines.
+    fn loaded(&self, step: Step<'_>) -> Answer {
+        let (form, head) = match step.call {
+            "loaded" => (SavedForm::CookiesTxt, 28),
+            _ => (SavedForm::JsonLines, 0),
+        };
+        let bytes = step.bytes()?;
+        let loaded = form.read(step.alloc, self.suffixes, &bytes, self.now).ok()?;
+        let store = Store::of(step.alloc, loaded.cookies).ok()?;
+        let saved = form.write(step.alloc, store.cookies(), self.now).ok()?;
+        step.shown(saved.text.get(head..)?)
+    }
+
     // Makes four requests of a new agent, each of words such as `0 http://example.com/ | add a=1`. Returns the headers.
     fn visits(&self, step: Step<'_>) -> Answer {
         let key = test_key();
@@ -210,13 +223,7 @@ impl Player for Agents<'_> {
             "request" => self.request(step),
             "get" => looks::answer(&self.jar, step),
             "plan" => self.plan(step),
-            "loaded" => {
-                let (form, bytes) = (SavedForm::CookiesTxt, step.bytes()?);
-                let loaded = form.read(step.alloc, self.suffixes, &bytes, self.now).ok()?;
-                let store = Store::of(step.alloc, loaded.cookies).ok()?;
-                let saved = form.write(step.alloc, store.cookies(), self.now).ok()?;
-                step.shown(saved.text.get(28..)?)
-            }
+            "loaded" | "loaded_json" => self.loaded(step),
             _ => self.ask(step),
         }
     }

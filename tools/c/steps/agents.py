@@ -14,8 +14,8 @@ from sessions import FIRST
 
 # How a request came about: whether it is same-site, a top-level navigation, and safe.
 HOWS = {**{how: [*flags, 1] for how, flags in CONTEXTS.items()}, "post": [0, 1, 0]}
-# The first line of a cookies.txt, and the number of that form.
-HEAD, COOKIES_TXT = b"# Netscape HTTP Cookie File\n", 0
+# The first line of a cookies.txt, and the numbers of the forms.
+HEAD, COOKIES_TXT, JSON_LINES = b"# Netscape HTTP Cookie File\n", 0, 1
 # Questions that no call answers.
 QUESTIONS = {"secure", "host"}
 
@@ -96,15 +96,16 @@ class Agents:
         return done("agent", pair, LIST, b"new", read, self.request(b"header", url))
 
     def loaded(self, step):
-        """A cookies.txt is loaded by a new agent, and saved again."""
-        form = [COOKIES_TXT, self.now]
+        """A cookies.txt, or JSON lines, are loaded by a new agent, and saved again."""
+        number, head = (COOKIES_TXT, HEAD) if step.call == "loaded" else (JSON_LINES, b"")
+        form = [number, self.now]
         text = b"" if step.wanted == "-" else unescaped(step.wanted)
         loaded = step_of(b"load", form, unescaped(step.words))
-        return done("agent", HEAD + text, LIST, b"new", loaded, step_of(b"save", form))
+        return done("agent", head + text, LIST, b"new", loaded, step_of(b"save", form))
 
     def ask(self, step):
         """A question on a cookie that a new agent stores."""
-        if step.call == "loaded":
+        if step.call in ("loaded", "loaded_json"):
             return self.loaded(step)
         asked, _, held = (part.encode() for part in step.words.partition(" | "))
         if step.call == "scope":

@@ -1,7 +1,7 @@
 //! Netscape's `cookies.txt`.
 ghost use Rattle.std.specs.Prelude.{◌≡◌, ◌++◌, ◌∷◌, ◌+ℤ◌, ℕ, [], IfOk, OnOk, Some, map, option_map, pos};
 ghost use Rattle.jiff.specs.Words.{civil_nanos, signed_nanos};
-ghost use Rattle.cookie_core.specs.Attributes.{seconds_of_digits};
+ghost use Rattle.cookie_core.specs.Attributes.{nanos_of_seconds, seconds_of_digits};
 ghost use Rattle.cookie_core.specs.Record.{without_leading_dot};
 ghost use Rattle.cookie_browser.specs.ExpiryCode.{expiry_time};
 ghost use Rattle.cookie_browser.specs.RefusedCode.{kept_view};
@@ -11,6 +11,7 @@ ghost use Rattle.cookie_agent.specs.SavedFormsCode.{carried_text};
 ghost use Rattle.cookie_agent.specs.declared.saved.form.SavedForm.TheVariants as form;
 
 use crate::nanos::start_of_1970;
+use crate::saved::limited::limited;
 use crate::saved::line::Line;
 use crate::saved::storable::is_storable;
 use crate::stored::StoredCookie;
@@ -270,7 +271,7 @@ impl<'t> Fields<'t> {
         now: DateTime,
     ) -> Result<Line, AllocError>
         ensures { (count : ℕ) → seconds ≡ pos count → IfOk result (λ line.
-            line ≡ spec.line_of count (code.cookie_as now kind count self.now)) }
+            line ≡ spec.line_of now count (code.cookie_as now kind count self.now)) }
     {
         let domain = without_leading_dot(self.domain).to_ascii_lowercase(alloc)?;
         let cookie = KeptCookie {
@@ -287,6 +288,14 @@ impl<'t> Fields<'t> {
     }
 }
 
+// The expiry at this number of seconds after 1970.
+fn expiry_of(seconds: i64) -> Expiry
+    ensures { (count : ℕ) → seconds ≡ pos count
+        → expiry_time result ≡ Some (nanos_of_seconds count) }
+{
+    Expiry::After(start_of_1970(), SignedDuration::from_secs(seconds))
+}
+
 // The line of a cookie with an expiry of these seconds. With 0 it ended with the browser that wrote it.
 fn line_of(
     alloc: Global,
@@ -295,7 +304,7 @@ fn line_of(
     now: DateTime,
 ) -> Result<Line, AllocError>
     ensures { (count : ℕ) → seconds ≡ pos count → IfOk result (λ line.
-        line ≡ spec.line_of count (code.dated count now (kept_view cookie.now))) }
+        line ≡ spec.line_of now count (code.dated count now (kept_view cookie.now))) }
 {
     if !has_fields(cookie) {
         return Ok(Line::Bad);
@@ -303,7 +312,7 @@ fn line_of(
     if seconds == 0 {
         return Ok(Line::Other);
     }
-    let expiry = Expiry::After(start_of_1970(), SignedDuration::from_secs(seconds));
+    let expiry = limited(expiry_of(seconds), now);
     Ok(Line::Cookie(StoredCookie::of(alloc, cookie, expiry, now)?))
 }
 

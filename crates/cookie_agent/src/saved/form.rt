@@ -7,6 +7,7 @@ ghost use Rattle.cookie_agent.specs.JsonLines.{has_bytes};
 ghost use Rattle.cookie_agent.specs.Saved.{bad_lines_of, cookies_of, left_out};
 ghost use Rattle.cookie_agent.specs.SavedForms as spec;
 ghost use Rattle.cookie_agent.specs.SavedFormsCode as code;
+ghost use Rattle.cookie_agent.specs.Storable.{is_storable_by};
 ghost use Rattle.cookie_agent.specs.declared.saved.form.SavedForm.TheVariants as form;
 
 use crate::saved::line::Line;
@@ -51,7 +52,7 @@ impl SavedForm {
     ///
     /// A caller writes the text to a new file beside the old one, and renames it: then a crash leaves one of the two.
     /// Only the owner should be able to read it, since cookies are credentials.
-    /// Example: `answer` in crates/cookie_vectors/src/agent.rt.
+    /// Example: `loaded` in crates/cookie_vectors/src/agent.rt.
     pub fn write(
         self,
         alloc: Global,
@@ -77,9 +78,10 @@ impl SavedForm {
     /// lines, in their order, and the numbers of the bad ones. Any bytes can be read. Fails only if out of memory.
     ///
     /// A line is bad if it has no cookie of the form, or one that no user agent could have stored: among these is one
-    /// for a public suffix and the hosts below it. Empty lines say nothing, and a line may end in CR LF. `now` is in UTC.
-    /// Lifetimes aren't limited to 400 days.
-    /// Example: `answer` in crates/cookie_vectors/src/agent.rt.
+    /// for a public suffix and the hosts below it, and one whose domain is no host, as with a port or a byte order mark.
+    /// Empty lines say nothing, and a line may end in CR LF. `now` is in UTC. A cookie that expires more than 400 days
+    /// after `now` expires then (RFC 6265bis, Cookie Lifetime Limits), and a last access after `now` is `now`.
+    /// Example: `loaded` in crates/cookie_vectors/src/agent.rt.
     pub fn read(
         self,
         alloc: Global,
@@ -91,6 +93,8 @@ impl SavedForm {
             ≡ spec.loaded_cookies self suffixes.now now text.now) }
         ensures bad_lines { IfOk result (λ loaded. loaded.bad_lines.items
             ≡ spec.bad_lines self suffixes.now now text.now) }
+        ensures storable { IfOk result (λ loaded.
+            list_all (is_storable_by now) loaded.cookies.items ≡ true) }
 
         // What `write` wrote of a store is read as its persistent cookies, in their order, but those for a public suffix.
         ensures txt_again { (moment : DateTime) (store : CookieStore)
@@ -181,7 +185,7 @@ impl SavedForm {
     {
         match self {
             SavedForm::CookiesTxt => cookies_txt::read_line(alloc, line, now),
-            SavedForm::JsonLines => json_lines::read_line(alloc, line),
+            SavedForm::JsonLines => json_lines::read_line(alloc, line, now),
         }
     }
 }

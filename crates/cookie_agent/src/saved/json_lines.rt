@@ -13,6 +13,7 @@ ghost use Rattle.cookie_agent.specs.SavedFormsCode.{carried_text};
 ghost use Rattle.cookie_agent.specs.declared.saved.form.SavedForm.TheVariants as form;
 
 use crate::nanos::start_of_1970;
+use crate::saved::limited::{earlier_of, limited};
 use crate::saved::line::Line;
 use crate::saved::storable::is_storable;
 use crate::stored::StoredCookie;
@@ -205,14 +206,14 @@ fn push_line(
 }
 
 // What a line holds.
-pub(super) fn read_line(alloc: Global, line: &[u8]) -> Result<Line, AllocError>
-    ensures { IfOk result (λ read. read ≡ spec.json_line_read line.now) }
+pub(super) fn read_line(alloc: Global, line: &[u8], now: DateTime) -> Result<Line, AllocError>
+    ensures { IfOk result (λ read. read ≡ spec.json_line_read now line.now) }
 {
     if line.is_empty() {
         return Ok(Line::Other);
     }
     match Value::from_slice(alloc, line) {
-        Ok(value) => cookie_in(alloc, &value),
+        Ok(value) => cookie_in(alloc, &value, now),
         Err(error) => {
             if error.is_memory() {
                 Err(AllocError)
@@ -242,8 +243,8 @@ struct Flags {
 }
 
 // What the object holds.
-fn cookie_in(alloc: Global, object: &Value) -> Result<Line, AllocError>
-    ensures { IfOk result (λ line. line ≡ spec.line_of_data (Some (view object.now))) }
+fn cookie_in(alloc: Global, object: &Value, now: DateTime) -> Result<Line, AllocError>
+    ensures { IfOk result (λ line. line ≡ spec.line_of_data now (Some (view object.now))) }
 {
     let Some(flags) = flags_in(object) else {
         return Ok(Line::Bad);
@@ -252,14 +253,20 @@ fn cookie_in(alloc: Global, object: &Value) -> Result<Line, AllocError>
         return Ok(Line::Bad);
     };
     match texts_in(alloc, object)? {
-        Some(texts) => line_of(alloc, &texts, flags, times),
+        Some(texts) => line_of(alloc, &texts, flags, times, now),
         None => Ok(Line::Bad),
     }
 }
 
 // The line of a cookie of these.
-fn line_of(alloc: Global, texts: &Texts, flags: Flags, times: Times) -> Result<Line, AllocError>
-    ensures { IfOk result (λ line. line ≡ spec.line_of_cookie
+fn line_of(
+    alloc: Global,
+    texts: &Texts,
+    flags: Flags,
+    times: Times,
+    now: DateTime,
+) -> Result<Line, AllocError>
+    ensures { IfOk result (λ line. line ≡ spec.line_of_cookie now
         (spec.cookie_with (Some (code.texts_view texts.now)) (Some flags) (Some times))) }
 {
     let cookie = KeptCookie {
@@ -272,19 +279,24 @@ fn line_of(alloc: Global, texts: &Texts, flags: Flags, times: Times) -> Result<L
         is_http_only: flags.is_http_only,
         same_site: flags.same_site,
     };
-    line_at(alloc, &cookie, times)
+    line_at(alloc, &cookie, times, now)
 }
 
 // The line of a cookie with these times.
-fn line_at(alloc: Global, cookie: &KeptCookie<'_>, times: Times) -> Result<Line, AllocError>
+fn line_at(
+    alloc: Global,
+    cookie: &KeptCookie<'_>,
+    times: Times,
+    now: DateTime,
+) -> Result<Line, AllocError>
     ensures { IfOk result (λ line. line
-        ≡ spec.line_of_cookie (Some (code.dated times (kept_view cookie.now)))) }
+        ≡ spec.line_of_cookie now (Some (code.dated times (kept_view cookie.now)))) }
 {
     if !is_storable(cookie) {
         return Ok(Line::Bad);
     }
-    let expiry = expiry_at(times.expiry);
-    let last_access = time_at(times.last_access);
+    let expiry = limited(expiry_at(times.expiry), now);
+    let last_access = earlier_of(time_at(times.last_access), now);
     Ok(Line::Cookie(StoredCookie::of(alloc, cookie, expiry, last_access)?))
 }
 

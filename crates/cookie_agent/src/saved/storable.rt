@@ -8,6 +8,9 @@ ghost use Rattle.cookie_agent.specs.Storable as spec;
 use cookie_browser::{Enforcement, KeptCookie};
 use cookie_core::{EnforcedPrefix, Guards, MOST_BYTES, trim_wsp};
 
+// The length of the longest attribute's value that isn't passed over (RFC 6265bis, The Set-Cookie Header Field).
+const ATTRIBUTE_LIMIT: usize = 1024;
+
 // Whether a received name or value can have the byte.
 fn is_received_byte(byte: u8) -> bool
     ensures { result ≡ spec.is_received_byte byte }
@@ -50,25 +53,101 @@ fn is_received_pair(name: &[u8], value: &[u8]) -> bool
         && is_received_length(name.len() + value.len())
 }
 
-fn is_domain_byte(byte: u8) -> bool
-    ensures { result ≡ spec.is_domain_byte byte }
+fn is_label_byte(byte: u8) -> bool
+    ensures { result ≡ spec.is_label_byte byte }
 {
-    byte > 32 && byte != 127 && byte == byte.to_ascii_lowercase()
+    byte.is_ascii_lowercase() || byte.is_ascii_digit() || byte == b'-' || byte == b'_'
 }
 
-fn are_domain_bytes(text: &[u8]) -> bool
-    ensures { result ≡ list_all spec.is_domain_byte text.now }
+// Whether a host name goes on with the byte: a dot ends a label, which isn't empty.
+fn can_follow(is_label_due: bool, byte: u8) -> bool
+    ensures { result ≡ spec.can_follow is_label_due byte }
 {
-    text.iter().all(|&byte| is_domain_byte(byte))
+    if byte == b'.' {
+        !is_label_due
+    } else {
+        is_label_byte(byte)
+    }
+}
+
+// Whether the text is labels with a dot between them, and maybe one after the last.
+fn is_host_name(text: &[u8]) -> bool
+    ensures { result ≡ spec.is_host_name text.now }
+{
+    let mut is_label_due = true;
+    for &byte in text {
+        if !can_follow(is_label_due, byte) {
+            return false;
+        }
+        is_label_due = byte == b'.';
+    }
+    !text.is_empty()
+}
+
+fn is_six_byte(byte: u8) -> bool
+    ensures { result ≡ spec.is_six_byte byte }
+{
+    byte.is_ascii_digit() || matches!(byte, b'a'..=b'f' | b':' | b'.')
+}
+
+fn are_six_bytes(text: &[u8]) -> bool
+    ensures { result ≡ list_all spec.is_six_byte text.now }
+{
+    text.iter().all(|&byte| is_six_byte(byte))
+}
+
+// Whether the text is an IPv6 address in brackets.
+fn is_six(text: &[u8]) -> bool
+    ensures { result ≡ spec.is_six text.now }
+{
+    match text {
+        [b'[', address @ .., b']'] => !address.is_empty() && are_six_bytes(address),
+        _ => false,
+    }
 }
 
 fn is_domain(text: &[u8]) -> bool
     ensures { result ≡ spec.is_domain text.now }
 {
-    match text {
-        [] | [b'.' | b'#', ..] => false,
-        _ => are_domain_bytes(text),
-    }
+    is_host_name(text) || is_six(text)
+}
+
+// Whether the domain is that of a host, or can be the value of an attribute.
+fn can_be_set(cookie: &KeptCookie<'_>) -> bool
+    ensures { result ≡ spec.can_be_set (kept_view cookie.now) }
+{
+    cookie.is_host_only || cookie.domain.len() <= ATTRIBUTE_LIMIT
+}
+
+fn is_request_byte(byte: u8) -> bool
+    ensures { result ≡ spec.is_request_byte byte }
+{
+    byte > 32 && byte != 127
+}
+
+fn are_request_bytes(text: &[u8]) -> bool
+    ensures { result ≡ list_all spec.is_request_byte text.now }
+{
+    text.iter().all(|&byte| is_request_byte(byte))
+}
+
+fn is_request_path(path: &[u8]) -> bool
+    ensures { result ≡ spec.is_request_path path.now }
+{
+    path.starts_with(b"/") && are_request_bytes(path)
+}
+
+fn is_path_value(path: &[u8]) -> bool
+    ensures { result ≡ spec.is_path_value path.now }
+{
+    path.starts_with(b"/") && is_received_text(path) && path.len() <= ATTRIBUTE_LIMIT
+}
+
+// Whether an attribute can ask for the path, or it is a folder of a request's path, which may have a `;`.
+fn is_path(path: &[u8]) -> bool
+    ensures { result ≡ spec.is_path path.now }
+{
+    is_path_value(path) || is_request_path(path)
 }
 
 // What the cookie has of that which prefixes require.
@@ -108,13 +187,14 @@ fn meets_same_site(cookie: &KeptCookie<'_>) -> bool
     !matches!(cookie.same_site, Enforcement::None) || cookie.is_secure_only
 }
 
-// Whether a user agent could have stored the cookie, whatever the public suffixes are.
+// Whether a user agent could have stored the cookie, whatever the public suffixes and the time are.
 pub(crate) fn is_storable(cookie: &KeptCookie<'_>) -> bool
     ensures { result ≡ spec.is_storable (kept_view cookie.now) }
 {
     is_received_pair(cookie.name, cookie.value)
         && is_domain(cookie.domain)
-        && cookie.path.starts_with(b"/")
+        && can_be_set(cookie)
+        && is_path(cookie.path)
         && meets_name_prefix(cookie)
         && meets_same_site(cookie)
 }

@@ -31,8 +31,8 @@ pub struct AgentLoading {
 ///
 /// A line is bad if it isn't a cookie that a user agent could have stored: it is skipped, and counted. So is a cookie
 /// for a public suffix and the hosts below it. The array `bad_lines` gets the numbers of the bad lines, counted from 1,
-/// in their order: as many of the first as have room. The rest of the array is as before. Any bytes can be read.
-/// Lifetimes aren't limited to 400 days.
+/// in their order: as many of the first as have room. The rest of the array is as before. Any bytes can be read. A cookie
+/// that expires more than 400 days after `now` expires then.
 ///
 /// Refuses a handle without rules, then a handle without an agent, then a number that isn't a form's, with
 /// `Status::BadAttribute`, and then a time after 9999-12-30 22:00:00. It may also run out of memory. After a refusal the

@@ -6,6 +6,12 @@ use Rattle.cookie_agent.specs.CookiesTxtCode.{carried_seconds, line_at}
 use Rattle.cookie_agent.proofs.CookiesTxtLemmas.{carried_line, carried_seconds-some}
 use Rattle.cookie_agent.proofs.saved.cookies_txt.push_carried.Goals as goal
 
+pub returns-in_default-clause-carried : goal.returns-in_default-clause-carried
+returns-in_default-clause-carried c =
+    let cookie = c.args.cookie.now in
+    let none : carried_seconds cookie ≡ None = search rules in
+    sym (carried_seconds-some cookie ∙ ap is_some none)
+
 pub returns-in_default-clause-text : goal.returns-in_default-clause-text
 returns-in_default-clause-text c =
     let cookie = c.args.cookie.now in

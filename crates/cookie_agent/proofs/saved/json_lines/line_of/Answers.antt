@@ -10,7 +10,7 @@ returns c =
     let times = c.args.times in
     let texts = c.args.texts.now in
     IfOk-weaker c.line_at.result _ _
-    (λ line h. h ∙ same_texts (λ (name value domain path : List ℕ). line_of_cookie (Some (record {
+    (λ line h. h ∙ same_texts (λ (name value domain path : List ℕ). line_of_cookie c.args.now (Some (record {
       name = name;
       value = value;
       domain = domain;

@@ -13,5 +13,5 @@ returns c count same =
     let domain : c.as_slice.result.now ≡ str_to_ascii_lowercase (without_leading_dot fields.domain.now) = search rules in
     let fits : FitsSigned w64 c.args.seconds = search rules in
     IfOk-weaker c.line_of.result _ _
-    (λ line h. h ∙ ap (line_of count) (as_read c.args.now c.args.kind count fields c.as_slice.result.now domain))
+    (λ line h. h ∙ ap (line_of c.args.now count) (as_read c.args.now c.args.kind count fields c.as_slice.result.now domain))
     (c.line_of.ensures count (to_z-of_z w64 c.args.seconds fits ∙ same))
