@@ -32,7 +32,7 @@ class AgentSaving(ctypes.Structure):
 
 
 class AgentLoading(ctypes.Structure):
-    _fields_ = [("status", ctypes.c_uint32)] + [(name, ctypes.c_size_t) for name in ("bad_lines", "first_bad_line")]
+    _fields_ = [("status", ctypes.c_uint32), ("bad_lines", ctypes.c_size_t)]
 
 
 REQUEST: list[Any] = [ctypes.POINTER(Request)]
@@ -47,9 +47,11 @@ AGENT_TRIM = declare("agent_trim", HANDLE + COUNT * 2 + SECOND, ctypes.c_uint32)
 AGENT_EVICT = declare("agent_evict", HANDLE + SECOND, ctypes.c_uint32)
 AGENT_REMOVE = declare("agent_remove", HANDLE + TEXT * 2 + [ctypes.c_bool] + TEXT, ctypes.c_uint32)
 AGENT_CLEAR = declare("agent_clear", HANDLE + TEXT, ctypes.c_uint32)
+AGENT_COUNT = declare("agent_count", HANDLE, Answer)
 AGENT_COOKIE = declare("agent_cookie", HANDLE + COUNT + SECOND + TEXT, Explanation)
 AGENT_SAVE = declare("agent_save", HANDLE + FORM + SECOND + TEXT, AgentSaving)
-AGENT_LOAD = declare("agent_load", HANDLE * 2 + FORM + TEXT + SECOND, AgentLoading)
+LINES: list[Any] = [ctypes.POINTER(ctypes.c_size_t), ctypes.c_size_t]
+AGENT_LOAD = declare("agent_load", HANDLE * 2 + FORM + TEXT + SECOND + LINES, AgentLoading)
 REFUSAL_SENTENCE = declare("refusal_sentence", [ctypes.c_uint32] + TEXT, Answer)
 REFUSAL_SECTION = declare("refusal_section", [ctypes.c_uint32] + TEXT, Answer)
 
@@ -200,16 +202,13 @@ class Core:
 
     def load(self, form: str, text: bytes, now: int) -> list[int]:
         """Adds the cookies of a text in that form. Returns the numbers of its bad lines."""
+        room = text.count(b"\n") + 1
+        lines = (ctypes.c_size_t * room)()
         with self.rules.lock:
-            loading = AGENT_LOAD(self.handle, self.rules.handle, FORMS[form], text, len(text), now)
+            loading = AGENT_LOAD(self.handle, self.rules.handle, FORMS[form], text, len(text), now, lines, room)
         if loading.status != DONE:
             raise error_of(loading.status)
-        if loading.bad_lines < 2:
-            return [loading.first_bad_line] * loading.bad_lines
-        # The library says which line is the first: each after it is looked at by itself.
-        lines, other = text.split(b"\n"), Core(self.suffixes)
-        later = range(loading.first_bad_line + 1, len(lines) + 1)
-        return [loading.first_bad_line] + [number for number in later if other.load(form, lines[number - 1], now)]
+        return lines[: loading.bad_lines]
 
 
 @functools.lru_cache(maxsize=1024)

@@ -80,6 +80,10 @@ class SessionFacts(ctypes.Structure):
     ]
 
 
+class Need(ctypes.Structure):
+    _fields_ = [("status", ctypes.c_uint32), ("must_save", ctypes.c_bool)]
+
+
 class Pass(ctypes.Structure):
     _fields_ = [("status", ctypes.c_uint32), ("end", ctypes.c_uint64), ("id", ctypes.c_uint8 * 16)]
 
@@ -155,6 +159,7 @@ SESSION_SET_TEXTS = declare("session_set_texts", HANDLE + TEXT, ctypes.c_uint32)
 SESSION_SET_GENERATION = declare("session_set_generation", HANDLE + SECOND, ctypes.c_uint32)
 SESSION_IS_SINCE = declare("session_is_since", HANDLE + SECOND, ctypes.c_bool)
 SESSION_RENEW = declare("session_renew", HANDLE * 2 + TEXT + SECOND, ctypes.c_uint32)
+SESSION_MUST_SAVE = declare("session_must_save", HANDLE * 2 + SECOND, Need)
 SESSION_SAVE = declare("session_save", HANDLE * 2 + TEXT + SECOND + TEXT, Answer)
 SESSION_GIVEN = declare("session_given", HANDLE, Pass)
 SESSION_REPLACE = declare("session_replace", HANDLE + SECOND + [ctypes.c_bool], ctypes.c_uint32)

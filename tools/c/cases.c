@@ -180,6 +180,10 @@ static cookie_session_settings settings(const uint8_t *keys, size_t length, cons
     return made;
 }
 
+static bool needs(cookie_need need, uint32_t status, bool must_save) {
+    return need.status == status && need.must_save == must_save;
+}
+
 static void settings_that_are_no_sites(void) {
     const uint64_t LATE = 253402207201;
     cookie_sessions sessions = {0};
@@ -196,12 +200,15 @@ static void settings_that_are_no_sites(void) {
     MUST(cookie_session_start(&sessions, KEY, 16, LATE, &session) == COOKIE_NO_SESSIONS);
     MUST(cookie_session_renew(&sessions, &session, KEY, 17, LATE) == COOKIE_BAD_NONCE);
     MUST(cookie_session_renew(&sessions, &session, KEY, 16, LATE) == COOKIE_NO_SESSIONS);
+    MUST(needs(cookie_session_must_save(&sessions, &session, LATE), COOKIE_NO_SESSIONS, false));
     site = settings(KEY, 64, "s=");
     MUST(cookie_sessions_new(&site, &sessions) == COOKIE_DONE);
     MUST(cookie_opened_new(&sessions, NULL, 0, LATE, &opened) == COOKIE_NO_DATE);
     MUST(cookie_session_open(&sessions, NULL, 0, LATE, &session) == COOKIE_NO_DATE);
     MUST(cookie_session_start(&sessions, KEY, 16, LATE, &session) == COOKIE_NO_DATE);
     MUST(cookie_session_renew(&sessions, &session, KEY, 16, LATE) == COOKIE_NO_DATE);
+    MUST(needs(cookie_session_must_save(&sessions, &session, LATE), COOKIE_NO_DATE, false));
+    MUST(needs(cookie_session_must_save(&sessions, &session, NOW), COOKIE_NO_SESSION, false));
     MUST(cookie_session_renew(&sessions, &session, KEY, 16, NOW) == COOKIE_NO_SESSION);
     MUST(is(cookie_session_save(&sessions, &session, KEY, 12, NOW, NULL, 0), COOKIE_NO_SESSION, 0));
     MUST(cookie_session_describe(&session).status == COOKIE_NO_SESSION);
@@ -299,6 +306,39 @@ static void renewals(void) {
     cookie_session_free(&other);
 }
 
+/* An opened session is saved once a tenth of its idle time has passed, of 600 seconds or of the site's, and before it if
+ * it was changed or an older key opened it. A new one without texts isn't. */
+static void needed_saves(void) {
+    uint8_t keys[128];
+    memset(keys, 2, 64);
+    memset(keys + 64, 1, 64);
+    cookie_sessions sessions = {0};
+    cookie_session session = {0};
+    cookie_session_settings site = settings(keys + 64, 64, "__Host-session=; Path=/; Secure");
+    MUST(cookie_sessions_new(&site, &sessions) == COOKIE_DONE);
+    MUST(cookie_session_open(&sessions, T(ANN), NOW, &session) == COOKIE_DONE);
+    MUST(needs(cookie_session_must_save(&sessions, &session, NOW), COOKIE_DONE, false));
+    MUST(needs(cookie_session_must_save(&sessions, &session, NOW + 59), COOKIE_DONE, false));
+    MUST(needs(cookie_session_must_save(&sessions, &session, NOW + 60), COOKIE_DONE, true));
+    MUST(cookie_session_set(&session, T("a"), T("1")) == COOKIE_DONE);
+    MUST(needs(cookie_session_must_save(&sessions, &session, NOW), COOKIE_DONE, true));
+    site.idle = 100;
+    MUST(cookie_sessions_new(&site, &sessions) == COOKIE_DONE);
+    MUST(cookie_session_open(&sessions, T(ANN), NOW, &session) == COOKIE_DONE);
+    MUST(needs(cookie_session_must_save(&sessions, &session, NOW + 9), COOKIE_DONE, false));
+    MUST(needs(cookie_session_must_save(&sessions, &session, NOW + 10), COOKIE_DONE, true));
+    site = settings(keys, 128, "__Host-session=; Path=/; Secure");
+    MUST(cookie_sessions_new(&site, &sessions) == COOKIE_DONE);
+    MUST(cookie_session_open(&sessions, T(ANN), NOW, &session) == COOKIE_DONE);
+    MUST(needs(cookie_session_must_save(&sessions, &session, NOW), COOKIE_DONE, true));
+    MUST(cookie_session_start(&sessions, KEY, 16, NOW, &session) == COOKIE_DONE);
+    MUST(needs(cookie_session_must_save(&sessions, &session, NOW + 1199), COOKIE_DONE, false));
+    MUST(cookie_session_set(&session, T("a"), T("1")) == COOKIE_DONE);
+    MUST(needs(cookie_session_must_save(&sessions, &session, NOW), COOKIE_DONE, true));
+    cookie_sessions_free(&sessions);
+    cookie_session_free(&session);
+}
+
 /* A handle without opened sessions is refused, also after it was freed. Ids that are cut come first. */
 static void handles_without_opened_sessions(void) {
     cookie_opened opened = {0};
@@ -381,6 +421,37 @@ static void lists_and_times(void) {
     MUST(why.status == COOKIE_DONE && why.stored.path.length == 1);
 }
 
+static const char FILE_OF_LINES[] = "a.example\tFALSE\t/\tFALSE\t1445500000\tn\tv\nbad\n\nworse\n"
+                                   "b.example\tFALSE\t/\tFALSE\t1445500000\tn\tv\nworst\n";
+
+/* How many cookies are stored, and which lines of a text are bad: as many as the array has room for. */
+static void agents(void) {
+    const uint64_t LATE = 253402207201;
+    size_t lines[4] = {7, 7, 7, 7};
+    cookie_agent agent = {0};
+    cookie_suffixes suffixes = {0};
+    MUST(is(cookie_agent_count(&agent), COOKIE_NO_AGENT, 0));
+    cookie_agent_loading loading = cookie_agent_load(&agent, &suffixes, 2, NULL, 0, LATE, lines, 4);
+    MUST(loading.status == COOKIE_NO_SUFFIXES && loading.bad_lines == 0 && lines[0] == 7);
+    MUST(cookie_suffixes_new(NULL, 0, &suffixes) == COOKIE_DONE && cookie_agent_new(&agent) == COOKIE_DONE);
+    MUST(is(cookie_agent_count(&agent), COOKIE_DONE, 0));
+    loading = cookie_agent_load(&agent, &suffixes, 2, T(FILE_OF_LINES), LATE, lines, 4);
+    MUST(loading.status == COOKIE_BAD_ATTRIBUTE && loading.bad_lines == 0);
+    loading = cookie_agent_load(&agent, &suffixes, 0, T(FILE_OF_LINES), LATE, lines, 4);
+    MUST(loading.status == COOKIE_NO_DATE && loading.bad_lines == 0 && lines[0] == 7);
+    loading = cookie_agent_load(&agent, &suffixes, 0, T(FILE_OF_LINES), NOW, lines, 2);
+    MUST(loading.status == COOKIE_DONE && loading.bad_lines == 3 && lines[0] == 2 && lines[1] == 4 && lines[2] == 7);
+    MUST(is(cookie_agent_count(&agent), COOKIE_DONE, 2));
+    loading = cookie_agent_load(&agent, &suffixes, 0, T(FILE_OF_LINES), NOW, lines, 4);
+    MUST(loading.bad_lines == 3 && lines[0] == 2 && lines[1] == 4 && lines[2] == 6 && lines[3] == 7);
+    loading = cookie_agent_load(&agent, &suffixes, 0, T(FILE_OF_LINES), NOW, NULL, 0);
+    MUST(loading.status == COOKIE_DONE && loading.bad_lines == 3);
+    MUST(is(cookie_agent_count(&agent), COOKIE_DONE, 2));
+    cookie_agent_free(&agent);
+    MUST(is(cookie_agent_count(&agent), COOKIE_NO_AGENT, 0));
+    cookie_suffixes_free(&suffixes);
+}
+
 int main(void) {
     memset(KEY, 7, sizeof KEY);
     holds("");
@@ -394,10 +465,12 @@ int main(void) {
     settings_that_are_no_sites();
     sessions();
     renewals();
+    needed_saves();
     handles_without_opened_sessions();
     opened_sessions();
     short_buffers_of_explanations();
     lists_and_times();
+    agents();
     printf("cases: %d faults\n", faults);
     return faults != 0;
 }

@@ -90,6 +90,7 @@ typedef struct drawing {
     X(session_texts, S(BUFFER_TOO_SHORT) | S(NO_SESSION)) \
     X(session_set_texts, S(NO_SESSION)) \
     X(session_renew, S(BAD_NONCE) | S(NO_SESSIONS) | S(NO_DATE) | S(NO_SESSION)) \
+    X(session_must_save, S(NO_SESSIONS) | S(NO_DATE) | S(NO_SESSION)) \
     X(session_save, S(BUFFER_TOO_SHORT) | S(BAD_NONCE) | S(NO_SESSIONS) | S(NO_DATE) | S(NO_SESSION) | S(BAD_PREFIX) \
                         | S(OVER) | S(TOO_LONG) | S(TOO_LARGE) | S(REPLACES)) \
     X(session_end, S(BUFFER_TOO_SHORT) | S(NO_SESSIONS) | S(NO_DATE)) \
@@ -109,6 +110,7 @@ typedef struct drawing {
     X(agent_trim, S(NO_AGENT) | S(NO_DATE)) \
     X(agent_remove, S(NO_AGENT) | S(NOT_FOUND)) \
     X(agent_clear, S(NO_AGENT)) \
+    X(agent_count, S(NO_AGENT)) \
     X(agent_cookie, S(BUFFER_TOO_SHORT) | S(NO_AGENT) | S(NO_DATE) | S(NOT_FOUND)) \
     X(agent_save, S(BUFFER_TOO_SHORT) | S(NO_AGENT) | S(BAD_ATTRIBUTE) | S(NO_DATE)) \
     X(agent_load, S(NO_SUFFIXES) | S(NO_AGENT) | S(BAD_ATTRIBUTE) | S(NO_DATE)) \
@@ -788,6 +790,15 @@ static void play_session(drawing *d, int call) {
         first = S(BAD_NONCE) | S(NO_SESSIONS) | S(NO_DATE);
         break;
     }
+    case session_must_save_call: {
+        cookie_need need;
+        STATUS(session_must_save, (need = cookie_session_must_save(&d->sites[j], session, now)).status);
+        if (need.must_save && status != COOKIE_DONE)
+            fault(d, call, "a refused session must be saved");
+        look_at_handle(d, call, status, d->has_site[j], COOKIE_NO_SESSIONS, 0);
+        first = S(NO_SESSIONS) | S(NO_DATE);
+        break;
+    }
     default: {
         text nonce = draw_bytes(d, 12);
         cookie_sessions *site = &d->sites[j];
@@ -809,14 +820,19 @@ static cookie_answer save(drawing *d, cookie_agent *agent, uint32_t form, uint64
     return (cookie_answer){saving.status, saving.length};
 }
 
-/* How a text is loaded. The first bad line is one that it has. */
+/* How a text is loaded. The bad lines are some that it has, in their order, and no more are told than have room. */
 static uint32_t load(drawing *d, cookie_agent *agent, cookie_suffixes *list, uint32_t form, text from, uint64_t now) {
-    cookie_agent_loading loading = cookie_agent_load(agent, list, form, IN(from), now);
-    size_t lines = 1;
+    size_t bad[3] = {0}, room = below(d, 3), lines = 1, last = 0;
+    cookie_agent_loading loading = cookie_agent_load(agent, list, form, IN(from), now, bad, room);
     for (size_t i = 0; i < from.length; i++)
         lines += from.bytes[i] == '\n';
-    if (loading.bad_lines > lines || loading.first_bad_line > lines
-        || (loading.bad_lines == 0) != (loading.first_bad_line == 0))
+    for (size_t i = 0; i < 3; i++) {
+        bool is_told = i < room && i < loading.bad_lines;
+        if (is_told ? bad[i] <= last : bad[i] != 0)
+            fault(d, agent_load_call, "a bad line in another place");
+        last = bad[i];
+    }
+    if (loading.bad_lines > lines || last > lines)
         fault(d, agent_load_call, "a bad line that there isn't");
     return loading.status;
 }
@@ -898,6 +914,9 @@ static void play_agent(drawing *d, int call) {
         first = S(NO_SUFFIXES);
         break;
     }
+    case agent_count_call:
+        STATUS(agent_count, cookie_agent_count(agent).status);
+        break;
     case agent_clear_call:
         STATUS(agent_clear, cookie_agent_clear(agent, IN(host)));
         break;

@@ -389,6 +389,9 @@ static void replace_session(cookie_sessions *sessions, cookie_session *session, 
     cookie_answer answer = cookie_session_save(sessions, session, nonce, sizeof nonce, now, out, sizeof out);
     if (answer.status != COOKIE_REPLACES || answer.length != 0 || out[0] != 0)
         fault("a session is saved that replaces another one");
+    cookie_need need = cookie_session_must_save(sessions, session, now);
+    if (need.status != COOKIE_DONE || !need.must_save)
+        fault("a renewed session needn't be saved");
     if (cookie_session_replace(session, now, true) != COOKIE_GONE
         || cookie_session_replace(session, before.end, false) != COOKIE_GONE || !is_given(session, COOKIE_DONE, &before))
         fault("a session is replaced that was revoked before, or is over");
@@ -525,6 +528,30 @@ static cookie_answer request_step(cookie_agent *agent, cookie_suffixes *suffixes
     return (cookie_answer){reading.status, reading.refusal};
 }
 
+/* A text that is loaded: the bad lines are told with room for all, for the first, and for none. */
+static cookie_answer load(cookie_agent *agent, cookie_suffixes *suffixes, const uint8_t *bytes, size_t length, const long long n[2]) {
+    size_t lines[40] = {0}, first = 0;
+    cookie_agent_loading all = cookie_agent_load(agent, suffixes, (uint32_t)n[0], bytes, length, (uint64_t)n[1], lines, 40);
+    cookie_agent_loading one = cookie_agent_load(agent, suffixes, (uint32_t)n[0], bytes, length, (uint64_t)n[1], &first, 1);
+    cookie_agent_loading none = cookie_agent_load(agent, suffixes, (uint32_t)n[0], bytes, length, (uint64_t)n[1], NULL, 0);
+    if (one.bad_lines != all.bad_lines || none.bad_lines != all.bad_lines || first != lines[0])
+        fault("other bad lines");
+    for (size_t i = 0; i < 40; i++)
+        if ((lines[i] == 0) != (i >= all.bad_lines) || (i > 0 && lines[i] != 0 && lines[i] <= lines[i - 1]))
+            fault("a bad line in another place");
+    return of_status(all.status);
+}
+
+/* How many cookies an agent has: one at each index below. */
+static void count(cookie_agent *agent) {
+    cookie_answer told = cookie_agent_count(agent);
+    bool has_last = told.length == 0
+        || cookie_agent_cookie(agent, told.length - 1, 0, NULL, 0).status != COOKIE_NOT_FOUND;
+    if (told.status != COOKIE_DONE || !has_last
+        || cookie_agent_cookie(agent, told.length, 0, NULL, 0).status != COOKIE_NOT_FOUND)
+        fault("another number of cookies");
+}
+
 static cookie_answer agent_step(cookie_agent *agent, cookie_suffixes *suffixes, text step, uint8_t *out, size_t length) {
     text rest, in[4];
     long long n[3];
@@ -540,7 +567,7 @@ static cookie_answer agent_step(cookie_agent *agent, cookie_suffixes *suffixes, 
     if (is_step("load", step, &rest)) {
         cut_lines(rest, in, 2);
         numbers_in(in[0], 2, n);
-        return of_status(cookie_agent_load(agent, suffixes, (uint32_t)n[0], IN(1), (uint64_t)n[1]).status);
+        return load(agent, suffixes, IN(1), n);
     }
     if (is_step("save", step, &rest)) {
         numbers_in(rest, 2, n);
@@ -576,6 +603,7 @@ static cookie_answer play_agent(const text *in, uint8_t *out, size_t length) {
             fault("a step before the last is refused");
         answer = agent_step(&agent, &suffixes, in[i], is_last ? out : NULL, is_last ? length : 0);
     }
+    count(&agent);
     cookie_agent_free(&agent);
     cookie_suffixes_free(&suffixes);
     return answer;

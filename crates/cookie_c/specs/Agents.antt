@@ -1,6 +1,6 @@
 -- A user agent for C (RFC 6265bis, Storage Model, Retrieval Algorithm): `old` is what its handle has at the call and
 -- `new` at the return. Of a call that gives a text `before` and `after` are the buffer.
-use Rattle.std.specs.Prelude.{◌≡◌, ◌≢◌, ℕ, ℤ, ◌-ℤ◌, ◌⊎◌, Bool, true, false, List, not, filter, map, IsUtf8, Option, Some, None, Ok, slice_get, if◌then◌else◌}
+use Rattle.std.specs.Prelude.{◌≡◌, ◌≢◌, ℕ, ℤ, ◌-ℤ◌, ◌⊎◌, Bool, true, false, List, length, not, filter, map, IsUtf8, Option, Some, None, Ok, slice_get, if◌then◌else◌}
 use Rattle.std.specs.List.{list_any}
 use Rattle.std.specs.Str.{str_to_ascii_lowercase}
 use Rattle.jiff.specs.Types.{DateTime}
@@ -16,7 +16,7 @@ use Rattle.cookie_agent.specs.Site.{request_path}
 use Rattle.cookie_agent.specs.Store.{AgentView, agent_after_text, agent_verdict, refusal_of}
 use Rattle.cookie_agent.specs.Stored.{is_named_in, is_of_domain}
 use Rattle.cookie_agent.specs.declared.limits.Limits.{Limits}
-use Rattle.cookie_c.specs.Answers.{IsGiven, IsRefused}
+use Rattle.cookie_c.specs.Answers.{IsGiven, IsRefused, IsTold}
 use Rattle.cookie_c.specs.Codes.{code_of}
 use Rattle.cookie_c.specs.Explanations.{Explains, IsUnexplained, refusal_code, request_of}
 use Rattle.cookie_c.specs.Handles.{Changes, IsKept, Tells, store_in}
@@ -187,6 +187,11 @@ Clears domain answer old new =
     Leaves (filter (λ cookie. not (is_of_domain domain cookie)) old) answer old new
 
 -- ---- the stored cookies
+
+-- how many cookies the handle's agent stores is told; `NoAgent` if it has none
+abbrev pub TellsCount : Option CookieStore → Answer → Type 0
+TellsCount None answer = IsTold status.NoAgent 0 answer
+TellsCount (Some store) answer = IsTold status.Done (length store) answer
 
 -- no duration has the time from now to the expiry
 abbrev pub IsTooFar : DateTime → Option ℤ → Type 0

@@ -1,6 +1,6 @@
 -- A user agent's cookies in a saved text, for C: `old` is what its handle has at the call and `new` at the return. Of a
--- call that gives a text `before` and `after` are the buffer.
-use Rattle.std.specs.Prelude.{◌≡◌, ◌==◌, ◌⊎◌, ℕ, List, [], ◌∷◌, length, Option, Some, None, if◌then◌else◌}
+-- call that gives a text `before` and `after` are the buffer, and of one that gives the bad lines the array.
+use Rattle.std.specs.Prelude.{◌≡◌, ◌==◌, ◌⊎◌, ◌++◌, ℕ, List, [], ◌∷◌, take, drop, length, Option, Some, None, if◌then◌else◌}
 use Rattle.jiff.specs.Types.{DateTime}
 use Rattle.cookie_browser.specs.Storage.{CookieStore, lasting}
 use Rattle.cookie_browser.specs.Suffixes.{Rule}
@@ -81,42 +81,48 @@ SavesAt number second (Some store) answer before after =
 
 -- the answer of a call that loads nothing
 abbrev pub unloaded : Status → AgentLoading
-unloaded why = record { status = code_of why; bad_lines = 0; first_bad_line = 0 }
+unloaded why = record { status = code_of why; bad_lines = 0 }
 
 -- the answer to a text with these bad lines
 abbrev pub loaded_with : List ℕ → AgentLoading
-loaded_with lines =
-    record {
-      status = code_of status.Done;
-      bad_lines = length lines;
-      first_bad_line = first_of lines;
-    }
+loaded_with lines = record { status = code_of status.Done; bad_lines = length lines }
 
--- Each cookie of the text that isn't expired is stored, in turn, and the answer has the bad lines.
+-- the array with the numbers at its head, as many of the first as have room
+abbrev pub with_head : List ℕ → List ℕ → List ℕ
+with_head numbers array = take (length array) numbers ++ drop (length numbers) array
+
+-- Each cookie of the text that isn't expired is stored, in turn. The answer counts the bad lines, whose numbers are at
+-- the head of the array.
 pub record LoadsText (rules : List Rule) (form : SavedForm) (now : DateTime) (text : List ℕ)
-    (answer : AgentLoading) (old new : CookieStore) : Type 0 where
+    (answer : AgentLoading) (before after : List ℕ) (old new : CookieStore) : Type 0 where
   pub left : new ≡ kept_with_each (lasting now (loaded_cookies form rules now text)) old
   pub told : answer ≡ loaded_with (bad_lines form rules now text)
+  pub listed : after ≡ with_head (bad_lines form rules now text) before
+
+-- nothing is loaded, and the array is as it was
+abbrev pub IsUnloaded : Status → AgentLoading → List ℕ → List ℕ → Type 0
+IsUnloaded why answer before after = (answer ≡ unloaded why) × (after ≡ before)
 
 -- `LoadsText` in the form of this number at that second; or nothing is loaded
-abbrev pub Loads : List Rule → ℕ → ℕ → List ℕ → AgentLoading → CookieStore → CookieStore → Type 0
-Loads rules number second text answer old new =
+abbrev pub Loads : List Rule → ℕ → ℕ → List ℕ → AgentLoading → List ℕ → List ℕ → CookieStore
+    → CookieStore → Type 0
+Loads rules number second text answer before after old new =
     ForForm number second
-    (λ form now. LoadsText rules form now text answer old new
-    ⊎ ((answer ≡ unloaded status.OutOfMemory) × (new ≡ old)))
-    (λ why. (answer ≡ unloaded why) × (new ≡ old))
+    (λ form now. LoadsText rules form now text answer before after old new
+    ⊎ (IsUnloaded status.OutOfMemory answer before after × (new ≡ old)))
+    (λ why. IsUnloaded why answer before after × (new ≡ old))
 
 -- `Loads` for the agent in the handle; `NoAgent` if it has none
-abbrev pub LoadsAt : List Rule → ℕ → ℕ → List ℕ → AgentLoading → Option CookieStore
-    → Option CookieStore → Type 0
-LoadsAt rules number second text answer old new =
-    AtStore (λ had made. Loads rules number second text answer had made)
-    (λ why. answer ≡ unloaded why) old new
+abbrev pub LoadsAt : List Rule → ℕ → ℕ → List ℕ → AgentLoading → List ℕ → List ℕ
+    → Option CookieStore → Option CookieStore → Type 0
+LoadsAt rules number second text answer before after old new =
+    AtStore (λ had made. Loads rules number second text answer before after had made)
+    (λ why. IsUnloaded why answer before after) old new
 
 -- the same by the rules that a handle has, which a handle without them refuses first
-abbrev pub LoadsBy : Option (List Rule) → ℕ → ℕ → List ℕ → AgentLoading → Option CookieStore
-    → Option CookieStore → Type 0
-LoadsBy None number second text answer old new =
-    (answer ≡ unloaded status.NoSuffixes) × (new ≡ old)
-LoadsBy (Some rules) number second text answer old new =
-    LoadsAt rules number second text answer old new
+abbrev pub LoadsBy : Option (List Rule) → ℕ → ℕ → List ℕ → AgentLoading → List ℕ → List ℕ
+    → Option CookieStore → Option CookieStore → Type 0
+LoadsBy None number second text answer before after old new =
+    IsUnloaded status.NoSuffixes answer before after × (new ≡ old)
+LoadsBy (Some rules) number second text answer before after old new =
+    LoadsAt rules number second text answer before after old new

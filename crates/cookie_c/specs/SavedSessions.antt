@@ -1,18 +1,20 @@
 -- A session that is saved for C: `old` is the buffer at the call and `new` at the return.
-use Rattle.std.specs.Prelude.{◌≡◌, ℕ, ◌<◌, ◌≤◌, ◌⊎◌, true, false, List, length, Option, None, Some}
+use Rattle.std.specs.Prelude.{◌≡◌, ◌↔◌, ℕ, ◌<◌, ◌≤◌, ◌⊎◌, true, false, IsTrue, List, length, Option, None, Some}
 use Rattle.jiff.specs.Types.{DateTime}
 use Rattle.cookie.specs.Text.{cookie_text}
 use Rattle.cookie_session.specs.Seconds.{second_of}
 use Rattle.cookie_session.specs.Session.{SessionState, seen_at}
 use Rattle.cookie_session.specs.Sessions.{CanSave, CanSealSession, IsStored, bare_cookie, meets_prefix, saved_cookie}
 use Rattle.cookie_session.specs.Size.{browser_length, most_bytes}
-use Rattle.cookie_session.specs.Visit.{Replaces, VisitState, saved_visit}
+use Rattle.cookie_session.specs.Visit.{MustSave, Replaces, VisitState, saved_visit}
 use Rattle.cookie_session.specs.declared.pass.Pass.{Pass}
 use Rattle.cookie_session.specs.declared.session_error.SessionError.{SessionError}
 use Rattle.cookie_session.specs.declared.session_error.SessionError.TheVariants as failure
 use Rattle.cookie_session.specs.declared.sessions.Sessions.{Sessions}
 use Rattle.cookie_c.specs.Answers.{IsGiven, IsRefused, IsTold}
+use Rattle.cookie_c.specs.Codes.{code_of}
 use Rattle.cookie_c.specs.declared.answer.Answer.{Answer}
+use Rattle.cookie_c.specs.declared.sessions.need.Need.{Need}
 use Rattle.cookie_c.specs.declared.status.Status.{Status}
 use Rattle.cookie_c.specs.declared.status.Status.TheVariants as status
 
@@ -93,3 +95,15 @@ SavesHeld site nonce time answer None left old new =
     (left ≡ None) × IsRefused status.NoSession answer old new
 SavesHeld site nonce time answer (Some had) left old new =
     (made : VisitState) × (left ≡ Some made) × SavesVisit site nonce time answer had made old new
+
+-- ---- whether a session must be saved
+
+-- what a call tells that is refused for this reason
+abbrev pub no_need : Status → Need
+no_need why = record { status = code_of why; must_save = false }
+
+-- whether the handle's session must be saved then; a handle without one is refused
+abbrev pub TellsNeed : Sessions → DateTime → Option VisitState → Need → Type 0
+TellsNeed site now None answer = answer ≡ no_need status.NoSession
+TellsNeed site now (Some had) answer =
+    (answer.status ≡ code_of status.Done) × (IsTrue answer.must_save ↔ MustSave site now had)

@@ -9,6 +9,7 @@ pub(crate) mod generation;
 pub(crate) mod given;
 pub(crate) mod keys;
 pub(crate) mod logout;
+pub(crate) mod need;
 pub(crate) mod open;
 pub(crate) mod open_all;
 pub(crate) mod opened_sessions;

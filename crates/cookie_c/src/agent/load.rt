@@ -2,12 +2,11 @@
 ghost use Rattle.std.specs.Prelude.{◌≡◌};
 ghost use Rattle.cookie_c.specs.Agents.{store_of};
 ghost use Rattle.cookie_c.specs.Explanations.{suffixes_of};
-ghost use Rattle.cookie_c.specs.SavedAgents.{Loads, LoadsAt, LoadsBy, unloaded};
+ghost use Rattle.cookie_c.specs.SavedAgents.{Loads, LoadsAt, LoadsBy, loaded_with, unloaded, with_head};
 ghost use Rattle.cookie_c.specs.declared.status.Status.TheVariants as status;
 
 use super::Agent;
 use super::form::form_of;
-use super::save::first_of;
 use crate::handle::with_content;
 use crate::sessions::time::time_at;
 use crate::status::Status;
@@ -23,8 +22,6 @@ pub struct AgentLoading {
     pub status: u32,
     /// How many lines are bad. The others are loaded.
     pub bad_lines: usize,
-    /// The number of the first bad line, counted from 1; 0 if there is none.
-    pub first_bad_line: usize,
 }
 
 /// Adds the cookies of a saved text to the agent's, as if each was stored in turn: it takes the place of the one with
@@ -33,11 +30,13 @@ pub struct AgentLoading {
 /// are as before.
 ///
 /// A line is bad if it isn't a cookie that a user agent could have stored: it is skipped, and counted. So is a cookie
-/// for a public suffix and the hosts below it. Any bytes can be read. Lifetimes aren't limited to 400 days.
+/// for a public suffix and the hosts below it. The array `bad_lines` gets the numbers of the bad lines, counted from 1,
+/// in their order: as many of the first as have room. The rest of the array is as before. Any bytes can be read.
+/// Lifetimes aren't limited to 400 days.
 ///
 /// Refuses a handle without rules, then a handle without an agent, then a number that isn't a form's, with
 /// `Status::BadAttribute`, and then a time after 9999-12-30 22:00:00. It may also run out of memory. After a refusal the
-/// agent is as before.
+/// agent and the array are as before.
 #[unsafe(no_mangle)]
 pub extern "C" fn cookie_agent_load(
     alloc: Global,
@@ -46,13 +45,14 @@ pub extern "C" fn cookie_agent_load(
     form: u32,
     text: &[u8],
     now: u64,
+    bad_lines: &mut [usize],
 ) -> AgentLoading
     ensures kept { suffixes_of suffixes.new ≡ suffixes_of suffixes.old }
-    ensures loaded { LoadsBy (suffixes_of suffixes.old) form now text.now
-        result (store_of agent.old) (store_of agent.new) }
+    ensures loaded { LoadsBy (suffixes_of suffixes.old) form now text.now result
+        bad_lines.old bad_lines.new (store_of agent.old) (store_of agent.new) }
 {
     with_content!(alloc, suffixes.handle,
-        Suffixes(rules) => load_by(alloc, agent, rules, form, text, now),
+        Suffixes(rules) => load_by(alloc, agent, rules, form, text, now, bad_lines),
         _ => AgentLoading::none(Status::NoSuffixes),
     )
 }
@@ -65,11 +65,13 @@ fn load_by(
     form: u32,
     text: &[u8],
     now: u64,
+    bad_lines: &mut [usize],
 ) -> AgentLoading
-    ensures { LoadsAt rules.now form now text.now result (store_of agent.old) (store_of agent.new) }
+    ensures { LoadsAt rules.now form now text.now result bad_lines.old bad_lines.new
+        (store_of agent.old) (store_of agent.new) }
 {
     with_content!(alloc, agent.handle,
-        Store(store) => load(alloc, store, rules, form, text, now),
+        Store(store) => load(alloc, store, rules, form, text, now, bad_lines),
         _ => AgentLoading::none(Status::NoAgent),
     )
 }
@@ -81,8 +83,10 @@ fn load(
     form: u32,
     text: &[u8],
     now: u64,
+    bad_lines: &mut [usize],
 ) -> AgentLoading
-    ensures { Loads rules.now form now text.now result store.old store.new }
+    ensures { Loads rules.now form now text.now result
+        bad_lines.old bad_lines.new store.old store.new }
 {
     let Some(form) = form_of(form) else {
         return AgentLoading::none(Status::BadAttribute);
@@ -90,15 +94,17 @@ fn load(
     let Some(now) = time_at(now) else {
         return AgentLoading::none(Status::NoDate);
     };
-    let Ok(LoadedCookies { cookies, bad_lines }) = form.read(alloc, rules, text, now) else {
+    let Ok(
+        LoadedCookies {
+            cookies,
+            bad_lines: bad,
+        },
+    ) = form.read(alloc, rules, text, now)
+    else {
         return AgentLoading::none(Status::OutOfMemory);
     };
     match store.load(cookies, now) {
-        Ok(()) => AgentLoading {
-            status: Status::Done.code(),
-            bad_lines: bad_lines.len(),
-            first_bad_line: first_of(&bad_lines),
-        },
+        Ok(()) => AgentLoading::give(&bad, bad_lines),
         Err(_) => AgentLoading::none(Status::OutOfMemory),
     }
 }
@@ -111,6 +117,18 @@ impl AgentLoading {
         AgentLoading {
             status: why.code(),
             ..AgentLoading::default()
+        }
+    }
+    // What a text with these bad lines returns. The numbers are at the head of the array, as many as have room.
+    fn give(lines: &[usize], array: &mut [usize]) -> AgentLoading
+        ensures told { result ≡ loaded_with lines.now }
+        ensures listed { array.new ≡ with_head lines.now array.old }
+    {
+        let count = lines.len().min(array.len());
+        array[..count].copy_from_slice(&lines[..count]);
+        AgentLoading {
+            status: Status::Done.code(),
+            bad_lines: lines.len(),
         }
     }
 }

@@ -71,7 +71,7 @@ fn save(alloc: Global, store: &Store, form: u32, now: u64, out: &mut [u8]) -> Ag
 }
 
 // The first of the numbers, and 0 if there is none.
-pub(super) fn first_of(numbers: &[usize]) -> usize
+fn first_of(numbers: &[usize]) -> usize
     ensures { result ≡ first_of numbers.now }
 {
     match numbers {

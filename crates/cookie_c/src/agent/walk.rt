@@ -1,8 +1,9 @@
 //! What a user agent stores, cookie by cookie, for C.
 ghost use Rattle.std.specs.Prelude.{◌≡◌, slice_get};
-ghost use Rattle.cookie_c.specs.Agents.{TellsAt, TellsCookie, TellsFound, TellsIn, store_of};
+ghost use Rattle.cookie_c.specs.Agents.{TellsAt, TellsCookie, TellsCount, TellsFound, TellsIn, store_of};
 
 use super::Agent;
+use crate::answer::Answer;
 use crate::explanation::{Draft, Explanation};
 use crate::handle::with_content;
 use crate::sessions::time::time_at;
@@ -10,6 +11,21 @@ use crate::status::Status;
 use cookie_agent::{Store, StoredCookie};
 use jiff::civil::DateTime;
 use std::alloc::Global;
+
+/// How many cookies the agent stores, expired ones too: the length is their number. `cookie_agent_cookie` tells one at
+/// each index below it. The agent is as before.
+///
+/// Refuses a handle without an agent. It doesn't allocate.
+#[unsafe(no_mangle)]
+pub extern "C" fn cookie_agent_count(alloc: Global, agent: &mut Agent) -> Answer
+    ensures kept { store_of agent.new ≡ store_of agent.old }
+    ensures told { TellsCount (store_of agent.old) result }
+{
+    with_content!(alloc, agent.handle,
+        Store(store) => Answer::of(Status::Done, store.cookies().len()),
+        _ => Answer::refusal(Status::NoAgent),
+    )
+}
 
 /// The stored cookie at this index, in the order of creation, told as `cookie_explain` tells of a cookie that is stored:
 /// its name, value, domain and path are for the buffer. 0 is the index of the first. It may be expired, and has no whole

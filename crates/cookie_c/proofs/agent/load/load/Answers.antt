@@ -8,8 +8,8 @@ returns-in-Ok-load c =
 
 pub returns-in_default-read : goal.returns-in_default-read
 returns-in_default-read c =
-    for_form c.args.form c.args.now _ _ c.in-Some.form c.in-Some-time_at.now c.in-Some.ensures c.in-Some-time_at.ensures (inr (c.none-in_default-read.ensures, refl))
+    for_form c.args.form c.args.now _ _ c.in-Some.form c.in-Some-time_at.now c.in-Some.ensures c.in-Some-time_at.ensures (inr ((c.none-in_default-read.ensures, refl), refl))
 
 pub returns : goal.returns
 returns c =
-    for_form c.args.form c.args.now _ _ c.in-Some.form c.in-Some-time_at.now c.in-Some.ensures c.in-Some-time_at.ensures (inr (c.none-in-Err.ensures, search rules))
+    for_form c.args.form c.args.now _ _ c.in-Some.form c.in-Some-time_at.now c.in-Some.ensures c.in-Some-time_at.ensures (inr ((c.none-in-Err.ensures, refl), search rules))
