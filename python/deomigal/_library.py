@@ -33,6 +33,10 @@ class Pair(ctypes.Structure):
     _fields_ = [("status", ctypes.c_uint32), ("name", Span), ("value", Span), ("next", ctypes.c_size_t)]
 
 
+class PairCount(ctypes.Structure):
+    _fields_ = [("status", ctypes.c_uint32), ("count", ctypes.c_size_t), ("length", ctypes.c_size_t)]
+
+
 class Attributes(ctypes.Structure):
     _fields_ = [
         (name, ctypes.c_uint32)
@@ -130,6 +134,7 @@ PRINT_DATE = declare("print_date", [ctypes.c_int16] + [ctypes.c_int8] * 5 + TEXT
 NEXT_PAIR = declare("next_pair", TEXT + [ctypes.c_size_t], Pair)
 READ = declare("read", TEXT, Reading)
 NEXT_PAIR_DECODED = declare("next_pair_decoded", TEXT + [ctypes.c_size_t] + TEXT, Pair)
+READ_PAIRS = declare("read_pairs", TEXT + [ctypes.POINTER(Pair), ctypes.c_size_t] + TEXT, PairCount)
 READ_DECODED = declare("read_decoded", TEXT * 2, Reading)
 PRINT = declare("print", TEXT * 4 + [ctypes.POINTER(Attributes), ctypes.c_bool] + TEXT, Answer)
 RUN = declare("run", SEEDS + TEXT * 3, Answer)

@@ -128,6 +128,35 @@ static void short_buffers_of_reading(void) {
     MUST(cookie_read_decoded(T("a%20b=c%3D; Secure"), ROOM(5)).status == COOKIE_DONE && holds("a bc="));
 }
 
+static bool counts(cookie_pair_count read, uint32_t status, size_t count, size_t length) {
+    return read.status == status && read.count == count && read.length == length;
+}
+
+/* All pairs of a header: four pieces count, of which two are refused, and two are skipped. Nothing is written if one of
+ * the two buffers is too short. */
+static void pairs_of_a_header(void) {
+    static const uint8_t header[] = "a%20=1; b;\xff=2; ; %5F_Host-c=3;d=%3D%3d";
+    static const struct { uint32_t status; size_t next, name, name_length, value, value_length; } wanted[] = {
+        {COOKIE_DONE, 7, 0, 2, 2, 1}, {COOKIE_MISSING_PAIR, 10, 0, 0, 0, 0}, {COOKIE_NOT_UTF8, 14, 0, 0, 0, 0},
+        {COOKIE_DONE, 39, 3, 1, 4, 2}};
+    cookie_pair pairs[5];
+    memset(pairs, 0xa5, sizeof pairs);
+    for (size_t room = 0; room < 4; room++)
+        MUST(counts(cookie_read_pairs(T(header), pairs, room, OUT), COOKIE_BUFFER_TOO_SHORT, 4, 6) && holds(""));
+    for (size_t room = 0; room < 6; room++)
+        MUST(counts(cookie_read_pairs(T(header), pairs, 5, ROOM(room)), COOKIE_BUFFER_TOO_SHORT, 4, 6) && holds(""));
+    MUST(counts(cookie_read_pairs(T(header), NULL, 0, NULL, 0), COOKIE_BUFFER_TOO_SHORT, 4, 6));
+    MUST(((uint8_t *)pairs)[0] == 0xa5);
+    MUST(counts(cookie_read_pairs(T(header), pairs, 4, ROOM(6)), COOKIE_DONE, 4, 6) && holds("a 1d=="));
+    for (size_t i = 0; i < 4; i++)
+        MUST(pairs[i].status == wanted[i].status && pairs[i].next == wanted[i].next
+             && lies(pairs[i].name, wanted[i].name, wanted[i].name_length)
+             && lies(pairs[i].value, wanted[i].value, wanted[i].value_length));
+    MUST(((uint8_t *)pairs)[4 * sizeof *pairs] == 0xa5);
+    MUST(counts(cookie_read_pairs(NULL, 0, NULL, 0, NULL, 0), COOKIE_DONE, 0, 0));
+    MUST(counts(cookie_read_pairs(T(" ;; "), NULL, 0, NULL, 0), COOKIE_DONE, 0, 0));
+}
+
 static const uint8_t MOMENT[] = "Wed, 21 Oct 2015 07:28:00 GMT";
 
 /* A handle without a jar is refused, before its first jar and after its last. */
@@ -460,6 +489,7 @@ int main(void) {
     attributes_and_texts();
     offsets_of_a_header();
     short_buffers_of_reading();
+    pairs_of_a_header();
     handles_without_a_jar();
     jars();
     settings_that_are_no_sites();

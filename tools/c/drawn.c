@@ -57,6 +57,7 @@ typedef struct drawing {
     X(next_pair, S(NOT_UTF8) | S(MISSING_PAIR) | S(EMPTY_NAME) | S(NO_PAIR)) \
     X(next_pair_decoded, \
       S(BUFFER_TOO_SHORT) | S(NOT_UTF8) | S(MISSING_PAIR) | S(EMPTY_NAME) | S(NO_PAIR) | S(BAD_ESCAPE)) \
+    X(read_pairs, S(BUFFER_TOO_SHORT)) \
     X(read, S(NOT_UTF8) | S(MISSING_PAIR) | S(EMPTY_NAME)) \
     X(read_decoded, S(BUFFER_TOO_SHORT) | S(NOT_UTF8) | S(MISSING_PAIR) | S(EMPTY_NAME) | S(BAD_ESCAPE)) \
     X(print, S(BUFFER_TOO_SHORT) | S(BAD_ATTRIBUTE) | S(NO_DATE) | S(NOT_UTF8) | S(INVALID_VALUE)) \
@@ -581,6 +582,23 @@ static void play_reading(drawing *d, int call) {
         fault(d, call, "a span isn't in the text");
 }
 
+static void play_pairs(drawing *d) {
+    static _Thread_local cookie_pair pairs[60];
+    text from = draw_text(d, A_HEADER);
+    size_t room = below(d, 61);
+    draw_room(d);
+    bool starved = starve(d);
+    cookie_pair_count read = cookie_read_pairs(IN(from), pairs, room, d->out, d->length);
+    look(d, read_pairs_call, read.status, read.status == COOKIE_DONE ? read.length : 0, starved);
+    bool has_room = read.count <= room && read.length <= d->length;
+    if (read.status <= COOKIE_BUFFER_TOO_SHORT && has_room != (read.status == COOKIE_DONE))
+        fault(d, read_pairs_call, "it has room and isn't written, or the other way round");
+    for (size_t i = 0; read.status == COOKIE_DONE && i < read.count; i++)
+        if (!is_within(pairs[i].name, read.length) || !is_within(pairs[i].value, read.length)
+            || pairs[i].next > from.length + 1 || (i > 0 && pairs[i].next <= pairs[i - 1].next))
+            fault(d, read_pairs_call, "a span isn't in the text");
+}
+
 static void play_jar(drawing *d, int call) {
     size_t i = below(d, PAIR);
     cookie_jar *jar = &d->jars[i];
@@ -941,6 +959,8 @@ static void play(drawing *d) {
         call = refusal_sentence_call;
     if (call == next_pair_call || call == next_pair_decoded_call || call == read_call || call == read_decoded_call)
         play_reading(d, call);
+    else if (call == read_pairs_call)
+        play_pairs(d);
     else if (strncmp(NAMES[call], "jar", 3) == 0)
         play_jar(d, call);
     else if (call == sessions_new_call || call == sessions_free_call || call == session_end_call)

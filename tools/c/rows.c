@@ -743,6 +743,35 @@ static void play_reading(text in, uint32_t status, text wanted) {
         fault("another cookie");
 }
 
+/* All pairs of a header: each is the one that is read by itself, with its texts further on. */
+static void play_pairs(text header) {
+    size_t most = 1, from = 0, end = 0;
+    for (size_t i = 0; i < header.length; i++)
+        most += header.bytes[i] == ';';
+    cookie_pair *pairs = calloc(most, sizeof *pairs);
+    uint8_t *out = at_edge(header.length), *alone = at_edge(header.length);
+    cookie_pair_count all = cookie_read_pairs(header.bytes, header.length, pairs, most, out, header.length);
+    if (all.status != COOKIE_DONE || all.count > most || all.length > header.length)
+        fault("the pairs of a header have no room");
+    for (size_t i = 0; i < all.count; i++) {
+        cookie_pair pair = cookie_next_pair_decoded(header.bytes, header.length, from, alone, header.length);
+        size_t length = pair.name.length + pair.value.length, start = pair.status == COOKIE_DONE ? end : 0;
+        if (pair.status != pairs[i].status || pair.next != pairs[i].next || pairs[i].name.start != start
+            || pairs[i].value.start != start + pair.name.length || pairs[i].name.length != pair.name.length
+            || pairs[i].value.length != pair.value.length
+            || (pair.status == COOKIE_DONE && length > 0 && memcmp(out + end, alone, length) != 0))
+            fault("a pair of a header is another one");
+        from = pair.next;
+        end += length;
+    }
+    if (end != all.length
+        || cookie_next_pair_decoded(header.bytes, header.length, from, alone, header.length).status != COOKIE_NO_PAIR)
+        fault("a header has other pairs");
+    free(pairs);
+    free_at_edge(out, header.length);
+    free_at_edge(alone, header.length);
+}
+
 /* A call that decodes, with a buffer of that length: its status and its numbers, the text in the buffer, and no other
  * byte changed. */
 static void play_decoded_in(const char *name, const text *in, size_t length, uint32_t status, text numbers,
@@ -769,6 +798,8 @@ static void play_decoded_in(const char *name, const text *in, size_t length, uin
 }
 
 static void play_decoded(const char *name, const text *in, uint32_t status, text numbers, text wanted) {
+    if (strcmp(name, "next_pair_decoded") == 0)
+        play_pairs(in[0]);
     play_decoded_in(name, in, wanted.length, status, numbers, wanted);
     play_decoded_in(name, in, wanted.length + 7, status, numbers, wanted);
     if (wanted.length > 0) {

@@ -1,4 +1,5 @@
 mod AgentLemmas
+mod AllPairsLemmas
 mod DateLemmas
 mod DecodedLemmas
 mod ExplainLemmas

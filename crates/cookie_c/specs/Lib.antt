@@ -1,4 +1,5 @@
 pub mod Agents
+pub mod AllPairs
 pub mod Answers
 pub mod Codes
 pub mod Dates

@@ -2,6 +2,7 @@
 #![tactic(auto)]
 
 mod agent;
+mod all_pairs;
 mod answer;
 mod attributes;
 mod date;
