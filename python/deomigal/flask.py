@@ -235,11 +235,19 @@ def without_escapes(text: str) -> str:
     return shorter
 
 
-class UnopenedSession(Dict[str, Any], SessionMixin):
-    """What `flask.session` is if it can't be looked up whether the session is revoked: each use raises that error."""
+class RefusedSession(Dict[str, Any], SessionMixin):
+    """What `flask.session` is once this error was raised: a dict that isn't saved, for pages of errors, and for functions of
+    `after_request` such as Flask-Login's. No view is called."""
 
     def __init__(self, error: Unavailable) -> None:
+        setattr(self, "__class__", RefusedSession)
         self.error = error
+
+
+class UnopenedSession(RefusedSession):
+    """What `flask.session` is if it can't be looked up whether the session is revoked: a use raises that error."""
+
+    fail = RefusedSession.fail
 
     def fail(self, *_: Any, **__: Any) -> NoReturn:
         """Raises the error."""
@@ -318,7 +326,7 @@ class SessionInterface(FlaskSessionInterface):
     def refuse_unopened(self) -> None:
         """Before each view, raises why the session can't be opened. So `errorhandler(RevocationsError)` answers it."""
         opened = opened_session()
-        if isinstance(opened, UnopenedSession):
+        if isinstance(opened, RefusedSession):
             opened.fail()
 
     def sessions(self, app: Flask) -> Sessions:
