@@ -5,7 +5,9 @@ import ctypes
 import functools
 from typing import Any, Callable, Iterator, NamedTuple
 
-from ._library import DONE, HANDLE, SECOND, TEXT, Answer, bytes_of, declare, perform, bytes_from, handle_of, answer_and_bytes
+from ._library import (
+    DONE, HANDLE, SECOND, TEXT, Answer, OwnHandle, answer_and_bytes, bytes_from, bytes_of, declare, perform,
+)
 from .addresses import Address
 from .cookies import RULES
 from .errors import BufferTooShort, NotFound, error_of
@@ -37,6 +39,7 @@ class AgentLoading(ctypes.Structure):
 
 REQUEST: list[Any] = [ctypes.POINTER(Request)]
 COUNT: list[Any] = [ctypes.c_size_t]
+COUNTS: list[Any] = [ctypes.POINTER(ctypes.c_size_t), ctypes.c_size_t]
 FORM: list[Any] = [ctypes.c_uint32]
 AGENT_NEW = declare("agent_new", HANDLE, ctypes.c_uint32)
 AGENT_FREE = declare("agent_free", HANDLE, None)
@@ -50,8 +53,7 @@ AGENT_CLEAR = declare("agent_clear", HANDLE + TEXT, ctypes.c_uint32)
 AGENT_COUNT = declare("agent_count", HANDLE, Answer)
 AGENT_COOKIE = declare("agent_cookie", HANDLE + COUNT + SECOND + TEXT, Explanation)
 AGENT_SAVE = declare("agent_save", HANDLE + FORM + SECOND + TEXT, AgentSaving)
-LINES: list[Any] = [ctypes.POINTER(ctypes.c_size_t), ctypes.c_size_t]
-AGENT_LOAD = declare("agent_load", HANDLE * 2 + FORM + TEXT + SECOND + LINES, AgentLoading)
+AGENT_LOAD = declare("agent_load", HANDLE * 2 + FORM + TEXT + SECOND + COUNTS, AgentLoading)
 REFUSAL_SENTENCE = declare("refusal_sentence", [ctypes.c_uint32] + TEXT, Answer)
 REFUSAL_SECTION = declare("refusal_section", [ctypes.c_uint32] + TEXT, Answer)
 
@@ -104,7 +106,7 @@ class Core:
     """The library's agent: the stored cookies, in the order of their creation. Only one call at a time may use it."""
 
     def __init__(self, suffixes: bytes) -> None:
-        self.suffixes, self.rules, self.handle = suffixes, rules_of(suffixes), handle_of(self, AGENT_FREE)
+        self.suffixes, self.rules, self.handle = suffixes, rules_of(suffixes), OwnHandle(AGENT_FREE)
         # Where headers are written to.
         self.room = ctypes.create_string_buffer(HEADER_ROOM)
         perform(AGENT_NEW, self.handle)
@@ -117,18 +119,11 @@ class Core:
             raise error_of(reading.status)
         return refusal_of(reading.refusal) if reading.refusal else None
 
-    def header(self, address: Address, is_safe: bool, now: int) -> bytes:
-        """The value of the `Cookie` header of a request to the address."""
-        return self.header_by(AGENT_HEADER, request_of(address, is_safe), now)
-
-    def retrieve(self, address: Address, is_safe: bool, now: int) -> bytes:
-        """The same, for a request that is made: `now` is the last access of what it sends."""
-        return self.header_by(AGENT_RETRIEVE, request_of(address, is_safe), now)
-
-    def header_by(self, call: Callable[..., Any], request: Request, now: int) -> bytes:
-        """The header that the call returns. If there is too little room for it, the call is made again."""
+    def header(self, address: Address, is_safe: bool, now: int, call: Callable[..., Any] = AGENT_RETRIEVE) -> bytes:
+        """The value of the `Cookie` header of a request to the address. By AGENT_RETRIEVE the request is made: `now` is the
+        last access of what it sends. If there is too little room for it, the call is made again."""
         while True:
-            answer = call(self.handle, request, now, self.room, len(self.room))
+            answer = call(self.handle, request_of(address, is_safe), now, self.room, len(self.room))
             if answer.status == BufferTooShort.status:
                 self.room = ctypes.create_string_buffer(answer.length)
             elif answer.status != DONE:
@@ -144,19 +139,9 @@ class Core:
         """Drops what is expired, and then what is above the limits."""
         perform(AGENT_TRIM, self.handle, per_domain, total, now)
 
-    def count(self, now: int) -> int:
-        """How many cookies are stored. It looks for a few of them."""
-        least, most = 0, 1
-        while self.has(most - 1, now):
-            least, most = most, 2 * most
-        while least + 1 < most:
-            middle = (least + most) // 2
-            least, most = (middle, most) if self.has(middle - 1, now) else (least, middle)
-        return least
-
-    def has(self, index: int, now: int) -> bool:
-        """Whether a cookie is stored at this index."""
-        return bool(AGENT_COOKIE(self.handle, index, now, None, 0).status != NotFound.status)
+    def count(self) -> int:
+        """How many cookies are stored, also those that are expired."""
+        return int(AGENT_COUNT(self.handle).length)
 
     def cookies(self, now: int) -> Iterator[AgentCookie]:
         """The stored cookies. Some may be expired at that second: such a one has it as its expiry."""
@@ -203,12 +188,12 @@ class Core:
     def load(self, form: str, text: bytes, now: int) -> list[int]:
         """Adds the cookies of a text in that form. Returns the numbers of its bad lines."""
         room = text.count(b"\n") + 1
-        lines = (ctypes.c_size_t * room)()
+        numbers = (ctypes.c_size_t * room)()
         with self.rules.lock:
-            loading = AGENT_LOAD(self.handle, self.rules.handle, FORMS[form], text, len(text), now, lines, room)
+            loading = AGENT_LOAD(self.handle, self.rules.handle, FORMS[form], text, len(text), now, numbers, room)
         if loading.status != DONE:
             raise error_of(loading.status)
-        return lines[: loading.bad_lines]
+        return numbers[: loading.bad_lines]
 
 
 @functools.lru_cache(maxsize=1024)

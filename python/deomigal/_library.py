@@ -5,7 +5,8 @@ import ctypes
 import os
 import pathlib
 import platform
-import weakref
+import struct
+from binascii import a2b_qp
 from typing import Any, Callable, NoReturn, Sequence
 
 from .errors import BufferTooShort, CookieError, KeyTooShort, error_of
@@ -184,11 +185,14 @@ SUFFIXES_NEW = declare("suffixes_new", TEXT + HANDLE, ctypes.c_uint32)
 SUFFIXES_FREE = declare("suffixes_free", HANDLE, None)
 
 
-def handle_of(owner: object, free: Callable[..., Any]) -> Handle:
-    """A handle with nothing, which is freed when its owner is gone."""
-    handle = Handle()
-    weakref.finalize(owner, free, handle)
-    return handle
+class OwnHandle(Handle):
+    """A handle that is freed when nothing refers to it any more."""
+
+    def __init__(self, free: Callable[..., Any]) -> None:
+        self.free = free
+
+    def __del__(self) -> None:
+        self.free(self)
 
 
 class Uncopied:
@@ -229,8 +233,9 @@ def header_of(header: str | bytes | None) -> bytes:
 def arguments_of(function: Any, inputs: tuple[Any, ...]) -> list[Any]:
     """The arguments for C: where the function takes a text, its bytes and their count."""
     arguments: list[Any] = []
+    kinds = function.argtypes
     for value in inputs:
-        if function.argtypes[len(arguments)] is ctypes.c_char_p:
+        if kinds[len(arguments)] is ctypes.c_char_p:
             text = bytes_of(value)
             arguments += [text, len(text)]
         else:
@@ -253,7 +258,7 @@ def answer_and_bytes(function: Callable[..., Any], *inputs: Any, room: int = 256
         buffer = ctypes.create_string_buffer(room)
         answer = function(*arguments, buffer, room)
         if answer.status != BufferTooShort.status:
-            return answer, buffer.raw[: getattr(answer, "length", room)]
+            return answer, ctypes.string_at(buffer, getattr(answer, "length", room))
         room = answer.length if hasattr(answer, "length") else answer.value.start + answer.value.length
 
 
@@ -278,6 +283,12 @@ def text_at(text: bytes, span: Span) -> str:
     return text[span.start : span.start + span.length].decode()
 
 
-def seeds() -> list[int]:
+def unescaped(text: bytes) -> str:
+    """The text without its escapes by `%`, in which no `=` is. Quoted-printable has a `=` in the place of each `%` (RFC 2045
+    6.7), and Python reads that in C."""
+    return a2b_qp(text.replace(b"%", b"=")).decode()
+
+
+def seeds() -> tuple[int, ...]:
     """Two random numbers, which a jar hashes names with."""
-    return [int.from_bytes(os.urandom(8), "little") for _ in range(2)]
+    return struct.unpack("QQ", os.urandom(16))

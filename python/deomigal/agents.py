@@ -131,7 +131,7 @@ class Agent(Uncopied):
     def trim(self, second: int) -> None:
         """Drops what is expired, and the cookies above the limits (RFC 6265bis, Storage Model)."""
         self.core.trim(*self.limits, second)
-        self.stored, self.enough = 0, max(min(self.limits), self.core.count(second) // 4)
+        self.stored, self.enough = 0, max(min(self.limits), self.core.count() // 4)
 
     def header(self, url: str, now: datetime.datetime | None = None, context: Context = SAME_SITE) -> bytes:
         """The value of the `Cookie` header that a request to the URL sends, at the time `now` or the clock's. It is
@@ -153,7 +153,7 @@ class Agent(Uncopied):
         """The value of the `Cookie` header of a request to the address. The drop-ins call it."""
         second = self.second(None) if second is None else whole_second(second)
         with self.lock:
-            return self.core.retrieve(address, is_safe, second)
+            return self.core.header(address, is_safe, second)
 
     def __iter__(self) -> Iterator[AgentCookie]:
         """The cookies that are stored and not expired, in the order of their creation.
@@ -244,8 +244,6 @@ class Agent(Uncopied):
     def address_of(self, url: str, context: Context) -> Address:
         """The address of the URL, for a request in this context."""
         address = address_of(url, is_localhost_secure=self.is_localhost_secure)
-        if context.is_same_site and context.is_top_level:
-            return address
         return address._replace(is_same_site=context.is_same_site, is_top_level=context.is_top_level)
 
     def address_at(self, scheme: str, host: str, path: str, context: Context) -> Address | None:

@@ -39,7 +39,7 @@ class SessionMiddleware(Middleware):
         async def send_with_cookie(message: Message) -> None:
             nonlocal is_begun
             if message["type"] == "http.response.start":
-                fields = await self.afields(session, scope.get("session"))
+                fields = await self.fields(session, scope.get("session"), self.sessions.ask_async)
                 message = {**message, "headers": [*message.get("headers", ()), *lines(fields)]}
             is_begun = True
             await send(message)

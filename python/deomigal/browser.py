@@ -4,7 +4,7 @@ from __future__ import annotations
 import re
 from typing import Iterator, NamedTuple
 
-from ._agent import Core, header_bytes, text_of
+from ._agent import AGENT_HEADER, Core, header_bytes, text_of
 from .addresses import Address, address_of
 from .dates import read_date
 from .explain import STEPS, Found, found_at, second_of, report_of
@@ -96,7 +96,7 @@ class Browser:
 
     def header(self, address: Address) -> bytes:
         """The line of the `Cookie` header that the address gets."""
-        header = self.core.header(address, True, self.now)
+        header = self.core.header(address, True, self.now, AGENT_HEADER)
         return b"Cookie: " + header if header else b"no Cookie header"
 
     def unsent(self, address: Address) -> Iterator[bytes]:

@@ -6,7 +6,8 @@ from __future__ import annotations
 
 import zlib
 from typing import Mapping
-from urllib.parse import unquote
+
+from ._library import unescaped
 
 # The characters of a text that the library escapes in a session's cookie, as three bytes each.
 MARKS = "%&+="
@@ -22,41 +23,39 @@ VALUES = {digit: value for value, digit in enumerate(DIGITS)}
 BYTES, PLACES = 13, 15
 
 
-def shorten(texts: Mapping[str, str], compress: bool) -> Mapping[str, str]:
-    """The texts as a session's cookie is to have them: compressed, if `compress` is set and that is shorter.
+def form_of(texts: Mapping[str, str], compress: bool) -> bytes:
+    """The texts as a form, which the library takes (URL Standard 5.1): compressed, if `compress` is set and that is shorter.
 
     >>> texts = {"notes": "to be, or not to be " * 20}
-    >>> shorten(texts, False) == texts, len(shorten(texts, True)[COMPRESSED]) < 40
-    (True, True)
+    >>> len(form_of(texts, False)), len(form_of(texts, True)) < 50, texts_of(form_of(texts, True)) == texts
+    (406, True, True)
     """
+    form = escaped_form(texts)
     # What would be read as a compressed session is kept whole in one.
     is_taken = list(texts) == [COMPRESSED]
-    if not (compress or is_taken):
-        return texts
-    form = form_of(texts)
-    if len(form) > MOST_BYTES:
-        # No browser stores so much.
-        return texts
-    compressed = {COMPRESSED: digits_of(deflate(form, 9 if compress else 0))}
-    return compressed if is_taken or len(form_of(compressed)) < len(form) else texts
+    # No browser stores more than so many bytes.
+    if not (compress or is_taken) or len(form) > MOST_BYTES:
+        return form
+    compressed = escaped_form({COMPRESSED: digits_of(deflate(form, 9 if compress else 0))})
+    return compressed if is_taken or len(compressed) < len(form) else form
 
 
-def expand(texts: Mapping[str, str]) -> dict[str, str]:
-    """The texts that `shorten` was given, with compression or without. Raises `ValueError` if another program compressed
-    them, and so if they have more than `MOST_BYTES`.
-
-    >>> expand(shorten({"user": "ann" * 20}, True)) == expand({"user": "ann" * 20}) == {"user": "ann" * 20}
-    True
-    """
-    if list(texts) != [COMPRESSED]:
-        return dict(texts)
-    pairs = inflate(bytes_of_digits(texts[COMPRESSED])).decode().split("&")
-    return {unquote(name): unquote(text) for name, _, text in (pair.partition("=") for pair in pairs)}
+def texts_of(form: bytes) -> dict[str, str]:
+    """The texts of a form, as `form_of` or the library printed it. Raises `ValueError` if another program compressed them,
+    and so if they have more than `MOST_BYTES`."""
+    texts = form_texts(form)
+    return form_texts(inflate(bytes_of_digits(texts[COMPRESSED]))) if list(texts) == [COMPRESSED] else texts
 
 
-def form_of(texts: Mapping[str, str]) -> bytes:
-    """The texts as a session's cookie has them, without its times and its id."""
+def escaped_form(texts: Mapping[str, str]) -> bytes:
+    """The texts as a form in which only the marks are escaped."""
     return "&".join(f"{escape(name)}={escape(text)}" for name, text in texts.items()).encode()
+
+
+def form_texts(form: bytes) -> dict[str, str]:
+    """The texts of a form as they are in it."""
+    pairs = (pair.partition(b"=") for pair in form.replace(b"+", b" ").split(b"&")) if form else ()
+    return {unescaped(name): unescaped(text) for name, _, text in pairs}
 
 
 def escape(text: str) -> str:

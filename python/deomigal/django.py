@@ -22,7 +22,7 @@ from django.core.signals import got_request_exception
 from django.http import HttpResponse
 from django.utils.cache import patch_vary_headers
 
-from .cookies import pairs, print_cookie
+from .cookies import pairs
 from .secrets import keys_of
 from .sessions import Session, Sessions
 from .values import FAILURES, Failure, Generations, answer_to, note_unsaved, pack, unpack
@@ -62,11 +62,11 @@ def site() -> Sessions:
     return found[1]
 
 
-def session_of(key: str | None, header: bytes | None = None) -> Session:
+def session_of(sessions: Sessions, key: str | None, header: bytes | None = None) -> Session:
     """The session in the request's header, or without one in the value of the site's cookie; or a new one."""
     if header is None and re.fullmatch(r"[!-+\--:<-\[\]-~]+", key or ""):
-        header = f"{print_cookie(settings.SESSION_COOKIE_NAME, '')}{key}".encode()
-    return site().open(header)
+        header = f"{sessions.name}={key}".encode()
+    return sessions.open(header)
 
 
 class SessionStore(Generations, SessionBase):
@@ -84,14 +84,14 @@ class SessionStore(Generations, SessionBase):
     def load(self) -> dict[str, Any]:
         """The values of the session, or none if the cookie holds no session that is open."""
         try:
-            self.source = session_of(self.session_key, self.header)
+            self.source = session_of(site(), self.session_key, self.header)
         except FAILURES as error:
             self.failure = error
             raise
         self.shows_revoked = self.showed_revoked = self.source.shows_revoked
         if not self.source.is_new:
             try:
-                values: dict[str, Any] = self.serializer().loads(unpack(self.source))
+                values: dict[str, Any] = self.serializer().loads(unpack(self.source.texts))
                 if self.lives(values):
                     return values
             except Exception:
@@ -111,9 +111,10 @@ class SessionStore(Generations, SessionBase):
     def save(self, must_create: bool = False) -> None:
         """Encrypts the session, as the value of its cookie. Raises `TooLarge` if a browser wouldn't store it."""
         values = self._get_session(no_load=must_create)
-        self.source = self.source or site().start()
+        sessions = site()
+        self.source = self.source or sessions.start()
         self.source.texts = pack(self.serializer().dumps(values))
-        text = site().save(self.source)
+        text = sessions.save(self.source)
         self._session_key = text.partition(";")[0].partition("=")[2]
         self.modified = True
 
@@ -139,14 +140,15 @@ class SessionStore(Generations, SessionBase):
 
     def revoke(self, session_key: str | None = None) -> bool:
         """Revokes what the browser has, if the site keeps which sessions are revoked. Returns whether it had something."""
-        if site().revocations is None:
+        sessions = site()
+        if sessions.revocations is None:
             return False
         if session_key is not None and session_key != self.session_key:
-            return site().revoke(session_of(session_key))
-        source = self.source or session_of(self.session_key, self.header)
+            return sessions.revoke(session_of(sessions, session_key))
+        source = self.source or session_of(sessions, self.session_key, self.header)
         if source.shows_revoked:
             self.shows_revoked = self.showed_revoked = True
-        return site().revoke(source)
+        return sessions.revoke(source)
 
     def cycle_key(self) -> None:
         """Starts it anew with the same values, so that the lifetime counts from this request. A login calls it. With

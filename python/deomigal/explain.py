@@ -8,7 +8,7 @@ import pathlib
 from typing import NamedTuple
 
 from ._library import (
-    DONE, HANDLE, SECOND, SUFFIXES_FREE, SUFFIXES_NEW, TEXT, Span, bytes_of, declare, perform, handle_of,
+    DONE, HANDLE, SECOND, SUFFIXES_FREE, SUFFIXES_NEW, TEXT, OwnHandle, Span, bytes_of, declare, perform,
 )
 from ._locks import Lock
 from .addresses import Address, address_of
@@ -71,7 +71,7 @@ class Suffixes:
     """The rules of a list of public suffixes, read once. Threads may share it."""
 
     def __init__(self, text: bytes) -> None:
-        self.handle = handle_of(self, SUFFIXES_FREE)
+        self.handle = OwnHandle(SUFFIXES_FREE)
         # Only one call at a time may use the handle.
         self.lock = Lock()
         perform(SUFFIXES_NEW, text, self.handle)

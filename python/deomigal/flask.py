@@ -10,6 +10,7 @@ from __future__ import annotations
 
 import copy
 import json
+import marshal
 import time
 from typing import Any, Callable, Dict, Mapping, NoReturn, Sequence, cast
 
@@ -28,13 +29,13 @@ from .errors import Gone, RevocationsError
 from .revocations import Revocations
 from .secrets import keys_of
 from .sessions import Session, Sessions
-from .values import CODER, FAILURES, Failure, Generations, log_failure, note_unsaved, with_expiry
+from .values import CODER, FAILURES, Failure, Opened, checked_refresh, log_failure, note_unsaved, with_expiry
 
 # Where a request's environment has the session that was opened for it, since to read `flask.session` counts as its use; and
 # where the application's extensions have the interface.
 KEY = "deomigal.flask.session"
-# The types of values that don't change within.
-CONSTANT = (str, int, float, bool, bytes, type(None))
+# The version of marshal's format that says no more of a value than what it is.
+MARSHAL_VERSION = 2
 # What Flask-Login keeps in the session for the end of a request: what to do with the cookie that remembers a user.
 REMEMBER = "_remember"
 
@@ -57,12 +58,12 @@ class Changed(Gone, Conflict):
         log_failure(error)
 
 
-def answered(error: Failure) -> Failure:
+def http_error_of(error: Failure) -> Failure:
     """The error as one that Flask answers."""
     return Changed(error) if isinstance(error, Gone) else Unavailable(error)
 
 
-class FlaskSession(Generations, SecureCookieSession):
+class FlaskSession(Opened, SecureCookieSession):
     """What `flask.session` is. A change within a value is saved too. `source` is the session that it was opened from, and
     `sessions` how the site keeps it. `is_old` is whether it was a session of Flask's own class. `serializer` prints each
     value."""
@@ -73,8 +74,9 @@ class FlaskSession(Generations, SecureCookieSession):
     ) -> None:
         super().__init__(values)
         self.sessions, self.source, self.new, self.is_old = sessions, source, source.is_new and not is_old, is_old
-        # The texts of the cookie that it was opened from, and their values.
-        self.serializer, self.opened, self.loaded = serializer, dict(source.texts), dict(values)
+        # The texts of the cookie that it was opened from; and each value's text with what it was when that was its text.
+        self.serializer, self.opened = serializer, dict(source.texts)
+        self.printed = {name: (mark_of(values[name]), text) for name, text in self.opened.items() if name in values}
         # The texts that were saved last, and the cookie's text, or None if it was too large.
         self.saved: tuple[dict[str, str], str | None] | None = None
         # Whether the request has only revoked sessions. Then it drops no cookie: the browser may have another one by now.
@@ -100,24 +102,8 @@ class FlaskSession(Generations, SecureCookieSession):
     def __deepcopy__(self, memo: dict[int, Any]) -> FlaskSession:
         values = copy.deepcopy(dict(self), memo)
         copied = type(self)(self.sessions, copy.copy(self.source), values, self.is_old, self.serializer)
-        copied.modified, copied.opened, copied.loaded = self.modified, self.opened, self.loaded
+        copied.modified, copied.opened, copied.printed = self.modified, self.opened, dict(self.printed)
         return copied
-
-    @property
-    def started(self) -> int:
-        """When it started, in seconds since 1970."""
-        return self.source.started
-
-    @property
-    def id(self) -> bytes:
-        """Its id, of sixteen bytes: each copy of its cookie has it, whenever it was saved, until it is renewed."""
-        return self.source.id
-
-    @property
-    def shows_revoked(self) -> bool:
-        """Whether the request has only sessions that are revoked, and this one, which is new, wasn't renewed since. It may be
-        an old tab's, whose browser has another session by now, so it isn't saved."""
-        return self.source.shows_revoked
 
     def renew(self) -> None:
         """Starts it anew with the same values and another id, so that the lifetime counts from this request. Call it at
@@ -153,7 +139,7 @@ class FlaskSession(Generations, SecureCookieSession):
             is_ended = self.sessions.revoke(self.source)
         except FAILURES as error:
             self.is_failed = True
-            raise answered(error) from error
+            raise http_error_of(error) from error
         if is_ended:
             self.modified = self.accessed = True
             self.saved = None
@@ -174,7 +160,7 @@ class FlaskSession(Generations, SecureCookieSession):
                 self.saved = texts, self.sessions.save(self.source)
             except FAILURES as error:
                 self.is_failed = True
-                raise answered(error) from error
+                raise http_error_of(error) from error
         return cast(str, self.saved[1])
 
     def texts(self) -> dict[str, str]:
@@ -184,10 +170,12 @@ class FlaskSession(Generations, SecureCookieSession):
         return self.opened
 
     def text_of(self, name: Any, value: Any) -> str:
-        """The text of a value. One that is as it was opened has its text of then."""
-        if type(value) in CONSTANT and name in self.opened and self.loaded.get(name) is value:
-            return self.opened[name]
-        return self.text(value)
+        """The text of a value. One that is as it was when it was opened or printed has its text of then."""
+        mark, (known, text) = mark_of(value), self.printed.get(name, (None, ""))
+        if mark is None or mark != known:
+            text = self.text(value)
+            self.printed[name] = mark, text
+        return text
 
     def is_changed(self) -> bool:
         """Whether it was changed, or a value within it."""
@@ -204,6 +192,14 @@ class FlaskSession(Generations, SecureCookieSession):
 
     def __repr__(self) -> str:
         return f"<FlaskSession {list(self.keys())!r}>"
+
+
+def mark_of(value: Any) -> bytes | None:
+    """The same bytes for a value as long as it is the same, or None if it doesn't only have values of Python's own types."""
+    try:
+        return marshal.dumps(value, MARSHAL_VERSION)
+    except ValueError:
+        return None
 
 
 def name_of(name: Any) -> str:
@@ -235,15 +231,23 @@ def without_escapes(text: str) -> str:
     return shorter
 
 
-class UnopenedSession(Dict[str, Any], SessionMixin):
-    """What `flask.session` is if it can't be looked up whether the session is revoked: each use raises that error."""
+class RefusedSession(Dict[str, Any], SessionMixin):
+    """What `flask.session` is once this error was raised: a dict that isn't saved, for pages of errors, and for functions of
+    `after_request` such as Flask-Login's. No view is called."""
 
     def __init__(self, error: Unavailable) -> None:
         self.error = error
 
     def fail(self, *_: Any, **__: Any) -> NoReturn:
         """Raises the error."""
+        setattr(self, "__class__", RefusedSession)
         raise self.error
+
+
+class UnopenedSession(RefusedSession):
+    """What `flask.session` is if it can't be looked up whether the session is revoked: a use raises that error."""
+
+    fail = RefusedSession.fail
 
     __getitem__ = __setitem__ = __delitem__ = __contains__ = __iter__ = __len__ = __bool__ = __eq__ = fail
     __or__ = __ror__ = __ior__ = __reversed__ = fail  # type: ignore
@@ -262,13 +266,13 @@ class SessionInterface(FlaskSessionInterface):
     `salt`.
 
     A session is over PERMANENT_SESSION_LIFETIME after its start, and `idle` seconds after it was last saved, if `idle`
-    is given. `refresh` is how many seconds after it was saved an unchanged session is saved again, by default a tenth
-    of `idle`. With `migrate` the sessions of Flask's own class are read too, and saved as these. `clock` returns the
+    is given. An unchanged session is saved again once a tenth of its idle time has passed, and with `refresh` at each
+    request. With `migrate` the sessions of Flask's own class are read too, and saved as these. `clock` returns the
     time, in seconds since 1970. `serializer` prints and reads each value. `revocations`, such as `SqliteRevocations`,
     keeps which sessions are revoked, by `session.revoke()` and by what is saved after `session.renew()`. If it fails, the
     request is answered with status 503, or by `errorhandler(RevocationsError)`. If another request has renewed or ended the
-    session, it is answered with status 409, or by `errorhandler(Gone)`. With `compress` a session is saved compressed: see `deomigal.Sessions` for when not
-    to.
+    session, it is answered with status 409, or by `errorhandler(Gone)`. With `compress` a session is saved compressed: see
+    `deomigal.Sessions` for when not to.
 
     With Flask-Login each login starts the session anew, and with `revocations` each logout revokes it.
     """
@@ -279,12 +283,13 @@ class SessionInterface(FlaskSessionInterface):
 
     def __init__(
         self, keys: Sequence[bytes] | None = None, idle: int | None = None, clock: Callable[[], float] = time.time, *,
-        refresh: float | None = None, migrate: bool = False, serializer: Any = None, salt: str | bytes | None = None,
+        refresh: bool = False, migrate: bool = False, serializer: Any = None, salt: str | bytes | None = None,
         revocations: Revocations | None = None, compress: bool = False,
     ) -> None:
         if keys is not None and salt is not None:
             raise ValueError("a salt is for keys that are derived from secrets")
-        self.keys, self.idle, self.clock, self.refresh, self.migrate = keys, idle, clock, refresh, migrate
+        self.keys, self.idle, self.clock, self.migrate = keys, idle, clock, migrate
+        self.refresh = checked_refresh(refresh)
         self.serializer = self.serializer if serializer is None else serializer
         self.salt = self.salt if salt is None else salt
         self.revocations, self.compress = revocations, compress
@@ -302,9 +307,9 @@ class SessionInterface(FlaskSessionInterface):
         app.before_request(self.refuse_unopened)
         # Flask offers nothing between the view and the functions of `after_request`, and what these or `save_session` raise
         # no `errorhandler(TooLarge)` answers. So the call that makes the view's answer is replaced.
-        setattr(app, "dispatch_request", self.checking(app, app.dispatch_request))
+        setattr(app, "dispatch_request", self.with_check(app, app.dispatch_request))
 
-    def checking(self, app: Flask, dispatch: Callable[..., Any]) -> Callable[..., Any]:
+    def with_check(self, app: Flask, dispatch: Callable[..., Any]) -> Callable[..., Any]:
         """A call that calls the view, and then checks the session. So `errorhandler(TooLarge)` answers what is raised."""
         def dispatch_request(*arguments: Any) -> Any:
             answer = dispatch(*arguments)
@@ -318,7 +323,7 @@ class SessionInterface(FlaskSessionInterface):
     def refuse_unopened(self) -> None:
         """Before each view, raises why the session can't be opened. So `errorhandler(RevocationsError)` answers it."""
         opened = opened_session()
-        if isinstance(opened, UnopenedSession):
+        if isinstance(opened, RefusedSession):
             opened.fail()
 
     def sessions(self, app: Flask) -> Sessions:
@@ -364,13 +369,22 @@ class SessionInterface(FlaskSessionInterface):
         """The session in the request's header, or a new one."""
         source = sessions.open(header, self.clock())
         try:
-            values = {name: self.serializer.loads(text) for name, text in source.items()}
+            values = self.values_of(source.texts)
         except Exception:
             # Another program or another serializer saved it, and a serializer raises what it wants.
             source, values = sessions.start(source.now), {}
         old = self.old_values(app, header) if self.migrate and source.is_new else None
         values = values if old is None else old
         return self.session_class(sessions, source, values, old is not None, self.serializer)
+
+    def values_of(self, texts: Mapping[str, str]) -> dict[str, Any]:
+        """The values of these texts. Flask's JSON reads all of them at once."""
+        if isinstance(self.serializer, TaggedJSONSerializer):
+            values = self.serializer.loads(f"[{','.join(texts.values())}]")
+            if len(values) != len(texts):
+                raise ValueError("a text isn't one value in JSON")
+            return dict(zip(texts, values))
+        return {name: self.serializer.loads(text) for name, text in texts.items()}
 
     def old_values(self, app: Flask, header: str) -> dict[str, Any] | None:
         """The values of a session of Flask's own class, or None."""
@@ -393,10 +407,8 @@ class SessionInterface(FlaskSessionInterface):
 
     def is_due(self, app: Flask, session: FlaskSession) -> bool:
         """Whether the use of a session that wasn't changed is to count: it wasn't saved for a part of its idle time."""
-        limit = app.permanent_session_lifetime.total_seconds() if self.idle is None else self.idle
-        refresh = limit / 10 if self.refresh is None else self.refresh
         counts = app.config["SESSION_REFRESH_EACH_REQUEST"] and (session.permanent or self.idle is not None)
-        return bool(counts and session.source.is_due(limit, refresh))
+        return bool(counts and (self.refresh or session.sessions.must_save(session.source)))
 
     def save_session(self, app: Flask, session: SessionMixin, response: Response) -> None:
         """Saves the session in the response, or removes its cookie if it was emptied. An error page or a file that

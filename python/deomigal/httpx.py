@@ -70,7 +70,7 @@ class Cookies:
             self.agent.read_all(address, texts)
 
 
-class CookieTransport(httpx.BaseTransport):
+class CookieTransport(Cookies, httpx.BaseTransport):
     """A transport that sends the cookies of an agent, by default a new one, and has it read those of each response.
 
     `transport` makes the requests, by default httpx's own. `context` says how they come about, by default same-site.
@@ -79,19 +79,14 @@ class CookieTransport(httpx.BaseTransport):
     def __init__(
         self, agent: Agent | None = None, transport: httpx.BaseTransport | None = None, *, context: Context = SAME_SITE
     ) -> None:
-        self.cookies = Cookies(agent, context)
+        super().__init__(agent, context)
         self.transport = httpx.HTTPTransport() if transport is None else transport
-
-    @property
-    def agent(self) -> Agent:
-        """Its agent."""
-        return self.cookies.agent
 
     def handle_request(self, request: httpx.Request) -> httpx.Response:
         """Sends the request with the agent's cookies, and reads the cookies of the response."""
-        address = self.cookies.prepare(request)
+        address = self.prepare(request)
         response = self.transport.handle_request(request)
-        self.cookies.read(address, response)
+        self.read(address, response)
         return response
 
     def __enter__(self) -> CookieTransport:
@@ -109,26 +104,21 @@ class CookieTransport(httpx.BaseTransport):
         self.transport.close()
 
 
-class AsyncCookieTransport(httpx.AsyncBaseTransport):
+class AsyncCookieTransport(Cookies, httpx.AsyncBaseTransport):
     """The same for `httpx.AsyncClient`."""
 
     def __init__(
         self, agent: Agent | None = None, transport: httpx.AsyncBaseTransport | None = None, *,
         context: Context = SAME_SITE,
     ) -> None:
-        self.cookies = Cookies(agent, context)
+        super().__init__(agent, context)
         self.transport = httpx.AsyncHTTPTransport() if transport is None else transport
-
-    @property
-    def agent(self) -> Agent:
-        """Its agent."""
-        return self.cookies.agent
 
     async def handle_async_request(self, request: httpx.Request) -> httpx.Response:
         """Sends the request with the agent's cookies, and reads the cookies of the response."""
-        address = self.cookies.prepare(request)
+        address = self.prepare(request)
         response = await self.transport.handle_async_request(request)
-        self.cookies.read(address, response)
+        self.read(address, response)
         return response
 
     async def __aenter__(self) -> AsyncCookieTransport:

@@ -3,15 +3,19 @@ from __future__ import annotations
 
 import datetime
 from typing import Iterator
-from urllib.parse import unquote
 
 from ._library import (
-    JAR_ADD, JAR_ADD_ORIGINALS, JAR_COOKIES, JAR_DELTA, JAR_FREE, JAR_GET, JAR_NEW, JAR_REMOVE_SCOPED, RUN, Uncopied,
-    perform, bytes_from, handle_of, header_of, seeds, text_or_none,
+    JAR_ADD, JAR_ADD_ORIGINALS, JAR_COOKIES, JAR_DELTA, JAR_FREE, JAR_GET, JAR_NEW, JAR_REMOVE_SCOPED, RUN, OwnHandle,
+    Uncopied, bytes_from, header_of, perform, seeds, text_or_none, unescaped,
 )
 from ._locks import Lock
 from .dates import print_date
 from .errors import NotFound
+
+# Only one call at a time may use a jar's handle. They are short, so all jars have one lock.
+LOCK = Lock()
+# Most texts of a jar's cookies are shorter.
+ROOM = 4096
 
 
 class Jar(Uncopied):
@@ -29,10 +33,7 @@ class Jar(Uncopied):
     """
 
     def __init__(self, header: str | bytes | None = None) -> None:
-        self.handle = handle_of(self, JAR_FREE)
-        # Only one call at a time may use the handle.
-        self.lock = Lock()
-        originals = header_of(header)
+        self.handle, originals = OwnHandle(JAR_FREE), header_of(header)
         perform(JAR_NEW, *seeds(), self.handle)
         perform(JAR_ADD_ORIGINALS, self.handle, originals)
 
@@ -48,7 +49,7 @@ class Jar(Uncopied):
         Raises `MissingPair`, `EmptyName`, `BadEscape` or `NotUtf8`, and `InvalidValue` for a path or a domain with a
         control character.
         """
-        with self.lock:
+        with LOCK:
             perform(JAR_ADD, self.handle, text)
 
     def remove(self, name: str, moment: datetime.datetime | None = None, path: str = "", domain: str = "") -> None:
@@ -58,12 +59,12 @@ class Jar(Uncopied):
         browser keeps any other. Raises `InvalidValue` for a path or a domain with a control character or a `;`.
         """
         moment = moment or datetime.datetime.now(datetime.timezone.utc)
-        with self.lock:
+        with LOCK:
             perform(JAR_REMOVE_SCOPED, self.handle, print_date(moment), name, path, domain)
 
     def get(self, name: str) -> str | None:
         """The value of the cookie of that name, or None."""
-        with self.lock:
+        with LOCK:
             return text_or_none(JAR_GET, (NotFound,), self.handle, name)
 
     def __getitem__(self, name: str) -> str:
@@ -79,10 +80,10 @@ class Jar(Uncopied):
 
     def items(self) -> list[tuple[str, str]]:
         """The names of the jar's cookies with their values, in any order."""
-        with self.lock:
-            lines = bytes_from(JAR_COOKIES, self.handle).decode().split("\n")[:-1]
-        pairs = (line.partition("=") for line in lines)
-        return [(unquote(name), unquote(value)) for name, _, value in pairs]
+        with LOCK:
+            lines = bytes_from(JAR_COOKIES, self.handle, room=ROOM).split(b"\n")[:-1]
+        pairs = (line.partition(b"=") for line in lines)
+        return [(unescaped(name), unescaped(value)) for name, _, value in pairs]
 
     def __iter__(self) -> Iterator[str]:
         """The names of the jar's cookies, in any order."""
@@ -93,12 +94,12 @@ class Jar(Uncopied):
 
     def delta(self) -> list[str]:
         """The lines `Set-Cookie: ..` for the jar's changes, in any order."""
-        with self.lock:
-            return bytes_from(JAR_DELTA, self.handle).decode().split("\n")[:-1]
+        with LOCK:
+            return bytes_from(JAR_DELTA, self.handle, room=ROOM).decode().split("\n")[:-1]
 
     def close(self) -> None:
         """Frees the jar. All other calls raise `NoJar` from then on."""
-        with self.lock:
+        with LOCK:
             JAR_FREE(self.handle)
 
 

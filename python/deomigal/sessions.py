@@ -4,23 +4,23 @@ from __future__ import annotations
 
 import os
 from typing import Any, Callable, Iterator, MutableMapping, Sequence
-from urllib.parse import parse_qsl, urlencode
 
 from ._library import (
     DONE, OPENED_FREE, OPENED_IDS, OPENED_NEW, OPENED_TAKE, SESSION_DESCRIBE, SESSION_END, SESSION_FREE, SESSION_GIVEN,
-    SESSION_LOG_OUT, SESSION_OPEN, SESSION_RENEW, SESSION_REPLACE, SESSION_SAVE, SESSION_SET_TEXTS, SESSION_START,
-    SESSION_TEXTS, SESSIONS_FREE, SESSIONS_NEW, Handle, Settings, Uncopied, bytes_from, handle_of, header_of, perform, ring_of,
+    SESSION_LOG_OUT, SESSION_MUST_SAVE, SESSION_OPEN, SESSION_RENEW, SESSION_REPLACE, SESSION_SAVE, SESSION_SET_TEXTS,
+    SESSION_START, SESSION_TEXTS, SESSIONS_FREE, SESSIONS_NEW, OwnHandle, Settings, Uncopied, bytes_from, header_of, perform,
+    ring_of,
 )
 from ._locks import Lock
 from ._steps import run
-from .compression import expand, shorten
+from .compression import form_of, texts_of
 from .cookies import print_cookie
 from .dates import whole_second
 from .errors import BufferTooShort, Gone, NoSession, NotUtf8, Replaces, RevocationsError, error_of
 from .revocations import ID_LENGTH, AnyRevocations, Ask, ask, ask_async, was_revoked
 
-# Room for a cookie that a browser stores, and for the texts in it.
-ROOM = 5000
+# Room for a cookie that a browser stores, and for the form of its texts, where most bytes may be escaped as three.
+ROOM, FORM_ROOM = 5000, 10000
 
 
 class Session(MutableMapping[str, str]):
@@ -43,19 +43,20 @@ class Session(MutableMapping[str, str]):
         if not isinstance(now, int):
             raise TypeError("a second is an int")
         self.now = whole_second(now)
-        # What the library keeps of the session, once it is opened or saved: also which one the browser has.
-        self.handle = handle_of(self, SESSION_FREE)
         self.begin()
 
     def begin(self) -> None:
         """Makes it a new session without texts, of which the browser has none."""
-        SESSION_FREE(self.handle)
+        # What the library keeps of the session, once it is opened or saved: also which one the browser has.
+        self.handle = OwnHandle(SESSION_FREE)
         self.place: int | None = None
         # The header that it was opened from, or its cookie once it is saved; and the ids in it that are revoked, or None
         # before they are looked up.
         self.header = b""
         self.revoked: bytes | None = None
         self.texts: dict[str, str] = {}
+        # The texts that the library has, if it is known which.
+        self.known: dict[str, str] | None = None
         self.renew()
 
     @property
@@ -80,11 +81,6 @@ class Session(MutableMapping[str, str]):
         self.shows_revoked = False
         # Whether it started at this request, and whether the library knows that it did.
         self.is_renewed, self.is_started = True, False
-
-    def is_due(self, idle: float, refresh: float) -> bool:
-        """Whether it was last saved so long ago that its use is to count: `refresh` seconds, if the site has this idle time,
-        and in proportion fewer if its own is shorter."""
-        return (self.now - self.seen) * idle >= refresh * min(idle, self.idle or idle)
 
     def describe(self) -> None:
         """Has the id and the times that the library tells of it."""
@@ -138,7 +134,7 @@ class Session(MutableMapping[str, str]):
 
     def __setstate__(self, state: dict[str, Any]) -> None:
         self.__dict__.update(state)
-        self.handle = handle_of(self, SESSION_FREE)
+        self.handle = OwnHandle(SESSION_FREE)
 
     def __repr__(self) -> str:
         return f"<Session {list(self.texts)!r}>"
@@ -202,7 +198,9 @@ class Sessions(Uncopied):
             name, "", path=path, domain=domain, secure=secure, http_only=http_only, same_site=same_site,
             partitioned=partitioned or None,
         ).encode()
-        self.handle = handle_of(self, SESSIONS_FREE)
+        # As the cookie has it.
+        self.name = cookie.partition(b"=")[0].decode()
+        self.handle = OwnHandle(SESSIONS_FREE)
         # Only one call at a time may use the handle.
         self.lock = Lock()
         perform(SESSIONS_NEW, Settings(ring, len(ring), cookie, len(cookie), lifetime, idle), self.handle)
@@ -248,12 +246,13 @@ class Sessions(Uncopied):
             return started
         session.describe()
         session.is_renewed = False
-        form = bytes_from(SESSION_TEXTS, session.handle, room=ROOM).decode()
+        form = bytes_from(SESSION_TEXTS, session.handle, room=FORM_ROOM)
         try:
-            session.texts = expand(dict(parse_qsl(form, keep_blank_values=True)))
+            session.texts = texts_of(form)
         except ValueError:
             # Another program saved it, under the same key.
             return self.start(session.now)
+        session.known = dict(session.texts)
         return session
 
     async def fill(self, session: Session, ask: Ask) -> None:
@@ -263,15 +262,12 @@ class Sessions(Uncopied):
             with self.lock:
                 perform(SESSION_OPEN, self.handle, session.header, session.now, session.handle)
             return
-        opened = Handle()
-        try:
-            with self.lock:
-                perform(OPENED_NEW, self.handle, session.header, session.now, opened)
-            if session.revoked is None:
-                session.revoked = await self.revoked_of(bytes_from(OPENED_IDS, opened), ask)
-            perform(OPENED_TAKE, opened, session.revoked, session.handle)
-        finally:
-            OPENED_FREE(opened)
+        opened = OwnHandle(OPENED_FREE)
+        with self.lock:
+            perform(OPENED_NEW, self.handle, session.header, session.now, opened)
+        if session.revoked is None:
+            session.revoked = await self.revoked_of(bytes_from(OPENED_IDS, opened), ask)
+        perform(OPENED_TAKE, opened, session.revoked, session.handle)
 
     async def revoked_of(self, ids: bytes, ask: Ask) -> bytes:
         """Those of the ids that are revoked, or only those before the first that isn't."""
@@ -349,6 +345,7 @@ class Sessions(Uncopied):
         """Opens the session of a copy for its handle, as it was opened or saved."""
         if not session.handle.is_open and session.header:
             await self.fill(session, ask)
+            session.known = None
             # What was renewed since has another id.
             session.is_started = bytes(SESSION_DESCRIBE(session.handle).id) == session.id
 
@@ -404,13 +401,16 @@ class Sessions(Uncopied):
                     perform(SESSION_RENEW, self.handle, session.handle, session.id, session.now)
                 else:
                     perform(SESSION_START, self.handle, session.id, session.now, session.handle)
+                    session.known = {}
             session.describe()
-        try:
-            form = urlencode(shorten(session.texts, self.compress))
-        except UnicodeEncodeError:
-            # A lone surrogate.
-            raise error_of(NotUtf8.status) from None
-        perform(SESSION_SET_TEXTS, session.handle, form)
+        if session.texts != session.known:
+            try:
+                form = form_of(session.texts, self.compress)
+            except UnicodeEncodeError:
+                # A lone surrogate.
+                raise error_of(NotUtf8.status) from None
+            perform(SESSION_SET_TEXTS, session.handle, form)
+            session.known = dict(session.texts)
 
     def text_of(self, session: Session) -> str:
         """The text of the session's cookie, under a nonce of its own."""
@@ -426,6 +426,32 @@ class Sessions(Uncopied):
         # Without room nothing is given.
         if answer.status not in (BufferTooShort.status, Replaces.status):
             raise error_of(answer.status, answer.length)
+
+    def must_save(self, session: Session) -> bool:
+        """Whether the session must be saved: it was changed or renewed, it is new, an older key opened it, or a tenth of its
+        idle time has passed since it was last saved. A new session without texts needn't be saved, nor one that
+        `shows_revoked`.
+
+        >>> from deomigal import derive_key
+        >>> sessions = Sessions([derive_key(b"a master key of at least 32 bytes")], "session", 12 * 3600, 1800)
+        >>> session = sessions.start(now=1445412480)
+        >>> sessions.must_save(session)
+        False
+        >>> session["user"] = "ann"
+        >>> sessions.must_save(session)
+        True
+        >>> cookie = sessions.save(session)
+        >>> [sessions.must_save(sessions.open(cookie, now=now)) for now in (1445412659, 1445412660)]
+        [False, True]
+        """
+        if session.shows_revoked or not (session.texts or session.header or session.handle.is_open):
+            return False
+        run(self.prepare(session, self.ask))
+        with self.lock:
+            need = SESSION_MUST_SAVE(self.handle, session.handle, session.now)
+        if need.status != DONE:
+            raise error_of(need.status)
+        return bool(need.must_save)
 
     def end(self, now: float | None = None) -> str:
         """The value of the `Set-Cookie` header that has the browser drop the cookie. A copy stays open until its

@@ -7,7 +7,6 @@ import logging
 import time
 from typing import TYPE_CHECKING, Any, Callable, Dict, Iterable, Iterator, Mapping, MutableMapping, Union
 
-from ._steps import run
 from .compression import MARKS
 from .dates import print_date
 from .errors import Gone, RevocationsError
@@ -88,6 +87,13 @@ def json_of(values: Any) -> bytes:
         return ASCII_CODER.encode(values).encode()
 
 
+def checked_refresh(refresh: bool) -> bool:
+    """Whether each request that used a session saves it.."""
+    if not isinstance(refresh, bool):
+        raise TypeError("refresh is a bool: whether each request that used the session saves it")
+    return refresh
+
+
 def with_expiry(text: str, session: Session, is_lasting: bool = True) -> str:
     """The text of the saved session's cookie with `Expires` beside its `Max-Age`, for browsers that know only one. With
     neither if the browser isn't to keep it when it closes."""
@@ -119,6 +125,28 @@ class Generations:
         return kept is not None and kept >= least
 
 
+class Opened(Generations):
+    """What sessions of values share that were opened from a session: what is known of that."""
+
+    source: Session
+
+    @property
+    def started(self) -> int:
+        """When it started, in seconds since 1970."""
+        return self.source.started
+
+    @property
+    def id(self) -> bytes:
+        """Its id, of sixteen bytes: each copy of its cookie has it, whenever it was saved, until it is renewed."""
+        return self.source.id
+
+    @property
+    def shows_revoked(self) -> bool:
+        """Whether the request has only sessions that are revoked, and this one, which is new, wasn't renewed since. It may be
+        an old tab's, whose browser has another session by now, so it isn't saved."""
+        return self.source.shows_revoked
+
+
 if TYPE_CHECKING:
     Mapped = Dict[str, Any]
 else:
@@ -127,7 +155,7 @@ else:
         """A dict whose calls go through the five of a `MutableMapping`."""
 
 
-class CookieSession(Generations, Mapped):
+class CookieSession(Opened, Mapped):
     """The session of a request: a dict of what JSON has. A change within a value is saved too. A copy is a plain dict.
 
     `accessed` is whether the request used it. `source` is the session that it was opened from, and `opened` the JSON that
@@ -177,31 +205,15 @@ class CookieSession(Generations, Mapped):
 
     def __reduce_ex__(self, _: Any) -> tuple[Any, ...]:
         self.accessed = True
-        return dict, (dict(dict.items(self)),)
+        return dict, (dict.copy(self),)
 
     def __repr__(self) -> str:
         return f"<CookieSession {list(dict.keys(self))!r}>"
 
     @property
-    def started(self) -> int:
-        """When the session started, in seconds since 1970."""
-        return self.source.started
-
-    @property
     def is_new(self) -> bool:
         """Whether the request has no open session."""
         return self.source.is_new
-
-    @property
-    def id(self) -> bytes:
-        """Its id, of sixteen bytes: each copy of its cookie has it, whenever it was saved, until it is renewed."""
-        return self.source.id
-
-    @property
-    def shows_revoked(self) -> bool:
-        """Whether the request has only sessions that are revoked, and this one, which is new, wasn't renewed since. It may be
-        an old tab's, whose browser has another session by now, so it isn't saved."""
-        return self.source.shows_revoked
 
     def renew(self) -> None:
         """Starts it anew with the same values and another id, so that the lifetime counts from this request. Call it at
@@ -221,13 +233,13 @@ class CookieSession(Generations, Mapped):
         of the cookie opens any more, whenever it was saved. Returns whether the browser had something. What is put in later
         is a new session. Raises `Gone` if another request has renewed or ended it, `RevocationsError` if it can't be kept,
         and `RuntimeError` if the middleware has no `revocations`."""
-        return self.ended(self.sessions.revoke(self.source))
+        return self.drop_values(self.sessions.revoke(self.source))
 
     async def arevoke(self) -> bool:
         """Does what `revoke` does, in a coroutine: others go on meanwhile."""
-        return self.ended(await self.sessions.arevoke(self.source))
+        return self.drop_values(await self.sessions.arevoke(self.source))
 
-    def ended(self, is_ended: bool) -> bool:
+    def drop_values(self, is_ended: bool) -> bool:
         """Drops the values after a logout. Returns whether the browser had a session."""
         super().clear()
         self.is_ended = self.is_ended or is_ended
@@ -243,12 +255,7 @@ class CookieSession(Generations, Mapped):
 
     def json(self) -> bytes:
         """Its values in JSON."""
-        return json_of(dict(dict.items(self)))
-
-    async def saving(self, data: bytes, ask: Ask) -> str:
-        """The text of the `Set-Cookie` header that saves these values."""
-        self.source.texts = pack(data)
-        return await self.sessions.saving(self.source, ask)
+        return json_of(dict.copy(self))
 
     def replace(self, values: Mapping[str, Any] | None) -> None:
         """Has these values, if an application put another dict in its place."""
@@ -271,8 +278,8 @@ class Middleware:
 
     `secret_key` has at least 32 bytes, and so has each key of `fallbacks`, which only open. A session is over `max_age`
     seconds after its start, and `idle` seconds after it was last saved, if `idle` is given. If `max_age` is None, the
-    browser drops the cookie when it closes, and the session is over after 14 days. `refresh` is how many seconds after
-    it was saved a session that was only read is saved again, by default a tenth of `idle`. Settings that no session
+    browser drops the cookie when it closes, and the session is over after 14 days. A session that was only read is saved
+    again once a tenth of its idle time has passed, and with `refresh` at each request that read it. Settings that no session
     could be saved with are refused at once. `revocations` keeps which sessions are revoked, by their `revoke` and by the
     first save after their `renew`. If it fails, the request is answered with status 503, and with 409 if another request
     has renewed or ended the session. The logger `deomigal` has the cause. `too_large` is another application, which answers
@@ -296,7 +303,7 @@ class Middleware:
         fallbacks: Iterable[str | bytes] = (),
         salt: str | bytes = "deomigal.middleware",
         idle: int | None = None,
-        refresh: float | None = None,
+        refresh: bool = False,
         clock: Callable[[], float] = time.time,
         revocations: AnyRevocations | None = None,
         too_large: Callable[..., Any] | None = None,
@@ -305,13 +312,11 @@ class Middleware:
         # Starlette's `Secret` shows its text only by `str`.
         newest: str | bytes = secret_key if isinstance(secret_key, bytes) else str(secret_key)
         lifetime = FORTNIGHT if max_age is None else max_age
-        self.idle = lifetime if idle is None else idle
         self.app, self.clock, self.is_lasting, self.too_large = app, clock, max_age is not None, too_large
-        # Only with an idle time does a session need to be saved that was only read.
-        self.refresh = idle / 10 if refresh is None and idle is not None else refresh
+        self.refresh = checked_refresh(refresh)
         self.sessions = Sessions(
-            keys_of([newest, *fallbacks], salt), session_cookie, lifetime, self.idle, path=path, domain=domain,
-            secure=https_only, http_only=http_only, same_site=same_site.title(), partitioned=partitioned,
+            keys_of([newest, *fallbacks], salt), session_cookie, lifetime, lifetime if idle is None else idle, path=path,
+            domain=domain, secure=https_only, http_only=http_only, same_site=same_site.title(), partitioned=partitioned,
             revocations=revocations, compress=compress,
         )
 
@@ -319,7 +324,7 @@ class Middleware:
         """The session of values in the session that was opened, or a new one."""
         if not source.is_new:
             try:
-                data = unpack(source)
+                data = unpack(source.texts)
                 values = json.loads(data)
                 if isinstance(values, dict):
                     return CookieSession(self.sessions, source, values, data)
@@ -329,19 +334,12 @@ class Middleware:
             source = self.sessions.start(source.now)
         return CookieSession(self.sessions, source, {}, EMPTY)
 
-    def fields(self, session: CookieSession, values: Mapping[str, Any] | None) -> list[tuple[str, str]]:
-        """The fields that the response needs: the cookie of a session that is to be saved or dropped, and that the page
-        depends on cookies, if it does. `values` is what the application left in the session's place."""
-        return run(self.fields_by(session, values, self.sessions.ask))
-
-    async def afields(self, session: CookieSession, values: Mapping[str, Any] | None) -> list[tuple[str, str]]:
-        """The same in a coroutine: others go on meanwhile."""
-        return await self.fields_by(session, values, self.sessions.ask_async)
-
-    async def fields_by(
+    async def fields(
         self, session: CookieSession, values: Mapping[str, Any] | None, ask: Ask
     ) -> list[tuple[str, str]]:
-        """The fields, by what the revocations answer."""
+        """The fields that the response needs: the cookie of a session that is to be saved or dropped, and that the page
+        depends on cookies, if it does. `values` is what the application left in the session's place, and `ask` makes the
+        calls of the revocations."""
         session.replace(values)
         text = await self.cookie_of(session, ask)
         fields = [] if text is None else [("Set-Cookie", text)]
@@ -349,19 +347,18 @@ class Middleware:
 
     async def cookie_of(self, session: CookieSession, ask: Ask) -> str | None:
         """The text of the `Set-Cookie` header that saves the session or has it dropped, or None."""
+        if not session.accessed:
+            return None
         source, data = session.source, session.json()
-        is_changed = data != session.opened or source.is_renewed
+        is_changed = data != session.opened
         if data == EMPTY:
-            is_dropped = session.is_ended or is_changed and not source.is_new
+            is_dropped = session.is_ended or (is_changed or source.is_renewed) and not source.is_new
             return self.sessions.end(source.now) if is_dropped else None
         if source.shows_revoked:
             note_unsaved()
             return None
-        if not (is_changed or self.is_due(session)):
+        if is_changed:
+            source.texts = pack(data)
+        if not (self.refresh or self.sessions.must_save(source)):
             return None
-        return with_expiry(await session.saving(data, ask), source, self.is_lasting)
-
-    def is_due(self, session: CookieSession) -> bool:
-        """Whether to save a session that was only read: an older key opened it, or its idle time is to count from now."""
-        is_old = self.refresh is not None and session.source.is_due(self.idle, self.refresh)
-        return session.accessed and (is_old or bool(session.source.place))
+        return with_expiry(await self.sessions.saving(source, ask), source, self.is_lasting)

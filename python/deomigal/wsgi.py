@@ -11,6 +11,7 @@ from __future__ import annotations
 import sys
 from typing import Any, Callable, Iterable, Iterator, Mapping
 
+from ._steps import run
 from .errors import TooLarge
 from .values import FAILURES, CookieSession, Middleware, answer_to, session_at
 
@@ -38,7 +39,7 @@ class SessionMiddleware(Middleware):
         def start_with_cookie(status: str, headers: list[tuple[str, str]], *error: Any) -> Any:
             nonlocal is_begun
             try:
-                fields = self.fields(session, environ.get(KEY))
+                fields = run(self.fields(session, environ.get(KEY), self.sessions.ask))
             except TooLarge:
                 if not any(error):
                     raise
@@ -53,9 +54,9 @@ class SessionMiddleware(Middleware):
             return self.answer(error, environ, start_response)
         # What is sent as it is can't fail any more.
         is_whole = hasattr(pages, "__len__") or type(pages) is environ.get("wsgi.file_wrapper")
-        return pages if is_begun and is_whole else self.watched(pages, environ, start_response)
+        return pages if is_begun and is_whole else self.answered_pages(pages, environ, start_response)
 
-    def watched(self, pages: Iterable[bytes], environ: dict[str, Any], start_response: Start) -> Iterator[bytes]:
+    def answered_pages(self, pages: Iterable[bytes], environ: dict[str, Any], start_response: Start) -> Iterator[bytes]:
         """The pages of an application that may fail when one of them is taken, such as a generator."""
         try:
             yield from pages

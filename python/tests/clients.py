@@ -43,7 +43,7 @@ class Httpx:
         self.client = httpx.Client(follow_redirects=True, **made)
 
     def ask(self, url, method="GET", context=SAME_SITE):
-        self.part.cookies.context = context
+        self.part.context = context
         return self.client.request(method, url).status_code
 
     def close(self):
@@ -79,7 +79,7 @@ class AsyncHttpx(Looped):
         self.client = httpx.AsyncClient(follow_redirects=True, **made)
 
     async def asked(self, url, method="GET", context=SAME_SITE):
-        self.part.cookies.context = context
+        self.part.context = context
         return (await self.client.request(method, url)).status_code
 
     async def closed(self):

@@ -4,6 +4,7 @@ import socket
 import sys
 import tempfile
 import threading
+import time
 import unittest
 from pathlib import Path
 from unittest import mock
@@ -336,6 +337,16 @@ class Files(unittest.TestCase):
             assert agent.load(self.path, "netscape") == list(range(2, 13))
             assert agent.header("https://www.shop.example/") == b"good=1"
             assert agent.header("https://www.bank.co.uk/") == b""
+
+    def test_many_bad_lines(self):
+        """All bad lines are told, however many there are, without another look at each."""
+        row = "www.shop{0}.example\tFALSE\t/\tTRUE\t8589934592\tid\t1\n"
+        self.path.write_text("".join(row.format(number) if number % 2 else "bad\n" for number in range(4000)))
+        begun = time.process_time()
+        with Agent() as agent:
+            assert agent.load(self.path, "netscape") == list(range(1, 4001, 2))
+            assert len(agent) == 2000
+        assert time.process_time() - begun < 2
 
     def test_limits(self):
         """A file is loaded up to the limits, and one that is too long not at all."""

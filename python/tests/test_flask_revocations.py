@@ -226,6 +226,16 @@ class Logins(unittest.TestCase):
             assert (response.status_code, "session" in found) == (503, False), path
             assert self.client.get("/").get_json() == {"user": True, "theme": "dark"}, path
 
+    def test_look_up_that_fails(self):
+        """If the look-up fails, the status is 503, though Flask-Login uses the session after the view. The browser keeps what it
+        has."""
+        self.log_in(self.client)
+        failing = Failing(OSError())
+        with unittest.mock.patch.multiple(self.store, is_revoked=failing.is_revoked, are_revoked=failing.is_revoked):
+            response = self.client.get("/")
+        assert (response.status_code, response.headers.getlist("Set-Cookie")) == (503, [])
+        assert self.client.get("/").get_json() == {"user": True, "theme": "dark"}
+
     def test_without_a_store(self):
         """Without revocations `logout_user` does what it does with Flask's own sessions."""
         client = self.application().test_client()

@@ -11,7 +11,7 @@ from deomigal.flask import SessionInterface
 from flask import Flask, session
 
 
-def application(idle=None, refresh=None, **settings):
+def application(idle=None, refresh=False, **settings):
     """An application whose session is changed by /set and read by /, with a clock that stands at `app.now`."""
     app = Flask(__name__)
     app.testing, app.now = True, NOON
@@ -100,7 +100,7 @@ def test_refresh():
     for idle, page, refresh, is_saved in (
         (None, "/set", True, False), (None, "/keep", True, True), (60, "/set", True, True), (60, "/keep", False, False),
     ):
-        app = application(idle, 0, SESSION_REFRESH_EACH_REQUEST=refresh)
+        app = application(idle, True, SESSION_REFRESH_EACH_REQUEST=refresh)
         assert bool(ask(app, "/", set_by(app, page))[1]) == is_saved, (idle, page, refresh)
 
 

@@ -308,15 +308,16 @@ class Shared:
             (10, "/missing", False),
         ):
             assert (self.ask(path, cookie, NOON + now, **settings)[2] is not None) == is_saved, (now, path)
-        assert self.ask("/read", cookie, NOON + 10, refresh=11, **settings)[2] is None
+        assert self.ask("/read", cookie, NOON + 1, refresh=True, **settings)[2]
+        assert self.ask("/plain", cookie, NOON + 1, refresh=True, **settings)[2] is None
         saved = pair_of(self.ask("/read", cookie, NOON + 99, **settings)[2])
         self.reads(cookie, {}, now=NOON + 100, **settings)
         self.reads(saved, {"user": "ann"}, now=NOON + 198, **settings)
         # The lesser idle time counts: the session's own, or that of the site.
-        for idle, refresh, due in ((1000, None, 10), (1000, 300, 30), (50, None, 5)):
+        for idle, due in ((1000, 10), (50, 5)):
             for now in (due - 1, due):
-                text = self.ask("/read", cookie, NOON + now, idle=idle, refresh=refresh)[2]
-                assert (text is not None) == (now == due), (idle, refresh, now)
+                text = self.ask("/read", cookie, NOON + now, idle=idle)[2]
+                assert (text is not None) == (now == due), (idle, now)
 
     def test_keys(self):
         """An older key opens a session, which is then saved under the newest."""
@@ -359,6 +360,7 @@ class Shared:
             (InvalidValue, {"path": "/\r\nSet-Cookie: admin=1"}),
             (InvalidValue, {"domain": "b.example; Path=/"}),
             (ValueError, {"same_site": "other"}),
+            (TypeError, {"refresh": 60}),
         ):
             with pytest.raises(refusal):
                 app = self.make(**settings)

@@ -7,6 +7,7 @@ import os
 import re
 import subprocess
 import sys
+from functools import partial
 
 import pytest
 from deomigal import _agent, agents, errors, explain
@@ -171,7 +172,7 @@ def agent_step(agent, step):
         if word == b"read":
             refusal = agent.read_at(address, *text, now)
             return "DONE", explain.STEPS.index(refusal.step) + 1 if refusal else 0, b""
-        find = agent.header_at if word == b"retrieve" else agent.core.header
+        find = agent.header_at if word == b"retrieve" else partial(agent.core.header, call=_agent.AGENT_HEADER)
         header = find(address, is_safe == 1, now)
         return "DONE", len(header), header
     return "DONE", 0, b""

@@ -1,5 +1,6 @@
 """Uses of the package, whose results are the round trip or Python's own."""
 import concurrent.futures
+import copy
 import datetime
 import http.cookies
 import subprocess
@@ -73,6 +74,9 @@ def test_jars():
         assert jar.get("a") == "1" and jar.get("n") == "x y" and jar.get("b") is None
         assert jar["name"] == http.cookies.SimpleCookie("name=val; n=x%20y")["name"].value
         assert "a" in jar and "b" not in jar and lacks(jar, "b")
+        jar.add("o%3Dd=%25%3D+%26%0A%C3%A9%00")
+        assert sorted(jar.items()) == [("a", "1"), ("n", "x y"), ("name", "val"), ("o=d", "%=+&\n\u00e9\0")]
+        jar.remove("o=d", MOMENT)
         jar.remove("name", MOMENT)
         jar.remove("n", MOMENT, path="/p", domain=".b.c")
         assert jar.get("name") is None and jar.get("n") is None
@@ -119,6 +123,42 @@ def test_sessions():
     with pytest.raises(TypeError):
         session["count"] = 1
     assert deomigal.read_cookie(sessions.end(now))[2]["max_age"] == 0
+
+
+def test_must_save():
+    """A session must be saved if it was changed or renewed, is new with texts, opened by an older key, or a tenth of its idle
+    time has passed. One that shows a revoked session needn't be, unless it is renewed."""
+    other, store = bytes(reversed(KEY)), deomigal.revocations.MemoryRevocations()
+    sessions = deomigal.Sessions([KEY], "s", 3600, 60, revocations=store)
+    session = sessions.start(NOW)
+    assert not sessions.must_save(session)
+    session["user"] = "ann"
+    assert sessions.must_save(session)
+    cookie = sessions.save(session)
+    for now, change, must_save in (
+        (NOW, lambda session: None, False),
+        (NOW + 5, lambda session: None, False),
+        (NOW + 6, lambda session: None, True),
+        (NOW, lambda session: session.update(user="bo"), True),
+        (NOW, lambda session: session.update(user="ann"), False),
+        (NOW, lambda session: session.clear(), True),
+        (NOW, lambda session: session.renew(), True),
+    ):
+        for copied in (False, True):
+            session = sessions.open(cookie, now)
+            session = copy.copy(session) if copied else session
+            change(session)
+            # A copy sets its texts again, so that it counts as changed.
+            assert sessions.must_save(session) == (must_save or copied), now
+    rotated = deomigal.Sessions([other, KEY], "s", 3600, 60)
+    assert rotated.must_save(rotated.open(cookie, NOW))
+    session = sessions.open(cookie, NOW)
+    assert sessions.revoke(session) and not sessions.must_save(session)
+    session = sessions.open(cookie, NOW)
+    session["user"] = "bo"
+    assert session.shows_revoked and not sessions.must_save(session)
+    session.renew()
+    assert sessions.must_save(session)
 
 
 def test_planted():
