@@ -250,21 +250,23 @@ def perform(function: Callable[..., Any], *inputs: Any) -> None:
         raise error_of(status)
 
 
-def answer_and_bytes(function: Callable[..., Any], *inputs: Any, room: int = 256) -> tuple[Any, bytes]:
+def answer_and_bytes(
+    function: Callable[..., Any], *inputs: Any, room: int = 256, buffer: ctypes.Array[ctypes.c_char] | None = None
+) -> tuple[Any, bytes]:
     """What a call returns, and its bytes, or the buffer if it decodes. If the first is too short, it is called again with
-    one that fits."""
+    one that fits. `buffer` is one that only this call uses now."""
     arguments = arguments_of(function, inputs)
     while True:
-        buffer = ctypes.create_string_buffer(room)
-        answer = function(*arguments, buffer, room)
+        buffer = ctypes.create_string_buffer(room) if buffer is None else buffer
+        answer = function(*arguments, buffer, len(buffer))
         if answer.status != BufferTooShort.status:
             return answer, ctypes.string_at(buffer, getattr(answer, "length", room))
-        room = answer.length if hasattr(answer, "length") else answer.value.start + answer.value.length
+        buffer, room = None, answer.length if hasattr(answer, "length") else answer.value.start + answer.value.length
 
 
-def bytes_from(function: Callable[..., Any], *inputs: Any, room: int = 256) -> bytes:
+def bytes_from(function: Callable[..., Any], *inputs: Any, **rooms: Any) -> bytes:
     """The bytes that a call returns."""
-    answer, text = answer_and_bytes(function, *inputs, room=room)
+    answer, text = answer_and_bytes(function, *inputs, **rooms)
     if answer.status != DONE:
         raise error_of(answer.status, answer.length)
     return text

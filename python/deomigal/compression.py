@@ -9,8 +9,9 @@ from typing import Mapping
 
 from ._library import unescaped
 
-# The characters of a text that the library escapes in a session's cookie, as three bytes each.
+# The characters of a text that the library escapes in a session's cookie, as three bytes each, and how.
 MARKS = "%&+="
+ESCAPES = [(mark, f"%{ord(mark):02X}") for mark in MARKS]
 # The name of the one text that a compressed session has. An application hardly has it, and may.
 COMPRESSED = "\0"
 # How many bytes the form of a session's texts may have. A longer one isn't compressed, nor expanded.
@@ -60,8 +61,8 @@ def form_texts(form: bytes) -> dict[str, str]:
 
 def escape(text: str) -> str:
     """The text with escapes of the marks."""
-    for mark in MARKS:
-        text = text.replace(mark, f"%{ord(mark):02X}")
+    for mark, code in ESCAPES:
+        text = text.replace(mark, code)
     return text
 
 

@@ -2,6 +2,7 @@
 store the cookie."""
 from __future__ import annotations
 
+import ctypes
 import os
 from typing import Any, Callable, Iterator, MutableMapping, Sequence
 
@@ -19,8 +20,8 @@ from .dates import whole_second
 from .errors import BufferTooShort, Gone, NoSession, NotUtf8, Replaces, RevocationsError, error_of
 from .revocations import ID_LENGTH, AnyRevocations, Ask, ask, ask_async, was_revoked
 
-# Room for a cookie that a browser stores, and for the form of its texts, where most bytes may be escaped as three.
-ROOM, FORM_ROOM = 5000, 10000
+# Room for a cookie that a browser stores, and for the form of its texts, of which each byte may be escaped as three.
+ROOM = 10000
 
 
 class Session(MutableMapping[str, str]):
@@ -201,8 +202,8 @@ class Sessions(Uncopied):
         # As the cookie has it.
         self.name = cookie.partition(b"=")[0].decode()
         self.handle = OwnHandle(SESSIONS_FREE)
-        # Only one call at a time may use the handle.
-        self.lock = Lock()
+        # Only one call at a time may use the handle and the buffer.
+        self.lock, self.buffer = Lock(), ctypes.create_string_buffer(ROOM)
         perform(SESSIONS_NEW, Settings(ring, len(ring), cookie, len(cookie), lifetime, idle), self.handle)
         self.save(self.start())
 
@@ -246,7 +247,8 @@ class Sessions(Uncopied):
             return started
         session.describe()
         session.is_renewed = False
-        form = bytes_from(SESSION_TEXTS, session.handle, room=FORM_ROOM)
+        with self.lock:
+            form = bytes_from(SESSION_TEXTS, session.handle, buffer=self.buffer)
         try:
             session.texts = texts_of(form)
         except ValueError:
@@ -416,7 +418,7 @@ class Sessions(Uncopied):
         """The text of the session's cookie, under a nonce of its own."""
         with self.lock:
             nonce = os.urandom(12)
-            return bytes_from(SESSION_SAVE, self.handle, session.handle, nonce, session.now, room=ROOM).decode()
+            return bytes_from(SESSION_SAVE, self.handle, session.handle, nonce, session.now, buffer=self.buffer).decode()
 
     def check(self, session: Session) -> None:
         """Raises what `save` raises for the session as it is now, but asks no store and revokes nothing."""

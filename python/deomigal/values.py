@@ -4,13 +4,14 @@ from __future__ import annotations
 import base64
 import json
 import logging
+import marshal
 import time
 from typing import TYPE_CHECKING, Any, Callable, Dict, Iterable, Iterator, Mapping, MutableMapping, Union
 
 from .compression import MARKS
-from .dates import print_date
+from .dates import print_second
 from .errors import Gone, RevocationsError
-from .explain import date_after
+from .explain import LAST
 from .secrets import keys_of
 from .sessions import AnyRevocations, Ask, Session, Sessions, generation_of
 
@@ -29,6 +30,8 @@ FORTNIGHT = 14 * 24 * 3600
 # How the values of a session are printed: as they are, or in ASCII, with escapes.
 CODER = json.JSONEncoder(separators=(",", ":"), ensure_ascii=False)
 ASCII_CODER = json.JSONEncoder(separators=(",", ":"))
+# The version of marshal's format that says no more of a value than what it is.
+MARSHAL_VERSION = 2
 
 
 def log_failure(error: Failure) -> None:
@@ -79,6 +82,14 @@ def unpack(texts: Mapping[str, str]) -> bytes:
     raise ValueError("these texts aren't a session of values")
 
 
+def mark_of(value: Any) -> bytes | None:
+    """The same bytes for a value as long as it is the same, or None if it doesn't only have values of Python's own types."""
+    try:
+        return marshal.dumps(value, MARSHAL_VERSION)
+    except ValueError:
+        return None
+
+
 def json_of(values: Any) -> bytes:
     """The values in JSON. A lone surrogate has no UTF-8, and is escaped."""
     try:
@@ -98,7 +109,7 @@ def with_expiry(text: str, session: Session, is_lasting: bool = True) -> str:
     """The text of the saved session's cookie with `Expires` beside its `Max-Age`, for browsers that know only one. With
     neither if the browser isn't to keep it when it closes."""
     head, _, age = text.rpartition("; Max-Age=")
-    return f"{text}; Expires={print_date(date_after(session.now, int(age)))}" if is_lasting else head
+    return f"{text}; Expires={print_second(min(session.now + int(age), LAST))}" if is_lasting else head
 
 
 class Generations:
@@ -165,6 +176,7 @@ class CookieSession(Opened, Mapped):
     def __init__(self, sessions: Sessions, source: Session, values: Mapping[str, Any], opened: bytes) -> None:
         dict.__init__(self, values)
         self.sessions, self.source, self.opened, self.accessed = sessions, source, opened, False
+        self.mark = mark_of(values)
         # Whether the browser has a cookie that it must drop.
         self.is_ended = False
 
@@ -254,8 +266,10 @@ class CookieSession(Opened, Mapped):
             self.sessions.check(self.source)
 
     def json(self) -> bytes:
-        """Its values in JSON."""
-        return json_of(dict.copy(self))
+        """Its values in JSON. If they are as they were opened, it is the JSON of then."""
+        values = dict.copy(self)
+        mark = mark_of(values)
+        return self.opened if mark is not None and mark == self.mark else json_of(values)
 
     def replace(self, values: Mapping[str, Any] | None) -> None:
         """Has these values, if an application put another dict in its place."""
