@@ -10,6 +10,7 @@ from __future__ import annotations
 
 import copy
 import json
+import marshal
 import time
 from typing import Any, Callable, Dict, Mapping, NoReturn, Sequence, cast
 
@@ -28,11 +29,13 @@ from .errors import Gone, RevocationsError
 from .revocations import Revocations
 from .secrets import keys_of
 from .sessions import Session, Sessions
-from .values import CODER, FAILURES, Failure, Opened, checked_refresh, log_failure, mark_of, note_unsaved, with_expiry
+from .values import CODER, FAILURES, Failure, Opened, checked_refresh, log_failure, note_unsaved, with_expiry
 
 # Where a request's environment has the session that was opened for it, since to read `flask.session` counts as its use; and
 # where the application's extensions have the interface.
 KEY = "deomigal.flask.session"
+# The version of marshal's format that says no more of a value than what it is.
+MARSHAL_VERSION = 2
 # What Flask-Login keeps in the session for the end of a request: what to do with the cookie that remembers a user.
 REMEMBER = "_remember"
 
@@ -189,6 +192,14 @@ class FlaskSession(Opened, SecureCookieSession):
 
     def __repr__(self) -> str:
         return f"<FlaskSession {list(self.keys())!r}>"
+
+
+def mark_of(value: Any) -> bytes | None:
+    """The same bytes for a value as long as it is the same, or None if it doesn't only have values of Python's own types."""
+    try:
+        return marshal.dumps(value, MARSHAL_VERSION)
+    except ValueError:
+        return None
 
 
 def name_of(name: Any) -> str:

@@ -4,7 +4,6 @@ from __future__ import annotations
 import base64
 import json
 import logging
-import marshal
 import time
 from typing import TYPE_CHECKING, Any, Callable, Dict, Iterable, Iterator, Mapping, MutableMapping, Union
 
@@ -30,8 +29,6 @@ FORTNIGHT = 14 * 24 * 3600
 # How the values of a session are printed: as they are, or in ASCII, with escapes.
 CODER = json.JSONEncoder(separators=(",", ":"), ensure_ascii=False)
 ASCII_CODER = json.JSONEncoder(separators=(",", ":"))
-# The version of marshal's format that says no more of a value than what it is.
-MARSHAL_VERSION = 2
 
 
 def log_failure(error: Failure) -> None:
@@ -80,14 +77,6 @@ def unpack(texts: Mapping[str, str]) -> bytes:
         encoded = texts[ENCODED]
         return base64.b64decode(encoded + "=" * (-len(encoded) % 4), b"-_", validate=True)
     raise ValueError("these texts aren't a session of values")
-
-
-def mark_of(value: Any) -> bytes | None:
-    """The same bytes for a value as long as it is the same, or None if it doesn't only have values of Python's own types."""
-    try:
-        return marshal.dumps(value, MARSHAL_VERSION)
-    except ValueError:
-        return None
 
 
 def json_of(values: Any) -> bytes:
@@ -176,7 +165,6 @@ class CookieSession(Opened, Mapped):
     def __init__(self, sessions: Sessions, source: Session, values: Mapping[str, Any], opened: bytes) -> None:
         dict.__init__(self, values)
         self.sessions, self.source, self.opened, self.accessed = sessions, source, opened, False
-        self.mark = mark_of(values)
         # Whether the browser has a cookie that it must drop.
         self.is_ended = False
 
@@ -266,10 +254,8 @@ class CookieSession(Opened, Mapped):
             self.sessions.check(self.source)
 
     def json(self) -> bytes:
-        """Its values in JSON. If they are as they were opened, it is the JSON of then."""
-        values = dict.copy(self)
-        mark = mark_of(values)
-        return self.opened if mark is not None and mark == self.mark else json_of(values)
+        """Its values in JSON."""
+        return json_of(dict.copy(self))
 
     def replace(self, values: Mapping[str, Any] | None) -> None:
         """Has these values, if an application put another dict in its place."""

@@ -1,23 +1,18 @@
 """Measures what cookies cost in processor time: reading 1,000 responses and making 1,000 headers, with 50 and with 3,000
-stored cookies, of ten a host; and opening and saving a session. Prints the tables of docs/PERFORMANCE.md."""
+stored cookies, of ten a host. Prints the table of docs/PERFORMANCE.md."""
 import email.message
 import gc
 import http.cookiejar
 import time
 import urllib.request
 
-import flask
 import requests
-from deomigal import Agent, Sessions, derive_key
+from deomigal import Agent
 from deomigal.cookiejar import CookieJar
-from deomigal.flask import SessionInterface
-from flask.sessions import SecureCookieSessionInterface
 from requests.cookies import extract_cookies_to_jar
 
 TIMES = 1000
 EACH = 10
-SECRET = "a secret key of at least 32 bytes"
-TEXTS = {"user": "alice@example.com", "roles": "reader,writer", "csrf": "5f1d7a84db6d40a4b7a6c1c9d1e4a8f0"}
 
 
 def url(number):
@@ -129,102 +124,7 @@ def measured(kind, stored):
     return (middle - start) * 1000, (end - middle) * 1000
 
 
-class OfSessions:
-    """deomigal, `Sessions`"""
-
-    def __init__(self):
-        self.sessions = Sessions([derive_key(SECRET.encode())], "session", 43200, 1800)
-
-    def started(self):
-        session = self.sessions.start()
-        session.update(TEXTS)
-        return session
-
-    def save(self, session):
-        return self.sessions.save(session).partition(";")[0]
-
-    def open(self, cookie):
-        return self.sessions.open(cookie)
-
-
-class OfItsDangerous:
-    """itsdangerous, `URLSafeTimedSerializer`, signed only"""
-
-    def __init__(self):
-        app = flask.Flask(__name__)
-        app.secret_key = SECRET
-        # The serializer that Flask makes: its salt, digest and form of JSON.
-        self.serializer = SecureCookieSessionInterface().get_signing_serializer(app)
-
-    def started(self):
-        return TEXTS
-
-    def save(self, session):
-        return self.serializer.dumps(session)
-
-    def open(self, cookie):
-        return self.serializer.loads(cookie, max_age=43200)
-
-
-class OfFlask:
-    """Flask's own, signed only"""
-
-    made = SecureCookieSessionInterface
-
-    def __init__(self):
-        self.app = flask.Flask(__name__)
-        self.app.secret_key = SECRET
-        self.app.session_interface = self.made()
-
-    def started(self):
-        session = self.open("")
-        session.update(TEXTS)
-        return session
-
-    def save(self, session):
-        response = self.app.response_class()
-        session.modified = True
-        self.app.session_interface.save_session(self.app, session, response)
-        return response.headers["Set-Cookie"].partition(";")[0]
-
-    def open(self, cookie):
-        request = self.app.request_class({"REQUEST_METHOD": "GET", "HTTP_COOKIE": cookie})
-        return self.app.session_interface.open_session(self.app, request)
-
-
-class OfOurFlask(OfFlask):
-    """deomigal, `SessionInterface`"""
-
-    made = SessionInterface
-
-
-def measured_session(kind):
-    """The microseconds of processor time of opening a session, and of saving one."""
-    made = kind()
-    cookie = made.save(made.started())
-    gc.collect()
-    start = time.process_time()
-    for _ in range(TIMES):
-        session = made.open(cookie)
-    middle = time.process_time()
-    for turn in range(TIMES):
-        # No two sessions that are saved are the same.
-        session["turn"] = f"{turn:04}"
-        made.save(session)
-    end = time.process_time()
-    assert dict(session) == {**TEXTS, "turn": f"{TIMES - 1:04}"}, session
-    return (middle - start) * 1e6 / TIMES, (end - middle) * 1e6 / TIMES
-
-
 def main():
-    print_clients()
-    print("\n| A session, in microseconds | open | save |")
-    print("|---|---:|---:|")
-    for kind in (OfSessions, OfItsDangerous, OfOurFlask, OfFlask):
-        print(f"| {kind.__doc__} | " + " | ".join(f"{value:,.0f}" for value in measured_session(kind)) + " |", flush=True)
-
-
-def print_clients():
     print("| 1,000 times, in milliseconds | read, 50 stored | header, 50 stored | read, 3,000 stored | header, 3,000 stored |")
     print("|---|---:|---:|---:|---:|")
     for kind in (OfAgent, OfOurJar, OfJar, OfOurRequests, OfRequests):
