@@ -454,6 +454,7 @@ static void lists_and_times(void) {
 static void tokens(void) {
     cookie_token_settings settings = {KEY, 64, T("password reset"), 1200};
     uint8_t text[128];
+    holds("");
     cookie_answer made = cookie_token_make(&settings, T("ann"), KEY, 12, NOW, text, sizeof text);
     MUST(made.status == COOKIE_DONE && made.length > 16);
     for (size_t room = 2; room < 4; room++) {
