@@ -11,8 +11,9 @@ from .compression import MARKS
 from .dates import print_second
 from .errors import Gone, RevocationsError
 from .explain import LAST
+from .revocations import AnyRevocations, Ask
 from .secrets import keys_of
-from .sessions import AnyRevocations, Ask, Session, Sessions, generation_of
+from .sessions import Session, Sessions, generation_of
 
 # The names of the one text that a session of values has: as it is, or in base64url.
 PLAIN, ENCODED = "j", "b"
