@@ -220,7 +220,9 @@ def ring_of(keys: Sequence[bytes]) -> bytes:
     """A site's keys, one after the other. The first 64 bytes of a key count."""
     if isinstance(keys, (str, bytes)):
         raise TypeError("the keys are a list")
-    if not keys or any(len(key_of(key)) < 64 for key in keys):
+    if not keys:
+        raise KeyTooShort("there is no key")
+    if any(len(key_of(key)) < 64 for key in keys):
         raise error_of(KeyTooShort.status)
     return b"".join(bytes(key[:64]) for key in keys)
 

@@ -314,3 +314,10 @@ def test_refusals(call, refusal):
     with pytest.raises(deomigal.CookieError) as found:
         call()
     assert type(found.value) is refusal
+
+
+def test_no_key():
+    """A list without keys is refused by what it lacks."""
+    for make in (lambda: deomigal.Sessions([], "a", 60, 60), lambda: deomigal.Tokens([], "a", 60)):
+        with pytest.raises(errors.KeyTooShort, match="there is no key"):
+            make()
