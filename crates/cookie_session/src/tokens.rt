@@ -110,6 +110,9 @@ impl<'a> Tokens<'a> {
     /// keeps until its end that it was read, under its id, which no session has. Of two calls at the same moment one
     /// returns the token.
     ///
+    /// With a store that can't revoke, as `NeverRevoked`, each call returns it. If the clock goes back after the store has
+    /// forgotten it, it can be read once more.
+    ///
     /// Fails with `Revocations` if the store failed. It may then be kept as read. Else fails only if out of memory, and
     /// then it isn't.
     pub fn read_once<R: Revocations>(
