@@ -1,15 +1,17 @@
 -- What came of a save and of a logout.
-use Rattle.std.proofs.Common.{◌≡◌, ◌⊎◌, ◌↔◌, ◌<◌, inl, inr, ℕ, IsTrue, Bool, true, false, List, Option, Some, Result, Ok, Err, IfErr, IfOk, OnErr, OnOk, refl, sym, ap, subst, ◌∙◌, arith}
+use Rattle.std.proofs.Common.{◌≡◌, ◌⊎◌, ◌↔◌, ◌<◌, ◌≤◌, ◌+◌, ◌/◌, inl, inr, ⊎_elim, ℕ, suc, zero, min, Bool, true, false, List, Option, None, Some, Result, Ok, Err, IfErr, IfOk, OnErr, OnOk, refl, sym, ap, subst, ◌∙◌, arith}
 use Rattle.jiff.specs.Types.{DateTime}
-use Rattle.std.specs.FinMap.{FinMap}
+use Rattle.std.specs.FinMap.{FinMap, empty, empty_of_len, len, len-empty}
+use Rattle.std.proofs.lemmas.Bool.{cases_lt}
 use Rattle.cookie.specs.Jar.{name_cmp}
 use Rattle.cookie_session.specs.Id.{IsId}
 use Rattle.cookie_session.specs.Endings.{IsGone, MayBeSpent}
 use Rattle.cookie_session.specs.Revocations.{AreSame}
+use Rattle.cookie_session.specs.Seconds.{second_of}
 use Rattle.cookie_session.specs.Session.{pass_of}
 use Rattle.cookie_session.specs.Sessions.{CanSave, CanSealSession, bare_cookie, meets_prefix, started_at}
 use Rattle.cookie_session.specs.Size.{most_bytes}
-use Rattle.cookie_session.specs.Visit.{MustSave, Replaces, VisitState, renewed_visit, saved_visit}
+use Rattle.cookie_session.specs.Visit.{IsDue, MustSave, Replaces, VisitState, renewed_visit, saved_visit}
 use Rattle.cookie_session.specs.declared.pass.Pass.{Pass}
 use Rattle.cookie_session.specs.declared.session_error.SessionError.{SessionError}
 use Rattle.cookie_session.specs.declared.session_error.SessionError.TheVariants as refusal
@@ -23,17 +25,65 @@ use Rattle.cookie_theorems.specs.declared.handling.Handling.{Handling}
 use Rattle.cookie_theorems.specs.declared.site_request.SiteRequest.{SiteRequest}
 use Rattle.cookie_theorems.proofs.HistoryLemmas.{Set}
 
-false_not_true : ¬ (false ≡ true)
-false_not_true same = grind (arith, same)
+-- ---- whether a session must be saved
 
--- a test decides what it tests
-decided : (test : Bool) (P : Type 0) → (IsTrue test ↔ P) → P ⊎ (¬ P)
-decided true P exact = inl (exact.0 refl)
-decided false P exact = inr (λ holds. false_not_true (exact.1 holds))
+implies_or : (P Q : Type 0) → P ⊎ (¬ P) → Q ⊎ (¬ Q) → (P → Q) ⊎ (¬ (P → Q))
+implies_or P Q first (inl also) = inl (λ holds. also)
+implies_or P Q (inl holds) (inr none) = inr (λ implies. none (implies holds))
+implies_or P Q (inr not) (inr none) = inl (λ holds. absurd (not holds))
 
-is_or_not : (test : Bool) → (test ≡ true) ⊎ (¬ (test ≡ true))
-is_or_not true = inl refl
-is_or_not false = inr false_not_true
+either_or : (P Q : Type 0) → P ⊎ (¬ P) → Q ⊎ (¬ Q) → (P ⊎ Q) ⊎ (¬ (P ⊎ Q))
+either_or P Q (inl holds) second = inl (inl holds)
+either_or P Q (inr not) (inl also) = inl (inr also)
+either_or P Q (inr not) (inr none) = inr (λ either. ⊎_elim not none either)
+
+not_or : (P : Type 0) → P ⊎ (¬ P) → (¬ P) ⊎ (¬ (¬ P))
+not_or P (inl holds) = inr (λ not. not holds)
+not_or P (inr not) = inl not
+
+is_or_not : (test wanted : Bool) → (test ≡ wanted) ⊎ (¬ (test ≡ wanted))
+is_or_not true true = inl refl
+is_or_not false false = inl refl
+is_or_not true false = inr (λ same. grind (arith, same))
+is_or_not false true = inr (λ same. grind (arith, same))
+
+none_or : (X : Type 0) (found : Option X) → (found ≡ None) ⊎ (¬ (found ≡ None))
+none_or X None = inl refl
+none_or X (Some x) = inr (λ same. grind (arith, same))
+
+newest_or : (place : Option ℕ) → (place ≡ Some 0) ⊎ (¬ (place ≡ Some 0))
+newest_or None = inr (λ same. grind (arith, same))
+newest_or (Some zero) = inl refl
+newest_or (Some (suc place)) = inr (λ same. grind (arith, same))
+
+le_or : (a b : ℕ) → (a ≤ b) ⊎ (¬ (a ≤ b))
+le_or a b = ⊎_elim (λ more. inr (λ less. omega (arith, more, less))) inl (cases_lt b a)
+
+empty_or : (texts : FinMap name_cmp (List ℕ)) → (texts ≡ empty) ⊎ (¬ (texts ≡ empty))
+empty_or texts =
+    ⊎_elim (λ none. inl (empty_of_len texts (omega (arith, none))))
+    (λ some. inr (λ is. some (omega (arith, ap len is ∙ len-empty name_cmp (List ℕ))))) (le_or (len texts) 0)
+
+module _ (site : Sessions) (now : DateTime) (visit : VisitState) where
+  abbrev HasSome : Type 0
+  HasSome = visit.place ≡ None → visit.given ≡ None → ¬ (visit.session.texts ≡ empty)
+
+  abbrev IsNeeded : Type 0
+  IsNeeded = (visit.is_changed ≡ true) ⊎ (¬ (visit.place ≡ Some 0)) ⊎ IsDue site now visit.session
+
+  must_by : HasSome ⊎ (¬ HasSome) → (visit.shows_revoked ≡ false) ⊎ (¬ (visit.shows_revoked ≡ false)) → IsNeeded ⊎ (¬ IsNeeded)
+      → MustSave site now visit ⊎ (¬ MustSave site now visit)
+  must_by (inl some) (inl unrevoked) (inl needed) = inl (record { some = some; unrevoked = unrevoked; needed = needed })
+  must_by (inr none) unrevoked needed = inr (λ must. none must.some)
+  must_by (inl some) (inr revoked) needed = inr (λ must. revoked must.unrevoked)
+  must_by (inl some) (inl unrevoked) (inr not) = inr (λ must. not must.needed)
+
+  must_save_or_not : MustSave site now visit ⊎ (¬ MustSave site now visit)
+  must_save_or_not =
+      must_by
+      (implies_or _ _ (none_or ℕ visit.place) (implies_or _ _ (none_or Pass visit.given) (not_or _ (empty_or visit.session.texts))))
+      (is_or_not visit.shows_revoked false)
+      (either_or _ _ (is_or_not visit.is_changed true) (either_or _ _ (not_or _ (newest_or visit.place)) (le_or (visit.session.seen + min visit.session.idle site.idle / 10) (second_of now))))
 
 pub same_sets : (old new : Set) → new ≡ old → AreSame old new
 same_sets old new same = subst (λ (set : Set). AreSame old set) (sym same) (λ id second. ((λ there. there), (λ there. there)))
@@ -43,8 +93,7 @@ one_replaced : (visit : VisitState) (first other : Pass) → Replaces visit firs
 one_replaced visit first other one also = let same : Some first ≡ Some other = sym one.0 ∙ also.0 in grind (arith, same)
 
 -- what is known of a save
-pub record IsSave (E G : Type 0) (site : Sessions) (now : DateTime) (visit after : VisitState) (must : Bool) (result : Result Bool (VisitError E)) : Type 0 where
-  pub exact : IsTrue must ↔ MustSave site now visit
+pub record IsSave (E G : Type 0) (site : Sessions) (now : DateTime) (visit after : VisitState) (result : Result Bool (VisitError E)) : Type 0 where
   pub skipped : (¬ MustSave site now visit) → (result ≡ Ok false) × (after ≡ visit)
   pub saved : MustSave site now visit → IfOk result (λ is_saved. (is_saved ≡ true) × (after ≡ saved_visit visit))
   pub stays : OnErr result (after ≡ visit)
@@ -55,10 +104,10 @@ pub record IsSave (E G : Type 0) (site : Sessions) (now : DateTime) (visit after
   pub too_large : (size : ℕ) → result ≡ Err (failure.Session (refusal.TooLarge size)) → most_bytes < size
   pub failed : result ≡ Err (failure.Session refusal.Generator) → G
 
-module _ (E G : Type 0) (site : Sessions) (now : DateTime) (visit after : VisitState) (must : Bool) (result : Result Bool (VisitError E)) (save : IsSave E G site now visit after must result) where
+module _ (E G : Type 0) (site : Sessions) (now : DateTime) (visit after : VisitState) (result : Result Bool (VisitError E)) (save : IsSave E G site now visit after result) where
   -- a save that was done was needed
   pub was_needed : result ≡ Ok true → MustSave site now visit
-  was_needed was = elim (decided must (MustSave site now visit) save.exact) [
+  was_needed was = elim (must_save_or_not site now visit) [
     | inl needed ↦ needed
     | inr not ↦ absurd (let both : Ok true ≡ Ok false = sym was ∙ (save.skipped not).0 in grind (arith, both))
   ]
@@ -67,11 +116,11 @@ module _ (E G : Type 0) (site : Sessions) (now : DateTime) (visit after : VisitS
   was_kept saved was needed = subst (λ (r : Result Bool (VisitError E)). IfOk r (λ is_saved. (is_saved ≡ true) × (after ≡ saved_visit visit))) was (save.saved needed)
 
   pub was_not : result ≡ Ok false → ¬ MustSave site now visit
-  was_not was needed = false_not_true (was_kept false was needed).0
+  was_not was needed = let same : false ≡ true = (was_kept false was needed).0 in grind (arith, same)
 
   -- and one that failed, too
   fail_needed : (error : VisitError E) → result ≡ Err error → MustSave site now visit
-  fail_needed error was = elim (decided must (MustSave site now visit) save.exact) [
+  fail_needed error was = elim (must_save_or_not site now visit) [
     | inl needed ↦ needed
     | inr not ↦ absurd (let both : Err error ≡ Ok false = sym was ∙ (save.skipped not).0 in grind (arith, both))
   ]
@@ -84,7 +133,7 @@ module _ (E G : Type 0) (site : Sessions) (now : DateTime) (visit after : VisitS
   no_save refusal.Prefix was = (save.prefix (fail_needed (failure.Session refusal.Prefix) was)).1 was
   no_save refusal.Over was =
       let needed = fail_needed (failure.Session refusal.Over) was in
-      elim (is_or_not (meets_prefix site.cookie.now.fields)) [
+      elim (is_or_not (meets_prefix site.cookie.now.fields) true) [
         | inl meets ↦ (save.over needed meets).1 was
         | inr not ↦ absurd (let both : Err (failure.Session refusal.Over) ≡ Err (failure.Session refusal.Prefix) = sym was ∙ (save.prefix needed).0 not in grind (arith, both))
       ]

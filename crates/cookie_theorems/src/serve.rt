@@ -288,7 +288,6 @@ fn replace<G: TryRng, R: Revocations>(
     ensures kept { R.is_intact revocations.new → R.is_intact revocations.old }
 {
     let Handling { visit, jar } = handling;
-    let _must_save = sessions.must_save(visit, now);
     let to = visit.session().pass();
     match sessions.save_if_needed(alloc, jar, visit, now, rng, revocations) {
         Ok(true) => Event::Replaced(from, to),
@@ -314,7 +313,6 @@ fn save_own<G: TryRng, R: Revocations>(
     ensures kept { R.is_intact revocations.new → R.is_intact revocations.old }
 {
     let Handling { visit, jar } = handling;
-    let _must_save = sessions.must_save(visit, now);
     match sessions.save_if_needed(alloc, jar, visit, now, rng, revocations) {
         Ok(_) => Event::Plain,
         Err(error) => unchanged(&error),

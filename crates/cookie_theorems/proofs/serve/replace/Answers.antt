@@ -13,11 +13,9 @@ returns-in-Ok-true-clause-saved g c kept can =
     let now = c.args.now in
     let visit = c.args.handling.now.visit in
     let after = c.save_if_needed.new.visit in
-    let must = c.must_save-must_save.result in
     let result = c.save_if_needed.result in
     let says = c.save_if_needed.ensures in
-    let save : IsSave E G site now visit after must result = record {
-      exact = c.must_save-must_save.ensures;
+    let save : IsSave E G site now visit after result = record {
       skipped = λ not. ((says.skipped not).0, (says.skipped not).2);
       saved = λ needed. IfOk-weaker result _ _ (λ ok all. (all.0, all.5)) (says.saved needed);
       stays = on_err_weaker result (λ both. both.1) says.err;
@@ -28,7 +26,7 @@ returns-in-Ok-true-clause-saved g c kept can =
       failed = says.failed;
     } in
     let was = c.in-Ok-true.is ∙ ap Ok c.in-Ok-true.field-0-test in
-    saved_over E G site now visit after must result save c.args.from c.pass-to.result c.requires (c.pass-to.ensures ∙ ap pass_of c.session.ensures) was
+    saved_over E G site now visit after result save c.args.from c.pass-to.result c.requires (c.pass-to.ensures ∙ ap pass_of c.session.ensures) was
 
 pub returns-in-Ok-true-clause-leaves : goal.returns-in-Ok-true-clause-leaves
 returns-in-Ok-true-clause-leaves g c kept can =
@@ -38,11 +36,9 @@ returns-in-Ok-true-clause-leaves g c kept can =
     let now = c.args.now in
     let visit = c.args.handling.now.visit in
     let after = c.save_if_needed.new.visit in
-    let must = c.must_save-must_save.result in
     let result = c.save_if_needed.result in
     let says = c.save_if_needed.ensures in
-    let save : IsSave E G site now visit after must result = record {
-      exact = c.must_save-must_save.ensures;
+    let save : IsSave E G site now visit after result = record {
       skipped = λ not. ((says.skipped not).0, (says.skipped not).2);
       saved = λ needed. IfOk-weaker result _ _ (λ ok all. (all.0, all.5)) (says.saved needed);
       stays = on_err_weaker result (λ both. both.1) says.err;
@@ -53,7 +49,7 @@ returns-in-Ok-true-clause-leaves g c kept can =
       failed = says.failed;
     } in
     let was = c.in-Ok-true.is ∙ ap Ok c.in-Ok-true.field-0-test in
-    c.in-Ok-true.ensures.spent (was_needed E G site now visit after must result save was) c.args.from c.requires kept can
+    c.in-Ok-true.ensures.spent (was_needed E G site now visit after result save was) c.args.from c.requires kept can
 
 pub returns-in-Ok-false-clause-saved : goal.returns-in-Ok-false-clause-saved
 returns-in-Ok-false-clause-saved g c kept can =
@@ -63,11 +59,9 @@ returns-in-Ok-false-clause-saved g c kept can =
     let now = c.args.now in
     let visit = c.args.handling.now.visit in
     let after = c.save_if_needed.new.visit in
-    let must = c.must_save-must_save.result in
     let result = c.save_if_needed.result in
     let says = c.save_if_needed.ensures in
-    let save : IsSave E G site now visit after must result = record {
-      exact = c.must_save-must_save.ensures;
+    let save : IsSave E G site now visit after result = record {
       skipped = λ not. ((says.skipped not).0, (says.skipped not).2);
       saved = λ needed. IfOk-weaker result _ _ (λ ok all. (all.0, all.5)) (says.saved needed);
       stays = on_err_weaker result (λ both. both.1) says.err;
@@ -77,7 +71,7 @@ returns-in-Ok-false-clause-saved g c kept can =
       too_large = λ size was. (says.too_large size was).0;
       failed = says.failed;
     } in
-    saved_none E G site now visit after must result save (c.in-Ok-false.is ∙ ap Ok c.in-Ok-false.field-0-test)
+    saved_none E G site now visit after result save (c.in-Ok-false.is ∙ ap Ok c.in-Ok-false.field-0-test)
 
 pub returns-in-Ok-false-clause-leaves : goal.returns-in-Ok-false-clause-leaves
 returns-in-Ok-false-clause-leaves g c kept can =
@@ -87,11 +81,9 @@ returns-in-Ok-false-clause-leaves g c kept can =
     let now = c.args.now in
     let visit = c.args.handling.now.visit in
     let after = c.save_if_needed.new.visit in
-    let must = c.must_save-must_save.result in
     let result = c.save_if_needed.result in
     let says = c.save_if_needed.ensures in
-    let save : IsSave E G site now visit after must result = record {
-      exact = c.must_save-must_save.ensures;
+    let save : IsSave E G site now visit after result = record {
       skipped = λ not. ((says.skipped not).0, (says.skipped not).2);
       saved = λ needed. IfOk-weaker result _ _ (λ ok all. (all.0, all.5)) (says.saved needed);
       stays = on_err_weaker result (λ both. both.1) says.err;
@@ -103,7 +95,7 @@ returns-in-Ok-false-clause-leaves g c kept can =
     } in
     let set = g.R.Revocations.revoked_until in
     let was = c.in-Ok-false.is ∙ ap Ok c.in-Ok-false.field-0-test in
-    same_sets (set c.args.revocations.now) (set c.save_if_needed.new.revocations) (ap set (says.skipped (was_not E G site now visit after must result save was)).4)
+    same_sets (set c.args.revocations.now) (set c.save_if_needed.new.revocations) (ap set (says.skipped (was_not E G site now visit after result save was)).4)
 
 pub returns-in-Err-clause-saved : goal.returns-in-Err-clause-saved
 returns-in-Err-clause-saved g c kept can =
@@ -113,11 +105,9 @@ returns-in-Err-clause-saved g c kept can =
     let now = c.args.now in
     let visit = c.args.handling.now.visit in
     let after = c.save_if_needed.new.visit in
-    let must = c.must_save-must_save.result in
     let result = c.save_if_needed.result in
     let says = c.save_if_needed.ensures in
-    let save : IsSave E G site now visit after must result = record {
-      exact = c.must_save-must_save.ensures;
+    let save : IsSave E G site now visit after result = record {
       skipped = λ not. ((says.skipped not).0, (says.skipped not).2);
       saved = λ needed. IfOk-weaker result _ _ (λ ok all. (all.0, all.5)) (says.saved needed);
       stays = on_err_weaker result (λ both. both.1) says.err;
@@ -128,7 +118,7 @@ returns-in-Err-clause-saved g c kept can =
       failed = says.failed;
     } in
     let told = c.failed.ensures in
-    failed_over E G site now visit after must result save c.args.from c.requires c.in-Err.error c.in-Err.is c.failed.result told.refused told.gone told.unsure
+    failed_over E G site now visit after result save c.args.from c.requires c.in-Err.error c.in-Err.is c.failed.result told.refused told.gone told.unsure
 
 pub returns-in-Err-clause-leaves : goal.returns-in-Err-clause-leaves
 returns-in-Err-clause-leaves g c kept can =

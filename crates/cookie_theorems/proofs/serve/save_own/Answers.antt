@@ -12,11 +12,9 @@ returns-in-Ok-clause-saved g c kept can =
     let now = c.args.now in
     let visit = c.args.handling.now.visit in
     let after = c.save_if_needed.new.visit in
-    let must = c.must_save-must_save.result in
     let result = c.save_if_needed.result in
     let says = c.save_if_needed.ensures in
-    let save : IsSave E G site now visit after must result = record {
-      exact = c.must_save-must_save.ensures;
+    let save : IsSave E G site now visit after result = record {
       skipped = λ not. ((says.skipped not).0, (says.skipped not).2);
       saved = λ needed. IfOk-weaker result _ _ (λ ok all. (all.0, all.5)) (says.saved needed);
       stays = on_err_weaker result (λ both. both.1) says.err;
@@ -26,7 +24,7 @@ returns-in-Ok-clause-saved g c kept can =
       too_large = λ size was. (says.too_large size was).0;
       failed = says.failed;
     } in
-    saved_own E G site now visit after must result save c.requires c.in-Ok.field-0 c.in-Ok.is
+    saved_own E G site now visit after result save c.requires c.in-Ok.field-0 c.in-Ok.is
 
 pub returns-in-Ok-clause-leaves : goal.returns-in-Ok-clause-leaves
 returns-in-Ok-clause-leaves g c kept can =
@@ -41,11 +39,9 @@ returns-in-Err-clause-saved g c kept can =
     let now = c.args.now in
     let visit = c.args.handling.now.visit in
     let after = c.save_if_needed.new.visit in
-    let must = c.must_save-must_save.result in
     let result = c.save_if_needed.result in
     let says = c.save_if_needed.ensures in
-    let save : IsSave E G site now visit after must result = record {
-      exact = c.must_save-must_save.ensures;
+    let save : IsSave E G site now visit after result = record {
       skipped = λ not. ((says.skipped not).0, (says.skipped not).2);
       saved = λ needed. IfOk-weaker result _ _ (λ ok all. (all.0, all.5)) (says.saved needed);
       stays = on_err_weaker result (λ both. both.1) says.err;
@@ -55,7 +51,7 @@ returns-in-Err-clause-saved g c kept can =
       too_large = λ size was. (says.too_large size was).0;
       failed = says.failed;
     } in
-    failed_own E G site now visit after must result save c.in-Err.error c.in-Err.is
+    failed_own E G site now visit after result save c.in-Err.error c.in-Err.is
     (λ is. let gone = says.gone kept can is in c.requires gone.0 gone.1)
     (λ why is. let unsure = says.unsure why is in c.requires unsure.0 unsure.1)
     c.unchanged.result c.unchanged.ensures.refused
