@@ -155,6 +155,21 @@ class Agent(Uncopied):
         with self.lock:
             return self.core.header(address, is_safe, second)
 
+    def unsent(
+        self, url: str, now: datetime.datetime | None = None, context: Context = SAME_SITE
+    ) -> list[tuple[AgentCookie, list[str]]]:
+        """The stored cookies that a request to the URL doesn't send, each with why it doesn't: every condition of
+        RFC 6265bis that it fails.
+
+        >>> agent = Agent()
+        >>> agent.read("https://shop.example/cart", "session=abc; Path=/cart; Secure")
+        >>> [(cookie.name, why) for cookie, why in agent.unsent("http://shop.example/cart/1")]
+        [('session', ['the connection is insecure and the cookie Secure'])]
+        """
+        address, second = self.address_of(url, context), self.second(now)
+        with self.lock:
+            return list(self.core.unsent(address, context.is_safe, second))
+
     def __iter__(self) -> Iterator[AgentCookie]:
         """The cookies that are stored and not expired, in the order of their creation.
 

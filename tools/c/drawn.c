@@ -113,6 +113,7 @@ typedef struct drawing {
     X(agent_clear, S(NO_AGENT)) \
     X(agent_count, S(NO_AGENT)) \
     X(agent_cookie, S(BUFFER_TOO_SHORT) | S(NO_AGENT) | S(NO_DATE) | S(NOT_FOUND)) \
+    X(agent_obstacles, S(NO_AGENT) | S(NO_DATE) | S(NOT_UTF8) | S(NOT_FOUND)) \
     X(agent_save, S(BUFFER_TOO_SHORT) | S(NO_AGENT) | S(BAD_ATTRIBUTE) | S(NO_DATE)) \
     X(agent_load, S(NO_SUFFIXES) | S(NO_AGENT) | S(BAD_ATTRIBUTE) | S(NO_DATE)) \
     X(agent_free, 0) \
@@ -940,6 +941,16 @@ static void play_agent(drawing *d, int call) {
     case agent_count_call:
         STATUS(agent_count, cookie_agent_count(agent).status);
         break;
+    case agent_obstacles_call: {
+        take_room(d, 0);
+        starved = starve(d);
+        cookie_obstacles why = cookie_agent_obstacles(agent, one_in(d, 9) ? (size_t)draw(d) : below(d, 12), &request, now);
+        status = why.status;
+        look(d, call, status, 0, starved);
+        if (why.obstacles > 31 || (status != COOKIE_DONE && why.obstacles != 0))
+            fault(d, call, "an obstacle that there isn't");
+        break;
+    }
     case agent_clear_call:
         STATUS(agent_clear, cookie_agent_clear(agent, IN(host)));
         break;

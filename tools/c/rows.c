@@ -511,11 +511,24 @@ static cookie_request request_of(const text *in, long long numbers[6]) {
                             numbers[1] == 1, numbers[2] == 1, numbers[3] == 1, numbers[4] == 1};
 }
 
+/* Why a request doesn't send the cookie at the step's last number, which no request changes. */
+static cookie_answer obstacles(cookie_agent *agent, text rest) {
+    text in[3];
+    long long n[7];
+    cut_lines(rest, in, 3);
+    cookie_request request = request_of(in, n);
+    numbers_in(in[0], 7, n);
+    cookie_obstacles why = cookie_agent_obstacles(agent, (size_t)n[6], &request, (uint64_t)n[5]);
+    return (cookie_answer){why.status, why.obstacles};
+}
+
 /* A step with a request: a text that is read, or a header. */
 static cookie_answer request_step(cookie_agent *agent, cookie_suffixes *suffixes, text step, uint8_t *out, size_t length) {
     text rest, in[4];
     long long n[6];
     int is_read = is_step("read", step, &rest), is_made = !is_read && is_step("retrieve", step, &rest);
+    if (is_step("obstacles", step, &rest))
+        return obstacles(agent, rest);
     if (!is_read && !is_made && !is_step("header", step, &rest)) {
         fprintf(stderr, "no step %.*s\n", (int)step.length, (char *)step.bytes);
         exit(2);

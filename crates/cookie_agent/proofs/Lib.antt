@@ -13,6 +13,7 @@ pub mod KeyLemmas
 pub mod LimitLemmas
 pub mod LoadedLemmas
 pub mod MissLemmas
+pub mod ObstacleLemmas
 pub mod OrderLemmas
 pub mod PairLemmas
 pub mod PassingLemmas

@@ -7,6 +7,7 @@ pub mod JsonLines
 pub mod JsonLinesCode
 pub mod Limits
 pub mod LimitsCode
+pub mod Obstacles
 pub mod Prefixes
 pub mod Removals
 pub mod Saved
