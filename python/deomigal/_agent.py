@@ -13,8 +13,14 @@ from .cookies import RULES
 from .errors import BufferTooShort, NotFound, error_of
 from .explain import ROOM, STEPS, Explanation, Refusal, Request, StoredCookie, rules_of
 
-# The rules of `SameSite` that a navigation from another site passes.
-LAX = (None, "Lax")
+# Why a request doesn't send a cookie (RFC 6265bis, Retrieval Algorithm), by the bits of cookie_obstacle in cookie.h.
+OBSTACLES = {
+    1: "it is expired",
+    2: "the request goes to another host",
+    4: "the request goes to another path",
+    8: "the connection is insecure and the cookie Secure",
+    16: "the request comes from another site, and SameSite forbids it",
+}
 # The forms of a file: a line of JSON for each cookie, and cookies.txt, as Netscape, curl and wget have it. FORMS has their
 # numbers in cookie.h.
 JSON, NETSCAPE = "json", "netscape"
@@ -33,6 +39,10 @@ class AgentSaving(ctypes.Structure):
     ]
 
 
+class AgentObstacles(ctypes.Structure):
+    _fields_ = [("status", ctypes.c_uint32), ("obstacles", ctypes.c_uint32)]
+
+
 class AgentLoading(ctypes.Structure):
     _fields_ = [("status", ctypes.c_uint32), ("bad_lines", ctypes.c_size_t)]
 
@@ -46,12 +56,13 @@ AGENT_FREE = declare("agent_free", HANDLE, None)
 AGENT_READ = declare("agent_read", HANDLE * 2 + REQUEST + TEXT + SECOND, AgentReading)
 AGENT_HEADER = declare("agent_header", HANDLE + REQUEST + SECOND + TEXT, Answer)
 AGENT_RETRIEVE = declare("agent_retrieve", HANDLE + REQUEST + SECOND + TEXT, Answer)
-AGENT_TRIM = declare("agent_trim", HANDLE + COUNT * 2 + SECOND, ctypes.c_uint32)
+AGENT_TRIM = declare("agent_trim", HANDLE * 2 + COUNT * 3 + SECOND, ctypes.c_uint32)
 AGENT_EVICT = declare("agent_evict", HANDLE + SECOND, ctypes.c_uint32)
 AGENT_REMOVE = declare("agent_remove", HANDLE + TEXT * 2 + [ctypes.c_bool] + TEXT, ctypes.c_uint32)
 AGENT_CLEAR = declare("agent_clear", HANDLE + TEXT, ctypes.c_uint32)
 AGENT_COUNT = declare("agent_count", HANDLE, Answer)
 AGENT_COOKIE = declare("agent_cookie", HANDLE + COUNT + SECOND + TEXT, Explanation)
+AGENT_OBSTACLES = declare("agent_obstacles", HANDLE + COUNT + REQUEST + SECOND, AgentObstacles)
 AGENT_SAVE = declare("agent_save", HANDLE + FORM + SECOND + TEXT, AgentSaving)
 AGENT_LOAD = declare("agent_load", HANDLE * 2 + FORM + TEXT + SECOND + COUNTS, AgentLoading)
 REFUSAL_SENTENCE = declare("refusal_sentence", [ctypes.c_uint32] + TEXT, Answer)
@@ -83,23 +94,6 @@ class AgentCookie(NamedTuple):
     def key(self) -> tuple[str, str, bool, str]:
         """What no two stored cookies have in common."""
         return self.name, self.domain, self.is_host_only, self.path
-
-    def obstacles(self, address: Address, is_safe: bool, now: int) -> Iterator[str]:
-        """Why a request to the address doesn't send it (RFC 6265bis, Retrieval Algorithm)."""
-        is_for = address.host == self.domain
-        if not self.is_host_only:
-            is_for = is_in_domain(address.host, address.is_address, self.domain)
-        if not self.lasts(now):
-            yield "it is expired"
-        if not is_for:
-            yield "the request goes to another host"
-        if not is_under_path(address.path, self.path):
-            yield "the request goes to another path"
-        if self.is_secure and not address.is_secure:
-            yield "the connection is insecure and the cookie Secure"
-        is_lax = address.is_top_level and is_safe and self.same_site in LAX
-        if not (address.is_same_site or self.same_site == "None" or is_lax):
-            yield "the request comes from another site, and SameSite forbids it"
 
 
 class Core:
@@ -135,9 +129,10 @@ class Core:
         """Drops what is expired."""
         perform(AGENT_EVICT, self.handle, now)
 
-    def trim(self, per_domain: int, total: int, now: int) -> None:
+    def trim(self, per_domain: int, per_site: int, total: int, now: int) -> None:
         """Drops what is expired, and then what is above the limits."""
-        perform(AGENT_TRIM, self.handle, per_domain, total, now)
+        with self.rules.lock:
+            perform(AGENT_TRIM, self.handle, self.rules.handle, per_domain, per_site, total, now)
 
     def count(self) -> int:
         """How many cookies are stored, also those that are expired."""
@@ -159,6 +154,20 @@ class Core:
             else:
                 yield agent_cookie_of(found.stored, buffer.raw[:end], now)
                 index += 1
+
+    def obstacles(self, index: int, address: Address, is_safe: bool, now: int) -> int:
+        """Why a request to the address doesn't send the cookie at the index: the bits of OBSTACLES, or 0 if it does."""
+        answer = AGENT_OBSTACLES(self.handle, index, request_of(address, is_safe), now)
+        if answer.status != DONE:
+            raise error_of(answer.status)
+        return int(answer.obstacles)
+
+    def unsent(self, address: Address, is_safe: bool, now: int) -> Iterator[tuple[AgentCookie, list[str]]]:
+        """The stored cookies that a request to the address doesn't send, each with why it doesn't."""
+        for index, cookie in enumerate(self.cookies(now)):
+            bits = self.obstacles(index, address, is_safe, now)
+            if bits:
+                yield cookie, [why for bit, why in OBSTACLES.items() if bits & bit]
 
     def remove(self, cookie: AgentCookie) -> bool:
         """Removes the cookie with the key of this one. Returns whether there was one."""
@@ -221,17 +230,6 @@ def agent_cookie_of(stored: StoredCookie, texts: bytes, now: int) -> AgentCookie
         name, value, domain, path, expiry, RULES[stored.same_site], stored.is_host_only, stored.is_secure,
         stored.is_http_only,
     )
-
-
-def is_in_domain(host: str, is_address: bool, domain: str) -> bool:
-    """Whether the host is the domain, or is below it (RFC 6265bis, Domain Matching)."""
-    return host == domain or (not is_address and host.endswith("." + domain))
-
-
-def is_under_path(request: str, cookie: str) -> bool:
-    """Whether the path is the cookie's, or is below it (RFC 6265bis, Paths and Path-Match)."""
-    below = request.startswith(cookie) and (cookie.endswith("/") or request[len(cookie) :].startswith("/"))
-    return request == cookie or below
 
 
 def header_bytes(text: str | bytes) -> bytes:

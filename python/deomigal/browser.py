@@ -101,12 +101,10 @@ class Browser:
 
     def unsent(self, address: Address) -> Iterator[bytes]:
         """A line for each cookie that the address doesn't get."""
-        for cookie in self.core.cookies(self.now):
-            obstacles = "; ".join(cookie.obstacles(address, True, self.now))
-            if obstacles:
-                hosts = " only" if cookie.is_host_only else " and the hosts below it"
-                pair = f"{cookie.name}={cookie.value}; for {cookie.domain}{hosts}; path {cookie.path}"
-                yield header_bytes(f"not sent: {pair}: {obstacles}")
+        for cookie, obstacles in self.core.unsent(address, True, self.now):
+            hosts = " only" if cookie.is_host_only else " and the hosts below it"
+            pair = f"{cookie.name}={cookie.value}; for {cookie.domain}{hosts}; path {cookie.path}"
+            yield header_bytes(f"not sent: {pair}: {'; '.join(obstacles)}")
 
 
 def moment(text: bytes) -> int:

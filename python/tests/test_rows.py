@@ -165,6 +165,14 @@ def agent_step(agent, step):
             fault("another scope")
         text = "".join((kept.name, kept.value, kept.domain, kept.path)).encode()
         return "DONE", len(text), text
+    elif word == b"obstacles":
+        host, path = texts
+        *flags, is_safe, now, index = numbers
+        address = Address(host.decode(), path.decode(), *(flag == 1 for flag in flags))
+        try:
+            return "DONE", agent.core.obstacles(index, address, is_safe == 1, now), b""
+        except errors.NotFound:
+            return "NOT_FOUND", 0, b""
     elif texts:
         host, path, *text = texts
         *flags, is_safe, now = numbers

@@ -476,6 +476,31 @@ static void tokens(void) {
 static const char FILE_OF_LINES[] = "a.example\tFALSE\t/\tFALSE\t1445500000\tn\tv\nbad\n\nworse\n"
                                    "b.example\tFALSE\t/\tFALSE\t1445500000\tn\tv\nworst\n";
 
+/* Why a request doesn't send a cookie; the refusals are in their order. */
+static void obstacles(void) {
+    const uint64_t LATE = 253402207201;
+    size_t lines[1] = {0};
+    cookie_agent agent = {0};
+    cookie_suffixes suffixes = {0};
+    cookie_request request = {(const uint8_t *)"\xff", 1, (const uint8_t *)"/x", 2, false, false, false, false, true};
+    MUST(cookie_agent_obstacles(&agent, 9, &request, LATE).status == COOKIE_NO_AGENT);
+    MUST(cookie_suffixes_new(NULL, 0, &suffixes) == COOKIE_DONE && cookie_agent_new(&agent) == COOKIE_DONE);
+    MUST(cookie_agent_load(&agent, &suffixes, 0, T(FILE_OF_LINES), NOW, lines, 1).status == COOKIE_DONE);
+    MUST(cookie_agent_obstacles(&agent, 9, &request, LATE).status == COOKIE_NO_DATE);
+    MUST(cookie_agent_obstacles(&agent, 9, &request, NOW).status == COOKIE_NOT_UTF8);
+    request.host = (const uint8_t *)"A.EXAMPLE", request.host_length = 9;
+    cookie_obstacles why = cookie_agent_obstacles(&agent, 2, &request, NOW);
+    MUST(why.status == COOKIE_NOT_FOUND && why.obstacles == 0);
+    why = cookie_agent_obstacles(&agent, 0, &request, NOW);
+    MUST(why.status == COOKIE_DONE && why.obstacles == COOKIE_OBSTACLE_SAME_SITE);
+    request.is_same_site = true;
+    MUST(cookie_agent_obstacles(&agent, 0, &request, NOW).obstacles == 0);
+    why = cookie_agent_obstacles(&agent, 1, &request, 1445500000);
+    MUST(why.obstacles == (COOKIE_OBSTACLE_EXPIRED | COOKIE_OBSTACLE_HOST));
+    cookie_agent_free(&agent);
+    cookie_suffixes_free(&suffixes);
+}
+
 /* How many cookies are stored, and which lines of a text are bad: as many as the array has room for. */
 static void agents(void) {
     const uint64_t LATE = 253402207201;
@@ -525,6 +550,7 @@ int main(void) {
     lists_and_times();
     tokens();
     agents();
+    obstacles();
     printf("cases: %d faults\n", faults);
     return faults != 0;
 }

@@ -511,11 +511,24 @@ static cookie_request request_of(const text *in, long long numbers[6]) {
                             numbers[1] == 1, numbers[2] == 1, numbers[3] == 1, numbers[4] == 1};
 }
 
+/* Why a request doesn't send the cookie at the step's last number, which no request changes. */
+static cookie_answer obstacles(cookie_agent *agent, text rest) {
+    text in[3];
+    long long n[7];
+    cut_lines(rest, in, 3);
+    cookie_request request = request_of(in, n);
+    numbers_in(in[0], 7, n);
+    cookie_obstacles why = cookie_agent_obstacles(agent, (size_t)n[6], &request, (uint64_t)n[5]);
+    return (cookie_answer){why.status, why.obstacles};
+}
+
 /* A step with a request: a text that is read, or a header. */
 static cookie_answer request_step(cookie_agent *agent, cookie_suffixes *suffixes, text step, uint8_t *out, size_t length) {
     text rest, in[4];
     long long n[6];
     int is_read = is_step("read", step, &rest), is_made = !is_read && is_step("retrieve", step, &rest);
+    if (is_step("obstacles", step, &rest))
+        return obstacles(agent, rest);
     if (!is_read && !is_made && !is_step("header", step, &rest)) {
         fprintf(stderr, "no step %.*s\n", (int)step.length, (char *)step.bytes);
         exit(2);
@@ -556,7 +569,7 @@ static void count(cookie_agent *agent) {
 
 static cookie_answer agent_step(cookie_agent *agent, cookie_suffixes *suffixes, text step, uint8_t *out, size_t length) {
     text rest, in[4];
-    long long n[3];
+    long long n[4];
     if (is_step("new", step, &rest))
         return of_status(cookie_agent_new(agent));
     if (is_step("clear", step, &rest))
@@ -581,8 +594,8 @@ static cookie_answer agent_step(cookie_agent *agent, cookie_suffixes *suffixes, 
         return of_status(cookie_agent_evict(agent, (uint64_t)n[0]));
     }
     if (is_step("trim", step, &rest)) {
-        numbers_in(rest, 3, n);
-        return of_status(cookie_agent_trim(agent, (size_t)n[0], (size_t)n[1], (uint64_t)n[2]));
+        numbers_in(rest, 4, n);
+        return of_status(cookie_agent_trim(agent, suffixes, (size_t)n[0], (size_t)n[1], (size_t)n[2], (uint64_t)n[3]));
     }
     if (!is_step("cookie", step, &rest))
         return request_step(agent, suffixes, step, out, length);

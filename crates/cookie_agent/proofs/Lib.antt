@@ -1,3 +1,4 @@
+pub mod ApartLemmas
 pub mod CookiesTxtLemmas
 pub mod CutOutLemmas
 pub mod GroupLemmas
@@ -13,6 +14,7 @@ pub mod KeyLemmas
 pub mod LimitLemmas
 pub mod LoadedLemmas
 pub mod MissLemmas
+pub mod ObstacleLemmas
 pub mod OrderLemmas
 pub mod PairLemmas
 pub mod PassingLemmas
@@ -29,5 +31,6 @@ pub mod SentFieldLemmas
 pub mod SiteLemmas
 pub mod StorableLemmas
 pub mod StoreLemmas
+pub mod StoringLemmas
 pub mod TrimLemmas
 pub mod VerdictLemmas

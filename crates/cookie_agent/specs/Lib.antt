@@ -7,6 +7,7 @@ pub mod JsonLines
 pub mod JsonLinesCode
 pub mod Limits
 pub mod LimitsCode
+pub mod Obstacles
 pub mod Prefixes
 pub mod Removals
 pub mod Saved
@@ -16,6 +17,7 @@ pub mod Scopes
 pub mod Sent
 pub mod SentCode
 pub mod Site
+pub mod Sites
 pub mod Storable
 pub mod Store
 pub mod Stored

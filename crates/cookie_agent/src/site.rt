@@ -1,5 +1,7 @@
 //! Where a request goes, and how it came about.
-ghost use Rattle.std.specs.Prelude.{◌≡◌, true, false, List, IfOk, string_bytes};
+ghost use Rattle.std.specs.Prelude.{◌≡◌, true, false, List, IfOk, string_bytes, if◌then◌else◌};
+ghost use Rattle.std.specs.Str.{bytes_eq};
+ghost use Rattle.cookie_browser.specs.Request.{is_in_domain};
 ghost use Rattle.cookie_browser.specs.RefusedCode.{request_view};
 ghost use Rattle.cookie_browser.specs.Suffixes.{Rule};
 ghost use Rattle.cookie_agent.specs.Prefixes.{AreHostBound, AreSecured};
@@ -138,13 +140,20 @@ impl Site {
     pub fn is_reached(&self, scope: &Scope) -> bool
         ensures { result ≡ reaches self.now scope.now }
     {
-        let host = self.host.as_bytes();
-        let reaches_host = if scope.is_host_only() {
-            host == scope.domain()
+        self.is_host_reached(scope.domain(), scope.is_host_only())
+            && is_under_path(self.path.as_bytes(), scope.path())
+    }
+
+    // Whether the host gets a cookie of this domain, which may be for the domain itself only.
+    pub(crate) fn is_host_reached(&self, domain: &[u8], is_host_only: bool) -> bool
+        ensures { result ≡ (if is_host_only then bytes_eq self.now.host domain.now
+            else is_in_domain self.now.host self.now.is_address domain.now) }
+    {
+        if is_host_only {
+            self.host.as_bytes() == domain
         } else {
-            is_in_domain(host, self.is_address, scope.domain())
-        };
-        reaches_host && is_under_path(self.path.as_bytes(), scope.path())
+            is_in_domain(self.host.as_bytes(), self.is_address, domain)
+        }
     }
 
     /// Whether the connection is secure.

@@ -95,6 +95,10 @@ abbrev pub rest_in : Option (List ℕ) → List ℕ → Bool
 rest_in None text = false
 rest_in (Some rest) text = is_in_domain rest false text
 
+-- a domain is in a text if it is the text, or the text follows one of its dots
+pub in_domain-follows : (domain text : List ℕ) → is_in_domain domain false text ≡ (bytes_eq domain text || follows_dot domain text)
+in_domain-follows domain text = ap (λ b. bytes_eq domain text || b) (below-follows domain text)
+
 follows-cut : (domain text : List ℕ) → follows_dot domain text ≡ rest_in (cut 46 domain).1 text
 unfolding cut
 follows-cut [] text = refl

@@ -3,6 +3,7 @@ pub mod AgeLemmas
 pub mod AnyLemmas
 pub mod CutLemmas
 pub mod DomainLemmas
+pub mod EndingLemmas
 pub mod PartLemmas
 pub mod PrintedLemmas
 pub mod SentLemmas

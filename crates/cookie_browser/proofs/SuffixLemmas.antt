@@ -1,5 +1,5 @@
 -- Rules that are kept as three sets of texts.
-use Rattle.std.proofs.Common.{◌≡◌, ◌≢◌, ◌<◌, ℕ, length, arith, not, ◌&&◌, ◌||◌, Bool, true, false, List, [], ◌∷◌, ◌++◌, map, Option, Some, None, option_map, String, bytes_eq, true≢false, refl, sym, ap, codes, eqb, drop, ◌∙◌, inl, inr, ◌⊎◌, IsPermutation, IsUtf8, MatchBool, subst}
+use Rattle.std.proofs.Common.{◌≡◌, ◌≢◌, ◌<◌, ℕ, length, arith, not, ◌||◌, Bool, true, false, List, [], ◌∷◌, ◌++◌, map, Option, Some, None, option_map, String, bytes_eq, true≢false, refl, sym, ap, codes, eqb, drop, ◌∙◌, inl, inr, ◌⊎◌, IsPermutation, IsUtf8, MatchBool, subst}
 use Rattle.std.proofs.lemmas.Slice.Eq.{bytes_eq-Decides}
 use Rattle.std.proofs.lemmas.Str.{IsUtf8-string_bytes}
 use Rattle.std.specs.List.{cons_option, filter_map, list_any, starts_with}
@@ -11,7 +11,7 @@ use Rattle.std.proofs.lemmas.List.Folds.{list_any-append}
 use Rattle.std.proofs.lemmas.List.Sorted.{list_any-IsPermutation}
 use Rattle.cookie_browser.specs.Bytes.{cut}
 use Rattle.cookie_browser.specs.Request.{is_in_domain}
-use Rattle.cookie_browser.specs.Suffixes.{Rule, Plain, Wild, Except, HasSameElements, has_parent, fills_rule, is_covered, is_excepted, is_one_label, is_public_suffix, without_last_dot}
+use Rattle.cookie_browser.specs.Suffixes.{Rule, Plain, Wild, Except, HasSameElements, has_parent, is_covered, is_excepted, is_exception, is_one_label}
 use Rattle.cookie_browser.specs.SuffixCode.{rules_view, texts_of}
 use Rattle.cookie_browser.specs.SuffixList.{canonical, rule_of, rule_of_line, rules_of}
 use Rattle.cookie_browser.proofs.AnyLemmas.{any-map, any-never, any-same, any-or, holds_in, any-cons_option}
@@ -33,6 +33,12 @@ any-excepted domain plain wild except =
     any-view (is_excepted domain) plain wild except
     ∙ ap (λ b. b || (list_any (λ t. false) wild || list_any (is_in_domain domain false) except)) (any-never plain)
     ∙ ap (λ b. b || list_any (is_in_domain domain false) except) (any-never wild)
+
+pub any-exception : (domain : List ℕ) (plain wild except : List (List ℕ)) → list_any (is_exception domain) (rules_view plain wild except) ≡ list_any (bytes_eq domain) except
+any-exception domain plain wild except =
+    any-view (is_exception domain) plain wild except
+    ∙ ap (λ b. b || (list_any (λ t. false) wild || list_any (bytes_eq domain) except)) (any-never plain)
+    ∙ ap (λ b. b || list_any (bytes_eq domain) except) (any-never wild)
 
 or_false : (a : Bool) → (a || false) ≡ a
 or_false true = refl

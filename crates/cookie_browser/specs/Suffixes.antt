@@ -1,6 +1,7 @@
 -- Public suffixes, by rules that are passed in (publicsuffix.org, Algorithm).
-use Rattle.std.specs.Prelude.{◌≡◌, ℕ, ◌-◌, ◌&&◌, ◌||◌, not, Bool, false, List, codes, eqb, length, take, Option, Some, None, if◌then◌else◌}
-use Rattle.std.specs.List.{ends_with, list_any}
+use Rattle.std.specs.Prelude.{◌≡◌, ℕ, ◌-◌, ◌==◌, ◌&&◌, ◌||◌, not, Bool, false, List, [], ◌∷◌, codes, eqb, find, length, take, Option, Some, None, unwrap_or, if◌then◌else◌}
+use Rattle.std.specs.Char.{is_ascii_digit}
+use Rattle.std.specs.List.{ends_with, list_all, list_any, starts_with}
 use Rattle.std.specs.Str.{bytes_eq}
 use Rattle.cookie_browser.specs.Bytes.{cut}
 use Rattle.cookie_browser.specs.Request.{is_in_domain}
@@ -43,9 +44,54 @@ abbrev pub without_last_dot : List ℕ → List ℕ
 without_last_dot domain =
     if ends_with eqb domain (codes ".") then take (length domain - 1) domain else domain
 
--- The domain is a public suffix, as `com` and `com.` are. So is the root, `.`: nobody registers it.
+-- The domain is a public suffix, as `com` and `com.` are. A text that begins with a dot is no domain: no label is empty.
 unfoldable pub is_public_suffix : List Rule → List ℕ → Bool
-is_public_suffix rules domain = fills_rule rules (without_last_dot domain)
+is_public_suffix rules domain =
+    not (starts_with eqb domain (codes ".")) && fills_rule rules (without_last_dot domain)
+
+-- ---- sites
+
+-- a digit or a dot
+abbrev pub is_number_byte : ℕ → Bool
+is_number_byte byte = is_ascii_digit byte || byte == 46
+
+-- an IP address, as a URL has it: digits and dots, or a text in brackets (Canonicalized Host Names)
+abbrev pub is_address : List ℕ → Bool
+is_address domain =
+    starts_with eqb domain (codes "[") || list_all is_number_byte domain
+
+-- what follows each dot of the domain
+abbrev pub after_dots : List ℕ → List (List ℕ)
+after_dots [] = []
+after_dots (byte ∷ bytes) =
+    if byte == 46 then bytes ∷ after_dots bytes else after_dots bytes
+
+-- the domain, and the domains above it: what follows each of its dots
+abbrev pub endings : List ℕ → List (List ℕ)
+endings domain = domain ∷ after_dots domain
+
+-- the domain is the text of an exception
+abbrev pub is_exception : List ℕ → Rule → Bool
+is_exception domain (Except text) = bytes_eq domain text
+is_exception domain _ = false
+
+-- there is such a domain, and it is a public suffix
+abbrev pub is_public_parent : List Rule → Option (List ℕ) → Bool
+is_public_parent rules None = false
+is_public_parent rules (Some parent) = is_public_suffix rules parent
+
+-- one label before a public suffix, or an exception, whose suffix has a label less
+abbrev pub is_registrable : List Rule → List ℕ → Bool
+is_registrable rules domain =
+    list_any (is_exception (without_last_dot domain)) rules
+    || is_public_parent rules (cut 46 domain).1
+
+-- The registrable domain: a public suffix and one more label (Algorithm). An address, and a domain that is a public
+-- suffix, stand for themselves.
+unfoldable pub site_domain : List Rule → List ℕ → List ℕ
+site_domain rules domain =
+    if is_address domain || is_public_suffix rules domain then domain
+    else unwrap_or (find (is_registrable rules) (endings domain)) domain
 
 -- the lists pass the same tests: each element of one is in the other
 abbrev pub HasSameElements : {X : Type 0} → List X → List X → Type 0

@@ -50,8 +50,8 @@ fn asked_path<'s>(request: &'s [u8], path: &'s [u8]) -> &'s [u8]
     }
 }
 
-// Whether the enforcement allows the cookie to be sent with the request.
-fn allows(request: &BrowserRequest<'_>, enforcement: Enforcement) -> bool
+/// Whether the enforcement allows a cookie to be sent with the request (RFC 6265bis, Retrieval Algorithm).
+pub fn allows(request: &BrowserRequest<'_>, enforcement: Enforcement) -> bool
     ensures { result ≡ spec.allows (request_view request.now) enforcement }
 {
     !is_site_bound(enforcement)

@@ -15,7 +15,7 @@ mod suffixes;
 pub use attributes::ReceivedAttributes;
 pub use enforcement::Enforcement;
 pub use expiry::Expiry;
-pub use kept_cookie::KeptCookie;
+pub use kept_cookie::{KeptCookie, allows};
 pub use received::Received;
 pub use refusal::Refusal;
 pub use refused::{refused_by, refused_with};

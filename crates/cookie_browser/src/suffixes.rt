@@ -1,13 +1,13 @@
 //! The list of public suffixes.
-ghost use Rattle.std.specs.Prelude.{◌≡◌, ◌||◌, [], codes, eqb, false, option_map, IfOk, OnOk};
+ghost use Rattle.std.specs.Prelude.{◌≡◌, ◌||◌, [], codes, eqb, false, find, option_map, unwrap_or, IfOk, OnOk};
 ghost use Rattle.std.specs.Char.{is_ascii_whitespace};
-ghost use Rattle.std.specs.List.{before_first, cons_option, list_any, starts_with};
+ghost use Rattle.std.specs.List.{before_first, cons_option, list_all, list_any, starts_with};
 ghost use Rattle.std.specs.Str.{bytes_eq};
 ghost use Rattle.std.specs.String.{string_bytes};
 ghost use Rattle.cookie_browser.specs.Bytes.{cut};
 ghost use Rattle.cookie_browser.specs.Request.{is_in_domain};
 ghost use Rattle.cookie_browser.specs.Suffixes as spec;
-ghost use Rattle.cookie_browser.specs.Suffixes.{HasSameElements};
+ghost use Rattle.cookie_browser.specs.Suffixes.{HasSameElements, is_number_byte};
 ghost use Rattle.cookie_browser.specs.SuffixList.{canonical, rule_of, rules_of};
 ghost use Rattle.cookie_browser.specs.SuffixCode.{texts_of};
 
@@ -92,13 +92,72 @@ impl Suffixes {
     }
 
     /// Whether the domain, in lower case and in ASCII, is a public suffix (publicsuffix.org, Algorithm). A domain of
-    /// one label is one, unless a rule excepts it. The dot that ends an absolute name, as `com.`, doesn't count. The
-    /// time grows with the number of labels, and not with the number of rules.
+    /// one label is one, unless a rule excepts it. The dot that ends an absolute name, as `com.`, doesn't count. A text
+    /// that begins with a dot is no domain, and so none. The time grows with the number of labels, and not with the
+    /// number of rules.
     #[tactic(auto, unfolding(crate::specs::Suffixes::is_public_suffix))]
     pub fn is_public(&self, domain: &[u8]) -> bool
         ensures { result ≡ spec.is_public_suffix self.now domain.now }
     {
-        self.fills_rule(without_last_dot(domain))
+        !domain.starts_with(b".") && self.fills_rule(without_last_dot(domain))
+    }
+
+    /// The site of a domain, in lower case and in ASCII: its registrable domain, which is a public suffix and one more
+    /// label (publicsuffix.org, Algorithm). A public suffix is its own site, and so is an IP address: a domain of digits
+    /// and dots, or one in brackets. The time grows with the length of the domain, and not with the number of rules.
+    ///
+    /// ```
+    /// let suffixes = Suffixes::new(alloc, b"com\nco.uk\n")?;
+    /// suffixes.site(b"www.shop.co.uk");   // shop.co.uk
+    /// suffixes.site(b"co.uk");            // co.uk
+    /// ```
+    #[tactic(auto, unfolding(crate::specs::Suffixes::site_domain))]
+    pub fn site<'d>(&self, domain: &'d [u8]) -> &'d [u8]
+        ensures { result.now ≡ spec.site_domain self.now domain.now }
+    {
+        if is_address(domain) || self.is_public(domain) {
+            return domain;
+        }
+        self.registrable(domain)
+    }
+
+    // The first of the domain and of what follows its dots that is registrable; the domain, if none is.
+    fn registrable<'d>(&self, domain: &'d [u8]) -> &'d [u8]
+        ensures { result.now
+            ≡ unwrap_or (find (spec.is_registrable self.now) (spec.endings domain.now)) domain.now }
+    {
+        let mut rest = Some(domain);
+        while let Some(ending) = rest {
+            if self.is_registrable(ending) {
+                return ending;
+            }
+            rest = cut(ending, b'.').1;
+        }
+        domain
+    }
+
+    // Whether the domain is an exception, or has one label before a public suffix.
+    fn is_registrable(&self, domain: &[u8]) -> bool
+        ensures { result ≡ spec.is_registrable self.now domain.now }
+    {
+        self.is_exception(without_last_dot(domain)) || self.has_public_parent(domain)
+    }
+
+    // Whether what follows the first dot of the domain is a public suffix.
+    fn has_public_parent(&self, domain: &[u8]) -> bool
+        ensures { result ≡ spec.is_public_parent self.now (cut 46 domain.now).1 }
+    {
+        match cut(domain, b'.').1 {
+            Some(parent) => self.is_public(parent),
+            None => false,
+        }
+    }
+
+    // Whether the domain is the text of an exception.
+    fn is_exception(&self, domain: &[u8]) -> bool
+        ensures { result ≡ list_any (spec.is_exception domain.now) self.now }
+    {
+        has(&self.except, domain)
     }
 
     // Whether the prevailing rule has as many labels as the domain.
@@ -220,6 +279,27 @@ fn without_last_dot(domain: &[u8]) -> &[u8]
     } else {
         domain
     }
+}
+
+// Whether the domain is an IP address, as a URL has it.
+fn is_address(domain: &[u8]) -> bool
+    ensures { result ≡ spec.is_address domain.now }
+{
+    domain.starts_with(b"[") || is_dotted_number(domain)
+}
+
+// Whether the domain has digits and dots only.
+fn is_dotted_number(domain: &[u8]) -> bool
+    ensures { result ≡ list_all is_number_byte domain.now }
+{
+    domain.iter().all(|&byte| is_number_byte(byte))
+}
+
+// Whether the byte is a digit or a dot.
+fn is_number_byte(byte: u8) -> bool
+    ensures { result ≡ is_number_byte byte }
+{
+    byte.is_ascii_digit() || byte == b'.'
 }
 
 fn is_one_label(domain: &[u8]) -> bool

@@ -12,6 +12,7 @@ pub mod Jars
 pub mod Keyed
 pub mod NextPiece
 pub mod Numbers
+pub mod Obstacles
 pub mod OpenedSessions
 pub mod Pairs
 pub mod Played

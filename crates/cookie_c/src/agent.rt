@@ -6,6 +6,7 @@ ghost use Rattle.cookie_c.specs.Handles.{IsPut, Tells};
 mod change;
 mod form;
 mod load;
+mod obstacles;
 mod read;
 mod refusal;
 mod save;

@@ -1,2 +1,1 @@
 pub mod Paste
-pub mod Sending

@@ -9,7 +9,6 @@ mod list;
 mod moment;
 mod paste;
 mod report;
-mod sending;
 mod session;
 mod target;
 

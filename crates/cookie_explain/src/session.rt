@@ -2,10 +2,9 @@
 use crate::moment::moment;
 use crate::paste::{Kind, Line};
 use crate::report::{push_cookie, push_verdict};
-use crate::sending::OBSTACLES;
 use crate::target::site_of_line;
 use anyhow::Result;
-use cookie_agent::{Agent, RequestContext, Site, StoredCookie};
+use cookie_agent::{Agent, Obstacle, RequestContext, Site, StoredCookie};
 use cookie_browser::Suffixes;
 use jiff::civil::DateTime;
 use std::alloc::{AllocError, Global};
@@ -126,7 +125,7 @@ fn push_obstacles(
     now: DateTime,
 ) -> Result<(), AllocError> {
     let mut mark = b": ".as_slice();
-    for obstacle in &OBSTACLES {
+    for obstacle in &Obstacle::ALL {
         if obstacle.keeps(cookie, site, now) {
             answer.extend_from_slice(mark)?;
             answer.extend_from_slice(obstacle.as_str().as_bytes())?;

@@ -4,7 +4,7 @@ use crate::jar_calls::{after, calls_of, moment, test_key};
 use crate::jars::looks;
 use crate::step::{Answer, Player, Step};
 use cookie::{CookieJar, Key};
-use cookie_agent::{Agent, Limits, SavedForm, Scope, Site, Store, StoredCookie, Verdict};
+use cookie_agent::{Agent, Limits, Obstacle, SavedForm, Scope, Site, Store, StoredCookie, Verdict};
 use cookie_browser::Suffixes;
 use cookie_client::JarCall;
 use cookie_theorems::visits::{visit, visits};
@@ -166,6 +166,23 @@ impl<'r> Agents<'r> {
         step.yes(fits.ok()?)
     }
 
+    // Why the request doesn't send the cookie at this index: the obstacles' names, or `-`.
+    fn obstacles(&self, step: Step<'_>) -> Answer {
+        let index: usize = step.words.parse().ok()?;
+        let Some(cookie) = self.agent.cookies().get(index) else {
+            return step.said("no cookie");
+        };
+        let mut names = String::new(step.alloc);
+        for obstacle in &Obstacle::ALL {
+            if obstacle.keeps(cookie, &self.site, self.now) {
+                let space = if names.is_empty() { "" } else { " " };
+                names.push_str(space).ok()?;
+                names.push_str(name_of(*obstacle)).ok()?;
+            }
+        }
+        step.shown(names.as_bytes())
+    }
+
     // Questions on connections, on scopes of cookies, and on the sites that they reach.
     fn ask(&self, step: Step<'_>) -> Answer {
         match step.call {
@@ -206,9 +223,13 @@ impl Player for Agents<'_> {
             "clear_all" | "load" => self.change(step),
             "saved" => self.saved(step),
             "visits" => self.visits(step),
-            "least" => {
-                let least = Limits::least();
-                format!(in step.alloc; "{} {}", least.per_domain, least.total).ok()
+            "usual" => {
+                let Limits {
+                    per_domain,
+                    per_site,
+                    total,
+                } = Limits::usual();
+                format!(in step.alloc; "{per_domain} {per_site} {total}").ok()
             }
             "set" => {
                 let refusal = self.agent.read(&self.site, &step.bytes()?, self.now);
@@ -221,11 +242,22 @@ impl Player for Agents<'_> {
             "header" => step.shown(&self.agent.header(&self.site, self.now).ok()?),
             "retrieve" => step.shown(&self.agent.retrieve(&self.site, self.now).ok()?),
             "request" => self.request(step),
+            "obstacles" => self.obstacles(step),
             "get" => looks::answer(&self.jar, step),
             "plan" => self.plan(step),
             "loaded" | "loaded_json" => self.loaded(step),
             _ => self.ask(step),
         }
+    }
+}
+
+fn name_of(obstacle: Obstacle) -> &'static str {
+    match obstacle {
+        Obstacle::Expired => "Expired",
+        Obstacle::Host => "Host",
+        Obstacle::Path => "Path",
+        Obstacle::Connection => "Connection",
+        Obstacle::SameSite => "SameSite",
     }
 }
 

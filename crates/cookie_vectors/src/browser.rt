@@ -1,5 +1,5 @@
 //! What a browser reads of a `Set-Cookie` text, which step refuses it (data/browser.tsv), and which domains are public
-//! suffixes (data/suffixes.tsv).
+//! suffixes, and in which site a domain is (data/suffixes.tsv).
 use crate::browsing::{context_of, outcome, site_of};
 use crate::cookie_words::{push, push_flag};
 use crate::escapes::Escaped;
@@ -96,6 +96,7 @@ impl Player for SuffixList {
         match step.call {
             "list" => self.0 = Suffixes::new(step.alloc, &text).ok()?,
             "public" => return step.yes(self.0.is_public(&text)),
+            "site" => return step.shown(self.0.site(&text)),
             _ => return None,
         }
         step.done()

@@ -3,6 +3,7 @@ but the last is done, and the last one returns the text. A step is a word and nu
 feed: the host and the path of a request, whose numbers are its five flags and the second, and the text of a cookie; or
 the name, the domain and the path of a cookie, whose number says whether it is host-only. Of a text that is read the number
 of what it returns is the step that refuses it. `cookie` has an index, the second, and whether the cookie is host-only.
+`obstacles` has the numbers of a request, and then an index. The number of what it returns is the sum of the obstacles.
 `load` and `save` have the number of a form, and the second."""
 import re
 
@@ -16,6 +17,8 @@ from sessions import FIRST
 HOWS = {**{how: [*flags, 1] for how, flags in CONTEXTS.items()}, "post": [0, 1, 0]}
 # The first line of a cookies.txt, and the numbers of the forms.
 HEAD, COOKIES_TXT, JSON_LINES = b"# Netscape HTTP Cookie File\n", 0, 1
+# The obstacles, by their numbers.
+OBSTACLES = {"Expired": 1, "Host": 2, "Path": 4, "Connection": 8, "SameSite": 16}
 # Questions that no call answers.
 QUESTIONS = {"secure", "host"}
 
@@ -74,7 +77,10 @@ class Agents:
         elif step.call == "clear":
             made = b"clear " + step.words.encode()
         elif step.call in ("evict", "trim"):
-            made = step_of(step.call.encode(), [*map(int, step.words.split()), self.now])
+            numbers = [int(number) for number in step.words.split()]
+            # Without a limit of a site that of all is the limit.
+            numbers[1:1] = numbers[1:] if len(numbers) == 2 else []
+            made = step_of(step.call.encode(), [*numbers, self.now])
         else:
             return None
         return made, done("agent", b"", LIST, *self.steps, made)
@@ -102,6 +108,15 @@ class Agents:
         text = b"" if step.wanted == "-" else unescaped(step.wanted)
         loaded = step_of(b"load", form, unescaped(step.words))
         return done("agent", head + text, LIST, b"new", loaded, step_of(b"save", form))
+
+    def obstacles(self, step):
+        """Why the request doesn't send a stored cookie."""
+        host, path, *flags = self.url
+        made = step_of(b"obstacles", [*flags, *self.how, self.now, int(step.words)], host, path)
+        if step.wanted == "no cookie":
+            return refused("agent", "NOT_FOUND", LIST, *self.steps, made)
+        number = sum(OBSTACLES[word] for word in step.wanted.split() if word != "-")
+        return Play("agent", "DONE", number, b"", [LIST, *self.steps, made])
 
     def ask(self, step):
         """A question on a cookie that a new agent stores."""
@@ -135,6 +150,8 @@ class Agents:
             play = done("agent", text, LIST, *self.steps, made)
             self.steps += [made] if step.call == "retrieve" else []
             return [play]
+        if step.call == "obstacles":
+            return [self.obstacles(step)]
         if step.call == "saved":
             text = b"" if step.wanted == "-" else unescaped(step.wanted)
             return [done("agent", HEAD + text, LIST, *self.steps, step_of(b"save", [COOKIES_TXT, self.now]))]

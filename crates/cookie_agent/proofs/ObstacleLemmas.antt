@@ -2,7 +2,7 @@
 use Rattle.std.proofs.Common.{◌≡◌, not, ◌&&◌, ◌||◌, Bool, true, false, refl}
 use Rattle.cookie_browser.specs.Storage.{allows, lasts}
 use Rattle.cookie_browser.specs.Request.{is_under_path}
-use Rattle.cookie_explain.specs.Sending.{IsExhaustive, has_host}
+use Rattle.cookie_agent.specs.Obstacles.{IsExhaustive, has_host}
 
 -- all conditions hold exactly if none fails
 all_or_one : (lasts host path secure only allowed : Bool) → (lasts && ((host && path) && ((secure || not only) && allowed))) ≡ not (not lasts || (not host || (not path || ((only && not secure) || (not allowed || false)))))

@@ -5,8 +5,8 @@ use Rattle.std.specs.Str.{bytes_eq}
 use Rattle.jiff.specs.Types.{DateTime}
 use Rattle.cookie_browser.specs.Request.{RequestView, is_in_domain, is_under_path}
 use Rattle.cookie_browser.specs.Storage.{KeptView, allows, is_sent, lasts}
-use Rattle.cookie_explain.specs.declared.sending.Obstacle.{Obstacle}
-use Rattle.cookie_explain.specs.declared.sending.Obstacle.TheVariants.{Expired, Host, Path, Connection, SameSite}
+use Rattle.cookie_agent.specs.declared.obstacle.Obstacle.{Obstacle}
+use Rattle.cookie_agent.specs.declared.obstacle.Obstacle.TheVariants.{Expired, Host, Path, Connection, SameSite}
 
 -- the cookie is for the request's host
 abbrev pub has_host : RequestView → KeptView → Bool
