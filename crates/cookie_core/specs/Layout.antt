@@ -3,12 +3,13 @@ use Rattle.std.specs.Prelude.{◌<◌, ◌≤◌, ℕ, List, [], Result, option_
 use Rattle.std.specs.Result.{result_map_both}
 use Rattle.jiff.specs.Words.{signed_nanos}
 use Rattle.cookie_core.specs.Pieces.{offset_of}
-use Rattle.cookie_core.specs.Record.{Record, without_leading_dot}
+use Rattle.cookie_core.specs.Record.{Record, plain, without_leading_dot}
 use Rattle.cookie_core.specs.Separators.{equals_sign, semicolon}
 use Rattle.cookie_core.specs.Spans.{StandsIn, span_text}
 use Rattle.cookie_core.specs.declared.attributes.Attributes.{Attributes}
 use Rattle.cookie_core.specs.declared.layout.Layout.{Layout}
 use Rattle.cookie_core.specs.declared.parse_error.ParseError.{ParseError}
+use Rattle.cookie_core.specs.declared.span.Span.{Span}
 
 -- the record of the attributes in the text, with an empty name and an empty value
 abbrev pub attributes_of : List ℕ → Attributes → Record
@@ -52,3 +53,8 @@ pub record IsLayoutIn (text : List ℕ) (layout : Layout) : Type 0 where
 -- the record of the layout in the text, or the refusal
 abbrev pub laid_out : List ℕ → Result Layout ParseError → Result Record ParseError
 laid_out text outcome = result_map_both (layout_record text) (λ error. error) outcome
+
+-- the record of a name and a value at these spans of the text, or the refusal
+abbrev pub pair_laid_out : List ℕ → Result (Span × Span) ParseError → Result Record ParseError
+pair_laid_out text outcome =
+    result_map_both (λ spans. plain (span_text text spans.0) (span_text text spans.1)) (λ error. error) outcome

@@ -286,6 +286,7 @@ impl Attributes {
         ensures read { HasRead (option_map (span_text text.now) later)
             (attributes_of text.now result) None }
         ensures place { AreIn text.now result }
+        ensures unset { later ≡ None → result ≡ no_attributes }
     {
         let mut attributes = Attributes::unset();
         let mut rest = later;

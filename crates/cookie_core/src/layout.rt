@@ -1,11 +1,13 @@
 //! Where the parts of one cookie's text are (RFC 6265 5.2).
-ghost use Rattle.std.specs.Prelude.{◌≡◌, ◌++◌, List, ℕ, false, IfOk, option_map};
+ghost use Rattle.std.specs.Prelude.{◌≡◌, ◌++◌, List, ℕ, None, false, IfOk, option_map};
 ghost use Rattle.std.specs.Result.{result_ok};
 ghost use Rattle.cookie_core.specs.CookieOf.{cookie_of};
-ghost use Rattle.cookie_core.specs.Layout.{laid_out, IsLayoutIn};
+ghost use Rattle.cookie_core.specs.Layout.{laid_out, pair_laid_out, IsLayoutIn};
 ghost use Rattle.cookie_core.specs.Parts.{part_text, IsOptionalPartOf};
 ghost use Rattle.cookie_core.specs.Pieces.{Lacks, offset_of};
 ghost use Rattle.cookie_core.specs.Reads.{Reads};
+ghost use Rattle.cookie_core.specs.Settings.{no_attributes};
+ghost use Rattle.cookie_core.specs.Spans.{StandsIn};
 ghost use Rattle.cookie_core.specs.Walk.{behind};
 
 use crate::attributes::Attributes;
@@ -42,8 +44,23 @@ impl Layout {
         requires { Lacks 59 text.now }
         ensures reads { Reads false text.now (laid_out text.now result) }
         ensures place { IfOk result (IsLayoutIn text.now) }
+        ensures unset { IfOk result (λ layout. layout.attributes ≡ no_attributes) }
     {
         Layout::of_pieces(Part::all(text), None)
+    }
+
+    // Where the name and the value of a text without a `;` are.
+    #[inline(always)]
+    pub(crate) fn pair_spans(text: &str) -> Result<(Span, Span), ParseError>
+        requires { Lacks 59 text.now }
+        ensures reads { Reads false text.now (pair_laid_out text.now result) }
+        ensures place { IfOk result (λ spans.
+            StandsIn text.now spans.0 × StandsIn text.now spans.1) }
+    {
+        match Layout::of_pair(text) {
+            Ok(layout) => Ok((layout.name, layout.value)),
+            Err(error) => Err(error),
+        }
     }
 
     // The layout of a first piece, and of the text after its `;`.
@@ -57,6 +74,8 @@ impl Layout {
             → t ≡ part_text first.entry ++ behind (option_map part_text later.entry)
             → Reads false t (laid_out first.entry.whole.now result) }
         ensures place { IfOk result (IsLayoutIn first.entry.whole.now) }
+        ensures unset { later.entry ≡ None
+            → IfOk result (λ layout. layout.attributes ≡ no_attributes) }
     {
         let (name, value) = first.cut(b'=');
         let Some(value) = value else {

@@ -61,7 +61,7 @@ s_box-lt : (b : ℕ) → s_box b < 256
 unfolding s_box
 s_box-lt b = affine_below-lt 8 (inverse b)
 
-xor_byte : (a b : ℕ) → a < 256 → b < 256 → bit_xor a b < 256
+pub xor_byte : (a b : ℕ) → a < 256 → b < 256 → bit_xor a b < 256
 xor_byte a b p q = xor_lt 8 a b p q
 
 -- ---- the key's words
@@ -118,11 +118,11 @@ bytes_round_key w k s p q =
     bytes_made (λ i. bit_xor (cell s (i % 4) (i / 4)) (slice_index (word w (4 * k + i / 4)) (i % 4))) 16
     (λ i. xor_byte (cell s (i % 4) (i / 4)) (slice_index (word w (4 * k + i / 4)) (i % 4)) (q (4 * (i / 4) + i % 4)) (bytes_word w (4 * k + i / 4) p (i % 4)))
 
-bytes_shifted : (s : List ℕ) → IsBytes s → IsBytes (shift_rows s)
+pub bytes_shifted : (s : List ℕ) → IsBytes s → IsBytes (shift_rows s)
 unfolding shift_rows
 bytes_shifted s p = bytes_made (λ i. cell s (i % 4) ((i / 4 + i % 4) % 4)) 16 (λ i. p (4 * ((i / 4 + i % 4) % 4) + i % 4))
 
-bytes_substituted : (s : List ℕ) → IsBytes (sub_bytes s)
+pub bytes_substituted : (s : List ℕ) → IsBytes (sub_bytes s)
 unfolding sub_bytes
 bytes_substituted s = bytes_made (λ i. s_box (cell s (i % 4) (i / 4))) 16 (λ i. s_box-lt (cell s (i % 4) (i / 4)))
 

@@ -1,11 +1,10 @@
 -- Sixteen bytes at a time.
-use Rattle.std.proofs.Common.{◌≡◌, ℕ, zero, suc, ◌+◌, ◌-◌, ◌*◌, ◌/◌, ◌%◌, ◌^◌, ◌<◌, ◌≤◌, List, [], ◌∷◌, map, length, get_or, replicate, take, drop, length-take, length-drop, get_or-take, get_or-drop, Bool, true, T, cond, leb, bit_xor, refl, sym, ap, subst, ◌∙◌, arith, w8, Fits}
+use Rattle.std.proofs.Common.{◌≡◌, ℕ, zero, suc, ◌+◌, ◌*◌, ◌/◌, ◌%◌, ◌^◌, ◌<◌, ◌≤◌, List, [], ◌∷◌, map, length, get_or, replicate, Bool, true, T, cond, leb, bit_xor, refl, sym, ap, subst, ◌∙◌, arith, w8, Fits}
 use Rattle.std.specs.List.{range_with_len}
 use Rattle.std.specs.Simd.Lanes.{Each1, zip2, chunk, sel_l, top}
 use Rattle.std.proofs.lemmas.List.{get_or-map, ext_get_or, length-map}
 use Rattle.std.proofs.lemmas.List.FromFn.{get_or-map-range_with_len, fill_by_all}
 use Rattle.std.proofs.lemmas.Simd.{Each1-weaker, SwzOk, swz_l, SwzOk-from_Each1, length-swz_l, get_or-swz_l, get_or-zip2, length-zip2, get_or-chunk, length-chunk}
-use Rattle.cookie_crypt.specs.Aes.{cell, word}
 use Rattle.cookie_crypt.specs.ByteField.{byte_times_x}
 use Rattle.cookie_crypt.specs.Lanes.{entry, is_place, ArePlaces}
 use Rattle.cookie_crypt.proofs.SboxLemmas.{on_bytes}
@@ -79,23 +78,6 @@ pub lanes_are_bytes : (s : List ℕ) → Each1 (Fits w8) s → (i : ℕ) → get
 lanes_are_bytes [] h i = omega arith
 lanes_are_bytes (x ∷ s) h zero = h.0.fits
 lanes_are_bytes (x ∷ s) h (suc i) = lanes_are_bytes s h.1 i
-
--- sixteen bytes of the key
-pub key_lane : (w s : List ℕ) (k m : ℕ) → k ≤ 14 → m ≡ 240 - 16 * k → length w ≡ 240 → length s ≡ 16
-    → zip2 bit_xor s (chunk 0 16 (take m (drop (16 * k) w))) ≡ map (λ i. bit_xor (cell s (i % 4) (i / 4)) (get_or (word w (4 * k + i / 4)) (i % 4) 0)) (range_with_len 0 16)
-key_lane w s k m low e p q =
-    let part : List ℕ = take m (drop (16 * k) w) in
-    let there : length part ≡ m = omega (arith, length-take m (drop (16 * k) w), length-drop (16 * k) w) in
-    let long : length (chunk 0 16 part) ≡ 16 = length-chunk 0 16 part (omega arith) in
-    fill_by_all _ (zip2 bit_xor s (chunk 0 16 part)) 16 0 (length-zip2 bit_xor s (chunk 0 16 part) (q ∙ sym long) ∙ q) (λ i h.
-    let own : i ≡ 4 * (i / 4) + i % 4 = omega arith in
-    let start : 0 + i ≡ i = omega arith in
-    let place : 16 * k + i ≡ 4 * (4 * k + i / 4) + i % 4 = omega arith in
-    get_or-zip2 bit_xor s (chunk 0 16 part) i 0 0 0 (omega arith) (omega arith)
-    ∙ ap (λ j. bit_xor (get_or s j 0) (get_or (chunk 0 16 part) i 0)) own
-    ∙ ap (bit_xor (cell s (i % 4) (i / 4))) (
-    get_or-chunk 0 16 part i 0 h ∙ ap (λ j. get_or part j 0) start ∙ get_or-take m (drop (16 * k) w) i 0 (omega arith) ∙ get_or-drop (16 * k) w i 0
-    ∙ ap (λ j. get_or w j 0) place ∙ sym (get_or-map-range_with_len (λ j. get_or w (4 * (4 * k + i / 4) + j) 0) 0 4 (i % 4) (i % 4) 0 (omega arith) (omega arith))))
 
 -- sixteen bytes of a list, from p on
 pub loaded : (xs : List ℕ) (p : ℕ) → p + 16 ≤ length xs → chunk p 16 xs ≡ map (λ j. get_or xs (p + j) 0) (range_with_len 0 16)

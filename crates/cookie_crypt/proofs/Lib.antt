@@ -13,3 +13,4 @@ mod SboxLemmas
 mod StandardFacts
 mod StepLemmas
 mod TableLemmas
+mod TurnedLemmas

@@ -9,7 +9,7 @@ use Rattle.cookie_crypt.specs.Aes.{cell, mixed_cell}
 use Rattle.cookie_crypt.proofs.SboxLemmas.{on_bytes}
 
 -- two functions that agree on all pairs of bytes
-on_pairs : (f g : ℕ → ℕ → ℕ) → map (λ a. map (f a) (range_with_len 0 256)) (range_with_len 0 256) ≡ map (λ a. map (g a) (range_with_len 0 256)) (range_with_len 0 256)
+pub on_pairs : (f g : ℕ → ℕ → ℕ) → map (λ a. map (f a) (range_with_len 0 256)) (range_with_len 0 256) ≡ map (λ a. map (g a) (range_with_len 0 256)) (range_with_len 0 256)
     → (a b : ℕ) → a < 256 → b < 256 → f a b ≡ g a b
 on_pairs f g same a b p q =
     on_bytes (f a) (g a)
@@ -19,7 +19,7 @@ on_pairs f g same a b p q =
     b q
 
 -- a column's byte, from its own place on
-mixed : ℕ → ℕ → ℕ → ℕ → ℕ
+unfoldable pub mixed : ℕ → ℕ → ℕ → ℕ → ℕ
 mixed a b c d = bit_xor (bit_xor (byte_times_x (bit_xor a b)) b) (bit_xor c d)
 
 two_and_three : (a b : ℕ) → a < 256 → b < 256 → bit_xor (byte_times_x (bit_xor a b)) b ≡ bit_xor (byte_product 2 a) (byte_product 3 b)

@@ -41,7 +41,7 @@ pub looked_up-all : map looked_up (range_with_len 0 256) ≡ map s_box (range_wi
 unfolding looked_up looked_up_from table s_box affine_below inverse inverse_in_last byte_product byte_product_below byte_times_power byte_times_x
 looked_up-all = refl
 
-looked_up-is : (byte : ℕ) → looked_up byte ≡ s_box byte
+pub looked_up-is : (byte : ℕ) → looked_up byte ≡ s_box byte
 unfolding looked_up looked_up_from
 looked_up-is byte =
     ⊎_elim

@@ -1,5 +1,6 @@
 pub mod Hmac
 pub mod Lanes
+pub mod Turned
 pub mod Expand
 pub mod ByteField
 pub mod Sbox

@@ -1,20 +1,18 @@
 //! AES-256, forward (FIPS 197).
-ghost use Rattle.std.specs.Prelude.{◌≡◌, ◌+◌, ◌<◌, ◌≤◌, List, ℕ, take};
-ghost use Rattle.cookie_crypt.specs.Aes.{sub_bytes, shift_rows, mix_columns, word, word_sum, sub_word, added_word, key_expansion, add_round_key, rounds, cipher, encrypt_block};
-ghost use Rattle.cookie_crypt.specs.ByteField.{IsInverse, inverse};
+ghost use Rattle.std.specs.Prelude.{◌≡◌, ◌+◌, ◌*◌, ◌<◌, ◌≤◌, List, ℕ, length, map, take, bit_xor, slice_index};
+ghost use Rattle.cookie_crypt.specs.Aes.{shift_rows, mix_columns, word, word_sum, sub_word, added_word, key_expansion, add_round_key, rounds, cipher, encrypt_block};
+ghost use Rattle.cookie_crypt.specs.ByteField.{IsInverse, inverse, byte_times_x};
+ghost use Rattle.cookie_crypt.specs.Lanes.{IsLanes};
+ghost use Rattle.cookie_crypt.specs.Turned.{key_byte, schedule_of, turned_back};
 
-use crate::lanes::{double, next_in_column, second_in_column, substitute, sum};
+use crate::block::add_block;
+use crate::lanes::{
+    last_in_column, next_in_column, substitute, substitute_back, substitute_turned, sum, turn,
+};
 use std::marker::Model;
 use std::simd::prelude::*;
 
 const ROUND_CONSTANTS: [u8; 7] = [0x01, 0x02, 0x04, 0x08, 0x10, 0x20, 0x40];
-
-#[inline(always)]
-fn sub_bytes(state: u8x16) -> u8x16
-    ensures { result ≡ sub_bytes state }
-{
-    substitute(state)
-}
 
 #[inline(always)]
 fn shift_rows(state: u8x16) -> u8x16
@@ -23,22 +21,45 @@ fn shift_rows(state: u8x16) -> u8x16
     state.swizzle([0, 5, 10, 15, 4, 9, 14, 3, 8, 13, 2, 7, 12, 1, 6, 11])
 }
 
-// A row takes its own byte twice, the next row's three times, which is 2 + 1, and the others once.
+// The turned columns, of turned bytes and of `x` times these. A row takes its own byte twice, the next row's three times,
+// which is 2 + 1, and the others once. The constant of S, which no byte has here, would stay what it is.
 #[inline(always)]
-fn mix_columns(state: u8x16) -> u8x16
-    ensures { result ≡ mix_columns state }
+fn mix_columns(once: u8x16, twice: u8x16) -> u8x16
+    ensures { (state : List ℕ) → IsLanes state
+        → map turned_back once ≡ map (λ b. bit_xor b 0x63) state
+        → map turned_back twice ≡ map (λ b. byte_times_x (bit_xor b 0x63)) state
+        → map turned_back result ≡ map (λ b. bit_xor b 0x63) (mix_columns state) }
 {
-    let next = next_in_column(state);
-    let pair = sum(state, next);
-    sum(sum(double(pair), next), second_in_column(pair))
+    let near = sum(twice, next_in_column(once));
+    sum(sum(near, last_in_column(once)), next_in_column(near))
 }
 
+// The words of a round.
+#[inline(always)]
+fn words_of(words: &[u8; 240], round: usize) -> u8x16
+    requires { round ≤ 14 }
+    ensures length { length result ≡ 16 }
+    ensures each { (j : ℕ) → j < 16 → slice_index result j
+        ≡ slice_index words.now (16 * round + j) }
+{
+    u8x16::from_slice(&words[16 * round..])
+}
+
+// The words of a round, added to a state. A state before the first round is turned. Before a later one it also has the
+// constant of S, which the words have too, and before the last it isn't turned.
 #[inline(always)]
 fn add_round_key(words: &[u8; 240], round: usize, state: u8x16) -> u8x16
     requires { round ≤ 14 }
-    ensures { result ≡ add_round_key words.now round state }
+    ensures first { round ≡ 0 → map turned_back result
+        ≡ add_round_key (schedule_of words.now) 0 (map turned_back state) }
+    ensures later { (mixed : List ℕ) → 1 ≤ round → round ≤ 13 → length mixed ≡ 16
+        → map turned_back state ≡ map (λ b. bit_xor b 0x63) mixed
+        → map turned_back result ≡ add_round_key (schedule_of words.now) round mixed }
+    ensures last { (shifted : List ℕ) → round ≡ 14 → length shifted ≡ 16
+        → state ≡ map (λ b. bit_xor b 0x63) shifted
+        → result ≡ add_round_key (schedule_of words.now) 14 shifted }
 {
-    state ^ u8x16::from_slice(&words[16 * round..])
+    state ^ words_of(words, round)
 }
 
 fn word(words: &[u8; 240], i: usize) -> [u8; 4]
@@ -101,21 +122,52 @@ fn key_expansion(key: &[u8; 32]) -> [u8; 240]
     words
 }
 
-// One round more than were done.
+// The words of a round as the rounds of `cipher` add them: turned, but for the last round, and with the constant of S, but
+// for the first.
+#[inline(always)]
+fn prepared_words(words: &[u8; 240], round: usize) -> u8x16
+    requires { round ≤ 14 }
+    ensures { (j : ℕ) → j < 16 → key_byte (16 * round + j) (slice_index result j)
+        ≡ slice_index words.now (16 * round + j) }
+{
+    let bytes = words_of(words, round);
+    if round == 0 {
+        return turn(bytes);
+    }
+    if round == 14 {
+        return bytes ^ u8x16::splat(0x63);
+    }
+    turn(bytes ^ u8x16::splat(0x63))
+}
+
+// All words, as the rounds add them.
+fn prepare(words: &[u8; 240]) -> [u8; 240]
+    ensures { schedule_of result ≡ words.now }
+{
+    let mut prepared = [0; 240];
+    for round in 0..15usize {
+        let block = prepared_words(words, round).to_array();
+        add_block(&mut prepared, 16 * round, &block);
+    }
+    prepared
+}
+
+// One round more than were done. The state is turned.
 #[inline(always)]
 fn round(words: &[u8; 240], done: usize, state: u8x16) -> u8x16
     requires { done < 13 }
-    ensures { (block : List ℕ) → state ≡ rounds words.now done block
-        → result ≡ rounds words.now (done + 1) block }
+    ensures { (block : List ℕ) → map turned_back state ≡ rounds (schedule_of words.now) done block
+        → map turned_back result ≡ rounds (schedule_of words.now) (done + 1) block }
 {
-    add_round_key(words, done + 1, mix_columns(shift_rows(sub_bytes(state))))
+    let (once, twice) = substitute_turned(shift_rows(state));
+    add_round_key(words, done + 1, mix_columns(once, twice))
 }
 
 #[inline(always)]
 fn four_rounds(words: &[u8; 240], done: usize, state: u8x16) -> u8x16
     requires { done < 10 }
-    ensures { (block : List ℕ) → state ≡ rounds words.now done block
-        → result ≡ rounds words.now (done + 4) block }
+    ensures { (block : List ℕ) → map turned_back state ≡ rounds (schedule_of words.now) done block
+        → map turned_back result ≡ rounds (schedule_of words.now) (done + 4) block }
 {
     let state = round(words, done, state);
     let state = round(words, done + 1, state);
@@ -123,19 +175,29 @@ fn four_rounds(words: &[u8; 240], done: usize, state: u8x16) -> u8x16
     round(words, done + 3, state)
 }
 
-// The rounds are written one after the other, so that their tables stay in registers.
-fn cipher(words: &[u8; 240], block: [u8; 16]) -> [u8; 16]
-    ensures { result ≡ cipher words.now block }
+// The last round, which leaves the columns unmixed and turns the bytes back.
+#[inline(always)]
+fn last_round(words: &[u8; 240], state: u8x16) -> u8x16
+    ensures { (block : List ℕ) → map turned_back state ≡ rounds (schedule_of words.now) 13 block
+        → result ≡ cipher (schedule_of words.now) block }
 {
-    let state = add_round_key(words, 0, u8x16::from_array(block));
+    add_round_key(words, 14, substitute_back(shift_rows(state)))
+}
+
+// The rounds are written one after the other, so that their tables stay in registers. They are inlined, so that a loop
+// over blocks keeps them there.
+#[inline(always)]
+fn cipher(words: &[u8; 240], block: [u8; 16]) -> [u8; 16]
+    ensures { result ≡ cipher (schedule_of words.now) block }
+{
+    let state = add_round_key(words, 0, turn(u8x16::from_array(block)));
     let state = four_rounds(words, 0, state);
     let state = four_rounds(words, 4, state);
     let state = four_rounds(words, 8, state);
-    let state = round(words, 12, state);
-    add_round_key(words, 14, shift_rows(sub_bytes(state))).to_array()
+    last_round(words, round(words, 12, state)).to_array()
 }
 
-/// AES-256 under a key. Contracts see the key.
+/// AES-256 under a key. Contracts see the key. It keeps the key's words as the rounds add them.
 #[derive(Drop)]
 pub struct Aes256 {
     words: [u8; 240],
@@ -144,9 +206,10 @@ pub struct Aes256 {
 impl Model for Aes256 {
     ghost Value = { List ℕ };
 
-    ghost view = { λ a. take 32 a.words };
+    ghost view = { λ a. take 32 (schedule_of a.words) };
 
-    ghost invariant = { λ a. a.words ≡ key_expansion (take 32 a.words) };
+    ghost invariant = { λ a. schedule_of a.words
+        ≡ key_expansion (take 32 (schedule_of a.words)) };
 }
 
 impl Aes256 {
@@ -155,7 +218,7 @@ impl Aes256 {
         ensures { result ≡ key.now }
     {
         Aes256 {
-            words: key_expansion(key),
+            words: prepare(&key_expansion(key)),
         }
     }
 
@@ -167,6 +230,7 @@ impl Aes256 {
     }
 
     /// The block, encrypted (FIPS 197 5.1).
+    #[inline(always)]
     pub fn encrypt_block(&self, block: [u8; 16]) -> [u8; 16]
         ensures value { result ≡ encrypt_block self.now block }
         ensures inverses { (b : ℕ) → b < 256 → IsInverse b (inverse b) }

@@ -1,10 +1,11 @@
 use Rattle.std.proofs.Common.{◌≡◌, ◌+◌, ap, ◌∙◌, arith}
 use Rattle.cookie_crypt.specs.Aes.{rounds}
+use Rattle.cookie_crypt.specs.Turned.{schedule_of}
 use Rattle.cookie_crypt.proofs.aes.four_rounds.Goals as goal
 
 pub returns : goal.returns
 returns c = λ block before.
-    let w = c.args.words.now in
+    let w = schedule_of c.args.words.now in
     let n = c.args.done in
     let two : n + 1 + 1 ≡ n + 2 = omega arith in
     let three : n + 2 + 1 ≡ n + 3 = omega arith in

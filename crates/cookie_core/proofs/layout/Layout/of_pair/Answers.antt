@@ -1,4 +1,4 @@
-use Rattle.std.proofs.Common.{IfOk, false, sym, ap, subst, ◌∙◌}
+use Rattle.std.proofs.Common.{IfOk, false, refl, sym, ap, subst, ◌∙◌}
 use Rattle.std.proofs.lemmas.List.{append-nil}
 use Rattle.cookie_core.specs.Layout.{laid_out, IsLayoutIn}
 use Rattle.cookie_core.specs.Pieces.{Lacks, offset_of}
@@ -20,3 +20,6 @@ returns-clause-reads c =
 pub returns-clause-place : goal.returns-clause-place
 returns-clause-place c =
     subst (λ t. IfOk c.of_pieces.result (IsLayoutIn t)) c.all.ensures.place c.of_pieces.ensures.place
+
+pub returns-clause-unset : goal.returns-clause-unset
+returns-clause-unset c = c.of_pieces.ensures.unset refl

@@ -1,4 +1,4 @@
-use Rattle.std.proofs.Common.{◌≡◌, ◌==◌, List, [], ℕ, Some, None, false, length, refl, sym, ap, subst, ◌∙◌, arith}
+use Rattle.std.proofs.Common.{◌≡◌, ◌==◌, List, [], ℕ, Some, None, false, length, option_map, refl, sym, ap, subst, ◌∙◌, arith}
 use Rattle.std.proofs.lemmas.Bool.{false≢true}
 use Rattle.std.proofs.lemmas.Bool.Decides.{nat_tests}
 use Rattle.std.proofs.lemmas.List.{nil_from_length}
@@ -52,3 +52,6 @@ returns-clause-place c =
       within = omega (arith, cut.2, c.trim.ensures.end, c.requires.end);
       attributes = c.read.ensures.place;
     }
+
+pub returns-clause-unset : goal.returns-clause-unset
+returns-clause-unset c = λ none. c.read.ensures.unset (c.span_of.ensures ∙ ap (option_map (λ part. part.span)) none)

@@ -5,7 +5,8 @@ use Rattle.cookie_crypt.proofs.aes.Aes256.new.Goals as goal
 
 pub invariant_of-result : goal.invariant_of-result
 invariant_of-result c =
-    c.key_expansion.ensures ∙ ap key_expansion (sym (ap (take 32) c.key_expansion.ensures ∙ key_first c.args.key.now c.told-key))
+    let words = c.prepare.ensures ∙ c.key_expansion.ensures in
+    words ∙ ap key_expansion (sym (ap (take 32) words ∙ key_first c.args.key.now c.told-key))
 
 pub returns : goal.returns
-returns c = ap (take 32) c.key_expansion.ensures ∙ key_first c.args.key.now c.told-key
+returns c = ap (take 32) (c.prepare.ensures ∙ c.key_expansion.ensures) ∙ key_first c.args.key.now c.told-key
