@@ -1,6 +1,8 @@
 """What the tools share on the toolchain and on crates.txt."""
+import hashlib
 import importlib.machinery
 import importlib.util
+import os
 import pathlib
 import re
 import shutil
@@ -64,15 +66,72 @@ def words_of(crate):
     return [*words, "--antt-project", folder / "rattle/logic/antt-project.json", "--logic-built", folder / "logic_built"]
 
 
+def is_built(crate):
+    """Whether the crate's library is in its folder out/, and no older than what it is made from."""
+    folder = ROOT / "crates" / crate
+    rlib = folder / "out/rlib" / f"{crate}.rlib/format"
+    files = [path for part in PARTS for path in (folder / part).rglob("*") if path.is_file()]
+    return rlib.exists() and all(path.stat().st_mtime <= rlib.stat().st_mtime for path in files)
+
+
+def sum_of(*paths):
+    """A sum of the files' bytes."""
+    total = hashlib.sha256()
+    for path in paths:
+        total.update(path.read_bytes())
+    return total.hexdigest()
+
+
+def run_in(folder, *command):
+    """Runs a command that builds, and ends the script with what it wrote if it fails."""
+    outputs = {"stdout": subprocess.PIPE, "stderr": subprocess.STDOUT}
+    done = subprocess.run(list(map(str, command)), cwd=folder, text=True, errors="replace", **outputs)
+    if done.returncode != 0:
+        sys.exit(done.stdout)
+
+
+def driver_over(work, name, needs, source):
+    """Proves and builds a driver over the libraries in the folders out/, by the commands that `rt run` gives. If it was
+    built in this folder before, of the same file over the same libraries, it is taken as it is."""
+    tools, at = kit(), work / name
+    built = {crate: ROOT / "crates" / crate / "out/rlib" for need in needs if need in crate_lines() for crate in crates_below(need)}
+    files = [place / f"{crate}.rlib" / file for crate, place in sorted(built.items()) for file in ("format", "toolchain/mir.json")]
+    stamp, kept = sum_of(source, tools / "KIT-ID", *files), at / "stamp"
+    if kept.exists() and kept.read_text() == stamp:
+        return at / name
+    (at / "src").mkdir(parents=True, exist_ok=True)
+    kept.unlink(missing_ok=True)
+    shutil.copy(source, at / "src/main.rt")
+    words = ["--crate-name", name, "src/main.rt", "--incremental", "incremental"]
+    for crate in ["std", *needs]:
+        words += ["--extern", f"{crate}={built.get(crate, tools / 'rlibs') / crate}.rlib"]
+    for place in [tools / "rlibs", *built.values()]:
+        words += ["-L", f"dependency={place}"]
+    words += ["--antt-project", tools / "rattle/logic/antt-project.json", "--logic-built", tools / "logic_built"]
+    words += ["--toolchain", tools / "toolchain", "--backend", "llvm", "--jobs", "1", "-o", f"{name}.o"]
+    run_in(at, tools / "bin/rattle", "build", *words)
+    target = ["--target", "x86_64-unknown-linux-gnu", "--toolchain", tools / "toolchain", "-o", name]
+    run_in(at, tools / "bin/rattle-link", *target, f"{name}.o", tools / "c/libos_c.a", tools / "c/liblibc_c.a")
+    kept.write_text(stamp)
+    return at / name
+
+
 def program_of(work, name, needs, words, source=None, stdin=subprocess.DEVNULL):
     """Proves and builds a program over the last commit, from what checks of this folder have kept, and runs it once
-    with these words. It is the crate of that name, or a driver of the file `source` over the crates that it needs."""
+    with these words. It is the crate of that name, or a driver of the file `source` over the crates that it needs. A
+    driver is built over the libraries of this folder, if all are there, as after `rt ci`: in the folder that the variable
+    KEEP names, if it does, where it stays for later."""
+    if source and all(is_built(crate) for need in needs if need in crate_lines() for crate in crates_below(need)):
+        program = driver_over(pathlib.Path(os.environ.get("KEEP", work)).resolve(), name, needs, source)
+        subprocess.run([program, *words], stdin=stdin, stdout=subprocess.DEVNULL, check=True)
+        return program
     clone = work / "clone"
-    subprocess.run(["git", "clone", "--quiet", ROOT, clone], check=True)
+    if not clone.exists():
+        subprocess.run(["git", "clone", "--quiet", ROOT, clone], check=True)
     for crate in {below for need in needs if need in crate_lines() for below in crates_below(need)}:
-        kept = ROOT / "crates" / crate / "out"
-        if kept.exists():
-            shutil.copytree(kept, clone / "crates" / crate / "out")
+        kept, copy = (top / "crates" / crate / "out" for top in (ROOT, clone))
+        if kept.exists() and not copy.exists():
+            shutil.copytree(kept, copy)
     folder = clone / "crates" / name
     if source:
         (folder / "src").mkdir(parents=True)

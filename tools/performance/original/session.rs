@@ -2,8 +2,9 @@ use cookie::{Cookie, CookieJar, Key};
 
 const NAME: &str = "session";
 
-// What a session's cookie encrypts beside its texts: the version, the id and two seconds, as the port writes them.
-const HEAD: &str = "v=2&id=BwcHBwcHBwcHBwcHBwcHBw&started=1798761600&seen=1798761600";
+// What a session's cookie encrypts beside its texts, as the port writes them.
+const HEAD: &str =
+    "v=4&id=BwcHBwcHBwcHBwcHBwcHBw&started=1798761600&end=1798848000&idle=3600&seen=1798761600";
 
 fn cookie_of(text: &str) -> Cookie<'static> {
     Cookie::build((NAME, text.to_string())).path("/").http_only(true).build()
@@ -22,7 +23,7 @@ fn main() {
     let mut total = 0;
     for _ in 0..times {
         match work.as_str() {
-            "open" => total += jar.private(&key).get(NAME).expect("it opens").value().split('&').count() - 4,
+            "open" => total += jar.private(&key).get(NAME).expect("it opens").value().split('&').count() - 6,
             "save" => {
                 jar.private_mut(&key).add(cookie_of(&text));
                 total += 1;
