@@ -53,9 +53,9 @@ def address_of(url: str, is_cross_site: bool = False, is_localhost_secure: bool 
 def address_at(scheme: str, host: str, path: str, is_localhost_secure: bool = True) -> Address:
     """The address of a request that a client makes, for a request of its own site.
 
-    `host` is the one that the client connects to, as it names it, in brackets or not. So a URL that the client and this
-    package would read otherwise can't have a cookie stored for a host that didn't answer. Raises `ValueError` if the
-    scheme isn't one of http, https, ws and wss, or the host is none.
+    `host` is the one that the client connects to, as it names it, in brackets or not. Raises `ValueError` if the scheme
+    isn't one of http, https, ws and wss, or the host is none, or another reader could take it for another one: with an
+    escape or an empty label, and an IPv4 address in any form but four decimal numbers, such as `127.1` or `127.0.0.1.`.
 
     >>> address_at("https", "Shop.Example", "/cart/../view")
     Address(host='shop.example', path='/view', is_address=False, is_secure=True, is_same_site=True, is_top_level=True)
@@ -63,17 +63,18 @@ def address_at(scheme: str, host: str, path: str, is_localhost_secure: bool = Tr
     scheme = scheme.lower()
     if scheme not in ("http", "https", "ws", "wss"):
         raise ValueError("the scheme is no http or https")
-    if "%" in host:
-        # Browsers read an escape here, and clients connect to a host with this name.
-        raise ValueError("the host has an escape")
     name, is_address, is_local = host_of(f"[{host}]" if ":" in host and not host.startswith("[") else host)
+    # Browsers read an escape and each form of an address, and clients connect to a host with this name.
+    if "%" in host or host.startswith(".") or ".." in host or is_address and not name.startswith("[") and name != host:
+        raise ValueError("the host isn't the same to all readers")
     is_secure = scheme in ("https", "wss") or is_local and is_localhost_secure
     return Address(name, path_of(path), is_address, is_secure)
 
 
 def ascii_host(host: str) -> str:
     """The host in Punycode, as browsers have it: by the package `idna`, if it is installed (UTS 46, not transitional), and
-    else by the codec `idna` of Python, whose rules are older (RFC 3490). Raises `ValueError` if it has none.
+    else by the codec `idna` of Python, whose rules are older (RFC 3490). Raises `ValueError` for what they refuse.
+    Browsers take some of that, such as an emoji.
 
     >>> ascii_host("b\xfccher.example")
     'xn--bcher-kva.example'
@@ -81,8 +82,13 @@ def ascii_host(host: str) -> str:
     try:
         import idna
     except ImportError:
-        return host.encode("idna").decode()
-    return idna.encode(host, uts46=True).decode()
+        encoded = functools.partial(str.encode, encoding="idna")
+    else:
+        encoded = functools.partial(idna.encode, uts46=True)
+    try:
+        return encoded(host).decode()
+    except UnicodeError:
+        raise ValueError(f"Python's IDNA refuses the host {host!r}. A browser may take it: pass its Punycode, xn--..") from None
 
 
 @functools.lru_cache(maxsize=1024)

@@ -56,18 +56,21 @@ class CookieJar(http.cookiejar.CookieJar):
                 request.add_unredirected_header("Cookie", header.decode("latin-1"))
 
     def address_of(self, request: Any) -> Address | None:
-        """Where the request goes. None if that is no URL of http or https with a host: then no cookie is read or sent."""
+        """Where the request goes. None if that is no URL of http or https with a host, or another reader could find another
+        host in it: then no cookie is read or sent."""
         try:
             parts = urlsplit(request.get_full_url())
             # The stand-in of requests names the host of the header `Host`, which is also sent where a redirect goes.
-            netloc = request.get_host() if hasattr(request, "get_new_headers") else parts.netloc
-            named = urlsplit(f"//{netloc}")
-            # A proxy may read a `/` where there is a backslash. A port that isn't a number raises `ValueError`.
-            if "\\" in unquote(netloc) or named.port == 0:
+            is_of_requests, is_of_httpx = hasattr(request, "get_new_headers"), hasattr(request, "request")
+            netloc = request.get_host() if is_of_requests else parts.netloc
+            # requests and httpx don't connect to what is before an `@`. http.client does.
+            authority = netloc.rpartition("@")[2] if is_of_requests or is_of_httpx else netloc
+            named = re.fullmatch(r"(\[[^][]*\]|[^][@:]*)(:[0-9]*)?", authority)
+            # A proxy may read a `/` where there is a backslash.
+            if not named or "\\" in unquote(netloc) or urlsplit(f"//{authority}").port == 0:
                 return None
-            host = named.hostname or ""
             # The codec that http.client connects with.
-            host = host if host.isascii() else host.encode("idna").decode()
+            host = named[1] if named[1].isascii() else named[1].encode("idna").decode()
         except ValueError:
             return None
         return self.agent.address_at(parts.scheme, host, parts.path, self.context)
