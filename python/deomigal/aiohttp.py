@@ -22,9 +22,8 @@ from aiohttp.abc import AbstractCookieJar, ClearCookiePredicate
 from aiohttp.typedefs import LooseCookies
 from yarl import URL
 
-from ._agent import AgentCookie, header_bytes
 from .addresses import Address
-from .agents import SAFE_METHODS, SAME_SITE, Agent, Context
+from .agents import SAFE_METHODS, SAME_SITE, Agent, AgentCookie, Context, header_bytes
 from .dates import print_date
 from .explain import date_after
 

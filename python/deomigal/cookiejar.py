@@ -15,9 +15,8 @@ import re
 from typing import Any, Iterable, Iterator
 from urllib.parse import unquote, urlsplit
 
-from ._agent import AgentCookie, header_bytes
 from .addresses import Address, address_at
-from .agents import SAME_SITE, Agent, Context
+from .agents import SAME_SITE, Agent, AgentCookie, Context, header_bytes
 from .cookies import RULES
 
 

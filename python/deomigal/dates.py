@@ -3,14 +3,13 @@ from __future__ import annotations
 
 import datetime
 import time
+from typing import Any
 
-from ._library import DONE, PRINT_DATE, READ_DATE, Moment, bytes_of, bytes_from
+from ._library import PRINT_DATE, READ_DATE, bytes_from, bytes_of, checked
 from .errors import NoDate, error_of
 
 # The first second that `datetime` has.
 FIRST = datetime.datetime(1, 1, 1, tzinfo=datetime.timezone.utc)
-
-
 # One more than the last second that a call takes.
 END = 2**64
 
@@ -34,24 +33,18 @@ def whole_second(now: float | None) -> int:
     return second
 
 
-def date_of(moment: Moment) -> datetime.datetime | None:
+def date_of(moment: Any) -> datetime.datetime | None:
     """The date and time in UTC, or None if there is none. `datetime` has no year below 1, so that is None too."""
-    if moment.status not in (DONE, NoDate.status):
-        raise error_of(moment.status)
-    if moment.status == NoDate.status or moment.year < 1:
+    if moment.status == NoDate.status or checked(moment).year < 1:
         return None
-    return datetime.datetime(
-        moment.year, moment.month, moment.day, moment.hour, moment.minute, moment.second, tzinfo=datetime.timezone.utc
-    )
+    return FIRST.replace(moment.year, moment.month, moment.day, moment.hour, moment.minute, moment.second)
 
 
-def numbers_of(moment: datetime.datetime) -> tuple[int, int, int, int, int, int]:
+def numbers_of(moment: datetime.datetime) -> tuple[int, ...]:
     """The six numbers of a date and time in UTC. One without a time zone counts as UTC."""
     if not isinstance(moment, datetime.datetime):
         raise TypeError("a time is a datetime.datetime")
-    if moment.tzinfo is not None:
-        moment = moment.astimezone(datetime.timezone.utc)
-    return moment.year, moment.month, moment.day, moment.hour, moment.minute, moment.second
+    return moment.utctimetuple()[:6]
 
 
 def read_date(text: str | bytes) -> datetime.datetime | None:

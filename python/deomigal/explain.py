@@ -5,22 +5,21 @@ import ctypes
 import datetime
 import functools
 import pathlib
-from typing import NamedTuple
+from typing import Any, Iterable, NamedTuple
 
 from ._library import (
-    DONE, HANDLE, SECOND, SUFFIXES_FREE, SUFFIXES_NEW, TEXT, OwnHandle, Span, bytes_of, declare, perform,
+    EXPLAIN, REFUSAL_SECTION, REFUSAL_SENTENCE, SUFFIXES_FREE, SUFFIXES_NEW, OwnHandle, Request, bytes_at, bytes_from,
+    bytes_of, checked, perform,
 )
 from ._locks import Lock
 from .addresses import Address, address_of
 from .cookies import RULES
 from .dates import print_date, whole_second
-from .errors import error_of
 
 # The steps that refuse a cookie, in the order of their numbers in cookie.h.
 STEPS = (
     "ControlCharacter", "TooLong", "Empty", "NonAsciiDomain", "PublicSuffix", "ForeignDomain", "InsecureConnection",
-    "OverlaysSecure", "CrossSite", "NoneWithoutSecure", "SecurePrefix", "HostPrefix", "NamelessPrefix",
-    "HttpPrefix",
+    "OverlaysSecure", "CrossSite", "NoneWithoutSecure", "SecurePrefix", "HostPrefix", "NamelessPrefix", "HttpPrefix",
 )
 # The last second that has a date, since 1970.
 LAST = 253402300799
@@ -32,39 +31,7 @@ ROOM = 1000
 # wheel beside this file, in the project with the program cookie_explain.
 DEBIAN = "/usr/share/publicsuffix/public_suffix_list.dat"
 HERE = pathlib.Path(__file__).resolve().parent
-COPIES = (
-    HERE / "public_suffix_list.dat", HERE.parent.parent / "crates/cookie_explain/data/public_suffix_list.dat",
-)
-
-
-class Request(ctypes.Structure):
-    """A request, for C."""
-
-    _fields_ = [
-        ("host", ctypes.c_char_p), ("host_length", ctypes.c_size_t),
-        ("path", ctypes.c_char_p), ("path_length", ctypes.c_size_t),
-        *((name, ctypes.c_bool) for name in ("is_address", "is_secure", "is_same_site", "is_top_level", "is_safe")),
-    ]
-
-
-class StoredCookie(ctypes.Structure):
-    """A stored cookie as C returns it: the spans of its texts, and the rest."""
-
-    _fields_ = [(name, Span) for name in ("name", "value", "domain", "path")] + [
-        ("lifetime", ctypes.c_uint64), ("same_site", ctypes.c_uint32),
-    ] + [(name, ctypes.c_bool) for name in ("is_persistent", "is_host_only", "is_secure", "is_http_only")]
-
-
-class Explanation(ctypes.Structure):
-    """What C returns of a text: what refuses it, or what is stored."""
-
-    _fields_ = [
-        ("status", ctypes.c_uint32), ("refusal", ctypes.c_uint32), ("sentence", Span), ("section", Span),
-        ("stored", StoredCookie),
-    ]
-
-
-EXPLAIN = declare("explain", HANDLE + [ctypes.POINTER(Request)] + TEXT + SECOND + TEXT, Explanation)
+COPIES = (HERE / "public_suffix_list.dat", HERE.parents[1] / "crates/cookie_explain/data/public_suffix_list.dat")
 
 
 class Suffixes:
@@ -113,7 +80,7 @@ class Found(NamedTuple):
     value: bytes
     domain: bytes
     path: bytes
-    cookie: StoredCookie
+    cookie: Any
 
 
 def verdict(
@@ -138,35 +105,41 @@ def verdict(
     found = found_at(address, bytes_of(text), list_text(suffixes), second_of(now))
     if found.refusal:
         return Refusal(STEPS[found.refusal - 1], shown(found.sentence), shown(found.section))
-    cookie = found.cookie
-    return Stored(
-        name=shown(found.name), value=shown(found.value), domain=shown(found.domain), path=shown(found.path),
-        lifetime=cookie.lifetime if cookie.is_persistent else None, same_site=RULES[cookie.same_site],
-        is_host_only=cookie.is_host_only, is_secure=cookie.is_secure, is_http_only=cookie.is_http_only,
+    return Stored(*fields_of(found.cookie, map(shown, found[3:7]), found.cookie.lifetime))
+
+
+def fields_of(cookie: Any, texts: Iterable[str], end: int) -> tuple[Any, ...]:
+    """The fields of a `Stored`, or of an agent's cookie, whose end is the second of its expiry."""
+    return (
+        *texts, end if cookie.is_persistent else None, RULES[cookie.same_site], cookie.is_host_only, cookie.is_secure,
+        cookie.is_http_only,
     )
+
+
+@functools.lru_cache(maxsize=1024)
+def request_of(address: Address, is_safe: bool = True) -> Any:
+    """The request to the address, for C."""
+    host, path = bytes_of(address.host), bytes_of(address.path)
+    return Request(host, len(host), path, len(path), *address[2:], is_safe)
 
 
 def found_at(address: Address, text: bytes, suffixes: bytes, now: int) -> Found:
     """What a browser without cookies makes of the text that comes from the address."""
-    host, path = bytes_of(address.host), bytes_of(address.path)
-    request = Request(host, len(host), path, len(path), *address[2:])
     # The texts of a stored cookie come from these three.
-    room = ROOM + len(host) + len(path) + len(text)
-    buffer = ctypes.create_string_buffer(room)
-    rules = rules_of(suffixes)
+    room = ROOM + len(bytes_of(address.host)) + len(bytes_of(address.path)) + len(text)
+    buffer, rules = ctypes.create_string_buffer(room), rules_of(suffixes)
     with rules.lock:
-        answer = EXPLAIN(rules.handle, request, text, len(text), now, buffer, room)
-    if answer.status != DONE:
-        raise error_of(answer.status)
+        answer = checked(EXPLAIN(rules.handle, request_of(address), text, len(text), now, buffer, room))
     cookie, texts = answer.stored, buffer.raw
+    spans = answer.sentence, answer.section, cookie.name, cookie.value, cookie.domain, cookie.path
+    return Found._make((answer.refusal, *(bytes_at(texts, span) for span in spans), cookie))
 
-    def taken(at: Span) -> bytes:
-        return texts[at.start : at.start + at.length]
 
-    return Found(
-        answer.refusal, taken(answer.sentence), taken(answer.section), taken(cookie.name), taken(cookie.value),
-        taken(cookie.domain), taken(cookie.path), cookie,
-    )
+@functools.lru_cache(maxsize=None)
+def refusal_of(number: int) -> Refusal:
+    """Why the step with the number refuses a cookie."""
+    sentence, section = (bytes_from(call, number, room=ROOM).decode() for call in (REFUSAL_SENTENCE, REFUSAL_SECTION))
+    return Refusal(STEPS[number - 1], sentence, section)
 
 
 def refusal(
@@ -204,19 +177,17 @@ def report_of(found: Found, text: bytes, now: int, removal: bytes = b"would remo
     if found.refusal:
         return b"refused: %b (RFC 6265bis, %b)" % (found.sentence, found.section)
     cookie = found.cookie
-    scope = b"; for %b%b; path %b" % (
-        found.domain, b" only" if cookie.is_host_only else b" and the hosts below it", found.path
-    )
+    hosts = b" only" if cookie.is_host_only else b" and the hosts below it"
+    scope = b"; for %b%b; path %b" % (found.domain, hosts, found.path)
     if cookie.is_persistent and cookie.lifetime == 0:
         return removal + found.name + scope + partition_of(text, cookie.is_secure)
-    flags = b"; Secure" * cookie.is_secure + b"; HttpOnly" * cookie.is_http_only
+    flags: bytes = b"; Secure" * cookie.is_secure + b"; HttpOnly" * cookie.is_http_only
     site = f"; SameSite={RULES[cookie.same_site]}".encode() if cookie.same_site else b""
     pair = b"stored: %b=%b" % (found.name, found.value)
-    line: bytes = pair + scope + end_of(cookie, now) + flags + site + partition_of(text, cookie.is_secure)
-    return line
+    return pair + scope + end_of(cookie, now) + flags + site + partition_of(text, cookie.is_secure)
 
 
-def end_of(cookie: StoredCookie, now: int) -> bytes:
+def end_of(cookie: Any, now: int) -> bytes:
     """Until when the browser has the cookie."""
     if not cookie.is_persistent:
         return b"; until the browser closes"

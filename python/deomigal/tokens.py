@@ -2,12 +2,14 @@
 from __future__ import annotations
 
 import os
-from typing import NamedTuple, Sequence
+from typing import Any, NamedTuple, Sequence
 
-from ._library import DONE, TOKEN_MAKE, TOKEN_READ, TokenSettings, Uncopied, answer_and_bytes, bytes_from, bytes_of, ring_of
+from ._library import (
+    TOKEN_MAKE, TOKEN_READ, TokenSettings, Uncopied, answer_and_bytes, bytes_from, bytes_of, checked, ring_of,
+)
 from ._steps import run
 from .dates import whole_second
-from .errors import NotSealed, NotUtf8, error_of
+from .errors import NotSealed, NotUtf8
 from .revocations import AnyRevocations, Ask, ask, ask_async, was_revoked
 
 # Room for most values.
@@ -45,7 +47,7 @@ class Tokens(Uncopied):
         self.settings = self.settings_for(lifetime)
         self.make("")
 
-    def settings_for(self, lifetime: int) -> TokenSettings:
+    def settings_for(self, lifetime: int) -> Any:
         """The settings with this lifetime."""
         if not 0 <= lifetime < 2**32:
             raise OverflowError("a lifetime has at most 32 bits")
@@ -79,9 +81,7 @@ class Tokens(Uncopied):
         reading, value = answer_and_bytes(TOKEN_READ, settings, token, whole_second(now), room=ROOM)
         if reading.status in (NotSealed.status, NotUtf8.status):
             return None
-        if reading.status != DONE:
-            raise error_of(reading.status)
-        return Token(value.decode(), reading.made, reading.end, bytes(reading.id))
+        return Token(value.decode(), checked(reading).made, reading.end, bytes(reading.id))
 
     def read_once(
         self, token: str | bytes, revocations: AnyRevocations, now: float | None = None, *, max_age: int | None = None
