@@ -205,6 +205,14 @@ def ring_of(keys: Sequence[bytes]) -> bytes:
     return b"".join(bytes(key[:64]) for key in keys)
 
 
+def wire_bytes(text: str, errors: str = "surrogatepass") -> bytes:
+    """The bytes of a field's value, each of which is a character (PEP 3333). A text that has others is UTF-8."""
+    try:
+        return text.encode("latin-1")
+    except UnicodeEncodeError:
+        return text.encode("utf-8", errors)
+
+
 def header_of(header: str | bytes | None) -> bytes:
     """The bytes of a request's `Cookie` header, none if it has none."""
     return b"" if header is None else bytes_of(header)

@@ -3,6 +3,7 @@ request that a client makes."""
 from __future__ import annotations
 
 import functools
+import importlib
 import ipaddress
 import re
 from typing import NamedTuple
@@ -72,23 +73,21 @@ def address_at(scheme: str, host: str, path: str, is_localhost_secure: bool = Tr
 
 
 def ascii_host(host: str) -> str:
-    """The host in Punycode, as browsers have it: by the package `idna`, if it is installed (UTS 46, not transitional), and
-    else by the codec `idna` of Python, whose rules are older (RFC 3490). Raises `ValueError` for what they refuse.
+    """The host in Punycode, as browsers have it: by the package `idna`, if it is installed (UTS 46, not transitional),
+    and else by the codec `idna` of Python, whose rules are older (RFC 3490). Raises `ValueError` for what they refuse.
     Browsers take some of that, such as an emoji.
 
     >>> ascii_host("b\xfccher.example")
     'xn--bcher-kva.example'
     """
     try:
-        import idna
+        encode = functools.partial(importlib.import_module("idna").encode, uts46=True)
     except ImportError:
-        encoded = functools.partial(str.encode, encoding="idna")
-    else:
-        encoded = functools.partial(idna.encode, uts46=True)
+        encode = functools.partial(str.encode, encoding="idna")
     try:
-        return encoded(host).decode()
+        return bytes(encode(host)).decode()
     except UnicodeError:
-        raise ValueError(f"Python's IDNA refuses the host {host!r}. A browser may take it: pass its Punycode, xn--..") from None
+        raise ValueError(f"IDNA refuses the host {host!r}. If browsers take it: pass its Punycode, xn--..") from None
 
 
 @functools.lru_cache(maxsize=1024)
@@ -113,19 +112,13 @@ def host_of(authority: str) -> tuple[str, bool, bool]:
 def number_of(host: str) -> int:
     """The number of an IPv4 address of one to four parts, each in decimal, octal or hexadecimal."""
     parts = host[:-1].split(".") if host.endswith(".") else host.split(".")
-    numbers = [part_of(part) for part in parts]
-    if len(numbers) > 4 or any(number > 255 for number in numbers[:-1]) or numbers[-1] >= 256 ** (5 - len(numbers)):
+    if len(parts) > 4 or not all(re.fullmatch("0x[0-9a-f]*|0[0-7]*|[1-9][0-9]*", part) for part in parts):
         raise ValueError("the host is no IPv4 address")
-    return sum(number << 8 * (3 - index) for index, number in enumerate(numbers[:-1])) + numbers[-1]
-
-
-def part_of(part: str) -> int:
-    """The number of a part of an IPv4 address."""
-    for pattern, base in ((r"0x([0-9a-f]*)", 16), (r"0([0-7]+)", 8), (r"([0-9]+)", 10)):
-        digits = re.fullmatch(pattern, part)
-        if digits and (base == 8 or not re.fullmatch(r"0[0-9]+", part)):
-            return int(digits[1] or "0", base)
-    raise ValueError("the host is no IPv4 address")
+    bases = [16 if part.startswith("0x") else 8 if part.startswith("0") else 10 for part in parts]
+    *numbers, last = (int(part[2:] or "0" if base == 16 else part, base) for part, base in zip(parts, bases))
+    if any(number > 255 for number in numbers) or last >= 256 ** (4 - len(numbers)):
+        raise ValueError("the host is no IPv4 address")
+    return sum(number << 8 * (3 - index) for index, number in enumerate(numbers)) + last
 
 
 def host_of_six(text: str) -> tuple[str, bool, bool]:
@@ -133,14 +126,11 @@ def host_of_six(text: str) -> tuple[str, bool, bool]:
     if "%" in text:
         raise ValueError("the host is no IPv6 address")
     number = ipaddress.IPv6Address(text)
-    pieces = [f"{int(piece, 16):x}" for piece in number.exploded.split(":")]
-    runs = [match.span() for match in re.finditer("0{2,}", "".join("0" if piece == "0" else "x" for piece in pieces))]
-    if runs:
-        start, end = max(runs, key=lambda run: run[1] - run[0])
-        shown = ":".join(pieces[:start]) + "::" + ":".join(pieces[end:])
-    else:
-        shown = ":".join(pieces)
-    return f"[{shown}]", True, number == ipaddress.IPv6Address(1)
+    shown = ":".join(f"{int(piece, 16):x}" for piece in number.exploded.split(":"))
+    run = max(re.finditer(r"\b0(:0\b)+", shown), key=lambda run: run.end() - run.start(), default=None)
+    if run:
+        shown = shown[: run.start()].rstrip(":") + "::" + shown[run.end() :].lstrip(":")
+    return f"[{shown}]", True, number.is_loopback
 
 
 def path_of(text: str) -> str:
@@ -148,13 +138,11 @@ def path_of(text: str) -> str:
     if PLAIN.fullmatch(text):
         return text
     steps: list[str] = []
-    pieces = re.split(r"[/\\]", text)[1:]
-    for index, piece in enumerate(pieces):
-        plain, is_last = re.sub("(?i)%2e", ".", piece), index == len(pieces) - 1
+    plain = ""
+    for piece in re.split(r"[/\\]", text)[1:]:
+        plain = re.sub("(?i)%2e", ".", piece)
         if plain == "..":
             steps = steps[:-1]
         elif plain != ".":
             steps.append(ESCAPED.sub(lambda byte: b"%%%02X" % ord(byte[0]), piece.encode()).decode())
-        if plain in (".", "..") and is_last:
-            steps.append("")
-    return "/" + "/".join(steps)
+    return "/" + "/".join(steps + [""] * (plain in (".", "..")))

@@ -13,6 +13,7 @@ from __future__ import annotations
 from typing import Any, Awaitable, Callable, Mapping, MutableMapping
 
 from .errors import TooLarge
+from .revocations import ask_async
 from .values import FAILURES, CookieSession, Failure, Middleware, answer_to, session_at
 
 __all__ = ["CookieSession", "SessionMiddleware", "session_of"]
@@ -39,7 +40,7 @@ class SessionMiddleware(Middleware):
         async def send_with_cookie(message: Message) -> None:
             nonlocal is_begun
             if message["type"] == "http.response.start":
-                fields = await self.fields(session, scope.get("session"), self.sessions.ask_async)
+                fields = await self.fields(session, scope.get("session"), ask_async)
                 message = {**message, "headers": [*message.get("headers", ()), *lines(fields)]}
             is_begun = True
             await send(message)

@@ -15,6 +15,7 @@ import re
 from typing import Any, Iterable, Iterator
 from urllib.parse import unquote, urlsplit
 
+from ._library import wire_bytes
 from .addresses import Address, address_at
 from .agents import SAME_SITE, Agent, AgentCookie, Context, header_bytes
 from .cookies import RULES
@@ -112,10 +113,8 @@ class CookieJar(http.cookiejar.CookieJar):
     def clear(self, domain: str | None = None, path: str | None = None, name: str | None = None) -> None:
         """Removes all cookies, or those of the domain, the path and the name. Raises `KeyError` if there is none. If a
         domain has no cookies without a dot before it, it may stand for the one with a dot, as it was set."""
-        if name is not None and (domain is None or path is None):
-            raise ValueError("domain and path must be given to remove a cookie by name")
-        if path is not None and domain is None:
-            raise ValueError("domain must be given to remove cookies by path")
+        if path is None and name is not None or domain is None and path is not None:
+            raise ValueError("a name is removed by its domain and path, and a path by its domain")
         if domain is None:
             self.agent.clear()
             return
@@ -137,12 +136,10 @@ class CookieJar(http.cookiejar.CookieJar):
         >>> len(jar), len(other)
         (0, 1)
         """
-        (per_domain, total), clock = self.agent.limits, self.agent.clock
-        is_localhost_secure = self.agent.is_localhost_secure
-        agent = Agent(
-            self.agent.suffixes, is_localhost_secure=is_localhost_secure, per_domain=per_domain, total=total, clock=clock
-        )
-        jar = CookieJar(agent, context=self.context)
+        agent, (per_domain, total) = self.agent, self.agent.limits
+        options: Any = {"is_localhost_secure": agent.is_localhost_secure, "clock": agent.clock}
+        other = Agent(agent.suffixes, per_domain=per_domain, total=total, **options)
+        jar = CookieJar(other, context=self.context)
         for cookie in self:
             jar.set_cookie(cookie)
         return jar
@@ -180,15 +177,7 @@ class NoCookies(http.cookiejar.CookieJar):
 def texts_of(values: Iterable[str]) -> list[bytes]:
     """The bytes of the fields of a response as http.client reads them: each character is a byte. A line that goes on in
     the next is one line (RFC 9112 5.2)."""
-    return [wire_bytes(re.sub(r"\r?\n[ \t]+", " ", value)) for value in values]
-
-
-def wire_bytes(value: str) -> bytes:
-    """The bytes of a field's value. One with other characters didn't come from http.client, and is UTF-8."""
-    try:
-        return value.encode("latin-1")
-    except UnicodeEncodeError:
-        return header_bytes(value)
+    return [wire_bytes(re.sub(r"\r?\n[ \t]+", " ", value), "surrogateescape") for value in values]
 
 
 def domain_of(cookie: AgentCookie) -> str:

@@ -24,8 +24,8 @@ from django.utils.cache import patch_vary_headers
 
 from .cookies import pairs
 from .secrets import keys_of
-from .sessions import Session, Sessions
-from .values import FAILURES, Failure, Generations, answer_to, note_unsaved, pack, unpack
+from .sessions import Generations, Session, Sessions
+from .values import FAILURES, Failure, answer_to, note_unsaved, pack, unpack
 from .wsgi import header_in
 
 SALT = "deomigal.django"

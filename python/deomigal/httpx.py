@@ -16,7 +16,6 @@ each request to a site that set a cookie outside ASCII.
 """
 from __future__ import annotations
 
-from types import TracebackType
 from typing import Any
 
 import httpx
@@ -93,11 +92,8 @@ class CookieTransport(Cookies, httpx.BaseTransport):
         self.transport.__enter__()
         return self
 
-    def __exit__(
-        self, kind: type[BaseException] | None = None, error: BaseException | None = None,
-        trace: TracebackType | None = None,
-    ) -> None:
-        self.transport.__exit__(kind, error, trace)
+    def __exit__(self, *error: Any) -> None:
+        self.transport.__exit__(*error)
 
     def close(self) -> None:
         """Closes the transport within."""
@@ -125,11 +121,8 @@ class AsyncCookieTransport(Cookies, httpx.AsyncBaseTransport):
         await self.transport.__aenter__()
         return self
 
-    async def __aexit__(
-        self, kind: type[BaseException] | None = None, error: BaseException | None = None,
-        trace: TracebackType | None = None,
-    ) -> None:
-        await self.transport.__aexit__(kind, error, trace)
+    async def __aexit__(self, *error: Any) -> None:
+        await self.transport.__aexit__(*error)
 
     async def aclose(self) -> None:
         """Closes the transport within."""

@@ -12,8 +12,7 @@ request's `cookies=` or a header `Cookie` of the caller says isn't sent: have th
 """
 from __future__ import annotations
 
-import http.cookiejar
-from typing import Any, Iterator
+from typing import Any
 from urllib.parse import urlsplit
 
 from requests import PreparedRequest, Response, Session
@@ -53,6 +52,11 @@ class AgentJar(CookieJar, JarOfRequests):
     """An agent's cookies with the calls of a dict that jars of requests have."""
 
 
+def jar_call(name: str) -> Any:
+    """A call of the jar of a `SessionCookies`."""
+    return lambda cookies, *words: getattr(cookies.jar, name)(*words)
+
+
 class SessionCookies(Uncopied):
     """An agent's cookies as `session.cookies`, with the calls of requests' jars: `cookies["lang"]`, `get`, `set`, `items`,
     `get_dict`, `clear`. What is set without a `domain` raises `ValueError`: RFC 6265bis knows no cookie of all hosts.
@@ -69,24 +73,10 @@ class SessionCookies(Uncopied):
     def __getattr__(self, name: str) -> Any:
         return getattr(self.jar, name)
 
-    def __getitem__(self, name: str) -> str | None:
-        value: str | None = self.jar[name]
-        return value
-
-    def __setitem__(self, name: str, value: str | None) -> None:
-        self.jar[name] = value
-
-    def __delitem__(self, name: str) -> None:
-        del self.jar[name]
-
-    def __contains__(self, name: object) -> bool:
-        return name in self.jar
-
-    def __iter__(self) -> Iterator[http.cookiejar.Cookie]:
-        return iter(self.jar)
-
-    def __len__(self) -> int:
-        return len(self.jar)
+    # Python looks these up in the class, where `__getattr__` isn't asked.
+    __getitem__, __setitem__, __delitem__, __contains__, __iter__, __len__ = map(
+        jar_call, ("__getitem__", "__setitem__", "__delitem__", "__contains__", "__iter__", "__len__")
+    )
 
     def __repr__(self) -> str:
         return f"<SessionCookies of {len(self)} cookies>"

@@ -5,7 +5,7 @@ import base64
 import json
 import logging
 import time
-from typing import TYPE_CHECKING, Any, Callable, Dict, Iterable, Iterator, Mapping, MutableMapping, Union
+from typing import TYPE_CHECKING, Any, Callable, Dict, Iterable, Mapping, MutableMapping, Union
 
 from .compression import MARKS
 from .dates import print_second
@@ -13,7 +13,7 @@ from .errors import Gone, RevocationsError
 from .explain import LAST
 from .revocations import AnyRevocations, Ask
 from .secrets import keys_of
-from .sessions import Session, Sessions, generation_of
+from .sessions import Generations, Session, Sessions
 
 # The names of the one text that a session of values has: as it is, or in base64url.
 PLAIN, ENCODED = "j", "b"
@@ -80,16 +80,8 @@ def unpack(texts: Mapping[str, str]) -> bytes:
     raise ValueError("these texts aren't a session of values")
 
 
-def json_of(values: Any) -> bytes:
-    """The values in JSON. A lone surrogate has no UTF-8, and is escaped."""
-    try:
-        return CODER.encode(values).encode()
-    except UnicodeEncodeError:
-        return ASCII_CODER.encode(values).encode()
-
-
 def checked_refresh(refresh: bool) -> bool:
-    """Whether each request that used a session saves it.."""
+    """Whether each request that used a session saves it."""
     if not isinstance(refresh, bool):
         raise TypeError("refresh is a bool: whether each request that used the session saves it")
     return refresh
@@ -100,30 +92,6 @@ def with_expiry(text: str, session: Session, is_lasting: bool = True) -> str:
     neither if the browser isn't to keep it when it closes."""
     head, _, age = text.rpartition("; Max-Age=")
     return f"{text}; Expires={print_second(min(session.now + int(age), LAST))}" if is_lasting else head
-
-
-class Generations:
-    """What sessions of values share: the number of the user's generation, as their value `generation`."""
-
-    if TYPE_CHECKING:
-        get: Callable[..., Any]
-        __setitem__: Callable[..., None]
-
-    @property
-    def generation(self) -> int | None:
-        """The number of the user's generation that the session keeps, if it does. A site keeps one number a user, and adds
-        one where all sessions of the user are to end, as after a change of the password."""
-        number = self.get("generation")
-        return number if type(number) is int else None
-
-    @generation.setter
-    def generation(self, number: int) -> None:
-        self["generation"] = generation_of(number)
-
-    def is_since(self, generation: int) -> bool:
-        """Whether the session keeps this generation or a later one. Treat its visitor as nobody if it doesn't."""
-        least, kept = generation_of(generation), self.generation
-        return kept is not None and kept >= least
 
 
 class Opened(Generations):
@@ -143,9 +111,21 @@ class Opened(Generations):
 
     @property
     def shows_revoked(self) -> bool:
-        """Whether the request has only sessions that are revoked, and this one, which is new, wasn't renewed since. It may be
-        an old tab's, whose browser has another session by now, so it isn't saved."""
+        """Whether the request has only revoked sessions, and this one, which is new, wasn't renewed since. It isn't saved
+        then: the request may be an old tab's, whose browser has another session by now."""
         return self.source.shows_revoked
+
+
+def counted(kind: type, name: str) -> Any:
+    """The call of a dict's class, which counts as a use of the session."""
+    call = getattr(kind, name)
+
+    def counted_call(session: Any, *words: Any) -> Any:
+        session.accessed = True
+        return call(session, *words)
+
+    counted_call.__doc__ = f"`{name}` of a dict, which counts as a use of the session."
+    return counted_call
 
 
 if TYPE_CHECKING:
@@ -153,7 +133,11 @@ if TYPE_CHECKING:
 else:
 
     class Mapped(MutableMapping, dict):
-        """A dict whose calls go through the five of a `MutableMapping`."""
+        """A dict whose calls go through the five of a `MutableMapping`, each of which counts as a use."""
+
+        __getitem__, __setitem__, __delitem__, __iter__, __len__, __reversed__ = (
+            counted(dict, f"__{name}__") for name in ("getitem", "setitem", "delitem", "iter", "len", "reversed")
+        )
 
 
 class CookieSession(Opened, Mapped):
@@ -168,30 +152,6 @@ class CookieSession(Opened, Mapped):
         self.sessions, self.source, self.opened, self.accessed = sessions, source, opened, False
         # Whether the browser has a cookie that it must drop.
         self.is_ended = False
-
-    def __getitem__(self, name: str) -> Any:
-        self.accessed = True
-        return dict.__getitem__(self, name)
-
-    def __setitem__(self, name: str, value: Any) -> None:
-        self.accessed = True
-        dict.__setitem__(self, name, value)
-
-    def __delitem__(self, name: str) -> None:
-        self.accessed = True
-        dict.__delitem__(self, name)
-
-    def __iter__(self) -> Iterator[str]:
-        self.accessed = True
-        return dict.__iter__(self)
-
-    def __len__(self) -> int:
-        self.accessed = True
-        return dict.__len__(self)
-
-    def __reversed__(self) -> Iterator[str]:
-        self.accessed = True
-        return dict.__reversed__(self)
 
     def popitem(self) -> tuple[str, Any]:
         """Removes the name that was put in last, and returns it with its value, or raises `KeyError`."""
@@ -217,9 +177,8 @@ class CookieSession(Opened, Mapped):
         return self.source.is_new
 
     def renew(self) -> None:
-        """Starts it anew with the same values and another id, so that the lifetime counts from this request. Call it at
-        a login, and on a page that keeps something for one, such as a token against forged requests. With `revocations` no
-        copy of the session of before opens once this one is saved."""
+        """Starts it anew with the same values and another id, so that the lifetime counts from this request. Call it at a
+        login, and on a page that keeps something for one. With `revocations` the session of before opens no more then."""
         self.accessed = True
         self.source.renew()
 
@@ -230,10 +189,8 @@ class CookieSession(Opened, Mapped):
         self.renew()
 
     def revoke(self) -> bool:
-        """Logs the visitor out: revokes what the browser has, drops the values, and has the browser drop its cookie. No copy
-        of the cookie opens any more, whenever it was saved. Returns whether the browser had something. What is put in later
-        is a new session. Raises `Gone` if another request has renewed or ended it, `RevocationsError` if it can't be kept,
-        and `RuntimeError` if the middleware has no `revocations`."""
+        """Logs the visitor out: revokes what the browser has, in each copy of its cookie, drops the values, and has the
+        browser drop its cookie. Returns whether the browser had something. Raises what `Sessions.revoke` does."""
         return self.drop_values(self.sessions.revoke(self.source))
 
     async def arevoke(self) -> bool:
@@ -247,23 +204,19 @@ class CookieSession(Opened, Mapped):
         return is_ended
 
     def check(self) -> None:
-        """Raises `TooLarge` if no browser would store the session as it is now. Else that is raised where the response
-        starts."""
+        """Raises `TooLarge` now, and not where the response starts, if no browser would store the session."""
         data = self.json()
         if data not in (self.opened, EMPTY):
             self.source.texts = pack(data)
             self.sessions.check(self.source)
 
     def json(self) -> bytes:
-        """Its values in JSON."""
-        return json_of(dict.copy(self))
-
-    def replace(self, values: Mapping[str, Any] | None) -> None:
-        """Has these values, if an application put another dict in its place."""
-        if values is not self:
-            self.accessed = True
-            super().clear()
-            self.update(values or {})
+        """Its values in JSON. A lone surrogate has no UTF-8, and is escaped."""
+        values = dict.copy(self)
+        try:
+            return CODER.encode(values).encode()
+        except UnicodeEncodeError:
+            return ASCII_CODER.encode(values).encode()
 
 
 def session_at(place: Mapping[str, Any], key: str) -> CookieSession:
@@ -279,13 +232,10 @@ class Middleware:
 
     `secret_key` has at least 32 bytes, and so has each key of `fallbacks`, which only open. A session is over `max_age`
     seconds after its start, and `idle` seconds after it was last saved, if `idle` is given. If `max_age` is None, the
-    browser drops the cookie when it closes, and the session is over after 14 days. A session that was only read is saved
-    again once a tenth of its idle time has passed, and with `refresh` at each request that read it. Settings that no session
-    could be saved with are refused at once. `revocations` keeps which sessions are revoked, by their `revoke` and by the
-    first save after their `renew`. If it fails, the request is answered with status 503, and with 409 if another request
-    has renewed or ended the session. The logger `deomigal` has the cause. `too_large` is another application, which answers
-    a request that raises `TooLarge` before its response has begun. With `compress` a session is saved compressed: see
-    `Sessions` for when not to.
+    browser drops the cookie when it closes, and the session is over after 14 days. With `refresh` each request that read
+    a session saves it. `revocations` keeps which sessions are revoked. If it fails, the request is answered with status
+    503, and with 409 if another request has renewed or ended the session. `too_large` is another application, which
+    answers a request that raises `TooLarge`. For `compress` see `Sessions`.
     """
 
     def __init__(
@@ -339,9 +289,11 @@ class Middleware:
         self, session: CookieSession, values: Mapping[str, Any] | None, ask: Ask
     ) -> list[tuple[str, str]]:
         """The fields that the response needs: the cookie of a session that is to be saved or dropped, and that the page
-        depends on cookies, if it does. `values` is what the application left in the session's place, and `ask` makes the
-        calls of the revocations."""
-        session.replace(values)
+        depends on cookies. `values` is what the application left in the session's place."""
+        if values is not session:
+            session.drop_values(False)
+            session.update(values or {})
+            session.accessed = True
         text = await self.cookie_of(session, ask)
         fields = [] if text is None else [("Set-Cookie", text)]
         return [*fields, ("Vary", "Cookie")] if session.accessed or fields else fields

@@ -15,11 +15,11 @@ from urllib.parse import quote, unquote_to_bytes
 
 from werkzeug.datastructures import MultiDict
 
+from ._library import wire_bytes
 from .cookies import pairs, print_cookie
 from .dates import read_date
 from .errors import BadAttribute, EmptyName, NoDate, error_of
 from .explain import LAST
-from .wsgi import wsgi_bytes
 
 # What a value is printed with as it is: the characters that RFC 6265 4.1.1 allows, but for `%`.
 ALLOWED = "!#$&'()*+-./:<=>?@[]^_`{|}~"
@@ -112,7 +112,7 @@ def parse_cookie(
     text = header.get("HTTP_COOKIE") if isinstance(header, Mapping) else header
     read = [
         (unquote_to_bytes(name), value.encode() if keep_quotes and is_quoted(value) else decoded(value))
-        for name, value in pairs(wsgi_bytes(text) if isinstance(text, str) else text)
+        for name, value in pairs(wire_bytes(text) if isinstance(text, str) else text)
     ]
     found = []
     for name, value in read:
