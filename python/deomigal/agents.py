@@ -100,14 +100,12 @@ class Agent(Uncopied):
     """A user agent: it reads `Set-Cookie` headers, stores the cookies, and says which of them a request sends, as
     RFC 6265bis has it. `with Agent() as agent` frees it at last. Threads may share it.
 
-    `suffixes` is the text of the list of publicsuffix.org. Without it the list is that of `deomigal.explain.suffix_list`:
-    Debian's, or the one in the package. If there is none, `FileNotFoundError` is raised. With `b""` exactly the domains of
-    one label are public suffixes. `title` names the list.
+    `suffixes` is the text of the list of publicsuffix.org, by default `deomigal.explain.suffix_list`'s: if there is none,
+    `FileNotFoundError` is raised. With `b""` exactly the domains of one label are public suffixes. `title` names the list.
 
-    A connection is secure if the scheme is https, and to `localhost` or a loopback address too, as in browsers, unless
-    `is_localhost_secure` is false. `per_domain` limits the cookies of one domain, and `total` those in all: the agent drops
-    what is above after each `per_domain` cookies that it has stored, or a quarter of those that it has if these are more,
-    and when it loads a file. `clock` returns the time, in seconds since 1970.
+    A connection is secure if the scheme is https, and to `localhost` or a loopback address too, unless
+    `is_localhost_secure` is false. `per_domain` limits the cookies of one domain, and `total` those in all: what is above
+    is dropped from time to time. `clock` returns the time, in seconds since 1970.
 
     >>> with Agent() as agent:
     ...     agent.read("https://shop.example/cart/view", "session=abc; Path=/; Secure")
@@ -149,13 +147,17 @@ class Agent(Uncopied):
         """Drops all cookies."""
         self.clear()
 
+    def without_cookies(self) -> Agent:
+        """Another agent with the same rules, limits and clock."""
+        (per_domain, total), is_secure = self.limits, self.is_localhost_secure
+        words: Any = {"per_domain": per_domain, "total": total, "clock": self.clock}
+        return Agent(self.suffixes, is_localhost_secure=is_secure, **words)
+
     def read(
         self, url: str, text: str | bytes, now: datetime.datetime | None = None, context: Context = SAME_SITE
     ) -> Refusal | None:
-        """Reads the value of a `Set-Cookie` header of the response from the URL, at the time `now` or the clock's.
-
-        Returns None if the cookie is stored. Else it returns why it is refused, as `deomigal.explain.refusal` does. What
-        is expired drops the cookie of its name, domain and path.
+        """Reads the value of a `Set-Cookie` header of the response from the URL, at the time `now` or the clock's. Returns
+        None if the cookie is stored, or why it is refused. What is expired drops the cookie of its name, domain and path.
 
         >>> agent = Agent()
         >>> agent.read("https://shop.example/", "lang=en; Domain=other.example").step
@@ -189,9 +191,7 @@ class Agent(Uncopied):
 
     def header(self, url: str, now: datetime.datetime | None = None, context: Context = SAME_SITE) -> bytes:
         """The value of the `Cookie` header that a request to the URL sends, at the time `now` or the clock's. It is
-        empty if the request sends none: leave the header out then.
-
-        The time becomes the last access of each cookie that is sent. It counts if there are too many.
+        empty if the request sends none: leave the header out then. It is the last access of each cookie that is sent.
 
         >>> agent = Agent()
         >>> agent.read("https://shop.example/", "lang=en; SameSite=Strict")
@@ -280,12 +280,10 @@ class Agent(Uncopied):
 
     def save(self, path: str | os.PathLike[str], form: str = JSON) -> int:
         """Writes the cookies that have an expiry and aren't expired to a file that only its owner may read. If that fails,
-        or the machine stops, the file is as before. A cookie without an expiry ends with the session. Returns how many of
-        the cookies the form can't carry.
+        or the machine stops, the file is as before. Returns how many of the cookies the form can't carry.
 
         With the form "json" each cookie is a line of JSON, with every field. With "netscape" the file is a cookies.txt, as
-        curl and wget read it. That has no `SameSite`, no cookie without a name, and none with a tab. The library writes
-        and reads both, so that programs in C and Rust have the same files.
+        curl and wget read it. That has no `SameSite`, no cookie without a name, and none with a tab.
 
         >>> import tempfile
         >>> folder = tempfile.TemporaryDirectory()
@@ -308,12 +306,9 @@ class Agent(Uncopied):
 
     def load(self, path: str | os.PathLike[str], form: str | None = None) -> list[int]:
         """Reads the cookies of a file that `save`, curl or wget wrote. Returns the numbers, from 1, of the lines that hold
-        no cookie, or one that no user agent could have stored, as one for a public suffix and the hosts below it. A cookie
-        that would last for more than 400 days lasts for 400 days.
-
-        They join those that are stored, in the order of their lines. What is expired is left out. Without `form` the
-        file's first byte says which form it has. Raises `ValueError` if the file has more than 64 MiB, and `OSError` if it
-        is no regular file, as a folder or a FIFO.
+        no cookie, or one that no user agent could have stored. What is expired is left out, and none lasts for more than
+        400 days. Without `form` the file's first byte says which form it has. Raises `ValueError` if the file has more
+        than 64 MiB, and `OSError` if it is no regular file.
         """
         with open(path, "rb", opener=file_opener) as file:
             text = file.read(MOST + 1)
@@ -333,8 +328,8 @@ class Agent(Uncopied):
         return Address(*address_of(url, False, self.is_localhost_secure)[:4], *context[:2])
 
     def address_at(self, scheme: str, host: str, path: str, context: Context) -> Address | None:
-        """The address of a request that a client makes in this context. None if that is no URL of http or https with a host:
-        then no cookie is read or sent."""
+        """The address of a request that a client makes in this context. None if that is no URL of http or https with a
+        host that all readers understand: then no cookie is read or sent."""
         try:
             return Address(*address_at(scheme, host, path, self.is_localhost_secure)[:4], *context[:2])
         except ValueError:

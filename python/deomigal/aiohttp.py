@@ -5,11 +5,9 @@
 
     async with aiohttp.ClientSession(**cookies_of(Agent())) as session:
 
-These are its `cookie_jar`, `request_class` and `response_class`. aiohttp reads `Set-Cookie` headers, and prints the
-`Cookie` header, by `http.cookies`, which drops names and orders that RFC 6265bis has. The classes give the agent the
-headers as they came, and send its header, also at each redirect. Around them goes nothing that a session requests.
-`cookies=` and a header `Cookie` of the caller are sent with the agent's. aiohttp prints headers in UTF-8, so a cookie that
-isn't UTF-8 isn't sent.
+These are its `cookie_jar`, `request_class` and `response_class`. They give the agent the headers as they came, and send
+its header, also at each redirect. `cookies=` and a header `Cookie` of the caller are sent with the agent's. aiohttp prints
+headers in UTF-8, so a cookie that isn't UTF-8 isn't sent.
 """
 from __future__ import annotations
 
@@ -101,10 +99,8 @@ class CookieJar(AbstractCookieJar):
     def update_cookies(self, cookies: LooseCookies, response_url: URL = EMPTY) -> None:
         """Stores the cookies as if the URL's response had set them. Raises `ValueError` for a cookie without a domain, if
         there is no URL: RFC 6265bis knows no cookie of all hosts."""
-        if isinstance(cookies, ReadCookies):
-            return
         named: Any = cookies.items() if isinstance(cookies, Mapping) else cookies
-        for name, value in named:
+        for name, value in () if isinstance(cookies, ReadCookies) else named:
             parsed: BaseCookie[str] = SimpleCookie()
             parsed[name] = value
             domain = parsed[name]["domain"].lstrip(".")
@@ -130,9 +126,7 @@ class CookieJar(AbstractCookieJar):
 
     def clear_domain(self, domain: str) -> None:
         """Removes the cookies of the domain and of those below it."""
-        for cookie in list(self.agent):
-            if cookie.domain == domain or cookie.domain.endswith(f".{domain}"):
-                self.agent.remove(cookie)
+        self.clear(lambda cookie: f".{cookie['domain']}".endswith(f".{domain}"))
 
     @property
     def unsafe(self) -> bool:
@@ -217,8 +211,10 @@ def morsel_of(name: str, value: str) -> Morsel[str]:
 def morsel_with_attributes(cookie: AgentCookie) -> Morsel[str]:
     """The stored cookie as a morsel."""
     morsel = morsel_of(cookie.name, cookie.value)
-    morsel["domain"], morsel["path"], morsel["samesite"] = cookie.domain, cookie.path, cookie.same_site or ""
-    morsel["secure"], morsel["httponly"] = cookie.is_secure or "", cookie.is_http_only or ""
-    if cookie.expiry is not None:
-        morsel["expires"] = print_date(date_after(0, cookie.expiry))
+    attributes: Any = {
+        "domain": cookie.domain, "path": cookie.path, "samesite": cookie.same_site or "", "secure": cookie.is_secure or "",
+        "httponly": cookie.is_http_only or "",
+        "expires": "" if cookie.expiry is None else print_date(date_after(0, cookie.expiry)),
+    }
+    morsel.update(attributes)
     return morsel

@@ -53,12 +53,6 @@ def escaped_form(texts: Mapping[str, str]) -> bytes:
     return "&".join(f"{escape(name)}={escape(text)}" for name, text in texts.items()).encode()
 
 
-def form_texts(form: bytes) -> dict[str, str]:
-    """The texts of a form as they are in it."""
-    pairs = (pair.partition(b"=") for pair in form.replace(b"+", b" ").split(b"&")) if form else ()
-    return {unescaped(name): unescaped(text) for name, _, text in pairs}
-
-
 def escape(text: str) -> str:
     """The text with escapes of the marks."""
     for mark, code in ESCAPES:
@@ -66,10 +60,15 @@ def escape(text: str) -> str:
     return text
 
 
+def form_texts(form: bytes) -> dict[str, str]:
+    """The texts of a form as they are in it."""
+    pairs = (pair.partition(b"=") for pair in form.replace(b"+", b" ").split(b"&")) if form else ()
+    return {unescaped(name): unescaped(text) for name, _, text in pairs}
+
+
 def deflate(data: bytes, level: int) -> bytes:
     """The data by deflate, without a header and a checksum: the cipher's tag is one."""
-    compressor = zlib.compressobj(level, wbits=-15)
-    return compressor.compress(data) + compressor.flush()
+    return zlib.compress(data, level)[2:-4]
 
 
 def inflate(data: bytes) -> bytes:
@@ -91,8 +90,7 @@ def digits_of(data: bytes) -> str:
     (15, 17, 'ffffffffffffffffffffffffffffffffffffffff')
     """
     digits = ""
-    for start in range(0, len(data), BYTES):
-        block = data[start : start + BYTES]
+    for block in (data[start : start + BYTES] for start in range(0, len(data), BYTES)):
         number = int.from_bytes(block, "little")
         for _ in range(-(-len(block) * PLACES // BYTES)):
             number, value = divmod(number, BASE)
@@ -104,10 +102,8 @@ def bytes_of_digits(digits: str) -> bytes:
     """The bytes of these digits. Raises `ValueError` if they are none."""
     data = b""
     try:
-        for start in range(0, len(digits), PLACES):
-            block, number = digits[start : start + PLACES], 0
-            for digit in reversed(block):
-                number = number * BASE + VALUES[digit]
+        for block in (digits[start : start + PLACES] for start in range(0, len(digits), PLACES)):
+            number = sum(VALUES[digit] * BASE**place for place, digit in enumerate(block))
             data += number.to_bytes(len(block) * BYTES // PLACES, "little")
     except (KeyError, OverflowError) as error:
         raise ValueError("these aren't digits of base 124") from error

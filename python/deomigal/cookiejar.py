@@ -4,9 +4,8 @@
 
     opener = urllib.request.build_opener(urllib.request.HTTPCookieProcessor(CookieJar()))
 
-It also serves as mechanize's `Browser.set_cookiejar`. As the `cookies` of `requests.Session` or `httpx.Client` it
-decides what is stored, but these two copy its cookies into jars of their own, which decide what is sent. There use
-`deomigal.requests` and `deomigal.httpx`.
+It also serves as mechanize's `Browser.set_cookiejar`. As the `cookies` of `requests.Session` or `httpx.Client` it only
+decides what is stored. There use `deomigal.requests` and `deomigal.httpx`.
 """
 from __future__ import annotations
 
@@ -40,7 +39,7 @@ class CookieJar(http.cookiejar.CookieJar):
         self.agent, self.context = Agent() if agent is None else agent, context
 
     def extract_cookies(self, response: Any, request: Any) -> None:
-        """Reads the `Set-Cookie` headers of the response to the request. `Set-Cookie2` is no longer used (RFC 6265 9.4)."""
+        """Reads the `Set-Cookie` headers of the response to the request."""
         address = self.address_of(request)
         if address is not None:
             self.agent.read_all(address, texts_of(response.info().get_all("Set-Cookie", [])))
@@ -56,8 +55,8 @@ class CookieJar(http.cookiejar.CookieJar):
                 request.add_unredirected_header("Cookie", header.decode("latin-1"))
 
     def address_of(self, request: Any) -> Address | None:
-        """Where the request goes. None if that is no URL of http or https with a host, or another reader could find another
-        host in it: then no cookie is read or sent."""
+        """Where the request goes. None if that is no URL of http or https with a host, or another reader could find
+        another host in it: then no cookie is read or sent."""
         try:
             parts = urlsplit(request.get_full_url())
             # The stand-in of requests names the host of the header `Host`, which is also sent where a redirect goes.
@@ -81,7 +80,7 @@ class CookieJar(http.cookiejar.CookieJar):
 
     def make_cookies(self, response: Any, request: Any) -> list[http.cookiejar.Cookie]:
         """The cookies that an agent without cookies would store of the response."""
-        jar = CookieJar(Agent(self.agent.suffixes, clock=self.agent.clock), context=self.context)
+        jar = CookieJar(self.agent.without_cookies(), context=self.context)
         jar.extract_cookies(response, request)
         return list(jar)
 
@@ -111,8 +110,8 @@ class CookieJar(http.cookiejar.CookieJar):
             self.agent.read_at(address, text_of(cookie, self.agent.clock()))
 
     def clear(self, domain: str | None = None, path: str | None = None, name: str | None = None) -> None:
-        """Removes all cookies, or those of the domain, the path and the name. Raises `KeyError` if there is none. If a
-        domain has no cookies without a dot before it, it may stand for the one with a dot, as it was set."""
+        """Removes all cookies, or those of the domain, the path and the name. Raises `KeyError` if there is none. The dot
+        before a domain may be left out."""
         if path is None and name is not None or domain is None and path is not None:
             raise ValueError("a name is removed by its domain and path, and a path by its domain")
         if domain is None:
@@ -136,10 +135,7 @@ class CookieJar(http.cookiejar.CookieJar):
         >>> len(jar), len(other)
         (0, 1)
         """
-        agent, (per_domain, total) = self.agent, self.agent.limits
-        options: Any = {"is_localhost_secure": agent.is_localhost_secure, "clock": agent.clock}
-        other = Agent(agent.suffixes, per_domain=per_domain, total=total, **options)
-        jar = CookieJar(other, context=self.context)
+        jar = CookieJar(self.agent.without_cookies(), context=self.context)
         for cookie in self:
             jar.set_cookie(cookie)
         return jar
@@ -175,14 +171,13 @@ class NoCookies(http.cookiejar.CookieJar):
 
 
 def texts_of(values: Iterable[str]) -> list[bytes]:
-    """The bytes of the fields of a response as http.client reads them: each character is a byte. A line that goes on in
-    the next is one line (RFC 9112 5.2)."""
+    """The bytes of the fields of a response, whose lines http.client doesn't join (RFC 9112 5.2)."""
     return [wire_bytes(re.sub(r"\r?\n[ \t]+", " ", value), "surrogateescape") for value in values]
 
 
 def domain_of(cookie: AgentCookie) -> str:
-    """The domain as http.cookiejar has it: with a dot before it, if the hosts below it get the cookie too. A host of one
-    label has `.local` after it."""
+    """The domain as http.cookiejar has it: with a dot before it, if the hosts below it get the cookie too, and with
+    `.local` after a host of one label."""
     if not cookie.is_host_only:
         return "." + cookie.domain
     return cookie.domain if "." in cookie.domain or ":" in cookie.domain else cookie.domain + ".local"
@@ -208,7 +203,7 @@ def cookie_of(cookie: AgentCookie) -> http.cookiejar.Cookie:
 
 
 def text_of(cookie: http.cookiejar.Cookie, now: float) -> bytes:
-    """The text of the `Set-Cookie` header that sets the cookie. Raises `ValueError` if a part holds what would end it."""
+    """The text of a `Set-Cookie` header that sets the cookie. Raises `ValueError` if a part holds what would end it."""
     name, value = ("", cookie.name) if cookie.value is None else (cookie.name, cookie.value)
     if "=" in name or any(re.search(r"[\x00-\x08\x0a-\x1f\x7f;]", part) for part in (name, value, cookie.path)):
         raise ValueError("a name, a value or a path holds a control character, a `;` or a `=`")

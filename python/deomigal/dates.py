@@ -15,22 +15,18 @@ END = 2**64
 
 
 def whole_second(now: float | None) -> int:
-    """The whole second since 1970, of the clock if there is none. Raises `NoDate` for one before 1970 or from 2^64 on, which
-    a call would take for another one.
+    """The whole second since 1970, of the clock if there is none. Raises `NoDate` for one before 1970 or from 2^64 on.
 
     >>> whole_second(1445412480.9)
     1445412480
     """
     if not isinstance(now, (int, float, type(None))):
         raise TypeError("a time is in seconds since 1970")
-    try:
-        second = int(time.time() if now is None else now)
-    except (OverflowError, ValueError):
-        # The infinite ones, and what is no number.
-        second = -1
-    if not 0 <= second < END:
+    now = time.time() if now is None else now
+    # So an infinite one is refused, and what is no number.
+    if not -1 < now < END:
         raise error_of(NoDate.status)
-    return second
+    return int(now)
 
 
 def date_of(moment: Any) -> datetime.datetime | None:
@@ -48,9 +44,8 @@ def numbers_of(moment: datetime.datetime) -> tuple[int, ...]:
 
 
 def read_date(text: str | bytes) -> datetime.datetime | None:
-    """Reads the text as a date and time in UTC, in one of four forms (RFC 9110 5.6.7, RFC 6265 5.1.1).
-
-    Returns None if it isn't one, or if its year is below 1. Raises `NotUtf8`.
+    """Reads the text as a date and time in UTC, in one of four forms (RFC 9110 5.6.7, RFC 6265 5.1.1). Returns None if it
+    isn't one, or if its year is below 1. Raises `NotUtf8`.
 
     >>> read_date("Wed, 21 Oct 2015 07:28:00 GMT")
     datetime.datetime(2015, 10, 21, 7, 28, tzinfo=datetime.timezone.utc)

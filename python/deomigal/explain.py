@@ -1,6 +1,7 @@
 """What a browser makes of a `Set-Cookie` header: what it stores, or why it refuses the cookie (RFC 6265bis)."""
 from __future__ import annotations
 
+import contextlib
 import ctypes
 import datetime
 import functools
@@ -29,7 +30,7 @@ LONGEST = 34560000
 ROOM = 1000
 # Where Debian's package `publicsuffix` has the list of public suffixes, and where the project's own copy is: in the
 # wheel beside this file, in the project with the program cookie_explain.
-DEBIAN = "/usr/share/publicsuffix/public_suffix_list.dat"
+DEBIAN = pathlib.Path("/usr/share/publicsuffix/public_suffix_list.dat")
 HERE = pathlib.Path(__file__).resolve().parent
 COPIES = (HERE / "public_suffix_list.dat", HERE.parents[1] / "crates/cookie_explain/data/public_suffix_list.dat")
 
@@ -53,10 +54,9 @@ class Refusal(NamedTuple):
 
 
 class Stored(NamedTuple):
-    """A cookie as a browser stores it, with name and value as the header has them.
-
-    `lifetime` is how many seconds it lives from now, at most 400 days. It is None if the cookie lives until the browser
-    closes, and 0 if no whole second is left. `same_site` is "Strict", "Lax", "None", or None if nothing is set.
+    """A cookie as a browser stores it, with name and value as the header has them. `lifetime` is how many seconds it lives
+    from now, at most 400 days: None if it lives until the browser closes, and 0 if no whole second is left. `same_site`
+    is "Strict", "Lax", "None", or None if nothing is set.
     """
 
     name: str
@@ -87,12 +87,11 @@ def verdict(
     url: str, text: str | bytes, suffixes: str | bytes | None = None, is_cross_site: bool = False,
     now: datetime.datetime | None = None,
 ) -> Stored | Refusal:
-    """What a browser stores of the cookie in a `Set-Cookie` header's value, or why it refuses it.
+    """What a browser without cookies stores of the cookie in a `Set-Cookie` header's value, or why it refuses it.
 
-    The response comes from the URL, at the time `now` or else at the current time, and the browser has no cookies yet.
-    `suffixes` is the text of the list of publicsuffix.org, by default `suffix_list`'s. If it is empty, exactly the
-    domains of one label are public suffixes. With `is_cross_site` another site's page made the request, as a frame, an
-    image or a script does.
+    The response comes from the URL, at the time `now` or else at the current time. `suffixes` is the text of the list of
+    publicsuffix.org, by default `suffix_list`'s. If it is empty, exactly the domains of one label are public suffixes.
+    With `is_cross_site` another site's page made the request, as a frame or an image does.
 
     >>> verdict("https://shop.example/cart/view", "lang=en; Max-Age=60")[:5]
     ('lang', 'en', 'shop.example', '/cart', 60)
@@ -209,11 +208,9 @@ def partition_of(text: bytes, is_secure: bool) -> bytes:
 def suffix_list() -> tuple[str, bytes]:
     """Which list of public suffixes there is, and its text: Debian's, or the project's own, or an empty one."""
     own = "the list of 2026-10-07 that comes with cookie_explain"
-    for path, title in ((pathlib.Path(DEBIAN), DEBIAN), *((path, own) for path in COPIES)):
-        try:
-            return title, path.read_bytes()
-        except OSError:
-            pass
+    for path in (DEBIAN, *COPIES):
+        with contextlib.suppress(OSError):
+            return str(path) if path == DEBIAN else own, path.read_bytes()
     return "none found, so only a domain of one label is one", b""
 
 

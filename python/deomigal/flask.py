@@ -155,18 +155,15 @@ class FlaskSession(Opened, SecureCookieSession):
         """The text of a value. One that is as it was when it was opened or printed has its text of then."""
         mark, (known, text) = mark_of(value), self.printed.get(name, (None, ""))
         if mark is None or mark != known:
-            text = self.text(value)
+            text = self.serializer.dumps(value)
+            # Flask's JSON escapes what is outside ASCII, which has fewer bytes as it is.
+            text = without_escapes(text) if isinstance(self.serializer, TaggedJSONSerializer) else text
             self.printed[name] = mark, text
         return text
 
     def is_changed(self) -> bool:
         """Whether it was changed, or a value within it."""
         return self.modified or self.texts() != self.opened
-
-    def text(self, value: Any) -> str:
-        """The text of a value. Flask's JSON escapes what is outside ASCII, which has fewer bytes as it is."""
-        text: str = self.serializer.dumps(value)
-        return without_escapes(text) if isinstance(self.serializer, TaggedJSONSerializer) else text
 
     def is_refused(self) -> bool:
         """Whether a check raised `TooLarge` for the values that it has."""
@@ -395,12 +392,13 @@ class SessionInterface(FlaskSessionInterface):
         if not isinstance(session, FlaskSession):
             # It couldn't be opened, which is the one error.
             return
-        # A file is one of the application or of a blueprint.
-        is_file = flask.has_request_context() and (flask.request.endpoint or "").rpartition(".")[2] == "static"
         if session.accessed:
             response.vary.add("Cookie")
-        elif not session.modified and (response.status_code >= 400 or is_file):
-            return
+        elif not session.modified:
+            # A file is one of the application or of a blueprint.
+            endpoint = flask.request.endpoint if flask.has_request_context() else ""
+            if response.status_code >= 400 or (endpoint or "").rpartition(".")[2] == "static":
+                return
         try:
             text = self.text_of(app, session)
         except (Unavailable, Changed) as error:

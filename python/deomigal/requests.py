@@ -6,9 +6,9 @@
     session = session_of(Agent())
 
 It is a `requests.Session` with a `CookieAdapter` for both schemes, and with the agent's cookies as `session.cookies`. The
-agent decides what is stored and sent, also at each redirect and at each answer to a 401. Around it go other adapters that
-are mounted on longer prefixes, and the responses that urllib3 retries by itself (`max_retries`): their cookies aren't read. What a
-request's `cookies=` or a header `Cookie` of the caller says isn't sent: have the agent read such a cookie.
+agent decides what is stored and sent, also at each redirect and at each answer to a 401. Around it go adapters that are
+mounted on longer prefixes, and the responses that urllib3 retries by itself (`max_retries`). What a request's `cookies=` or
+a header `Cookie` of the caller says isn't sent: have the agent read such a cookie.
 """
 from __future__ import annotations
 

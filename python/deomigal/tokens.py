@@ -28,9 +28,7 @@ class Token(NamedTuple):
 class Tokens(Uncopied):
     """How a site makes tokens for one purpose. A token is a value, such as a user's name, encrypted for the purpose and
     `lifetime` seconds. It has only letters, digits, `-` and `_`, so a link can have it as it is. Threads may share it.
-
-    `keys` are the site's keys, each of at least 64 random bytes, the newest first. The newest encrypts, and each of them
-    decrypts. They may be those of its `Sessions`. Raises `KeyTooShort`, or `OverflowError` for a lifetime past 32 bits.
+    `keys` are as those of `Sessions`. Raises `KeyTooShort`, or `OverflowError` for a lifetime past 32 bits.
 
     >>> from deomigal import derive_key
     >>> keys = [derive_key(b"a master key of at least 32 bytes")]
@@ -59,12 +57,12 @@ class Tokens(Uncopied):
         It draws twelve random bytes: let at most 2^32 be drawn under one key (SP 800-38D 8.3). Raises `NotUtf8`,
         `TooLong` or `NoDate`.
         """
-        return bytes_from(TOKEN_MAKE, self.settings, value, os.urandom(12), whole_second(now), room=len(value) + ROOM).decode()
+        words = self.settings, value, os.urandom(12), whole_second(now)
+        return bytes_from(TOKEN_MAKE, *words, room=len(value) + ROOM).decode()
 
     def read(self, token: str | bytes, now: float | None = None, *, max_age: int | None = None) -> str | None:
-        """The value of a token that `make` made for the same purpose under one of the keys, or None if it is over: `lifetime`
-        or `max_age` seconds after it was made, or at the end that it was made with. Raises `NoDate`. Nothing is stored, so a
-        token can be read again."""
+        """The value of a token that `make` made for the same purpose under one of the keys, or None if it is over:
+        `lifetime` or `max_age` seconds after it was made, or at the end that it was made with. Raises `NoDate`."""
         found = self.open(token, now, max_age=max_age)
         return found.value if found else None
 
@@ -86,9 +84,8 @@ class Tokens(Uncopied):
     def read_once(
         self, token: str | bytes, revocations: AnyRevocations, now: float | None = None, *, max_age: int | None = None
     ) -> str | None:
-        """The value of a token, as `read` returns it, or None too if it was read before. `revocations` keep until its end that
-        it was read: they may be those of the site's sessions. Of two calls at the same moment one gets the value. Raises
-        `RevocationsError` if that can't be kept. It may be kept then, or not.
+        """The value of a token, as `read` returns it, or None too if it was read before: `revocations` keep that until its
+        end. Of two calls at the same moment one gets the value. Raises `RevocationsError` if that can't be kept.
 
         >>> from deomigal import derive_key
         >>> from deomigal.revocations import MemoryRevocations
@@ -102,8 +99,7 @@ class Tokens(Uncopied):
     async def aread_once(
         self, token: str | bytes, revocations: AnyRevocations, now: float | None = None, *, max_age: int | None = None
     ) -> str | None:
-        """Does what `read_once` does. Calls of the revocations that are coroutines are awaited, and others made in a worker
-        thread."""
+        """The same in a coroutine. The revocations' calls are awaited, or made in a worker thread."""
         return await self.reading_once(token, revocations, now, max_age, ask_async)
 
     async def reading_once(
