@@ -248,8 +248,8 @@ def checked(answer: Any) -> Any:
 def answer_and_bytes(
     function: Callable[..., Any], *inputs: Any, room: int = 256, buffer: ctypes.Array[ctypes.c_char] | None = None
 ) -> tuple[Any, bytes]:
-    """What a call returns, and its bytes, or the buffer if it decodes. If the first is too short, it is called again with
-    one that fits. `buffer` is one that only this call uses now."""
+    """What a call returns, and its bytes, or the buffer if it decodes. If the first is too short, it is called again
+    with one that fits. `buffer` is one that only this call uses now."""
     arguments = arguments_of(function, inputs)
     while True:
         buffer = ctypes.create_string_buffer(room) if buffer is None else buffer
@@ -280,8 +280,7 @@ def bytes_at(text: bytes, span: Any) -> bytes:
 
 
 def unescaped(text: bytes) -> str:
-    """The text without its escapes by `%`, in which no `=` is. Quoted-printable has a `=` in the place of each `%` (RFC 2045
-    6.7), and Python reads that in C."""
+    """The text, which has no `=`, without its escapes by `%`, read as quoted-printable (RFC 2045 6.7) in C."""
     return a2b_qp(text.replace(b"%", b"=")).decode()
 
 

@@ -1,5 +1,4 @@
-"""Where a request goes: the address of a URL of http or https, read as browsers read it (WHATWG URL), or that of a
-request that a client makes."""
+"""Where a request goes: the address of a URL, read as browsers read it (WHATWG URL), or of a client's request."""
 from __future__ import annotations
 
 import functools
@@ -36,8 +35,7 @@ class Address(NamedTuple):
 def address_of(url: str, is_cross_site: bool = False, is_localhost_secure: bool = True) -> Address:
     """The address of a URL, for a request of its own site, or for one that another site's page made, as a frame does.
 
-    A host that isn't in ASCII is read as `ascii_host` says. Raises `ValueError` if the URL isn't one of http or https, or
-    its host is none.
+    A host outside ASCII is read by `ascii_host`. Raises `ValueError` if the URL isn't one of http or https with a host.
     """
     if not isinstance(url, str):
         raise TypeError("a URL is a str")

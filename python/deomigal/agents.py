@@ -27,8 +27,8 @@ from .explain import ROOM, Refusal, fields_of, refusal_of, request_of, rules_of,
 SAFE_METHODS = frozenset(("GET", "HEAD", "OPTIONS", "TRACE"))
 # The most bytes of a file that is loaded.
 MOST = 2**26
-# The forms of a file: a line of JSON for each cookie, and cookies.txt, as Netscape, curl and wget have it. FORMS has their
-# numbers in cookie.h.
+# The forms of a file: a line of JSON for each cookie, and cookies.txt, as Netscape, curl and wget have it. FORMS has
+# their numbers in cookie.h.
 JSON, NETSCAPE = "json", "netscape"
 FORMS = {NETSCAPE: 0, JSON: 1}
 # More than most headers have, and than most cookies.
@@ -36,8 +36,8 @@ HEADER_ROOM = 4096
 
 
 class Context(NamedTuple):
-    """How a request came about (RFC 6265bis, "Same-site" and "cross-site" Requests): whether it is same-site, whether it
-    is a top-level navigation, and whether its method is safe.
+    """How a request came about (RFC 6265bis, "Same-site" and "cross-site" Requests): whether it is same-site, whether
+    it is a top-level navigation, and whether its method is safe.
 
     A program that makes its own requests makes them same-site, and so does the default.
     """
@@ -97,15 +97,15 @@ class AgentCookie(NamedTuple):
 
 
 class Agent(Uncopied):
-    """A user agent: it reads `Set-Cookie` headers, stores the cookies, and says which of them a request sends, as
-    RFC 6265bis has it. `with Agent() as agent` frees it at last. Threads may share it.
+    """A user agent: it reads `Set-Cookie` headers, stores the cookies, and says which of them a request sends, as RFC
+    6265bis has it. `with Agent() as agent` frees it at last. Threads may share it.
 
-    `suffixes` is the text of the list of publicsuffix.org, by default `deomigal.explain.suffix_list`'s: if there is none,
-    `FileNotFoundError` is raised. With `b""` exactly the domains of one label are public suffixes. `title` names the list.
+    `suffixes` is the text of the list of publicsuffix.org, by default `deomigal.explain.suffix_list`'s: if there is
+    none, `FileNotFoundError` is raised. With `b""` only domains of one label are public suffixes. `title` names it.
 
     A connection is secure if the scheme is https, and to `localhost` or a loopback address too, unless
-    `is_localhost_secure` is false. `per_domain` limits the cookies of one domain, and `total` those in all: what is above
-    is dropped from time to time. `clock` returns the time, in seconds since 1970.
+    `is_localhost_secure` is false. `per_domain` limits the cookies of one domain, and `total` those in all: what is
+    above is dropped from time to time. `clock` returns the time, in seconds since 1970.
 
     >>> with Agent() as agent:
     ...     agent.read("https://shop.example/cart/view", "session=abc; Path=/; Secure")
@@ -156,8 +156,8 @@ class Agent(Uncopied):
     def read(
         self, url: str, text: str | bytes, now: datetime.datetime | None = None, context: Context = SAME_SITE
     ) -> Refusal | None:
-        """Reads the value of a `Set-Cookie` header of the response from the URL, at the time `now` or the clock's. Returns
-        None if the cookie is stored, or why it is refused. What is expired drops the cookie of its name, domain and path.
+        """Reads the value of a `Set-Cookie` header of the response from the URL, at the time `now` or the clock's.
+        Returns None if the cookie is stored, or why it is refused. What is expired drops a cookie.
 
         >>> agent = Agent()
         >>> agent.read("https://shop.example/", "lang=en; Domain=other.example").step
@@ -179,8 +179,7 @@ class Agent(Uncopied):
         return refusal_of(found) if found else None
 
     def read_all(self, address: Address, texts: Iterable[bytes]) -> None:
-        """Reads the values of all `Set-Cookie` headers of a response. The drop-ins call it, with the address of the
-        request that was made."""
+        """Reads the values of all `Set-Cookie` headers of a response from the address. The drop-ins call it."""
         for text in texts:
             self.read_at(address, text)
 
@@ -204,7 +203,8 @@ class Agent(Uncopied):
         return self.header_at(self.address_of(url, context), context.is_safe, self.second(now))
 
     def header_at(
-        self, address: Address, is_safe: bool = True, second: int | None = None, call: Callable[..., Any] = AGENT_RETRIEVE
+        self, address: Address, is_safe: bool = True, second: int | None = None,
+        call: Callable[..., Any] = AGENT_RETRIEVE,
     ) -> bytes:
         """The value of the `Cookie` header of a request to the address. The drop-ins call it."""
         second = self.second(None) if second is None else whole_second(second)
@@ -229,7 +229,8 @@ class Agent(Uncopied):
                 room = stored.path.start + stored.path.length
                 continue
             checked(found)
-            texts = (text_of(bytes_at(buffer.raw, at)) for at in (stored.name, stored.value, stored.domain, stored.path))
+            spans = stored.name, stored.value, stored.domain, stored.path
+            texts = (text_of(bytes_at(buffer.raw, span)) for span in spans)
             yield AgentCookie(*fields_of(stored, texts, second + stored.lifetime))
             index += 1
 
@@ -250,8 +251,7 @@ class Agent(Uncopied):
         return sum(1 for _ in self)
 
     def remove(self, cookie: AgentCookie) -> bool:
-        """Removes the stored cookie that has the name, the domain, the path and the `is_host_only` of this one. Returns
-        whether there was one.
+        """Removes the stored cookie with the key of this one. Returns whether there was one.
 
         >>> agent = Agent()
         >>> agent.read("https://shop.example/", "lang=en")
@@ -279,11 +279,11 @@ class Agent(Uncopied):
             perform(call, self.handle, *words)
 
     def save(self, path: str | os.PathLike[str], form: str = JSON) -> int:
-        """Writes the cookies that have an expiry and aren't expired to a file that only its owner may read. If that fails,
-        or the machine stops, the file is as before. Returns how many of the cookies the form can't carry.
+        """Writes the cookies that have an expiry and aren't expired to a file that only its owner may read. If that
+        fails, or the machine stops, the file is as before. Returns how many of the cookies the form can't carry.
 
-        With the form "json" each cookie is a line of JSON, with every field. With "netscape" the file is a cookies.txt, as
-        curl and wget read it. That has no `SameSite`, no cookie without a name, and none with a tab.
+        With the form "json" each cookie is a line of JSON, with every field. With "netscape" the file is a cookies.txt,
+        as curl and wget read it. That has no `SameSite`, no cookie without a name, and none with a tab.
 
         >>> import tempfile
         >>> folder = tempfile.TemporaryDirectory()
@@ -305,10 +305,10 @@ class Agent(Uncopied):
         return left_out
 
     def load(self, path: str | os.PathLike[str], form: str | None = None) -> list[int]:
-        """Reads the cookies of a file that `save`, curl or wget wrote. Returns the numbers, from 1, of the lines that hold
-        no cookie, or one that no user agent could have stored. What is expired is left out, and none lasts for more than
-        400 days. Without `form` the file's first byte says which form it has. Raises `ValueError` if the file has more
-        than 64 MiB, and `OSError` if it is no regular file.
+        """Reads the cookies of a file that `save`, curl or wget wrote. Returns the numbers, from 1, of the lines that
+        hold no cookie, or one that no user agent could have stored. What is expired is left out, and none lasts for
+        more than 400 days. Without `form` the file's first byte says which form it has. Raises `ValueError` if the file
+        has more than 64 MiB, and `OSError` if it is no regular file.
         """
         with open(path, "rb", opener=file_opener) as file:
             text = file.read(MOST + 1)
@@ -340,7 +340,7 @@ class Agent(Uncopied):
         return self.header_at(address, context.is_safe and method.upper() in SAFE_METHODS)
 
     def second(self, now: datetime.datetime | None) -> int:
-        """The time in whole seconds since 1970 in UTC, by default the clock's. Raises `NoDate` if a call doesn't take it."""
+        """The time in whole seconds since 1970, by default the clock's. Raises `NoDate` if no call takes it."""
         return whole_second(self.clock()) if now is None else second_of(now)
 
 

@@ -6,8 +6,8 @@
     async with aiohttp.ClientSession(**cookies_of(Agent())) as session:
 
 These are its `cookie_jar`, `request_class` and `response_class`. They give the agent the headers as they came, and send
-its header, also at each redirect. `cookies=` and a header `Cookie` of the caller are sent with the agent's. aiohttp prints
-headers in UTF-8, so a cookie that isn't UTF-8 isn't sent.
+its header, also at each redirect. `cookies=` and a header `Cookie` of the caller are sent with the agent's. aiohttp
+prints headers in UTF-8, so a cookie that isn't UTF-8 isn't sent.
 """
 from __future__ import annotations
 
@@ -29,8 +29,7 @@ EMPTY = URL()
 
 
 def cookies_of(agent: Agent | None = None, *, context: Context = SAME_SITE) -> dict[str, Any]:
-    """The arguments of an `aiohttp.ClientSession` that keeps the cookies of an agent, by default a new one. Call it in a
-    coroutine."""
+    """The arguments of an `aiohttp.ClientSession` with an agent's cookies. Call it in a coroutine."""
     jar = CookieJar(agent, context=context)
     return {"cookie_jar": jar, "request_class": ClientRequest, "response_class": ClientResponse}
 
@@ -97,8 +96,8 @@ class CookieJar(AbstractCookieJar):
         return b"" if address is None else self.agent.header_at(address, self.context.is_safe and is_safe)
 
     def update_cookies(self, cookies: LooseCookies, response_url: URL = EMPTY) -> None:
-        """Stores the cookies as if the URL's response had set them. Raises `ValueError` for a cookie without a domain, if
-        there is no URL: RFC 6265bis knows no cookie of all hosts."""
+        """Stores the cookies as if the URL's response had set them. Raises `ValueError` for a cookie without a domain,
+        if there is no URL: RFC 6265bis knows no cookie of all hosts."""
         named: Any = cookies.items() if isinstance(cookies, Mapping) else cookies
         for name, value in () if isinstance(cookies, ReadCookies) else named:
             parsed: BaseCookie[str] = SimpleCookie()
@@ -212,8 +211,8 @@ def morsel_with_attributes(cookie: AgentCookie) -> Morsel[str]:
     """The stored cookie as a morsel."""
     morsel = morsel_of(cookie.name, cookie.value)
     attributes: Any = {
-        "domain": cookie.domain, "path": cookie.path, "samesite": cookie.same_site or "", "secure": cookie.is_secure or "",
-        "httponly": cookie.is_http_only or "",
+        "domain": cookie.domain, "path": cookie.path, "samesite": cookie.same_site or "",
+        "secure": cookie.is_secure or "", "httponly": cookie.is_http_only or "",
         "expires": "" if cookie.expiry is None else print_date(date_after(0, cookie.expiry)),
     }
     morsel.update(attributes)

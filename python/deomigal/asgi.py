@@ -5,8 +5,8 @@
     app.add_middleware(SessionMiddleware, secret_key=SECRET_KEY, https_only=True)
 
 `request.session` is a dict as with Starlette's own middleware, whose arguments come first. `session_of(request)` is the
-same, with the type that has `renew`. The event loop doesn't wait for revocations: those whose calls are coroutines are
-awaited, such as `AsyncRedisRevocations`, and others are called in a worker thread. `await session.arevoke()` doesn't either.
+same, with the type that has `renew`. The event loop doesn't wait for revocations: coroutines are awaited, others called
+in a thread.
 """
 from __future__ import annotations
 

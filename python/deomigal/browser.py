@@ -35,8 +35,7 @@ def line_of(line: bytes) -> tuple[bool, Line]:
 
 
 def counted_lines(paste: bytes) -> Iterator[Line]:
-    """The lines that count: `Set-Cookie` fields, and lines that name an address or a time. If there is no field, each
-    line that isn't blank counts."""
+    """The lines that count: `Set-Cookie` fields, or else all that aren't blank, and those with an address or a time."""
     lines = [(line, *line_of(line)) for line in paste.split(b"\n")]
     has_fields = any(is_field for _, is_field, _ in lines)
     for _, is_field, line in lines:
@@ -82,9 +81,8 @@ class Browser:
         removal = self.removal(found)
         refusal = self.agent.read_at(self.address, text, self.now)
         if refusal is not None:
-            found = found._replace(
-                refusal=STEPS.index(refusal.step) + 1, sentence=refusal.sentence.encode(), section=refusal.section.encode()
-            )
+            sentence, section = refusal.sentence.encode(), refusal.section.encode()
+            found = found._replace(refusal=STEPS.index(refusal.step) + 1, sentence=sentence, section=section)
         return report_of(found, text, self.now, removal)
 
     def removal(self, found: Found) -> bytes:

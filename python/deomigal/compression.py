@@ -25,7 +25,7 @@ BYTES, PLACES = 13, 15
 
 
 def form_of(texts: Mapping[str, str], compress: bool) -> bytes:
-    """The texts as a form, which the library takes (URL Standard 5.1): compressed, if `compress` is set and that is shorter.
+    """The texts as a form (URL Standard 5.1): compressed, if `compress` is set and that is shorter.
 
     >>> texts = {"notes": "to be, or not to be " * 20}
     >>> len(form_of(texts, False)), len(form_of(texts, True)) < 50, texts_of(form_of(texts, True)) == texts
@@ -42,8 +42,8 @@ def form_of(texts: Mapping[str, str], compress: bool) -> bytes:
 
 
 def texts_of(form: bytes) -> dict[str, str]:
-    """The texts of a form, as `form_of` or the library printed it. Raises `ValueError` if another program compressed them,
-    and so if they have more than `MOST_BYTES`."""
+    """The texts of a form, as `form_of` or the library printed it. Raises `ValueError` if another program compressed
+    them, and so if they have more than `MOST_BYTES`."""
     texts = form_texts(form)
     return form_texts(inflate(bytes_of_digits(texts[COMPRESSED]))) if list(texts) == [COMPRESSED] else texts
 
@@ -72,7 +72,7 @@ def deflate(data: bytes, level: int) -> bytes:
 
 
 def inflate(data: bytes) -> bytes:
-    """What was deflated. Raises `ValueError` for other data, and for more than `MOST_BYTES` bytes, which aren't made."""
+    """What was deflated. Raises `ValueError` for other data, and for more than `MOST_BYTES` bytes."""
     decompressor = zlib.decompressobj(wbits=-15)
     try:
         found = decompressor.decompress(data, MOST_BYTES + 1)

@@ -85,8 +85,7 @@ class CookieJar(http.cookiejar.CookieJar):
         return list(jar)
 
     def set_cookie(self, cookie: http.cookiejar.Cookie) -> None:
-        """Stores the cookie as a secure response of its domain would. Raises `ValueError` if RFC 6265bis refuses it, as
-        it does without a domain.
+        """Stores the cookie as a secure response of its domain would. Raises `ValueError` if RFC 6265bis refuses it.
 
         >>> jar = CookieJar()
         >>> jar.agent.read("https://shop.example/", "lang=en")
@@ -110,8 +109,7 @@ class CookieJar(http.cookiejar.CookieJar):
             self.agent.read_at(address, text_of(cookie, self.agent.clock()))
 
     def clear(self, domain: str | None = None, path: str | None = None, name: str | None = None) -> None:
-        """Removes all cookies, or those of the domain, the path and the name. Raises `KeyError` if there is none. The dot
-        before a domain may be left out."""
+        """Removes all cookies, or those of the domain, path and name. Raises `KeyError` if there is none."""
         if path is None and name is not None or domain is None and path is not None:
             raise ValueError("a name is removed by its domain and path, and a path by its domain")
         if domain is None:
@@ -176,8 +174,7 @@ def texts_of(values: Iterable[str]) -> list[bytes]:
 
 
 def domain_of(cookie: AgentCookie) -> str:
-    """The domain as http.cookiejar has it: with a dot before it, if the hosts below it get the cookie too, and with
-    `.local` after a host of one label."""
+    """The domain as http.cookiejar has it: `.` before one with the hosts below, `.local` after a host of one label."""
     if not cookie.is_host_only:
         return "." + cookie.domain
     return cookie.domain if "." in cookie.domain or ":" in cookie.domain else cookie.domain + ".local"

@@ -44,8 +44,8 @@ def numbers_of(moment: datetime.datetime) -> tuple[int, ...]:
 
 
 def read_date(text: str | bytes) -> datetime.datetime | None:
-    """Reads the text as a date and time in UTC, in one of four forms (RFC 9110 5.6.7, RFC 6265 5.1.1). Returns None if it
-    isn't one, or if its year is below 1. Raises `NotUtf8`.
+    """Reads the text as a date and time in UTC, in one of four forms (RFC 9110 5.6.7, RFC 6265 5.1.1). Returns None if
+    it isn't one, or if its year is below 1. Raises `NotUtf8`.
 
     >>> read_date("Wed, 21 Oct 2015 07:28:00 GMT")
     datetime.datetime(2015, 10, 21, 7, 28, tzinfo=datetime.timezone.utc)

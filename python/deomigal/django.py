@@ -64,10 +64,10 @@ def session_of(sessions: Sessions, key: str | None, header: bytes | None = None)
 
 
 class SessionStore(Generations, SessionBase):
-    """A session, whose key is the value of its cookie. `source` is the session that it was opened from, and `header` the
-    request's, if it is opened from that. `failure` is why it couldn't be opened, or the error of its revocations that no
-    view answered. `shows_revoked` is whether the request has only revoked sessions, and none was begun since: then this
-    isn't saved. `showed_revoked` stays."""
+    """A session, whose key is the value of its cookie. `source` is the session that it was opened from, and `header`
+    the request's, if it is opened from that. `failure` is why it couldn't be opened, or the error of its revocations
+    that no view answered. `shows_revoked` is whether the request has only revoked sessions, and none was begun since:
+    then this isn't saved. `showed_revoked` stays."""
 
     source: Session | None = None
     header: bytes | None = None
@@ -125,14 +125,14 @@ class SessionStore(Generations, SessionBase):
             self._session_cache = {}
 
     def delete(self, session_key: str | None = None) -> None:
-        """Drops the values and the key. `flush` calls it, as at a logout. With DEOMIGAL_REVOCATIONS what the browser has is
-        revoked, in each copy of its cookie. Raises what `Sessions.revoke` does."""
+        """Drops the values and the key. `flush` calls it, as at a logout. With DEOMIGAL_REVOCATIONS what the browser
+        has is revoked, in each copy of its cookie. Raises what `Sessions.revoke` does."""
         self.revoke(session_key)
         self.source, self.header, self._session_key, self._session_cache = None, None, "", {}
         self.modified = True
 
     def revoke(self, session_key: str | None = None) -> bool:
-        """Revokes what the browser has, if the site keeps which sessions are revoked. Returns whether it had something."""
+        """Revokes what the browser has, if the site has revocations. Returns whether it had something."""
         sessions = site()
         if sessions.revocations is None:
             return False
@@ -144,8 +144,8 @@ class SessionStore(Generations, SessionBase):
         return sessions.revoke(source)
 
     def cycle_key(self) -> None:
-        """Starts it anew with the same values, so that the lifetime counts from this request, and saves it. A login calls
-        it. With DEOMIGAL_REVOCATIONS the session of before is revoked. Raises as `delete` does."""
+        """Starts it anew with the same values, so that the lifetime counts from this request, and saves it. A login
+        calls it. With DEOMIGAL_REVOCATIONS the session of before is revoked. Raises as `delete` does."""
         self.renew()
         self.save()
 
@@ -170,8 +170,8 @@ class SessionStore(Generations, SessionBase):
 
 
 class SessionMiddleware(DjangoMiddleware):
-    """Django's middleware, but it reads the request's header as `deomigal.Sessions` does. If it can't be looked up whether
-    a session is revoked, the request is answered with status 503, and with 409 if another request has renewed or ended it.
+    """Django's middleware, but it reads the request's header as `deomigal.Sessions` does. It answers with status 503 if
+    the revocations fail, and with 409 if another request has renewed or ended the session.
     """
 
     def __init__(self, *arguments: Any, **options: Any) -> None:
@@ -206,7 +206,7 @@ class SessionMiddleware(DjangoMiddleware):
         return Unavailable(exception) if isinstance(exception, FAILURES) else None
 
     def process_response(self, request: Any, response: Any) -> Any:
-        """Saves the session in the response. In the place of a page that Django made of such an error this is the answer."""
+        """Saves the session in the response, or answers in the place of a page that Django made of an error."""
         if isinstance(response, Unavailable):
             return response
         session: Any = getattr(request, "session", None)

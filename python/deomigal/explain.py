@@ -54,9 +54,9 @@ class Refusal(NamedTuple):
 
 
 class Stored(NamedTuple):
-    """A cookie as a browser stores it, with name and value as the header has them. `lifetime` is how many seconds it lives
-    from now, at most 400 days: None if it lives until the browser closes, and 0 if no whole second is left. `same_site`
-    is "Strict", "Lax", "None", or None if nothing is set.
+    """A cookie as a browser stores it, with name and value as the header has them. `lifetime` is how many seconds it
+    lives from now, at most 400 days: None if it lives until the browser closes, and 0 if no whole second is left.
+    `same_site` is "Strict", "Lax", "None", or None if nothing is set.
     """
 
     name: str
@@ -89,9 +89,9 @@ def verdict(
 ) -> Stored | Refusal:
     """What a browser without cookies stores of the cookie in a `Set-Cookie` header's value, or why it refuses it.
 
-    The response comes from the URL, at the time `now` or else at the current time. `suffixes` is the text of the list of
-    publicsuffix.org, by default `suffix_list`'s. If it is empty, exactly the domains of one label are public suffixes.
-    With `is_cross_site` another site's page made the request, as a frame or an image does.
+    The response comes from the URL, at the time `now` or else at the current time. `suffixes` is the text of the list
+    of publicsuffix.org, by default `suffix_list`'s. If it is empty, exactly the domains of one label are public
+    suffixes. With `is_cross_site` another site's page made the request, as a frame or an image does.
 
     >>> verdict("https://shop.example/cart/view", "lang=en; Max-Age=60")[:5]
     ('lang', 'en', 'shop.example', '/cart', 60)
@@ -146,8 +146,8 @@ def refusal(
 ) -> Refusal | None:
     """Why a browser refuses the cookie, as `verdict` says, or None if it stores it.
 
-    >>> refusal("https://shop.example/", "a=1; SameSite=None")
-    Refusal(step='NoneWithoutSecure', sentence='SameSite=None needs Secure: set Secure over https', section='Storage Model')
+    >>> refusal("https://shop.example/", "a=1; SameSite=None")[:2]
+    ('NoneWithoutSecure', 'SameSite=None needs Secure: set Secure over https')
     >>> refusal("https://shop.example/", "a=1; SameSite=None; Secure") is None
     True
     """
@@ -199,7 +199,8 @@ def partition_of(text: bytes, is_secure: bool) -> bytes:
     for piece in text.split(b";")[1:]:
         name, _, value = (part.strip(b" \t") for part in piece.partition(b"="))
         if name.lower() == b"partitioned" and len(value) <= 1024:
-            note = b"kept apart for each top-level site" if is_secure else b"browsers that know it refuse it without Secure"
+            refused = b"browsers that know it refuse it without Secure"
+            note = b"kept apart for each top-level site" if is_secure else refused
             return b"; Partitioned (not in RFC 6265bis: %b)" % note
     return b""
 

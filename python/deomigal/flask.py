@@ -72,14 +72,17 @@ class FlaskSession(Opened, SecureCookieSession):
     ) -> None:
         super().__init__(values)
         self.sessions, self.source, self.new, self.is_old = sessions, source, source.is_new and not is_old, is_old
-        # The texts of the cookie that it was opened from; and each value's text with what it was when that was its text.
+        # The texts of the cookie that it was opened from; and each value's text with what it was when that was its
+        # text.
         self.serializer, self.opened = serializer, dict(source.texts)
         self.printed = {name: (mark_of(values[name]), text) for name, text in self.opened.items() if name in values}
         # The texts that were saved last, and the cookie's text, or None if it was too large.
         self.saved: tuple[dict[str, str], str | None] | None = None
-        # Whether the request has only revoked sessions. Then it drops no cookie: the browser may have another one by now.
+        # Whether the request has only revoked sessions. Then it drops no cookie: the browser may have another one by
+        # now.
         self.showed_revoked = source.shows_revoked
-        # Whether it couldn't be revoked, or was renewed or ended by another request. Then the browser keeps what it has.
+        # Whether it couldn't be revoked, or was renewed or ended by another request. Then the browser keeps what it
+        # has.
         self.is_failed = False
 
     # Flask's own don't count as a use.
@@ -92,15 +95,14 @@ class FlaskSession(Opened, SecureCookieSession):
         return copied
 
     def renew(self) -> None:
-        """Starts it anew with the same values and another id, so that the lifetime counts from this request. Call it at a
-        login, and on a page that keeps something for one. With `revocations` the session of before opens no more then."""
+        """Starts it anew with the same values and another id, so that the lifetime counts from this request. Call it at
+        a login, and on a page that keeps something for one. With `revocations` the old session opens no more."""
         self.source.renew()
         self.modified = self.accessed = True
         self.saved = None
 
     def clear(self) -> None:
-        """Drops the values, and starts it anew. A copy of its cookie stays open until its limits: at a logout call
-        `revoke`."""
+        """Drops the values, and starts it anew. A copy of its cookie stays open: at a logout call `revoke`."""
         super().clear()
         self.renew()
 
@@ -128,8 +130,8 @@ class FlaskSession(Opened, SecureCookieSession):
         return is_ended
 
     def check(self) -> None:
-        """Raises `TooLarge` if no browser would store the session as it is now. `SessionInterface.init_app` has it checked
-        after each view. What is too large isn't saved, and the browser keeps what it has."""
+        """Raises `TooLarge` if no browser would store the session as it is now. `SessionInterface.init_app` has it
+        checked after each view. What is too large isn't saved, and the browser keeps what it has."""
         if self and self.is_changed() and not self.shows_revoked:
             self.save()
 
@@ -174,7 +176,7 @@ class FlaskSession(Opened, SecureCookieSession):
 
 
 def mark_of(value: Any) -> bytes | None:
-    """The same bytes for a value as long as it is the same, or None if it doesn't only have values of Python's own types."""
+    """The same bytes for a value as long as it is the same, or None if it has other types than Python's own."""
     try:
         return marshal.dumps(value, MARSHAL_VERSION)
     except ValueError:
@@ -182,7 +184,7 @@ def mark_of(value: Any) -> bytes | None:
 
 
 def name_of(name: Any) -> str:
-    """The text of a value's name, which is the name of a member in JSON. Raises `TypeError` for a name that JSON hasn't.
+    """The text of a value's name, as JSON has it. Raises `TypeError` for one that JSON hasn't.
 
     >>> name_of("user"), name_of(None), name_of(3)
     ('user', 'null', '3')
@@ -245,8 +247,8 @@ class SessionInterface(FlaskSessionInterface):
     A session is over PERMANENT_SESSION_LIFETIME after its start, and `idle` seconds after it was last saved, if `idle`
     is given. With `refresh` each request saves it. With `migrate` the sessions of Flask's own class are read too.
     `clock` returns the time, in seconds since 1970. `serializer` prints and reads each value. `revocations` keeps which
-    sessions are revoked. If it fails, the request is answered with status 503, or by `errorhandler(RevocationsError)`, and
-    with 409, or by `errorhandler(Gone)`, if another request has renewed or ended the session. For `compress` see
+    sessions are revoked. If it fails, the request is answered with status 503, or by `errorhandler(RevocationsError)`,
+    and with 409, or by `errorhandler(Gone)`, if another request has renewed or ended the session. For `compress` see
     `deomigal.Sessions`. With Flask-Login each login renews the session, and each logout revokes it.
     """
 
@@ -284,12 +286,12 @@ class SessionInterface(FlaskSessionInterface):
         app.session_interface = self
         app.extensions[KEY] = self
         app.before_request(self.refuse_unopened)
-        # Flask offers nothing between the view and the functions of `after_request`, and what these or `save_session` raise
-        # no `errorhandler(TooLarge)` answers. So the call that makes the view's answer is replaced.
+        # Flask offers nothing between the view and the functions of `after_request`, and what these or `save_session`
+        # raise no `errorhandler(TooLarge)` answers. So the call that makes the view's answer is replaced.
         setattr(app, "dispatch_request", self.with_check(app, app.dispatch_request))
 
     def with_check(self, app: Flask, dispatch: Callable[..., Any]) -> Callable[..., Any]:
-        """A call that calls the view, and then checks the session. So `errorhandler(TooLarge)` answers what is raised."""
+        """The call of a view, which then checks the session, so that `errorhandler(TooLarge)` answers."""
         def dispatch_request(*arguments: Any) -> Any:
             answer, opened = dispatch(*arguments), self.opened_in(app)
             if opened is not None:
@@ -387,8 +389,8 @@ class SessionInterface(FlaskSessionInterface):
         return bool(counts and (self.refresh or session.sessions.must_save(session.source)))
 
     def save_session(self, app: Flask, session: SessionMixin, response: Response) -> None:
-        """Saves the session in the response, or removes its cookie if it was emptied. An error page or a file that
-        didn't use the session saves nothing."""
+        """Saves the session in the response, or drops its cookie. Error pages and files that didn't use it save
+        none."""
         if not isinstance(session, FlaskSession):
             # It couldn't be opened, which is the one error.
             return

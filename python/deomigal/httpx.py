@@ -44,8 +44,7 @@ class Cookies:
         self.agent, self.context = Agent() if agent is None else agent, context
 
     def prepare(self, request: httpx.Request) -> Address | None:
-        """Sets the request's `Cookie` header. Returns where it goes, by the host that httpx connects to, or None: then no
-        cookie is read or sent."""
+        """Sets the request's `Cookie` header. Returns where httpx connects to, or None if there is no cookie."""
         fields = [field for field in request.headers.raw if field[0].lower() != b"cookie"]
         url = request.url
         path = url.raw_path.partition(b"?")[0].decode("latin-1")

@@ -36,16 +36,16 @@ SLACK = 3600
 
 class Revocations(Protocol):
     """Where a site keeps which sessions are revoked. Threads share it. An id has sixteen bytes, and seconds count from
-    1970. A call that fails raises an exception. With `are_revoked(ids)` too, which returns a list of bools, a request's
-    sessions are looked up by one call.
+    1970. A call that fails raises an exception. With `are_revoked(ids)` too, a list of bools, a request needs one
+    look-up.
     """
 
     def is_revoked(self, id: bytes) -> bool:
         """Whether the session with this id is revoked."""
 
     def revoke(self, id: bytes, until: int) -> bool:
-        """Revokes the session with this id until that second, or a later one. Returns whether it was revoked already: of
-        several calls at the same moment exactly one returns False."""
+        """Revokes the session with this id until that second, or a later one. Returns whether it was revoked already:
+        of several calls at the same moment exactly one returns False."""
 
     def forget(self, now: float) -> None:
         """Forgets each session whose second isn't after `now`. It is over then."""
@@ -58,7 +58,7 @@ class AsyncRevocations(Protocol):
         """Whether the session with this id is revoked."""
 
     async def revoke(self, id: bytes, until: int) -> bool:
-        """Revokes the session with this id until that second, or a later one. Returns whether it was revoked already."""
+        """Revokes the session with this id until that second or later. Returns whether it was revoked already."""
 
 
 AnyRevocations = Union[Revocations, AsyncRevocations]
@@ -144,7 +144,7 @@ class MemoryRevocations(LookUps):
         return [id_of(id) in self.until for id in ids]
 
     def revoke(self, id: bytes, until: int) -> bool:
-        """Revokes the session with this id until that second, or a later one. Returns whether it was revoked already."""
+        """Revokes the session with this id until that second or later. Returns whether it was revoked already."""
         with self.lock:
             was_revoked = id_of(id) in self.until
             self.until[id] = max(until, self.until.get(id, until))
@@ -157,7 +157,7 @@ class MemoryRevocations(LookUps):
 
 
 class Connection(Lock):
-    """A connection to an SQLite file, for one thread at a time. It is opened at a statement, and closed before a fork."""
+    """A connection to an SQLite file, for one thread at a time. It is closed before a fork."""
 
     def __init__(self, path: str, timeout: float) -> None:
         super().__init__()
@@ -189,8 +189,8 @@ LEFT: list[sqlite3.Connection] = []
 
 
 def connect(path: str, timeout: float, create: bool = False) -> sqlite3.Connection:
-    """A new connection, over a file that has the table. It waits for a process that switches a new file to WAL at the same
-    time, or closes it, which SQLite doesn't."""
+    """A new connection, over a file that has the table. It waits for a process that switches a new file to WAL at the
+    same time, or closes it, which SQLite doesn't."""
     end = time.monotonic() + timeout
     while True:
         try:
@@ -240,9 +240,9 @@ def close_all(connections: Iterable[Connection]) -> None:
 
 
 class SqliteRevocations(LookUps):
-    """Keeps them in an SQLite file of their own. Threads and processes of one machine share it. What was revoked is on the
-    disk when `revoke` returns. A call waits for at most `timeout` seconds for another process, and as long for one of the
-    three connections that a process has.
+    """Keeps them in an SQLite file of their own. Threads and processes of one machine share it. What was revoked is on
+    the disk when `revoke` returns. A call waits for at most `timeout` seconds for another process, and as long for one
+    of the three connections that a process has.
 
     An empty or missing file gets the table, unless `create` is false. Raises `RevocationsError` if the file can't be
     opened or written, isn't a database, or has another table, and if SQLite is older than 3.37. So does each call while
@@ -281,8 +281,8 @@ class SqliteRevocations(LookUps):
         return self.perform((statement, *values), first=0)[0]
 
     def perform(self, *statements: tuple[Any, ...], first: int = 1) -> list[list[Any]]:
-        """The rows of each statement, if the file is still at its path afterwards. The first connection is left to those
-        that read: they wait for none. If another thread is in each, this waits for one."""
+        """The rows of each statement, if the file is still at its path afterwards. The first connection is left to
+        those that read: they wait for none. If another thread is in each, this waits for one."""
         connections = self.connections[first:]
         connection = next((one for one in connections if one.inner.acquire(False)), None)
         if connection is None:
@@ -319,16 +319,16 @@ class SqliteRevocations(LookUps):
         return [(id,) in found for id in ids]
 
     def revoke(self, id: bytes, until: int) -> bool:
-        """Revokes the session with this id until that second, or a later one. Returns whether it was revoked already."""
+        """Revokes the session with this id until that second or later. Returns whether it was revoked already."""
         look = "SELECT 1 FROM revoked WHERE id = ? LIMIT 1"
         insert = "INSERT INTO revoked SELECT ?, ? WHERE NOT EXISTS (SELECT 1 FROM revoked WHERE id = ? AND until >= ?)"
         # Begun so, no other process writes between the two.
-        _, found, *_ = self.perform(("BEGIN IMMEDIATE",), (look, id_of(id)), (insert, id, until, id, until), ("COMMIT",))
+        words = (look, id_of(id)), (insert, id, until, id, until)
+        _, found, *_ = self.perform(("BEGIN IMMEDIATE",), *words, ("COMMIT",))
         return bool(found)
 
     def forget(self, now: float) -> None:
-        """Forgets each session whose second isn't after `now`, in transactions of at most some 50 ms. Between them it
-        waits as long, so that others write."""
+        """Forgets each session whose second isn't after `now`, in transactions of some 50 ms, so that others write."""
         last, count = -(2**63), 100
         batch = "SELECT max(rowid) FROM (SELECT rowid FROM revoked WHERE rowid > ? ORDER BY rowid LIMIT ?)"
         while (end := self.read(batch, last, count)[0][0]) is not None:
@@ -362,7 +362,7 @@ class RedisCommands:
         return [outcome(value, None, b"", "") is not None for value in found]
 
     async def revoking(self, id: bytes, until: int) -> bool:
-        """Revokes the session with this id until that second, or a later one. Returns whether it was revoked already."""
+        """Revokes the session with this id until that second or later. Returns whether it was revoked already."""
         key, end = self.key(id), until + SLACK
         # Between two commands the key may expire.
         for attempt in range(3):
@@ -396,7 +396,7 @@ class RedisRevocations(LookUps, RedisCommands):
         return run(self.looking_up(ids))
 
     def revoke(self, id: bytes, until: int) -> bool:
-        """Revokes the session with this id until that second, or a later one. Returns whether it was revoked already."""
+        """Revokes the session with this id until that second or later. Returns whether it was revoked already."""
         return run(self.revoking(id, until))
 
     def forget(self, now: float) -> None:

@@ -24,8 +24,7 @@ def derive_key(master: bytes) -> bytes:
 
 def keys_of(secrets: Iterable[str | bytes], salt: str | bytes | None = None) -> list[bytes]:
     """The keys that are derived from a site's secrets, in their order. Each secret has at least 32 random bytes. With
-    another salt they are other keys (HMAC-SHA256 of the salt under the secret, RFC 2104). Raises `MasterTooShort`, and
-    says how to make a secret.
+    another salt they are other keys (HMAC-SHA256 of the salt under the secret, RFC 2104). Raises `MasterTooShort`.
 
     >>> one, other = (keys_of(["a secret of at least thirty-two bytes"], salt) for salt in ("one", "other"))
     >>> len(one[0]), one == other
@@ -42,8 +41,7 @@ def keys_of(secrets: Iterable[str | bytes], salt: str | bytes | None = None) -> 
 
 
 def sign(key: bytes, name: str, value: str) -> str:
-    """The signature of the value under the cookie's name, and then the value. The key has at least 64 random bytes. Raises
-    `KeyTooShort` or `NotUtf8`.
+    """The signature of the value under the cookie's name, and the value. Raises `KeyTooShort` (64 bytes) or `NotUtf8`.
 
     >>> sign(derive_key(b"a master key of at least 32 bytes"), "session", "ann")
     'yfpi77iCbAHvzPqzaNqCydxDHw00Rx+/JAtbZtMf68U=ann'
@@ -59,8 +57,8 @@ def verify(key: bytes, name: str, text: str) -> str | None:
 def seal(key: bytes, name: str, value: str, nonce: bytes | None = None) -> str:
     """The value, encrypted under the cookie's name. Twelve random bytes are drawn, unless you pass in such a nonce.
 
-    Never use a nonce twice under one key, and let at most 2^32 be drawn for one (SP 800-38D 8.3). Raises `KeyTooShort`,
-    `NotUtf8`, `TooLong` or `BadNonce`.
+    Use no nonce twice, and draw at most 2^32 for a key (SP 800-38D 8.3). Raises `KeyTooShort`, `NotUtf8`, `TooLong` or
+    `BadNonce`.
 
     >>> key = derive_key(b"a master key of at least 32 bytes")
     >>> open_sealed(key, "session", seal(key, "session", "ann"))

@@ -1,5 +1,4 @@
-"""Sessions in one encrypted cookie: keys that rotate, limits that the server checks, and an error if a browser wouldn't
-store the cookie."""
+"""Sessions in one encrypted cookie: with keys that rotate, and limits that the server checks."""
 from __future__ import annotations
 
 import ctypes
@@ -25,14 +24,14 @@ ROOM = 10000
 
 
 class Generations:
-    """What a session may keep: the number of the user's generation. It is a value of this type, or its decimal digits."""
+    """What a session may keep: the number of the user's generation, an int, or its digits in a text."""
 
     kind: type[int] | type[str] = int
 
     @property
     def generation(self: Any) -> int | None:
-        """The number of the user's generation that it keeps, if it does, as `generation`. A site keeps one number a user,
-        and adds one where all sessions of the user are to end, as after a change of the password.
+        """The number of the user's generation that it keeps, if it does, as `generation`. A site keeps one number a
+        user, and adds one where all sessions of the user are to end, as after a change of the password.
 
         >>> session = Session(1445412480)
         >>> session.generation = 7
@@ -58,11 +57,11 @@ class Generations:
 class Session(Generations, MutableMapping[str, str]):
     """A session: a dict of texts. `Sessions.open` makes it.
 
-    `started` is when it started, and `seen` when it was last saved, in seconds since 1970. `end` is when it is over, and
-    `idle` how many seconds it lives unsaved: both are None until it is first saved. `place` is the place of the key that
-    opened it: 0 is the newest, and a new session has None. `id` has sixteen random bytes, which each copy of its cookie
-    has until it is renewed. `shows_revoked` is whether the request has only revoked sessions, and this one, which is new,
-    wasn't renewed since. Such a request may be an old tab's, whose browser has another session by now, so don't save it.
+    `started` is when it started, and `seen` when it was last saved, in seconds since 1970. `end` is when it is over,
+    and `idle` how many seconds it lives unsaved: both are None until it is first saved. `place` is the place of the key
+    that opened it: 0 is the newest, and a new session has None. `id` has sixteen random bytes, which each copy of its
+    cookie has until it is renewed. `shows_revoked` is whether the request has only revoked sessions, and this one,
+    which is new, wasn't renewed since. Don't save it then: the browser may have another session by now.
 
     >>> session = Session(1445412480)
     >>> session["user"] = "ann"
@@ -82,8 +81,8 @@ class Session(Generations, MutableMapping[str, str]):
         """Makes it a new session without texts, of which the browser has none."""
         # What the library keeps of the session, once it is opened or saved: also which one the browser has.
         self.handle, self.place = OwnHandle(SESSION_FREE), cast("int | None", None)
-        # The header that it was opened from, or its cookie once it is saved; and the ids in it that are revoked, or None
-        # before they are looked up.
+        # The header that it was opened from, or its cookie once it is saved; and the ids in it that are revoked, or
+        # None before they are looked up.
         self.header, self.revoked = b"", cast("bytes | None", None)
         self.texts: dict[str, str] = {}
         # The texts that the library has, if it is known which.
@@ -152,11 +151,11 @@ class Session(Generations, MutableMapping[str, str]):
 class Sessions(Uncopied):
     """How a site keeps its sessions: one encrypted cookie holds a session. Threads may share it.
 
-    `keys` are the site's keys, each of at least 64 random bytes, the newest first. The newest encrypts, and each of them
-    decrypts. A session is over `lifetime` seconds after its start, and `idle` seconds after it was last saved. It keeps
-    the limits that it started with: lower ones end it sooner, and higher ones count for new sessions. `name` and the
-    arguments after the limits are the cookie's. Settings that no session could be saved with are refused at once: a path
-    or a domain with a control character or a `;` with `InvalidValue`, a limit past 32 bits with `OverflowError`.
+    `keys` are the site's keys, each of at least 64 random bytes, the newest first. The newest encrypts, and each of
+    them decrypts. A session is over `lifetime` seconds after its start, and `idle` seconds after it was last saved. It
+    keeps the limits that it started with: lower ones end it sooner, and higher ones count for new sessions. `name` and
+    the arguments after the limits are the cookie's. Settings that no session could be saved with are refused at once: a
+    path or a domain with a control character or a `;` with `InvalidValue`, a limit past 32 bits with `OverflowError`.
 
     With `revocations`, such as `SqliteRevocations`, `revoke` ends a session in each copy of its cookie, and so does the
     first `save` after a renewal. In a coroutine await `aopen`, `asave` and `arevoke`, so that others go on meanwhile.
@@ -215,16 +214,16 @@ class Sessions(Uncopied):
     def start(self, now: float | None = None) -> Session:
         """A new session without texts. `now` is in seconds since 1970; without it the clock's time counts.
 
-        Start one at a login, if no text of before it may survive. Raises `NoDate` for a time before 1970, or from 2^64 on.
+        Start one at a login, if no text may survive it. Raises `NoDate` for a time before 1970 or from 2^64 on.
         """
         return Session(whole_second(now))
 
     def open(self, header: str | bytes | None, now: float | None = None) -> Session:
         """The session in a request's `Cookie` header, or a new one if the header has no open session, or is None.
 
-        A session isn't open if it isn't encrypted under one of the keys, is over, or is revoked. Of several cookies of the
-        site's name the first in which a session is open counts. `now` is in seconds since 1970; without it the clock's
-        time counts. Raises `RevocationsError` if it can't be looked up whether a session is revoked.
+        A session isn't open if it isn't encrypted under one of the keys, is over, or is revoked. Of several cookies of
+        the site's name the first in which a session is open counts. `now` is in seconds since 1970; without it the
+        clock's time counts. Raises `RevocationsError` if it can't be looked up whether a session is revoked.
 
         >>> from deomigal import derive_key
         >>> sessions = Sessions([derive_key(b"a master key of at least 32 bytes")], "session", 12 * 3600, 1800)
@@ -293,9 +292,9 @@ class Sessions(Uncopied):
         """Logs the visitor out: revokes what the browser has, in each copy of its cookie. Send what `end` returns then.
         Returns whether there was something to revoke. The object is a new session without texts then.
 
-        Raises `Gone` if what the browser has is over or was revoked already: another request has renewed the session, or
-        logged out. Raises `RevocationsError` if it can't be kept. Don't say after either that the user is logged out.
-        Without `revocations` it raises `RuntimeError`.
+        Raises `Gone` if what the browser has is over or was revoked already: another request has renewed the session,
+        or logged out. Raises `RevocationsError` if it can't be kept. Don't say after either that the user is logged
+        out. Without `revocations` it raises `RuntimeError`.
 
         >>> from deomigal import derive_key
         >>> from deomigal.revocations import MemoryRevocations
@@ -326,8 +325,7 @@ class Sessions(Uncopied):
         return True
 
     async def spend(self, session: Session, ask: Ask, tell: Callable[..., int]) -> None:
-        """Revokes what the browser has, if the site keeps what is revoked, and tells the library so. Raises `Gone` if it
-        was revoked already."""
+        """Revokes what the browser has, and tells the library so. Raises `Gone` if it was revoked already."""
         was, given = False, SESSION_GIVEN(session.handle)
         if self.revocations is not None:
             was = was_revoked(await ask(self.revocations, "revoke", bytes(given.id), given.end))
@@ -347,12 +345,12 @@ class Sessions(Uncopied):
     def save(self, session: Session) -> str:
         """The value of the `Set-Cookie` header that saves the session, encrypted under the newest key.
 
-        Save at each request, so that the idle time counts from it. The first save after a renewal revokes what the browser
-        has, if the site has `revocations`. Raises `Gone` if that is over or was revoked already, by another request, and
-        `RevocationsError` if it can't be kept. Set no cookie after either.
+        Save at each request, so that the idle time counts from it. The first save after a renewal revokes what the
+        browser has, if the site has `revocations`. Raises `Gone` if that is over or was revoked already, by another
+        request, and `RevocationsError` if it can't be kept. Set no cookie after either.
 
-        Raises `TooLarge` if a browser wouldn't store the cookie: there is room for about 2,930 bytes of texts in UTF-8, or
-        of them compressed. Raises `NotUtf8` for a text with a lone surrogate. Nothing is revoked then.
+        Raises `TooLarge` if a browser wouldn't store the cookie: there is room for about 2,930 bytes of texts in UTF-8,
+        or of them compressed. Raises `NotUtf8` for a text with a lone surrogate. Nothing is revoked then.
 
         >>> from deomigal import derive_key
         >>> from deomigal.errors import TooLarge
@@ -408,8 +406,8 @@ class Sessions(Uncopied):
     def text_of(self, session: Session) -> str:
         """The text of the session's cookie, under a nonce of its own."""
         with self.lock:
-            nonce = os.urandom(12)
-            return bytes_from(SESSION_SAVE, self.handle, session.handle, nonce, session.now, buffer=self.buffer).decode()
+            words = self.handle, session.handle, os.urandom(12), session.now
+            return bytes_from(SESSION_SAVE, *words, buffer=self.buffer).decode()
 
     def check(self, session: Session) -> None:
         """Raises what `save` raises for the session as it is now, but asks no store and revokes nothing."""
@@ -421,8 +419,8 @@ class Sessions(Uncopied):
             raise error_of(answer.status, answer.length)
 
     def must_save(self, session: Session) -> bool:
-        """Whether the session must be saved: it was changed or renewed, it is new, an older key opened it, or a tenth of
-        its idle time has passed since it was last saved. A new one without texts needn't, nor one that `shows_revoked`.
+        """Whether the session must be saved: it was changed or renewed, it is new, an older key opened it, or a tenth
+        of its idle time has passed. A new one without texts needn't, nor one that `shows_revoked`.
 
         >>> from deomigal import derive_key
         >>> sessions = Sessions([derive_key(b"a master key of at least 32 bytes")], "session", 12 * 3600, 1800)
@@ -444,8 +442,7 @@ class Sessions(Uncopied):
         return bool(checked(need).must_save)
 
     def end(self, now: float | None = None) -> str:
-        """The value of the `Set-Cookie` header that has the browser drop the cookie. A copy stays open until its
-        limits, unless `revoke` is called.
+        """The value of the `Set-Cookie` header that drops the cookie. A copy stays open, unless `revoke` is called.
 
         >>> from deomigal import derive_key
         >>> sessions = Sessions([derive_key(b"a master key of at least 32 bytes")], "session", 12 * 3600, 1800)

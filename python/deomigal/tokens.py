@@ -54,8 +54,7 @@ class Tokens(Uncopied):
     def make(self, value: str, now: float | None = None) -> str:
         """A token of the value. `now` is in seconds since 1970; without it the clock's time counts.
 
-        It draws twelve random bytes: let at most 2^32 be drawn under one key (SP 800-38D 8.3). Raises `NotUtf8`,
-        `TooLong` or `NoDate`.
+        Make at most 2^32 under one key (SP 800-38D 8.3). Raises `NotUtf8`, `TooLong` or `NoDate`.
         """
         words = self.settings, value, os.urandom(12), whole_second(now)
         return bytes_from(TOKEN_MAKE, *words, room=len(value) + ROOM).decode()
@@ -84,8 +83,8 @@ class Tokens(Uncopied):
     def read_once(
         self, token: str | bytes, revocations: AnyRevocations, now: float | None = None, *, max_age: int | None = None
     ) -> str | None:
-        """The value of a token, as `read` returns it, or None too if it was read before: `revocations` keep that until its
-        end. Of two calls at the same moment one gets the value. Raises `RevocationsError` if that can't be kept.
+        """The value of a token, as `read` returns it, or None too if it was read before: `revocations` keep that until
+        its end. Of two calls at the same moment one gets the value. Raises `RevocationsError` if that can't be kept.
 
         >>> from deomigal import derive_key
         >>> from deomigal.revocations import MemoryRevocations

@@ -21,8 +21,9 @@ PLAIN, ENCODED = "j", "b"
 EMPTY = b"{}"
 # What is answered if it can't be looked up whether a session is revoked (RFC 9110 15.6.4), and if another request has
 # renewed or ended the session that this one renews or ends (15.5.10).
-UNAVAILABLE = "503 Service Unavailable", [("Content-Type", "text/plain"), ("Retry-After", "1")], b"Try again in a moment.\n"
-CONFLICT = "409 Conflict", [("Content-Type", "text/plain")], b"Your session has changed meanwhile. Load the page again.\n"
+PLAIN_TEXT = ("Content-Type", "text/plain")
+UNAVAILABLE = "503 Service Unavailable", [PLAIN_TEXT, ("Retry-After", "1")], b"Try again in a moment.\n"
+CONFLICT = "409 Conflict", [PLAIN_TEXT], b"Your session has changed meanwhile. Load the page again.\n"
 Failure = Union[RevocationsError, Gone]
 FAILURES = (RevocationsError, Gone)
 LOG = logging.getLogger("deomigal")
@@ -111,8 +112,8 @@ class Opened(Generations):
 
     @property
     def shows_revoked(self) -> bool:
-        """Whether the request has only revoked sessions, and this one, which is new, wasn't renewed since. It isn't saved
-        then: the request may be an old tab's, whose browser has another session by now."""
+        """Whether the request has only revoked sessions, and this one, which is new, wasn't renewed since. It isn't
+        saved then: the request may be an old tab's, whose browser has another session by now."""
         return self.source.shows_revoked
 
 
@@ -143,8 +144,8 @@ else:
 class CookieSession(Opened, Mapped):
     """The session of a request: a dict of what JSON has. A change within a value is saved too. A copy is a plain dict.
 
-    `accessed` is whether the request used it. `source` is the session that it was opened from, and `opened` the JSON that
-    its values had then: a change shows when they are printed again.
+    `accessed` is whether the request used it. `source` is the session that it was opened from, and `opened` the JSON
+    that its values had then: a change shows when they are printed again.
     """
 
     def __init__(self, sessions: Sessions, source: Session, values: Mapping[str, Any], opened: bytes) -> None:
@@ -177,14 +178,13 @@ class CookieSession(Opened, Mapped):
         return self.source.is_new
 
     def renew(self) -> None:
-        """Starts it anew with the same values and another id, so that the lifetime counts from this request. Call it at a
-        login, and on a page that keeps something for one. With `revocations` the session of before opens no more then."""
+        """Starts it anew with the same values and another id, so that the lifetime counts from this request. Call it at
+        a login, and on a page that keeps something for one. With `revocations` the old session opens no more."""
         self.accessed = True
         self.source.renew()
 
     def clear(self) -> None:
-        """Drops the values, and starts it anew. A copy of its cookie stays open until its limits: at a logout call
-        `revoke`."""
+        """Drops the values, and starts it anew. A copy of its cookie stays open: at a logout call `revoke`."""
         super().clear()
         self.renew()
 
@@ -232,10 +232,10 @@ class Middleware:
 
     `secret_key` has at least 32 bytes, and so has each key of `fallbacks`, which only open. A session is over `max_age`
     seconds after its start, and `idle` seconds after it was last saved, if `idle` is given. If `max_age` is None, the
-    browser drops the cookie when it closes, and the session is over after 14 days. With `refresh` each request that read
-    a session saves it. `revocations` keeps which sessions are revoked. If it fails, the request is answered with status
-    503, and with 409 if another request has renewed or ended the session. `too_large` is another application, which
-    answers a request that raises `TooLarge`. For `compress` see `Sessions`.
+    browser drops the cookie when it closes, and the session is over after 14 days. With `refresh` each request that
+    read a session saves it. `revocations` keeps which sessions are revoked. If it fails, the request is answered with
+    status 503, and with 409 if another request has renewed or ended the session. `too_large` is another application,
+    which answers a request that raises `TooLarge`. For `compress` see `Sessions`.
     """
 
     def __init__(
@@ -266,9 +266,9 @@ class Middleware:
         self.app, self.clock, self.is_lasting, self.too_large = app, clock, max_age is not None, too_large
         self.refresh = checked_refresh(refresh)
         self.sessions = Sessions(
-            keys_of([newest, *fallbacks], salt), session_cookie, lifetime, lifetime if idle is None else idle, path=path,
-            domain=domain, secure=https_only, http_only=http_only, same_site=same_site.title(), partitioned=partitioned,
-            revocations=revocations, compress=compress,
+            keys_of([newest, *fallbacks], salt), session_cookie, lifetime, lifetime if idle is None else idle,
+            path=path, domain=domain, secure=https_only, http_only=http_only, same_site=same_site.title(),
+            partitioned=partitioned, revocations=revocations, compress=compress,
         )
 
     def session_from(self, source: Session) -> CookieSession:

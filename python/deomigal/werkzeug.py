@@ -1,7 +1,7 @@
 """`dump_cookie` and `parse_cookie` with the arguments of `werkzeug.http`, over the library's calls.
 
-They differ from Werkzeug's where RFC 6265 says otherwise: a value is escaped by `%`, not quoted, a `;` always ends a value,
-and a piece without `=` is no cookie. Names that another host of the domain disguised are left out.
+They differ from Werkzeug's where RFC 6265 says otherwise: a value is escaped by `%`, not quoted, a `;` always ends a
+value, and a piece without `=` is no cookie. Names that another host of the domain disguised are left out.
 """
 from __future__ import annotations
 

@@ -31,9 +31,9 @@ def session_of(environ: Mapping[str, Any]) -> CookieSession:
 
 
 class SessionMiddleware(Middleware):
-    """Keeps the session of a request in `environ["deomigal.session"]`, and saves it when the response starts. If it raises
-    `TooLarge` there, the application may start another response with `sys.exc_info()`, which saves nothing if it does so
-    again. Else `too_large` answers, if it is given."""
+    """Keeps the session of a request in `environ["deomigal.session"]`, and saves it when the response starts. If it
+    raises `TooLarge` there, the application may start another response with `sys.exc_info()`, which saves nothing if it
+    does so again. Else `too_large` answers, if it is given."""
 
     def __call__(self, environ: dict[str, Any], start_response: Start) -> Iterable[bytes]:
         is_begun = False
