@@ -112,17 +112,7 @@ def as_revocations_error(what: str) -> Iterator[None]:
         raise RevocationsError(f"{what}: {error!r}") from error
 
 
-class LookUps:
-    """What the kinds share."""
-
-    are_revoked: Callable[..., list[bool]]
-
-    def is_revoked(self, id: bytes) -> bool:
-        """Whether the session with this id is revoked."""
-        return self.are_revoked([id])[0]
-
-
-class MemoryRevocations(LookUps):
+class MemoryRevocations:
     """Keeps them in the memory of this process, for tests.
 
     >>> revocations = MemoryRevocations()
@@ -139,9 +129,13 @@ class MemoryRevocations(LookUps):
         self.lock = Lock()
         self.until: dict[bytes, int] = {}
 
+    def is_revoked(self, id: bytes) -> bool:
+        """Whether the session with this id is revoked."""
+        return id_of(id) in self.until
+
     def are_revoked(self, ids: Sequence[bytes]) -> list[bool]:
         """Whether each of the sessions is revoked."""
-        return [id_of(id) in self.until for id in ids]
+        return [self.is_revoked(id) for id in ids]
 
     def revoke(self, id: bytes, until: int) -> bool:
         """Revokes the session with this id until that second or later. Returns whether it was revoked already."""
@@ -239,7 +233,7 @@ def close_all(connections: Iterable[Connection]) -> None:
         connection.close()
 
 
-class SqliteRevocations(LookUps):
+class SqliteRevocations:
     """Keeps them in an SQLite file of their own. Threads and processes of one machine share it. What was revoked is on
     the disk when `revoke` returns. A call waits for at most `timeout` seconds for another process, and as long for one
     of the three connections that a process has.
@@ -309,6 +303,10 @@ class SqliteRevocations(LookUps):
         """Raises an error if the file at the path isn't the one that was opened first."""
         if not os.path.samestat(os.stat(self.path), self.found):
             raise FileNotFoundError("another file is at its path")
+
+    def is_revoked(self, id: bytes) -> bool:
+        """Whether the session with this id is revoked."""
+        return self.are_revoked([id])[0]
 
     def are_revoked(self, ids: Sequence[bytes]) -> list[bool]:
         """Whether each of the sessions is revoked, by one statement for 500 of them."""
@@ -384,12 +382,16 @@ def outcome(found: Any, *known: Any) -> Any:
     return found
 
 
-class RedisRevocations(LookUps, RedisCommands):
+class RedisRevocations(RedisCommands):
     """Keeps them in Redis 7 or Valkey, for many machines. `client` has redis-py's calls `mget`, `set`, `expireat` and
     `expiretime`. Give it a time limit, such as `redis.Redis(socket_timeout=2)`. Each key begins with `prefix`. Redis
     forgets it by its own clock, an hour after its second. Run it with `appendonly yes`, `appendfsync always` and
     `maxmemory-policy noeviction`. What a primary hadn't yet copied to a replica is lost if the replica takes over.
     """
+
+    def is_revoked(self, id: bytes) -> bool:
+        """Whether the session with this id is revoked."""
+        return self.are_revoked([id])[0]
 
     def are_revoked(self, ids: Sequence[bytes]) -> list[bool]:
         """Whether each of the sessions is revoked, in one round trip."""
