@@ -87,8 +87,11 @@ REQUEST: list[Any] = [ctypes.POINTER(Request)]
 
 
 def declare(name: str, parameters: list[Any], result: Any) -> Callable[..., Any]:
+    """A call of cookie.h. `are_texts` is which of its arguments are texts, each with its length."""
     function: Any = getattr(LIBRARY, "cookie_" + name)
     function.argtypes, function.restype = parameters, result
+    lengths = [place + 1 for place, kind in enumerate(parameters) if kind is CHARS]
+    function.are_texts = [kind is CHARS for place, kind in enumerate(parameters) if place not in lengths]
     return function  # type: ignore[no-any-return]
 
 
@@ -170,7 +173,8 @@ class OwnHandle(Handle):
         self.free = free
 
     def __del__(self) -> None:
-        self.free(self)
+        if self.is_open:
+            self.free(self)
 
 
 class Uncopied:
@@ -221,11 +225,10 @@ def header_of(header: str | bytes | None) -> bytes:
 def arguments_of(function: Any, inputs: tuple[Any, ...]) -> list[Any]:
     """The arguments for C: where the function takes a text, its bytes and their count."""
     arguments: list[Any] = []
-    kinds = function.argtypes
-    for value in inputs:
-        if kinds[len(arguments)] is CHARS:
+    for value, is_text in zip(inputs, function.are_texts):
+        if is_text:
             text = bytes_of(value)
-            arguments += [text, len(text)]
+            arguments += text, len(text)
         else:
             arguments.append(value)
     return arguments
@@ -245,17 +248,15 @@ def checked(answer: Any) -> Any:
     return answer
 
 
-def answer_and_bytes(
-    function: Callable[..., Any], *inputs: Any, room: int = 256, buffer: ctypes.Array[ctypes.c_char] | None = None
-) -> tuple[Any, bytes]:
+def answer_and_bytes(function: Any, *inputs: Any, room: int = 256, buffer: Any = None) -> tuple[Any, bytes]:
     """What a call returns, and its bytes, or the buffer if it decodes. If the first is too short, it is called again
     with one that fits. `buffer` is one that only this call uses now."""
     arguments = arguments_of(function, inputs)
     while True:
-        buffer = ctypes.create_string_buffer(room) if buffer is None else buffer
+        buffer = (ctypes.c_char * room)() if buffer is None else buffer
         answer = function(*arguments, buffer, len(buffer))
         if answer.status != BufferTooShort.status:
-            return answer, ctypes.string_at(buffer, getattr(answer, "length", room))
+            return answer, buffer[: getattr(answer, "length", room)]
         buffer, room = None, answer.length if hasattr(answer, "length") else answer.value.start + answer.value.length
 
 
@@ -279,9 +280,9 @@ def bytes_at(text: bytes, span: Any) -> bytes:
     return text[span.start : span.start + span.length]
 
 
-def unescaped(text: bytes) -> str:
+def unescaped(text: str) -> str:
     """The text, which has no `=`, without its escapes by `%`, read as quoted-printable (RFC 2045 6.7) in C."""
-    return a2b_qp(text.replace(b"%", b"=")).decode()
+    return a2b_qp(text.replace("%", "=").encode()).decode() if "%" in text else text
 
 
 def seeds() -> tuple[int, ...]:

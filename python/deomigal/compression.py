@@ -62,7 +62,7 @@ def escape(text: str) -> str:
 
 def form_texts(form: bytes) -> dict[str, str]:
     """The texts of a form as they are in it."""
-    pairs = (pair.partition(b"=") for pair in form.replace(b"+", b" ").split(b"&")) if form else ()
+    pairs = (pair.partition("=") for pair in form.decode().replace("+", " ").split("&")) if form else ()
     return {unescaped(name): unescaped(text) for name, _, text in pairs}
 
 

@@ -2,6 +2,7 @@
 from __future__ import annotations
 
 import datetime
+import functools
 import time
 from typing import Any
 
@@ -54,6 +55,7 @@ def read_date(text: str | bytes) -> datetime.datetime | None:
     return date_of(READ_DATE(text, len(text)))
 
 
+@functools.lru_cache(maxsize=16)
 def print_second(second: int) -> str:
     """The text of a second since 1970.
 

@@ -18,7 +18,7 @@ from django.conf import settings
 from django.contrib.auth.signals import user_logged_in
 from django.contrib.sessions.backends.base import SessionBase
 from django.contrib.sessions.middleware import SessionMiddleware as DjangoMiddleware
-from django.core.signals import got_request_exception
+from django.core.signals import got_request_exception, setting_changed
 from django.http import HttpResponse
 from django.utils.cache import patch_vary_headers
 
@@ -29,14 +29,17 @@ from .values import FAILURES, Failure, answer_to, note_unsaved, pack, unpack
 from .wsgi import header_in
 
 SALT = "deomigal.django"
-latest: tuple[Any, Sessions] | None = None
+latest: Sessions | None = None
 
 
 def site() -> Sessions:
-    """The sessions of the site, by its settings as they are now. The keys are derived from SECRET_KEY and
-    SECRET_KEY_FALLBACKS. A session is over DEOMIGAL_LIFETIME seconds after its start, by default SESSION_COOKIE_AGE.
-    DEOMIGAL_REVOCATIONS keeps which sessions are revoked. For DEOMIGAL_COMPRESS see `deomigal.Sessions`."""
+    """The sessions of the site, by its settings, until Django tells that one changed. The keys are derived from
+    SECRET_KEY and SECRET_KEY_FALLBACKS. A session is over DEOMIGAL_LIFETIME seconds after its start, by default
+    SESSION_COOKIE_AGE. DEOMIGAL_REVOCATIONS keeps which sessions are revoked. For DEOMIGAL_COMPRESS see `Sessions`."""
     global latest
+    found = latest
+    if found is not None:
+        return found
     secrets = (settings.SECRET_KEY, *(getattr(settings, "SECRET_KEY_FALLBACKS", None) or ()))
     lifetime = getattr(settings, "DEOMIGAL_LIFETIME", None) or settings.SESSION_COOKIE_AGE
     same_site = settings.SESSION_COOKIE_SAMESITE
@@ -48,12 +51,14 @@ def site() -> Sessions:
         "revocations": getattr(settings, "DEOMIGAL_REVOCATIONS", None),
         "compress": bool(getattr(settings, "DEOMIGAL_COMPRESS", False)),
     }
-    choice = (secrets, settings.SESSION_COOKIE_NAME, lifetime, options)
-    found = latest
-    if found is None or found[0] != choice:
-        sessions = Sessions(keys_of(secrets, SALT), settings.SESSION_COOKIE_NAME, lifetime, lifetime, **options)
-        latest = found = (choice, sessions)
-    return found[1]
+    latest = found = Sessions(keys_of(secrets, SALT), settings.SESSION_COOKIE_NAME, lifetime, lifetime, **options)
+    return found
+
+
+def forget_site(**_: Any) -> None:
+    """Has the sessions made anew, by other settings."""
+    global latest
+    latest = None
 
 
 def session_of(sessions: Sessions, key: str | None, header: bytes | None = None) -> Session:
@@ -249,6 +254,7 @@ def note_failure(request: Any, **_: Any) -> None:
 
 user_logged_in.connect(cycle_at_login)
 got_request_exception.connect(note_failure)
+setting_changed.connect(forget_site)
 
 if settings.configured:
     # Django's own middleware reads this file when the site starts.

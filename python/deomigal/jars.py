@@ -72,8 +72,8 @@ class Jar(Uncopied):
     def items(self) -> list[tuple[str, str]]:
         """The names of the jar's cookies with their values, in any order."""
         with LOCK:
-            lines = bytes_from(JAR_COOKIES, self.handle, room=ROOM).split(b"\n")[:-1]
-        pairs = (line.partition(b"=") for line in lines)
+            lines = bytes_from(JAR_COOKIES, self.handle, room=ROOM).decode().split("\n")[:-1]
+        pairs = (line.partition("=") for line in lines)
         return [(unescaped(name), unescaped(value)) for name, _, value in pairs]
 
     def __iter__(self) -> Iterator[str]:

@@ -206,8 +206,8 @@ class Sessions(Uncopied):
         # As the cookie has it.
         self.name = cookie.partition(b"=")[0].decode()
         self.handle = OwnHandle(SESSIONS_FREE)
-        # Only one call at a time may use the handle and the buffer.
-        self.lock, self.buffer = Lock(), ctypes.create_string_buffer(ROOM)
+        # Only one call at a time may use the handle and the buffer, which has room for the cookie's attributes too.
+        self.lock, self.buffer = Lock(), cast(Any, ctypes.create_string_buffer(ROOM + len(cookie)))
         perform(SESSIONS_NEW, Settings(ring, len(ring), cookie, len(cookie), lifetime, idle), self.handle)
         self.save(self.start())
 
@@ -216,7 +216,7 @@ class Sessions(Uncopied):
 
         Start one at a login, if no text may survive it. Raises `NoDate` for a time before 1970 or from 2^64 on.
         """
-        return Session(whole_second(now))
+        return Session(now if isinstance(now, int) else whole_second(now))
 
     def open(self, header: str | bytes | None, now: float | None = None) -> Session:
         """The session in a request's `Cookie` header, or a new one if the header has no open session, or is None.
@@ -250,7 +250,11 @@ class Sessions(Uncopied):
         session.describe()
         session.is_renewed = False
         with self.lock:
-            form = bytes_from(SESSION_TEXTS, session.handle, buffer=self.buffer)
+            answer = SESSION_TEXTS(session.handle, self.buffer, ROOM)
+            form = self.buffer[: answer.length]
+        if answer.status != DONE:
+            # No browser sends so many.
+            form = bytes_from(SESSION_TEXTS, session.handle, room=answer.length)
         try:
             session.texts = texts_of(form)
         except ValueError:
@@ -263,8 +267,11 @@ class Sessions(Uncopied):
         """Opens the session of its header for its handle. For a copy the revocations were asked before."""
         if self.revocations is None and not session.revoked:
             session.revoked = b""
+            header = session.header
             with self.lock:
-                perform(SESSION_OPEN, self.handle, session.header, session.now, session.handle)
+                status = SESSION_OPEN(self.handle, header, len(header), session.now, session.handle)
+            if status != DONE:
+                raise error_of(status)
             return
         opened = OwnHandle(OPENED_FREE)
         with self.lock:
@@ -400,14 +407,19 @@ class Sessions(Uncopied):
             except UnicodeEncodeError:
                 # A lone surrogate.
                 raise error_of(NotUtf8.status) from None
-            perform(SESSION_SET_TEXTS, session.handle, form)
+            status = SESSION_SET_TEXTS(session.handle, form, len(form))
+            if status != DONE:
+                raise error_of(status)
             session.known = dict(session.texts)
 
     def text_of(self, session: Session) -> str:
         """The text of the session's cookie, under a nonce of its own."""
         with self.lock:
-            words = self.handle, session.handle, os.urandom(12), session.now
-            return bytes_from(SESSION_SAVE, *words, buffer=self.buffer).decode()
+            buffer, words = self.buffer, (os.urandom(12), 12, session.now)
+            answer = SESSION_SAVE(self.handle, session.handle, *words, buffer, len(buffer))
+            text: bytes = buffer[: answer.length]
+        checked(answer)
+        return text.decode()
 
     def check(self, session: Session) -> None:
         """Raises what `save` raises for the session as it is now, but asks no store and revokes nothing."""

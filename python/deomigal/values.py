@@ -2,6 +2,7 @@
 from __future__ import annotations
 
 import base64
+import contextlib
 import json
 import logging
 import time
@@ -58,13 +59,12 @@ def pack(data: bytes) -> dict[str, str]:
     >>> pack(b'{"a":1}'), pack(b"a=b&c=d")
     ({'j': '{"a":1}'}, {'b': 'YT1iJmM9ZA'})
     """
-    encoded = base64.urlsafe_b64encode(data).rstrip(b"=").decode()
-    try:
+    with contextlib.suppress(UnicodeDecodeError):
         text = data.decode()
-    except UnicodeDecodeError:
-        return {ENCODED: encoded}
-    length = len(data) + 2 * sum(map(text.count, MARKS))
-    return {PLAIN: text} if length <= len(encoded) else {ENCODED: encoded}
+        # In base64url three bytes are four characters.
+        if len(data) + 2 * sum(map(text.count, MARKS)) <= -(-4 * len(data) // 3):
+            return {PLAIN: text}
+    return {ENCODED: base64.urlsafe_b64encode(data).rstrip(b"=").decode()}
 
 
 def unpack(texts: Mapping[str, str]) -> bytes:
@@ -167,7 +167,7 @@ class CookieSession(Opened, Mapped):
 
     def __reduce_ex__(self, _: Any) -> tuple[Any, ...]:
         self.accessed = True
-        return dict, (dict.copy(self),)
+        return dict, (dict(dict.items(self)),)
 
     def __repr__(self) -> str:
         return f"<CookieSession {list(dict.keys(self))!r}>"
@@ -212,7 +212,7 @@ class CookieSession(Opened, Mapped):
 
     def json(self) -> bytes:
         """Its values in JSON. A lone surrogate has no UTF-8, and is escaped."""
-        values = dict.copy(self)
+        values = dict(dict.items(self))
         try:
             return CODER.encode(values).encode()
         except UnicodeEncodeError:
@@ -312,6 +312,6 @@ class Middleware:
             return None
         if is_changed:
             source.texts = pack(data)
-        if not (self.refresh or self.sessions.must_save(source)):
+        if not (is_changed or self.refresh or self.sessions.must_save(source)):
             return None
         return with_expiry(await self.sessions.saving(source, ask), source, self.is_lasting)
