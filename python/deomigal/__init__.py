@@ -1,8 +1,7 @@
-"""Cookies for Python, over the proved library cookie_c: signed and sealed values, dates, reading, printing, jars,
-sessions and tokens.
+"""Cookies for Python, over the proved library cookie_c: signed and sealed values, dates, jars, sessions and tokens.
 
 Texts are `str` and keys are `bytes`. A call that is refused raises an exception of `deomigal.errors`, such as
-`KeyTooShort`; all of them are a `CookieError`. A value that isn't signed or sealed under the key and the name is `None`.
+`KeyTooShort`; all of them are a `CookieError`. A value that isn't signed or sealed under the key is `None`.
 
 >>> key = derive_key(b"a master key of at least 32 bytes")
 >>> verify(key, "session", sign(key, "session", "ann"))

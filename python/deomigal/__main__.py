@@ -1,4 +1,4 @@
-"""`python -m deomigal explain URL` says what a browser makes of `Set-Cookie` lines, as the program cookie_explain does."""
+"""`python -m deomigal explain URL` says what a browser makes of `Set-Cookie` lines, as cookie_explain does."""
 from __future__ import annotations
 
 import argparse
@@ -21,7 +21,8 @@ def date(text: str) -> int:
 def explain(arguments: argparse.Namespace) -> None:
     """Prints what a browser makes of the lines of standard input."""
     address = address_of(arguments.url, arguments.cross_site)
-    title, suffixes = (arguments.suffixes, pathlib.Path(arguments.suffixes).read_bytes()) if arguments.suffixes else suffix_list()
+    path = arguments.suffixes
+    title, suffixes = (path, pathlib.Path(path).read_bytes()) if path else suffix_list()
     out, paste = sys.stdout.buffer, sys.stdin.buffer.read()
     out.write(f"public suffixes: {title}\n".encode())
     browser = Browser(suffixes, address, second_of(None) if arguments.now is None else arguments.now)
@@ -33,8 +34,8 @@ def explain(arguments: argparse.Namespace) -> None:
 def main() -> None:
     parser = argparse.ArgumentParser(prog="python -m deomigal")
     command = parser.add_subparsers(required=True, metavar="explain").add_parser(
-        "explain", help="say what a browser makes of Set-Cookie lines", description="Reads Set-Cookie lines from standard "
-        "input. For each it prints what a browser stores, or why it refuses the cookie (RFC 6265bis).",
+        "explain", help="say what a browser makes of Set-Cookie lines", description="Reads Set-Cookie lines from "
+        "standard input. For each it prints what a browser stores, or why it refuses the cookie (RFC 6265bis).",
     )
     command.add_argument("url", metavar="URL", help="the address that the response comes from")
     command.add_argument("--now", metavar="DATE", type=date, help="the time of the response, as an HTTP date")

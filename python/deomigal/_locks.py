@@ -8,8 +8,8 @@ from typing import Any
 
 
 class Lock:
-    """Lets one thread in at a time. A thread that forks the process first waits until no other is in. So a child finds what
-    the lock guards whole, and the lock free."""
+    """Lets one thread in at a time. A thread that forks the process first waits until no other is in. So a child finds
+    what the lock guards whole, and the lock free."""
 
     def __init__(self) -> None:
         self.inner = threading.RLock()

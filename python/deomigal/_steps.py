@@ -29,8 +29,7 @@ async def awaited(found: Any) -> Any:
 
 
 async def in_thread(call: Callable[..., T], *words: Any) -> T:
-    """What the call returns, made in a worker thread, so that the event loop goes on. Without asyncio's loop it is made
-    here."""
+    """What the call returns, made in a worker thread, or here without asyncio's loop."""
     global threads
     try:
         loop = asyncio.get_running_loop()

@@ -1,8 +1,8 @@
-"""Where a request goes: the address of a URL of http or https, read as browsers read it (WHATWG URL), or that of a
-request that a client makes."""
+"""Where a request goes: the address of a URL, read as browsers read it (WHATWG URL), or of a client's request."""
 from __future__ import annotations
 
 import functools
+import importlib
 import ipaddress
 import re
 from typing import NamedTuple
@@ -35,8 +35,7 @@ class Address(NamedTuple):
 def address_of(url: str, is_cross_site: bool = False, is_localhost_secure: bool = True) -> Address:
     """The address of a URL, for a request of its own site, or for one that another site's page made, as a frame does.
 
-    A host that isn't in ASCII is read as `ascii_host` says. Raises `ValueError` if the URL isn't one of http or https, or
-    its host is none.
+    A host outside ASCII is read by `ascii_host`. Raises `ValueError` if the URL isn't one of http or https with a host.
     """
     if not isinstance(url, str):
         raise TypeError("a URL is a str")
@@ -53,9 +52,9 @@ def address_of(url: str, is_cross_site: bool = False, is_localhost_secure: bool 
 def address_at(scheme: str, host: str, path: str, is_localhost_secure: bool = True) -> Address:
     """The address of a request that a client makes, for a request of its own site.
 
-    `host` is the one that the client connects to, as it names it, in brackets or not. So a URL that the client and this
-    package would read otherwise can't have a cookie stored for a host that didn't answer. Raises `ValueError` if the
-    scheme isn't one of http, https, ws and wss, or the host is none.
+    `host` is the one that the client connects to, as it names it, in brackets or not. Raises `ValueError` if the scheme
+    isn't one of http, https, ws and wss, or the host is none, or another reader could take it for another one: with an
+    escape or an empty label, and an IPv4 address in any form but four decimal numbers, such as `127.1` or `127.0.0.1.`.
 
     >>> address_at("https", "Shop.Example", "/cart/../view")
     Address(host='shop.example', path='/view', is_address=False, is_secure=True, is_same_site=True, is_top_level=True)
@@ -63,26 +62,30 @@ def address_at(scheme: str, host: str, path: str, is_localhost_secure: bool = Tr
     scheme = scheme.lower()
     if scheme not in ("http", "https", "ws", "wss"):
         raise ValueError("the scheme is no http or https")
-    if "%" in host:
-        # Browsers read an escape here, and clients connect to a host with this name.
-        raise ValueError("the host has an escape")
     name, is_address, is_local = host_of(f"[{host}]" if ":" in host and not host.startswith("[") else host)
+    # Browsers read an escape and each form of an address, and clients connect to a host with this name.
+    if "%" in host or host.startswith(".") or ".." in host or is_address and not name.startswith("[") and name != host:
+        raise ValueError("the host isn't the same to all readers")
     is_secure = scheme in ("https", "wss") or is_local and is_localhost_secure
     return Address(name, path_of(path), is_address, is_secure)
 
 
 def ascii_host(host: str) -> str:
-    """The host in Punycode, as browsers have it: by the package `idna`, if it is installed (UTS 46, not transitional), and
-    else by the codec `idna` of Python, whose rules are older (RFC 3490). Raises `ValueError` if it has none.
+    """The host in Punycode, as browsers have it: by the package `idna`, if it is installed (UTS 46, not transitional),
+    and else by the codec `idna` of Python, whose rules are older (RFC 3490). Raises `ValueError` for what they refuse.
+    Browsers take some of that, such as an emoji.
 
     >>> ascii_host("b\xfccher.example")
     'xn--bcher-kva.example'
     """
     try:
-        import idna
+        encode = functools.partial(importlib.import_module("idna").encode, uts46=True)
     except ImportError:
-        return host.encode("idna").decode()
-    return idna.encode(host, uts46=True).decode()
+        encode = functools.partial(str.encode, encoding="idna")
+    try:
+        return bytes(encode(host)).decode()
+    except UnicodeError:
+        raise ValueError(f"IDNA refuses the host {host!r}. If browsers take it: pass its Punycode, xn--..") from None
 
 
 @functools.lru_cache(maxsize=1024)
@@ -107,19 +110,13 @@ def host_of(authority: str) -> tuple[str, bool, bool]:
 def number_of(host: str) -> int:
     """The number of an IPv4 address of one to four parts, each in decimal, octal or hexadecimal."""
     parts = host[:-1].split(".") if host.endswith(".") else host.split(".")
-    numbers = [part_of(part) for part in parts]
-    if len(numbers) > 4 or any(number > 255 for number in numbers[:-1]) or numbers[-1] >= 256 ** (5 - len(numbers)):
+    if len(parts) > 4 or not all(re.fullmatch("0x[0-9a-f]*|0[0-7]*|[1-9][0-9]*", part) for part in parts):
         raise ValueError("the host is no IPv4 address")
-    return sum(number << 8 * (3 - index) for index, number in enumerate(numbers[:-1])) + numbers[-1]
-
-
-def part_of(part: str) -> int:
-    """The number of a part of an IPv4 address."""
-    for pattern, base in ((r"0x([0-9a-f]*)", 16), (r"0([0-7]+)", 8), (r"([0-9]+)", 10)):
-        digits = re.fullmatch(pattern, part)
-        if digits and (base == 8 or not re.fullmatch(r"0[0-9]+", part)):
-            return int(digits[1] or "0", base)
-    raise ValueError("the host is no IPv4 address")
+    bases = [16 if part.startswith("0x") else 8 if part.startswith("0") else 10 for part in parts]
+    *numbers, last = (int(part[2:] or "0" if base == 16 else part, base) for part, base in zip(parts, bases))
+    if any(number > 255 for number in numbers) or last >= 256 ** (4 - len(numbers)):
+        raise ValueError("the host is no IPv4 address")
+    return sum(number << 8 * (3 - index) for index, number in enumerate(numbers)) + last
 
 
 def host_of_six(text: str) -> tuple[str, bool, bool]:
@@ -127,14 +124,11 @@ def host_of_six(text: str) -> tuple[str, bool, bool]:
     if "%" in text:
         raise ValueError("the host is no IPv6 address")
     number = ipaddress.IPv6Address(text)
-    pieces = [f"{int(piece, 16):x}" for piece in number.exploded.split(":")]
-    runs = [match.span() for match in re.finditer("0{2,}", "".join("0" if piece == "0" else "x" for piece in pieces))]
-    if runs:
-        start, end = max(runs, key=lambda run: run[1] - run[0])
-        shown = ":".join(pieces[:start]) + "::" + ":".join(pieces[end:])
-    else:
-        shown = ":".join(pieces)
-    return f"[{shown}]", True, number == ipaddress.IPv6Address(1)
+    shown = ":".join(f"{int(piece, 16):x}" for piece in number.exploded.split(":"))
+    run = max(re.finditer(r"\b0(:0\b)+", shown), key=lambda run: run.end() - run.start(), default=None)
+    if run:
+        shown = shown[: run.start()].rstrip(":") + "::" + shown[run.end() :].lstrip(":")
+    return f"[{shown}]", True, number.is_loopback
 
 
 def path_of(text: str) -> str:
@@ -142,13 +136,11 @@ def path_of(text: str) -> str:
     if PLAIN.fullmatch(text):
         return text
     steps: list[str] = []
-    pieces = re.split(r"[/\\]", text)[1:]
-    for index, piece in enumerate(pieces):
-        plain, is_last = re.sub("(?i)%2e", ".", piece), index == len(pieces) - 1
+    plain = ""
+    for piece in re.split(r"[/\\]", text)[1:]:
+        plain = re.sub("(?i)%2e", ".", piece)
         if plain == "..":
             steps = steps[:-1]
         elif plain != ".":
             steps.append(ESCAPED.sub(lambda byte: b"%%%02X" % ord(byte[0]), piece.encode()).decode())
-        if plain in (".", "..") and is_last:
-            steps.append("")
-    return "/" + "/".join(steps)
+    return "/" + "/".join(steps + [""] * (plain in (".", "..")))

@@ -4,31 +4,46 @@ The drop-ins for clients are `deomigal.requests`, `deomigal.httpx`, `deomigal.ai
 """
 from __future__ import annotations
 
+import ctypes
 import datetime
 import errno
 import os
 import stat
 import tempfile
 import time
-from typing import Callable, Iterable, Iterator, NamedTuple
+from typing import Any, Callable, Iterable, Iterator, NamedTuple
 
-from ._agent import JSON, NETSCAPE, Core, header_bytes
-from ._agent import AgentCookie as AgentCookie
-from ._library import Uncopied, bytes_of
+from ._library import (
+    AGENT_CLEAR, AGENT_COOKIE, AGENT_COUNT, AGENT_FREE, AGENT_LOAD, AGENT_NEW, AGENT_OBSTACLES, AGENT_READ, AGENT_REMOVE,
+    AGENT_RETRIEVE, AGENT_SAVE, AGENT_TRIM, SIZE, OwnHandle, Uncopied, answer_and_bytes, bytes_at, bytes_of, checked, perform,
+)
 from ._locks import Lock
 from .addresses import Address, address_at, address_of
 from .dates import whole_second
-from .explain import Refusal, second_of, suffix_list
+from .errors import BufferTooShort, NotFound
+from .explain import ROOM, Refusal, fields_of, refusal_of, request_of, rules_of, second_of, suffix_list
 
 # The methods that are safe (RFC 9110 9.2.1).
 SAFE_METHODS = frozenset(("GET", "HEAD", "OPTIONS", "TRACE"))
 # The most bytes of a file that is loaded.
 MOST = 2**26
+# Why a request doesn't send a cookie (RFC 6265bis, Retrieval Algorithm), by the bits of cookie_obstacle in cookie.h.
+OBSTACLES = {
+    1: "it is expired", 2: "the request goes to another host", 4: "the request goes to another path",
+    8: "the connection is insecure and the cookie Secure",
+    16: "the request comes from another site, and SameSite forbids it",
+}
+# The forms of a file: a line of JSON for each cookie, and cookies.txt, as Netscape, curl and wget have it. FORMS has
+# their numbers in cookie.h.
+JSON, NETSCAPE = "json", "netscape"
+FORMS = {NETSCAPE: 0, JSON: 1}
+# More than most headers have, and than most cookies.
+HEADER_ROOM = 4096
 
 
 class Context(NamedTuple):
-    """How a request came about (RFC 6265bis, "Same-site" and "cross-site" Requests): whether it is same-site, whether it
-    is a top-level navigation, and whether its method is safe.
+    """How a request came about (RFC 6265bis, "Same-site" and "cross-site" Requests): whether it is same-site, whether
+    it is a top-level navigation, and whether its method is safe.
 
     A program that makes its own requests makes them same-site, and so does the default.
     """
@@ -42,19 +57,44 @@ class Context(NamedTuple):
 SAME_SITE, CROSS_SITE, CROSS_SITE_LINK = Context(), Context(False, False), Context(False, True)
 
 
+class AgentCookie(NamedTuple):
+    """A cookie that an agent stores, with name and value as the header had them. A byte that isn't UTF-8 is a lone
+    surrogate, as in names of files (PEP 383).
+
+    `expiry` is the second since 1970 at which it is expired. It is None if the cookie lives until the session ends.
+    `same_site` is "Strict", "Lax", "None", or None if nothing is set.
+    """
+
+    name: str
+    value: str
+    domain: str
+    path: str
+    expiry: int | None
+    same_site: str | None
+    is_host_only: bool
+    is_secure: bool
+    is_http_only: bool
+
+    def lasts(self, now: int) -> bool:
+        """Whether it isn't expired at that second."""
+        return self.expiry is None or now < self.expiry
+
+    def key(self) -> tuple[str, str, bool, str]:
+        """What no two stored cookies have in common."""
+        return self.name, self.domain, self.is_host_only, self.path
+
+
 class Agent(Uncopied):
-    """A user agent: it reads `Set-Cookie` headers, stores the cookies, and says which of them a request sends, as
-    RFC 6265bis has it. `with Agent() as agent` frees it at last. Threads may share it.
+    """A user agent: it reads `Set-Cookie` headers, stores the cookies, and says which of them a request sends, as RFC
+    6265bis has it. `with Agent() as agent` frees it at last. Threads may share it.
 
-    `suffixes` is the text of the list of publicsuffix.org. Without it the list is that of `deomigal.explain.suffix_list`:
-    Debian's, or the one in the package. If there is none, `FileNotFoundError` is raised. With `b""` exactly the domains of
-    one label are public suffixes. `title` names the list.
+    `suffixes` is the text of the list of publicsuffix.org, by default `deomigal.explain.suffix_list`'s: if there is
+    none, `FileNotFoundError` is raised. With `b""` only domains of one label are public suffixes. `title` names it.
 
-    A connection is secure if the scheme is https, and to `localhost` or a loopback address too, as in browsers, unless
+    A connection is secure if the scheme is https, and to `localhost` or a loopback address too, unless
     `is_localhost_secure` is false. `per_domain` limits the cookies of one domain, `per_site` those of a registrable
-    domain with all hosts below it, and `total` those in all. Without `per_site` it is three times `per_domain`. The agent
-    drops what is above after each `per_domain` cookies that it has stored, or a quarter of those that it has if these are
-    more, and when it loads a file. `clock` returns the time, in seconds since 1970.
+    domain with all hosts below it, by default three times as many, and `total` those in all: what is above is dropped
+    from time to time. `clock` returns the time, in seconds since 1970.
 
     >>> with Agent() as agent:
     ...     agent.read("https://shop.example/cart/view", "session=abc; Path=/; Secure")
@@ -72,22 +112,21 @@ class Agent(Uncopied):
         total: int = 3000,
         clock: Callable[[], float] = time.time,
     ) -> None:
-        if suffixes is None:
-            self.title, suffixes = suffix_list()
-            if not suffixes:
-                raise FileNotFoundError("there is no list of public suffixes: install Debian's publicsuffix, or pass one")
-        else:
-            self.title = "the caller's"
+        self.title, found = suffix_list() if suffixes is None else ("the caller's", suffixes)
+        if suffixes is None and not found:
+            raise FileNotFoundError("there is no list of public suffixes: install Debian's publicsuffix, or pass one")
         per_site = 3 * per_domain if per_site is None else per_site
         if not all(0 < limit < 2**32 for limit in (per_domain, per_site, total)):
             raise OverflowError("a limit is 1 at least, and has at most 32 bits")
-        self.suffixes = bytes_of(suffixes)
+        self.suffixes = bytes_of(found)
         self.is_localhost_secure, self.limits, self.clock = is_localhost_secure, (per_domain, per_site, total), clock
         # How many cookies were stored since the limits were looked at, and at how many it looks again.
         self.stored, self.enough = 0, min(self.limits)
         # Only one call at a time may use the handle.
-        self.lock = Lock()
-        self.core = Core(self.suffixes)
+        self.lock, self.handle, self.rules = Lock(), OwnHandle(AGENT_FREE), rules_of(self.suffixes)
+        # Where headers are written to.
+        self.room = ctypes.create_string_buffer(HEADER_ROOM)
+        perform(AGENT_NEW, self.handle)
 
     def __enter__(self) -> Agent:
         return self
@@ -99,13 +138,16 @@ class Agent(Uncopied):
         """Drops all cookies."""
         self.clear()
 
+    def without_cookies(self) -> Agent:
+        """Another agent with the same rules, limits and clock."""
+        words: Any = dict(zip(("per_domain", "per_site", "total"), self.limits), clock=self.clock)
+        return Agent(self.suffixes, is_localhost_secure=self.is_localhost_secure, **words)
+
     def read(
         self, url: str, text: str | bytes, now: datetime.datetime | None = None, context: Context = SAME_SITE
     ) -> Refusal | None:
         """Reads the value of a `Set-Cookie` header of the response from the URL, at the time `now` or the clock's.
-
-        Returns None if the cookie is stored. Else it returns why it is refused, as `deomigal.explain.refusal` does. What
-        is expired drops the cookie of its name, domain and path.
+        Returns None if the cookie is stored, or why it is refused. What is expired drops a cookie.
 
         >>> agent = Agent()
         >>> agent.read("https://shop.example/", "lang=en; Domain=other.example").step
@@ -118,29 +160,27 @@ class Agent(Uncopied):
     def read_at(self, address: Address, text: bytes, second: int | None = None) -> Refusal | None:
         """Reads the value of a `Set-Cookie` header of a response from the address, as `read` does."""
         second = self.second(None) if second is None else whole_second(second)
-        with self.lock:
-            refusal = self.core.read(address, text, second)
-            self.stored += refusal is None
+        request, rules = request_of(address), self.rules
+        with self.lock, rules.lock:
+            found = checked(AGENT_READ(self.handle, rules.handle, request, text, len(text), second)).refusal
+            self.stored += not found
             if self.stored >= self.enough:
                 self.trim(second)
-        return refusal
+        return refusal_of(found) if found else None
 
     def read_all(self, address: Address, texts: Iterable[bytes]) -> None:
-        """Reads the values of all `Set-Cookie` headers of a response. The drop-ins call it, with the address of the
-        request that was made."""
+        """Reads the values of all `Set-Cookie` headers of a response from the address. The drop-ins call it."""
         for text in texts:
             self.read_at(address, text)
 
     def trim(self, second: int) -> None:
         """Drops what is expired, and the cookies above the limits (RFC 6265bis, Storage Model)."""
-        self.core.trim(*self.limits, second)
-        self.stored, self.enough = 0, max(min(self.limits), self.core.count() // 4)
+        perform(AGENT_TRIM, self.handle, self.rules.handle, *self.limits, second)
+        self.stored, self.enough = 0, max(min(self.limits), AGENT_COUNT(self.handle).length // 4)
 
     def header(self, url: str, now: datetime.datetime | None = None, context: Context = SAME_SITE) -> bytes:
         """The value of the `Cookie` header that a request to the URL sends, at the time `now` or the clock's. It is
-        empty if the request sends none: leave the header out then.
-
-        The time becomes the last access of each cookie that is sent. It counts if there are too many.
+        empty if the request sends none: leave the header out then. It is the last access of each cookie that is sent.
 
         >>> agent = Agent()
         >>> agent.read("https://shop.example/", "lang=en; SameSite=Strict")
@@ -152,11 +192,37 @@ class Agent(Uncopied):
         """
         return self.header_at(self.address_of(url, context), context.is_safe, self.second(now))
 
-    def header_at(self, address: Address, is_safe: bool = True, second: int | None = None) -> bytes:
+    def header_at(
+        self, address: Address, is_safe: bool = True, second: int | None = None,
+        call: Callable[..., Any] = AGENT_RETRIEVE,
+    ) -> bytes:
         """The value of the `Cookie` header of a request to the address. The drop-ins call it."""
         second = self.second(None) if second is None else whole_second(second)
+        request = request_of(address, is_safe)
         with self.lock:
-            return self.core.header(address, is_safe, second)
+            answer = call(self.handle, request, second, self.room, len(self.room))
+            if answer.status == BufferTooShort.status:
+                self.room = ctypes.create_string_buffer(answer.length)
+                answer = call(self.handle, request, second, self.room, len(self.room))
+            return ctypes.string_at(self.room, checked(answer).length)
+
+    def cookies(self, second: int) -> Iterator[AgentCookie]:
+        """The stored cookies. Some may be expired at that second: such a one has it as its expiry."""
+        index, room = 0, ROOM
+        while True:
+            buffer = ctypes.create_string_buffer(room)
+            found = AGENT_COOKIE(self.handle, index, second, buffer, room)
+            stored = found.stored
+            if found.status == NotFound.status:
+                return
+            if found.status == BufferTooShort.status:
+                room = stored.path.start + stored.path.length
+                continue
+            checked(found)
+            spans = stored.name, stored.value, stored.domain, stored.path
+            texts = (text_of(bytes_at(buffer.raw, span)) for span in spans)
+            yield AgentCookie(*fields_of(stored, texts, second + stored.lifetime))
+            index += 1
 
     def unsent(
         self, url: str, now: datetime.datetime | None = None, context: Context = SAME_SITE
@@ -171,7 +237,15 @@ class Agent(Uncopied):
         """
         address, second = self.address_of(url, context), self.second(now)
         with self.lock:
-            return list(self.core.unsent(address, context.is_safe, second))
+            return list(self.unsent_at(address, context.is_safe, second))
+
+    def unsent_at(self, address: Address, is_safe: bool, second: int) -> Iterator[tuple[AgentCookie, list[str]]]:
+        """The stored cookies that a request to the address doesn't send, each with why it doesn't."""
+        request = request_of(address, is_safe)
+        for index, cookie in enumerate(self.cookies(second)):
+            bits = checked(AGENT_OBSTACLES(self.handle, index, request, second)).obstacles
+            if bits:
+                yield cookie, [why for bit, why in OBSTACLES.items() if bits & bit]
 
     def __iter__(self) -> Iterator[AgentCookie]:
         """The cookies that are stored and not expired, in the order of their creation.
@@ -183,24 +257,27 @@ class Agent(Uncopied):
         """
         second = self.second(None)
         with self.lock:
-            found = list(self.core.cookies(second))
-        return (cookie for cookie in found if cookie.lasts(second))
+            return iter([cookie for cookie in self.cookies(second) if cookie.lasts(second)])
 
     def __len__(self) -> int:
         """How many cookies are stored and not expired."""
         return sum(1 for _ in self)
 
     def remove(self, cookie: AgentCookie) -> bool:
-        """Removes the stored cookie that has the name, the domain, the path and the `is_host_only` of this one. Returns
-        whether there was one.
+        """Removes the stored cookie with the key of this one. Returns whether there was one.
 
         >>> agent = Agent()
         >>> agent.read("https://shop.example/", "lang=en")
         >>> [agent.remove(cookie) for cookie in agent], len(agent)
         ([True], 0)
         """
-        with self.lock:
-            return self.core.remove(cookie)
+        name, domain, path = map(header_bytes, (cookie.name, cookie.domain, cookie.path))
+        try:
+            with self.lock:
+                perform(AGENT_REMOVE, self.handle, name, domain, cookie.is_host_only, path)
+        except NotFound:
+            return False
+        return True
 
     def clear(self, domain: str | None = None) -> None:
         """Removes all cookies, or those of a domain, in lower case, and of the domains below it.
@@ -210,17 +287,16 @@ class Agent(Uncopied):
         >>> agent.clear("shop.example"), len(agent)
         (None, 0)
         """
+        call, words = (AGENT_NEW, ()) if domain is None else (AGENT_CLEAR, (header_bytes(domain),))
         with self.lock:
-            self.core.clear(None if domain is None else header_bytes(domain))
+            perform(call, self.handle, *words)
 
     def save(self, path: str | os.PathLike[str], form: str = JSON) -> int:
-        """Writes the cookies that have an expiry and aren't expired to a file that only its owner may read. If that fails,
-        or the machine stops, the file is as before. A cookie without an expiry ends with the session. Returns how many of
-        the cookies the form can't carry.
+        """Writes the cookies that have an expiry and aren't expired to a file that only its owner may read. If that
+        fails, or the machine stops, the file is as before. Returns how many of the cookies the form can't carry.
 
-        With the form "json" each cookie is a line of JSON, with every field. With "netscape" the file is a cookies.txt, as
-        curl and wget read it. That has no `SameSite`, no cookie without a name, and none with a tab. The library writes
-        and reads both, so that programs in C and Rust have the same files.
+        With the form "json" each cookie is a line of JSON, with every field. With "netscape" the file is a cookies.txt,
+        as curl and wget read it. That has no `SameSite`, no cookie without a name, and none with a tab.
 
         >>> import tempfile
         >>> folder = tempfile.TemporaryDirectory()
@@ -234,59 +310,58 @@ class Agent(Uncopied):
         b'lang=en'
         >>> folder.cleanup()
         """
+        words = number_of(form), self.second(None)
         with self.lock:
-            text, left_out = self.core.save(form_of(form), self.second(None))
+            saving, text = answer_and_bytes(AGENT_SAVE, self.handle, *words, room=HEADER_ROOM)
+        left_out: int = checked(saving).left_out
         replace(os.path.realpath(path), text)
         return left_out
 
     def load(self, path: str | os.PathLike[str], form: str | None = None) -> list[int]:
-        """Reads the cookies of a file that `save`, curl or wget wrote. Returns the numbers, from 1, of the lines that hold
-        no cookie, or one that no user agent could have stored, as one for a public suffix and the hosts below it. A cookie
-        that would last for more than 400 days lasts for 400 days.
-
-        They join those that are stored, in the order of their lines. What is expired is left out. Without `form` the
-        file's first byte says which form it has. Raises `ValueError` if the file has more than 64 MiB, and `OSError` if it
-        is no regular file, as a folder or a FIFO.
+        """Reads the cookies of a file that `save`, curl or wget wrote. Returns the numbers, from 1, of the lines that
+        hold no cookie, or one that no user agent could have stored. What is expired is left out, and none lasts for
+        more than 400 days. Without `form` the file's first byte says which form it has. Raises `ValueError` if the file
+        has more than 64 MiB, and `OSError` if it is no regular file.
         """
         with open(path, "rb", opener=file_opener) as file:
             text = file.read(MOST + 1)
         if len(text) > MOST:
             raise ValueError(f"the file has more than {MOST} bytes")
-        form = form_of(form) if form is not None else JSON if text.lstrip()[:1] == b"{" else NETSCAPE
-        second = self.second(None)
-        with self.lock:
-            bad = self.core.load(form, text, second)
+        form = form if form is not None else JSON if text.lstrip()[:1] == b"{" else NETSCAPE
+        number, second, most = number_of(form), self.second(None), text.count(b"\n") + 1
+        bad = (SIZE * most)()
+        with self.lock, self.rules.lock:
+            words = self.handle, self.rules.handle, number, text, len(text), second, bad, most
+            count = checked(AGENT_LOAD(*words)).bad_lines
             self.trim(second)
-        return bad
+        return bad[:count]
 
     def address_of(self, url: str, context: Context) -> Address:
         """The address of the URL, for a request in this context."""
-        address = address_of(url, is_localhost_secure=self.is_localhost_secure)
-        return address._replace(is_same_site=context.is_same_site, is_top_level=context.is_top_level)
+        return Address(*address_of(url, False, self.is_localhost_secure)[:4], *context[:2])
 
     def address_at(self, scheme: str, host: str, path: str, context: Context) -> Address | None:
-        """The address of a request that a client makes in this context. None if that is no URL of http or https with a host:
-        then no cookie is read or sent."""
+        """The address of a request that a client makes in this context. None if that is no URL of http or https with a
+        host that all readers understand: then no cookie is read or sent."""
         try:
-            address = address_at(scheme, host, path, self.is_localhost_secure)
+            return Address(*address_at(scheme, host, path, self.is_localhost_secure)[:4], *context[:2])
         except ValueError:
             return None
-        return address._replace(is_same_site=context.is_same_site, is_top_level=context.is_top_level)
 
     def header_for(self, address: Address, method: str, context: Context) -> bytes:
         """The value of the `Cookie` header of a request that a client makes with the method in this context."""
         return self.header_at(address, context.is_safe and method.upper() in SAFE_METHODS)
 
     def second(self, now: datetime.datetime | None) -> int:
-        """The time in whole seconds since 1970 in UTC, by default the clock's. Raises `NoDate` if a call doesn't take it."""
+        """The time in whole seconds since 1970, by default the clock's. Raises `NoDate` if no call takes it."""
         return whole_second(self.clock()) if now is None else second_of(now)
 
 
-def form_of(form: str) -> str:
-    """The form, or `ValueError`."""
-    if form not in (JSON, NETSCAPE):
+def number_of(form: str) -> int:
+    """The number of the form in cookie.h, or `ValueError`."""
+    if form not in FORMS:
         raise ValueError(f"a form is {JSON!r} or {NETSCAPE!r}")
-    return form
+    return FORMS[form]
 
 
 def file_opener(path: str, flags: int) -> int:
@@ -317,3 +392,24 @@ def replace(path: str, text: bytes) -> None:
         os.fsync(directory)
     finally:
         os.close(directory)
+
+
+def is_in_domain(host: str, is_address: bool, domain: str) -> bool:
+    """Whether the host is the domain, or is below it (RFC 6265bis, Domain Matching)."""
+    return host == domain or (not is_address and host.endswith("." + domain))
+
+
+def is_under_path(request: str, cookie: str) -> bool:
+    """Whether the path is the cookie's, or is below it (RFC 6265bis, Paths and Path-Match)."""
+    below = request.startswith(cookie) and (cookie.endswith("/") or request[len(cookie) :].startswith("/"))
+    return request == cookie or below
+
+
+def header_bytes(text: str | bytes) -> bytes:
+    """The bytes of a text of a header. A lone surrogate stands for a byte that isn't UTF-8 (PEP 383)."""
+    return text.encode(errors="surrogateescape") if isinstance(text, str) else bytes_of(text)
+
+
+def text_of(text: bytes) -> str:
+    """The text of the bytes, from which `header_bytes` makes them again."""
+    return text.decode(errors="surrogateescape")

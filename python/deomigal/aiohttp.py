@@ -5,11 +5,9 @@
 
     async with aiohttp.ClientSession(**cookies_of(Agent())) as session:
 
-These are its `cookie_jar`, `request_class` and `response_class`. aiohttp reads `Set-Cookie` headers, and prints the
-`Cookie` header, by `http.cookies`, which drops names and orders that RFC 6265bis has. The classes give the agent the
-headers as they came, and send its header, also at each redirect. Around them goes nothing that a session requests.
-`cookies=` and a header `Cookie` of the caller are sent with the agent's. aiohttp prints headers in UTF-8, so a cookie that
-isn't UTF-8 isn't sent.
+These are its `cookie_jar`, `request_class` and `response_class`. They give the agent the headers as they came, and send
+its header, also at each redirect. `cookies=` and a header `Cookie` of the caller are sent with the agent's. aiohttp
+prints headers in UTF-8, so a cookie that isn't UTF-8 isn't sent.
 """
 from __future__ import annotations
 
@@ -22,9 +20,8 @@ from aiohttp.abc import AbstractCookieJar, ClearCookiePredicate
 from aiohttp.typedefs import LooseCookies
 from yarl import URL
 
-from ._agent import AgentCookie, header_bytes
 from .addresses import Address
-from .agents import SAFE_METHODS, SAME_SITE, Agent, Context
+from .agents import SAFE_METHODS, SAME_SITE, Agent, AgentCookie, Context, header_bytes
 from .dates import print_date
 from .explain import date_after
 
@@ -32,8 +29,7 @@ EMPTY = URL()
 
 
 def cookies_of(agent: Agent | None = None, *, context: Context = SAME_SITE) -> dict[str, Any]:
-    """The arguments of an `aiohttp.ClientSession` that keeps the cookies of an agent, by default a new one. Call it in a
-    coroutine."""
+    """The arguments of an `aiohttp.ClientSession` with an agent's cookies. Call it in a coroutine."""
     jar = CookieJar(agent, context=context)
     return {"cookie_jar": jar, "request_class": ClientRequest, "response_class": ClientResponse}
 
@@ -100,12 +96,10 @@ class CookieJar(AbstractCookieJar):
         return b"" if address is None else self.agent.header_at(address, self.context.is_safe and is_safe)
 
     def update_cookies(self, cookies: LooseCookies, response_url: URL = EMPTY) -> None:
-        """Stores the cookies as if the URL's response had set them. Raises `ValueError` for a cookie without a domain, if
-        there is no URL: RFC 6265bis knows no cookie of all hosts."""
-        if isinstance(cookies, ReadCookies):
-            return
+        """Stores the cookies as if the URL's response had set them. Raises `ValueError` for a cookie without a domain,
+        if there is no URL: RFC 6265bis knows no cookie of all hosts."""
         named: Any = cookies.items() if isinstance(cookies, Mapping) else cookies
-        for name, value in named:
+        for name, value in () if isinstance(cookies, ReadCookies) else named:
             parsed: BaseCookie[str] = SimpleCookie()
             parsed[name] = value
             domain = parsed[name]["domain"].lstrip(".")
@@ -131,9 +125,7 @@ class CookieJar(AbstractCookieJar):
 
     def clear_domain(self, domain: str) -> None:
         """Removes the cookies of the domain and of those below it."""
-        for cookie in list(self.agent):
-            if cookie.domain == domain or cookie.domain.endswith(f".{domain}"):
-                self.agent.remove(cookie)
+        self.clear(lambda cookie: f".{cookie['domain']}".endswith(f".{domain}"))
 
     @property
     def unsafe(self) -> bool:
@@ -218,8 +210,10 @@ def morsel_of(name: str, value: str) -> Morsel[str]:
 def morsel_with_attributes(cookie: AgentCookie) -> Morsel[str]:
     """The stored cookie as a morsel."""
     morsel = morsel_of(cookie.name, cookie.value)
-    morsel["domain"], morsel["path"], morsel["samesite"] = cookie.domain, cookie.path, cookie.same_site or ""
-    morsel["secure"], morsel["httponly"] = cookie.is_secure or "", cookie.is_http_only or ""
-    if cookie.expiry is not None:
-        morsel["expires"] = print_date(date_after(0, cookie.expiry))
+    attributes: Any = {
+        "domain": cookie.domain, "path": cookie.path, "samesite": cookie.same_site or "",
+        "secure": cookie.is_secure or "", "httponly": cookie.is_http_only or "",
+        "expires": "" if cookie.expiry is None else print_date(date_after(0, cookie.expiry)),
+    }
+    morsel.update(attributes)
     return morsel

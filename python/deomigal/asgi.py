@@ -5,14 +5,15 @@
     app.add_middleware(SessionMiddleware, secret_key=SECRET_KEY, https_only=True)
 
 `request.session` is a dict as with Starlette's own middleware, whose arguments come first. `session_of(request)` is the
-same, with the type that has `renew`. The event loop doesn't wait for revocations: those whose calls are coroutines are
-awaited, such as `AsyncRedisRevocations`, and others are called in a worker thread. `await session.arevoke()` doesn't either.
+same, with the type that has `renew`. The event loop doesn't wait for revocations: coroutines are awaited, others called
+in a thread.
 """
 from __future__ import annotations
 
 from typing import Any, Awaitable, Callable, Mapping, MutableMapping
 
 from .errors import TooLarge
+from .revocations import ask_async
 from .values import FAILURES, CookieSession, Failure, Middleware, answer_to, session_at
 
 __all__ = ["CookieSession", "SessionMiddleware", "session_of"]
@@ -39,7 +40,7 @@ class SessionMiddleware(Middleware):
         async def send_with_cookie(message: Message) -> None:
             nonlocal is_begun
             if message["type"] == "http.response.start":
-                fields = await self.fields(session, scope.get("session"), self.sessions.ask_async)
+                fields = await self.fields(session, scope.get("session"), ask_async)
                 message = {**message, "headers": [*message.get("headers", ()), *lines(fields)]}
             is_begun = True
             await send(message)

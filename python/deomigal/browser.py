@@ -4,12 +4,14 @@ from __future__ import annotations
 import re
 from typing import Iterator, NamedTuple
 
-from ._agent import AGENT_HEADER, Core, header_bytes, text_of
+from ._library import AGENT_EVICT, AGENT_HEADER, perform
 from .addresses import Address, address_of
+from .agents import Agent, header_bytes, text_of
 from .dates import read_date
 from .explain import STEPS, Found, found_at, second_of, report_of
 
 BLANKS = b" \t"
+NO_LIMIT = 2**32 - 1
 # How a request came about, by the word after its address: whether it is same-site, and a top-level navigation.
 CONTEXTS = {b"": (True, True), b"cross-site": (False, False), b"cross-site-link": (False, True)}
 
@@ -33,8 +35,7 @@ def line_of(line: bytes) -> tuple[bool, Line]:
 
 
 def counted_lines(paste: bytes) -> Iterator[Line]:
-    """The lines that count: `Set-Cookie` fields, and lines that name an address or a time. If there is no field, each
-    line that isn't blank counts."""
+    """The lines that count: `Set-Cookie` fields, or else all that aren't blank, and those with an address or a time."""
     lines = [(line, *line_of(line)) for line in paste.split(b"\n")]
     has_fields = any(is_field for _, is_field, _ in lines)
     for _, is_field, line in lines:
@@ -56,7 +57,7 @@ class Browser:
     """A browser: the agent with its cookies, where the next lines come from, and when."""
 
     def __init__(self, suffixes: bytes, address: Address, now: int) -> None:
-        self.core, self.suffixes, self.address, self.now = Core(suffixes), suffixes, address, now
+        self.agent, self.address, self.now = Agent(suffixes, per_domain=NO_LIMIT, total=NO_LIMIT), address, now
 
     def answer(self, line: Line) -> bytes:
         """Does what the line says, and returns what is printed about it."""
@@ -75,33 +76,33 @@ class Browser:
     def read(self, text: bytes) -> bytes:
         """Has the browser read the text of a cookie, and returns what it makes of it."""
         # What a browser without cookies makes of it; the agent's refusal counts.
-        found = found_at(self.address, text, self.suffixes, self.now)
-        self.core.evict(self.now)
+        found = found_at(self.address, text, self.agent.suffixes, self.now)
+        perform(AGENT_EVICT, self.agent.handle, self.now)
         removal = self.removal(found)
-        refusal = self.core.read(self.address, text, self.now)
+        refusal = self.agent.read_at(self.address, text, self.now)
         if refusal is not None:
-            found = found._replace(
-                refusal=STEPS.index(refusal.step) + 1, sentence=refusal.sentence.encode(), section=refusal.section.encode()
-            )
+            sentence, section = refusal.sentence.encode(), refusal.section.encode()
+            found = found._replace(refusal=STEPS.index(refusal.step) + 1, sentence=sentence, section=section)
         return report_of(found, text, self.now, removal)
 
     def removal(self, found: Found) -> bytes:
         """What comes of the cookie if it is expired."""
         name, domain, path = map(text_of, (found.name, found.domain, found.path))
-        if (name, domain, found.cookie.is_host_only, path) in [cookie.key() for cookie in self.core.cookies(self.now)]:
+        keys = [cookie.key() for cookie in self.agent.cookies(self.now)]
+        if (name, domain, found.cookie.is_host_only, path) in keys:
             return b"removed: "
-        if name in [cookie.name for cookie in self.core.cookies(self.now)]:
+        if name in [key[0] for key in keys]:
             return b"removes nothing, since no such cookie is stored: "
         return b"would remove, if it were stored: "
 
     def header(self, address: Address) -> bytes:
         """The line of the `Cookie` header that the address gets."""
-        header = self.core.header(address, True, self.now, AGENT_HEADER)
+        header = self.agent.header_at(address, True, self.now, AGENT_HEADER)
         return b"Cookie: " + header if header else b"no Cookie header"
 
     def unsent(self, address: Address) -> Iterator[bytes]:
         """A line for each cookie that the address doesn't get."""
-        for cookie, obstacles in self.core.unsent(address, True, self.now):
+        for cookie, obstacles in self.agent.unsent_at(address, True, self.now):
             hosts = " only" if cookie.is_host_only else " and the hosts below it"
             pair = f"{cookie.name}={cookie.value}; for {cookie.domain}{hosts}; path {cookie.path}"
             yield header_bytes(f"not sent: {pair}: {'; '.join(obstacles)}")

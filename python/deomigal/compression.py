@@ -25,7 +25,7 @@ BYTES, PLACES = 13, 15
 
 
 def form_of(texts: Mapping[str, str], compress: bool) -> bytes:
-    """The texts as a form, which the library takes (URL Standard 5.1): compressed, if `compress` is set and that is shorter.
+    """The texts as a form (URL Standard 5.1): compressed, if `compress` is set and that is shorter.
 
     >>> texts = {"notes": "to be, or not to be " * 20}
     >>> len(form_of(texts, False)), len(form_of(texts, True)) < 50, texts_of(form_of(texts, True)) == texts
@@ -42,8 +42,8 @@ def form_of(texts: Mapping[str, str], compress: bool) -> bytes:
 
 
 def texts_of(form: bytes) -> dict[str, str]:
-    """The texts of a form, as `form_of` or the library printed it. Raises `ValueError` if another program compressed them,
-    and so if they have more than `MOST_BYTES`."""
+    """The texts of a form, as `form_of` or the library printed it. Raises `ValueError` if another program compressed
+    them, and so if they have more than `MOST_BYTES`."""
     texts = form_texts(form)
     return form_texts(inflate(bytes_of_digits(texts[COMPRESSED]))) if list(texts) == [COMPRESSED] else texts
 
@@ -53,12 +53,6 @@ def escaped_form(texts: Mapping[str, str]) -> bytes:
     return "&".join(f"{escape(name)}={escape(text)}" for name, text in texts.items()).encode()
 
 
-def form_texts(form: bytes) -> dict[str, str]:
-    """The texts of a form as they are in it."""
-    pairs = (pair.partition(b"=") for pair in form.replace(b"+", b" ").split(b"&")) if form else ()
-    return {unescaped(name): unescaped(text) for name, _, text in pairs}
-
-
 def escape(text: str) -> str:
     """The text with escapes of the marks."""
     for mark, code in ESCAPES:
@@ -66,14 +60,19 @@ def escape(text: str) -> str:
     return text
 
 
+def form_texts(form: bytes) -> dict[str, str]:
+    """The texts of a form as they are in it."""
+    pairs = (pair.partition("=") for pair in form.decode().replace("+", " ").split("&")) if form else ()
+    return {unescaped(name): unescaped(text) for name, _, text in pairs}
+
+
 def deflate(data: bytes, level: int) -> bytes:
     """The data by deflate, without a header and a checksum: the cipher's tag is one."""
-    compressor = zlib.compressobj(level, wbits=-15)
-    return compressor.compress(data) + compressor.flush()
+    return zlib.compress(data, level)[2:-4]
 
 
 def inflate(data: bytes) -> bytes:
-    """What was deflated. Raises `ValueError` for other data, and for more than `MOST_BYTES` bytes, which aren't made."""
+    """What was deflated. Raises `ValueError` for other data, and for more than `MOST_BYTES` bytes."""
     decompressor = zlib.decompressobj(wbits=-15)
     try:
         found = decompressor.decompress(data, MOST_BYTES + 1)
@@ -91,8 +90,7 @@ def digits_of(data: bytes) -> str:
     (15, 17, 'ffffffffffffffffffffffffffffffffffffffff')
     """
     digits = ""
-    for start in range(0, len(data), BYTES):
-        block = data[start : start + BYTES]
+    for block in (data[start : start + BYTES] for start in range(0, len(data), BYTES)):
         number = int.from_bytes(block, "little")
         for _ in range(-(-len(block) * PLACES // BYTES)):
             number, value = divmod(number, BASE)
@@ -104,10 +102,8 @@ def bytes_of_digits(digits: str) -> bytes:
     """The bytes of these digits. Raises `ValueError` if they are none."""
     data = b""
     try:
-        for start in range(0, len(digits), PLACES):
-            block, number = digits[start : start + PLACES], 0
-            for digit in reversed(block):
-                number = number * BASE + VALUES[digit]
+        for block in (digits[start : start + PLACES] for start in range(0, len(digits), PLACES)):
+            number = sum(VALUES[digit] * BASE**place for place, digit in enumerate(block))
             data += number.to_bytes(len(block) * BYTES // PLACES, "little")
     except (KeyError, OverflowError) as error:
         raise ValueError("these aren't digits of base 124") from error

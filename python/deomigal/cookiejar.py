@@ -4,9 +4,8 @@
 
     opener = urllib.request.build_opener(urllib.request.HTTPCookieProcessor(CookieJar()))
 
-It also serves as mechanize's `Browser.set_cookiejar`. As the `cookies` of `requests.Session` or `httpx.Client` it
-decides what is stored, but these two copy its cookies into jars of their own, which decide what is sent. There use
-`deomigal.requests` and `deomigal.httpx`.
+It also serves as mechanize's `Browser.set_cookiejar`. As the `cookies` of `requests.Session` or `httpx.Client` it only
+decides what is stored. There use `deomigal.requests` and `deomigal.httpx`.
 """
 from __future__ import annotations
 
@@ -15,9 +14,9 @@ import re
 from typing import Any, Iterable, Iterator
 from urllib.parse import unquote, urlsplit
 
-from ._agent import AgentCookie, header_bytes
+from ._library import wire_bytes
 from .addresses import Address, address_at
-from .agents import SAME_SITE, Agent, Context
+from .agents import SAME_SITE, Agent, AgentCookie, Context, header_bytes
 from .cookies import RULES
 
 
@@ -40,7 +39,7 @@ class CookieJar(http.cookiejar.CookieJar):
         self.agent, self.context = Agent() if agent is None else agent, context
 
     def extract_cookies(self, response: Any, request: Any) -> None:
-        """Reads the `Set-Cookie` headers of the response to the request. `Set-Cookie2` is no longer used (RFC 6265 9.4)."""
+        """Reads the `Set-Cookie` headers of the response to the request."""
         address = self.address_of(request)
         if address is not None:
             self.agent.read_all(address, texts_of(response.info().get_all("Set-Cookie", [])))
@@ -56,18 +55,21 @@ class CookieJar(http.cookiejar.CookieJar):
                 request.add_unredirected_header("Cookie", header.decode("latin-1"))
 
     def address_of(self, request: Any) -> Address | None:
-        """Where the request goes. None if that is no URL of http or https with a host: then no cookie is read or sent."""
+        """Where the request goes. None if that is no URL of http or https with a host, or another reader could find
+        another host in it: then no cookie is read or sent."""
         try:
             parts = urlsplit(request.get_full_url())
             # The stand-in of requests names the host of the header `Host`, which is also sent where a redirect goes.
-            netloc = request.get_host() if hasattr(request, "get_new_headers") else parts.netloc
-            named = urlsplit(f"//{netloc}")
-            # A proxy may read a `/` where there is a backslash. A port that isn't a number raises `ValueError`.
-            if "\\" in unquote(netloc) or named.port == 0:
+            is_of_requests, is_of_httpx = hasattr(request, "get_new_headers"), hasattr(request, "request")
+            netloc = request.get_host() if is_of_requests else parts.netloc
+            # requests and httpx don't connect to what is before an `@`. http.client does.
+            authority = netloc.rpartition("@")[2] if is_of_requests or is_of_httpx else netloc
+            named = re.fullmatch(r"(\[[^][]*\]|[^][@:]*)(:[0-9]*)?", authority)
+            # A proxy may read a `/` where there is a backslash.
+            if not named or "\\" in unquote(netloc) or urlsplit(f"//{authority}").port == 0:
                 return None
-            host = named.hostname or ""
             # The codec that http.client connects with.
-            host = host if host.isascii() else host.encode("idna").decode()
+            host = named[1] if named[1].isascii() else named[1].encode("idna").decode()
         except ValueError:
             return None
         return self.agent.address_at(parts.scheme, host, parts.path, self.context)
@@ -78,13 +80,12 @@ class CookieJar(http.cookiejar.CookieJar):
 
     def make_cookies(self, response: Any, request: Any) -> list[http.cookiejar.Cookie]:
         """The cookies that an agent without cookies would store of the response."""
-        jar = CookieJar(Agent(self.agent.suffixes, clock=self.agent.clock), context=self.context)
+        jar = CookieJar(self.agent.without_cookies(), context=self.context)
         jar.extract_cookies(response, request)
         return list(jar)
 
     def set_cookie(self, cookie: http.cookiejar.Cookie) -> None:
-        """Stores the cookie as a secure response of its domain would. Raises `ValueError` if RFC 6265bis refuses it, as
-        it does without a domain.
+        """Stores the cookie as a secure response of its domain would. Raises `ValueError` if RFC 6265bis refuses it.
 
         >>> jar = CookieJar()
         >>> jar.agent.read("https://shop.example/", "lang=en")
@@ -108,12 +109,9 @@ class CookieJar(http.cookiejar.CookieJar):
             self.agent.read_at(address, text_of(cookie, self.agent.clock()))
 
     def clear(self, domain: str | None = None, path: str | None = None, name: str | None = None) -> None:
-        """Removes all cookies, or those of the domain, the path and the name. Raises `KeyError` if there is none. If a
-        domain has no cookies without a dot before it, it may stand for the one with a dot, as it was set."""
-        if name is not None and (domain is None or path is None):
-            raise ValueError("domain and path must be given to remove a cookie by name")
-        if path is not None and domain is None:
-            raise ValueError("domain must be given to remove cookies by path")
+        """Removes all cookies, or those of the domain, path and name. Raises `KeyError` if there is none."""
+        if path is None and name is not None or domain is None and path is not None:
+            raise ValueError("a name is removed by its domain and path, and a path by its domain")
         if domain is None:
             self.agent.clear()
             return
@@ -135,13 +133,7 @@ class CookieJar(http.cookiejar.CookieJar):
         >>> len(jar), len(other)
         (0, 1)
         """
-        (per_domain, per_site, total), clock = self.agent.limits, self.agent.clock
-        is_localhost_secure = self.agent.is_localhost_secure
-        agent = Agent(
-            self.agent.suffixes, is_localhost_secure=is_localhost_secure, per_domain=per_domain, per_site=per_site,
-            total=total, clock=clock,
-        )
-        jar = CookieJar(agent, context=self.context)
+        jar = CookieJar(self.agent.without_cookies(), context=self.context)
         for cookie in self:
             jar.set_cookie(cookie)
         return jar
@@ -177,22 +169,12 @@ class NoCookies(http.cookiejar.CookieJar):
 
 
 def texts_of(values: Iterable[str]) -> list[bytes]:
-    """The bytes of the fields of a response as http.client reads them: each character is a byte. A line that goes on in
-    the next is one line (RFC 9112 5.2)."""
-    return [wire_bytes(re.sub(r"\r?\n[ \t]+", " ", value)) for value in values]
-
-
-def wire_bytes(value: str) -> bytes:
-    """The bytes of a field's value. One with other characters didn't come from http.client, and is UTF-8."""
-    try:
-        return value.encode("latin-1")
-    except UnicodeEncodeError:
-        return header_bytes(value)
+    """The bytes of the fields of a response, whose lines http.client doesn't join (RFC 9112 5.2)."""
+    return [wire_bytes(re.sub(r"\r?\n[ \t]+", " ", value), "surrogateescape") for value in values]
 
 
 def domain_of(cookie: AgentCookie) -> str:
-    """The domain as http.cookiejar has it: with a dot before it, if the hosts below it get the cookie too. A host of one
-    label has `.local` after it."""
+    """The domain as http.cookiejar has it: `.` before one with the hosts below, `.local` after a host of one label."""
     if not cookie.is_host_only:
         return "." + cookie.domain
     return cookie.domain if "." in cookie.domain or ":" in cookie.domain else cookie.domain + ".local"
@@ -218,7 +200,7 @@ def cookie_of(cookie: AgentCookie) -> http.cookiejar.Cookie:
 
 
 def text_of(cookie: http.cookiejar.Cookie, now: float) -> bytes:
-    """The text of the `Set-Cookie` header that sets the cookie. Raises `ValueError` if a part holds what would end it."""
+    """The text of a `Set-Cookie` header that sets the cookie. Raises `ValueError` if a part holds what would end it."""
     name, value = ("", cookie.name) if cookie.value is None else (cookie.name, cookie.value)
     if "=" in name or any(re.search(r"[\x00-\x08\x0a-\x1f\x7f;]", part) for part in (name, value, cookie.path)):
         raise ValueError("a name, a value or a path holds a control character, a `;` or a `=`")

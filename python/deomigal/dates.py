@@ -2,62 +2,51 @@
 from __future__ import annotations
 
 import datetime
+import functools
 import time
+from typing import Any
 
-from ._library import DONE, PRINT_DATE, READ_DATE, Moment, bytes_of, bytes_from
+from ._library import PRINT_DATE, READ_DATE, bytes_from, bytes_of, checked
 from .errors import NoDate, error_of
 
 # The first second that `datetime` has.
 FIRST = datetime.datetime(1, 1, 1, tzinfo=datetime.timezone.utc)
-
-
 # One more than the last second that a call takes.
 END = 2**64
 
 
 def whole_second(now: float | None) -> int:
-    """The whole second since 1970, of the clock if there is none. Raises `NoDate` for one before 1970 or from 2^64 on, which
-    a call would take for another one.
+    """The whole second since 1970, of the clock if there is none. Raises `NoDate` for one before 1970 or from 2^64 on.
 
     >>> whole_second(1445412480.9)
     1445412480
     """
     if not isinstance(now, (int, float, type(None))):
         raise TypeError("a time is in seconds since 1970")
-    try:
-        second = int(time.time() if now is None else now)
-    except (OverflowError, ValueError):
-        # The infinite ones, and what is no number.
-        second = -1
-    if not 0 <= second < END:
+    now = time.time() if now is None else now
+    # So an infinite one is refused, and what is no number.
+    if not -1 < now < END:
         raise error_of(NoDate.status)
-    return second
+    return int(now)
 
 
-def date_of(moment: Moment) -> datetime.datetime | None:
+def date_of(moment: Any) -> datetime.datetime | None:
     """The date and time in UTC, or None if there is none. `datetime` has no year below 1, so that is None too."""
-    if moment.status not in (DONE, NoDate.status):
-        raise error_of(moment.status)
-    if moment.status == NoDate.status or moment.year < 1:
+    if moment.status == NoDate.status or checked(moment).year < 1:
         return None
-    return datetime.datetime(
-        moment.year, moment.month, moment.day, moment.hour, moment.minute, moment.second, tzinfo=datetime.timezone.utc
-    )
+    return FIRST.replace(moment.year, moment.month, moment.day, moment.hour, moment.minute, moment.second)
 
 
-def numbers_of(moment: datetime.datetime) -> tuple[int, int, int, int, int, int]:
+def numbers_of(moment: datetime.datetime) -> tuple[int, ...]:
     """The six numbers of a date and time in UTC. One without a time zone counts as UTC."""
     if not isinstance(moment, datetime.datetime):
         raise TypeError("a time is a datetime.datetime")
-    if moment.tzinfo is not None:
-        moment = moment.astimezone(datetime.timezone.utc)
-    return moment.year, moment.month, moment.day, moment.hour, moment.minute, moment.second
+    return moment.utctimetuple()[:6]
 
 
 def read_date(text: str | bytes) -> datetime.datetime | None:
-    """Reads the text as a date and time in UTC, in one of four forms (RFC 9110 5.6.7, RFC 6265 5.1.1).
-
-    Returns None if it isn't one, or if its year is below 1. Raises `NotUtf8`.
+    """Reads the text as a date and time in UTC, in one of four forms (RFC 9110 5.6.7, RFC 6265 5.1.1). Returns None if
+    it isn't one, or if its year is below 1. Raises `NotUtf8`.
 
     >>> read_date("Wed, 21 Oct 2015 07:28:00 GMT")
     datetime.datetime(2015, 10, 21, 7, 28, tzinfo=datetime.timezone.utc)
@@ -66,6 +55,7 @@ def read_date(text: str | bytes) -> datetime.datetime | None:
     return date_of(READ_DATE(text, len(text)))
 
 
+@functools.lru_cache(maxsize=16)
 def print_second(second: int) -> str:
     """The text of a second since 1970.
 

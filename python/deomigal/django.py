@@ -18,48 +18,47 @@ from django.conf import settings
 from django.contrib.auth.signals import user_logged_in
 from django.contrib.sessions.backends.base import SessionBase
 from django.contrib.sessions.middleware import SessionMiddleware as DjangoMiddleware
-from django.core.signals import got_request_exception
+from django.core.signals import got_request_exception, setting_changed
 from django.http import HttpResponse
 from django.utils.cache import patch_vary_headers
 
 from .cookies import pairs
 from .secrets import keys_of
-from .sessions import Session, Sessions
-from .values import FAILURES, Failure, Generations, answer_to, note_unsaved, pack, unpack
+from .sessions import Generations, Session, Sessions
+from .values import FAILURES, Failure, answer_to, note_unsaved, pack, unpack
 from .wsgi import header_in
 
 SALT = "deomigal.django"
-latest: tuple[Any, Sessions] | None = None
-
-
-def attributes() -> dict[str, Any]:
-    """The attributes of the cookie, which Django prints. They count for the prefix of its name."""
-    same_site = settings.SESSION_COOKIE_SAMESITE
-    return {
-        "path": settings.SESSION_COOKIE_PATH, "domain": settings.SESSION_COOKIE_DOMAIN,
-        "secure": bool(settings.SESSION_COOKIE_SECURE), "http_only": bool(settings.SESSION_COOKIE_HTTPONLY),
-        "same_site": same_site.title() if same_site else None,
-    }
+latest: Sessions | None = None
 
 
 def site() -> Sessions:
-    """The sessions of the site, by its settings as they are now. The keys are derived from SECRET_KEY and
-    SECRET_KEY_FALLBACKS. A session is over DEOMIGAL_LIFETIME seconds after its start, by default SESSION_COOKIE_AGE.
-    DEOMIGAL_REVOCATIONS keeps which sessions are revoked. With DEOMIGAL_COMPRESS they are saved compressed: see
-    `deomigal.Sessions` for when not to."""
+    """The sessions of the site, by its settings, until Django tells that one changed. The keys are derived from
+    SECRET_KEY and SECRET_KEY_FALLBACKS. A session is over DEOMIGAL_LIFETIME seconds after its start, by default
+    SESSION_COOKIE_AGE. DEOMIGAL_REVOCATIONS keeps which sessions are revoked. For DEOMIGAL_COMPRESS see `Sessions`."""
     global latest
+    found = latest
+    if found is not None:
+        return found
     secrets = (settings.SECRET_KEY, *(getattr(settings, "SECRET_KEY_FALLBACKS", None) or ()))
     lifetime = getattr(settings, "DEOMIGAL_LIFETIME", None) or settings.SESSION_COOKIE_AGE
-    name, revocations = settings.SESSION_COOKIE_NAME, getattr(settings, "DEOMIGAL_REVOCATIONS", None)
-    compress = bool(getattr(settings, "DEOMIGAL_COMPRESS", False))
-    choice = (secrets, name, lifetime, attributes(), revocations, compress)
-    found = latest
-    if found is None or found[0] != choice:
-        sessions = Sessions(
-            keys_of(secrets, SALT), name, lifetime, lifetime, **attributes(), revocations=revocations, compress=compress
-        )
-        latest = found = (choice, sessions)
-    return found[1]
+    same_site = settings.SESSION_COOKIE_SAMESITE
+    # Django prints the attributes. They count for the prefix of the name.
+    options: dict[str, Any] = {
+        "path": settings.SESSION_COOKIE_PATH, "domain": settings.SESSION_COOKIE_DOMAIN,
+        "secure": bool(settings.SESSION_COOKIE_SECURE), "http_only": bool(settings.SESSION_COOKIE_HTTPONLY),
+        "same_site": same_site.title() if same_site else None,
+        "revocations": getattr(settings, "DEOMIGAL_REVOCATIONS", None),
+        "compress": bool(getattr(settings, "DEOMIGAL_COMPRESS", False)),
+    }
+    latest = found = Sessions(keys_of(secrets, SALT), settings.SESSION_COOKIE_NAME, lifetime, lifetime, **options)
+    return found
+
+
+def forget_site(**_: Any) -> None:
+    """Has the sessions made anew, by other settings."""
+    global latest
+    latest = None
 
 
 def session_of(sessions: Sessions, key: str | None, header: bytes | None = None) -> Session:
@@ -70,10 +69,10 @@ def session_of(sessions: Sessions, key: str | None, header: bytes | None = None)
 
 
 class SessionStore(Generations, SessionBase):
-    """A session, whose key is the value of its cookie. `source` is the session that it was opened from, and `header` the
-    request's, if it is opened from that. `failure` is why it couldn't be opened, or the error of its revocations that no
-    view answered. `shows_revoked` is whether the request has only sessions that are revoked, and none was begun since. Such
-    a request may be an old tab's, whose browser has another session by now, so this isn't saved. `showed_revoked` stays."""
+    """A session, whose key is the value of its cookie. `source` is the session that it was opened from, and `header`
+    the request's, if it is opened from that. `failure` is why it couldn't be opened, or the error of its revocations
+    that no view answered. `shows_revoked` is whether the request has only revoked sessions, and none was begun since:
+    then this isn't saved. `showed_revoked` stays."""
 
     source: Session | None = None
     header: bytes | None = None
@@ -131,15 +130,14 @@ class SessionStore(Generations, SessionBase):
             self._session_cache = {}
 
     def delete(self, session_key: str | None = None) -> None:
-        """Drops the values and the key. `flush` calls it, as at a logout. With DEOMIGAL_REVOCATIONS what the browser has is
-        revoked, in each copy of its cookie. Without it a copy stays open until its limits. Raises `Gone` if another request
-        has renewed or ended the session, and `RevocationsError` if it can't be kept."""
+        """Drops the values and the key. `flush` calls it, as at a logout. With DEOMIGAL_REVOCATIONS what the browser
+        has is revoked, in each copy of its cookie. Raises what `Sessions.revoke` does."""
         self.revoke(session_key)
         self.source, self.header, self._session_key, self._session_cache = None, None, "", {}
         self.modified = True
 
     def revoke(self, session_key: str | None = None) -> bool:
-        """Revokes what the browser has, if the site keeps which sessions are revoked. Returns whether it had something."""
+        """Revokes what the browser has, if the site has revocations. Returns whether it had something."""
         sessions = site()
         if sessions.revocations is None:
             return False
@@ -151,8 +149,8 @@ class SessionStore(Generations, SessionBase):
         return sessions.revoke(source)
 
     def cycle_key(self) -> None:
-        """Starts it anew with the same values, so that the lifetime counts from this request. A login calls it. With
-        DEOMIGAL_REVOCATIONS the session of before is revoked, in each copy of its cookie. Raises as `delete` does."""
+        """Starts it anew with the same values, so that the lifetime counts from this request, and saves it. A login
+        calls it. With DEOMIGAL_REVOCATIONS the session of before is revoked. Raises as `delete` does."""
         self.renew()
         self.save()
 
@@ -161,8 +159,7 @@ class SessionStore(Generations, SessionBase):
         await sync_to_async(self.cycle_key)()
 
     def renew(self) -> None:
-        """Does the same when it is saved at the end of the request. Call it on a page that keeps something for a login, such
-        as a token against forged requests."""
+        """The same, but it is saved at the end of the request. Call it on a page that keeps something for a login."""
         self._get_session()
         if self.source:
             self.source.renew()
@@ -178,10 +175,8 @@ class SessionStore(Generations, SessionBase):
 
 
 class SessionMiddleware(DjangoMiddleware):
-    """Django's middleware, but it reads the request's header as `deomigal.Sessions` does. So a name that another host
-    of the domain disguised doesn't count, and of several cookies of the name the first that holds an open session does.
-    If it can't be looked up whether a session is revoked, the request is answered with status 503, and with 409 if another
-    request has renewed or ended the session that this one renews or ends.
+    """Django's middleware, but it reads the request's header as `deomigal.Sessions` does. It answers with status 503 if
+    the revocations fail, and with 409 if another request has renewed or ended the session.
     """
 
     def __init__(self, *arguments: Any, **options: Any) -> None:
@@ -216,8 +211,7 @@ class SessionMiddleware(DjangoMiddleware):
         return Unavailable(exception) if isinstance(exception, FAILURES) else None
 
     def process_response(self, request: Any, response: Any) -> Any:
-        """Saves the session in the response. In the place of an error page that Django made of such an error, or of a page
-        that took the session for empty, this is the answer."""
+        """Saves the session in the response, or answers in the place of a page that Django made of an error."""
         if isinstance(response, Unavailable):
             return response
         session: Any = getattr(request, "session", None)
@@ -235,8 +229,7 @@ class SessionMiddleware(DjangoMiddleware):
 
 
 class Unavailable(HttpResponse):
-    """The answer if it isn't known whether a session is revoked, or if another request has renewed or ended it. No session is
-    saved in it."""
+    """The answer if it isn't known whether a session is revoked, or if another request has renewed or ended it."""
 
     def __init__(self, error: Failure) -> None:
         status, fields, page = answer_to(error)
@@ -261,6 +254,7 @@ def note_failure(request: Any, **_: Any) -> None:
 
 user_logged_in.connect(cycle_at_login)
 got_request_exception.connect(note_failure)
+setting_changed.connect(forget_site)
 
 if settings.configured:
     # Django's own middleware reads this file when the site starts.

@@ -132,13 +132,12 @@ class NoAgent(CookieError, status=28):
 
 
 class Replaces(CookieError, status=29):
-    """The session replaces what the browser has, which must be revoked first. `Sessions.save` does so, and raises it
-    never."""
+    """The session replaces what the browser has, which must be revoked first. `Sessions.save` does so."""
 
 
 class Gone(CookieError, status=30):
-    """The session was over or revoked already: another request renewed or ended it. Set no cookie, don't say that a logout
-    is done, and answer the request with an error, such as status 409 (RFC 9110 15.5.10)."""
+    """The session was over or revoked already: another request renewed or ended it. Set no cookie, don't say that a
+    logout is done, and answer the request with an error, such as status 409 (RFC 9110 15.5.10)."""
 
 
 class NoKeys(CookieError, status=31):

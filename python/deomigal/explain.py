@@ -1,26 +1,26 @@
 """What a browser makes of a `Set-Cookie` header: what it stores, or why it refuses the cookie (RFC 6265bis)."""
 from __future__ import annotations
 
+import contextlib
 import ctypes
 import datetime
 import functools
 import pathlib
-from typing import NamedTuple
+from typing import Any, Iterable, NamedTuple
 
 from ._library import (
-    DONE, HANDLE, SECOND, SUFFIXES_FREE, SUFFIXES_NEW, TEXT, OwnHandle, Span, bytes_of, declare, perform,
+    EXPLAIN, REFUSAL_SECTION, REFUSAL_SENTENCE, SUFFIXES_FREE, SUFFIXES_NEW, OwnHandle, Request, bytes_at, bytes_from,
+    bytes_of, checked, perform,
 )
 from ._locks import Lock
 from .addresses import Address, address_of
 from .cookies import RULES
 from .dates import print_date, whole_second
-from .errors import error_of
 
 # The steps that refuse a cookie, in the order of their numbers in cookie.h.
 STEPS = (
     "ControlCharacter", "TooLong", "Empty", "NonAsciiDomain", "PublicSuffix", "ForeignDomain", "InsecureConnection",
-    "OverlaysSecure", "CrossSite", "NoneWithoutSecure", "SecurePrefix", "HostPrefix", "NamelessPrefix",
-    "HttpPrefix",
+    "OverlaysSecure", "CrossSite", "NoneWithoutSecure", "SecurePrefix", "HostPrefix", "NamelessPrefix", "HttpPrefix",
 )
 # The last second that has a date, since 1970.
 LAST = 253402300799
@@ -30,41 +30,9 @@ LONGEST = 34560000
 ROOM = 1000
 # Where Debian's package `publicsuffix` has the list of public suffixes, and where the project's own copy is: in the
 # wheel beside this file, in the project with the program cookie_explain.
-DEBIAN = "/usr/share/publicsuffix/public_suffix_list.dat"
+DEBIAN = pathlib.Path("/usr/share/publicsuffix/public_suffix_list.dat")
 HERE = pathlib.Path(__file__).resolve().parent
-COPIES = (
-    HERE / "public_suffix_list.dat", HERE.parent.parent / "crates/cookie_explain/data/public_suffix_list.dat",
-)
-
-
-class Request(ctypes.Structure):
-    """A request, for C."""
-
-    _fields_ = [
-        ("host", ctypes.c_char_p), ("host_length", ctypes.c_size_t),
-        ("path", ctypes.c_char_p), ("path_length", ctypes.c_size_t),
-        *((name, ctypes.c_bool) for name in ("is_address", "is_secure", "is_same_site", "is_top_level", "is_safe")),
-    ]
-
-
-class StoredCookie(ctypes.Structure):
-    """A stored cookie as C returns it: the spans of its texts, and the rest."""
-
-    _fields_ = [(name, Span) for name in ("name", "value", "domain", "path")] + [
-        ("lifetime", ctypes.c_uint64), ("same_site", ctypes.c_uint32),
-    ] + [(name, ctypes.c_bool) for name in ("is_persistent", "is_host_only", "is_secure", "is_http_only")]
-
-
-class Explanation(ctypes.Structure):
-    """What C returns of a text: what refuses it, or what is stored."""
-
-    _fields_ = [
-        ("status", ctypes.c_uint32), ("refusal", ctypes.c_uint32), ("sentence", Span), ("section", Span),
-        ("stored", StoredCookie),
-    ]
-
-
-EXPLAIN = declare("explain", HANDLE + [ctypes.POINTER(Request)] + TEXT + SECOND + TEXT, Explanation)
+COPIES = (HERE / "public_suffix_list.dat", HERE.parents[1] / "crates/cookie_explain/data/public_suffix_list.dat")
 
 
 class Suffixes:
@@ -86,10 +54,9 @@ class Refusal(NamedTuple):
 
 
 class Stored(NamedTuple):
-    """A cookie as a browser stores it, with name and value as the header has them.
-
-    `lifetime` is how many seconds it lives from now, at most 400 days. It is None if the cookie lives until the browser
-    closes, and 0 if no whole second is left. `same_site` is "Strict", "Lax", "None", or None if nothing is set.
+    """A cookie as a browser stores it, with name and value as the header has them. `lifetime` is how many seconds it
+    lives from now, at most 400 days: None if it lives until the browser closes, and 0 if no whole second is left.
+    `same_site` is "Strict", "Lax", "None", or None if nothing is set.
     """
 
     name: str
@@ -113,19 +80,18 @@ class Found(NamedTuple):
     value: bytes
     domain: bytes
     path: bytes
-    cookie: StoredCookie
+    cookie: Any
 
 
 def verdict(
     url: str, text: str | bytes, suffixes: str | bytes | None = None, is_cross_site: bool = False,
     now: datetime.datetime | None = None,
 ) -> Stored | Refusal:
-    """What a browser stores of the cookie in a `Set-Cookie` header's value, or why it refuses it.
+    """What a browser without cookies stores of the cookie in a `Set-Cookie` header's value, or why it refuses it.
 
-    The response comes from the URL, at the time `now` or else at the current time, and the browser has no cookies yet.
-    `suffixes` is the text of the list of publicsuffix.org, by default `suffix_list`'s. If it is empty, exactly the
-    domains of one label are public suffixes. With `is_cross_site` another site's page made the request, as a frame, an
-    image or a script does.
+    The response comes from the URL, at the time `now` or else at the current time. `suffixes` is the text of the list
+    of publicsuffix.org, by default `suffix_list`'s. If it is empty, exactly the domains of one label are public
+    suffixes. With `is_cross_site` another site's page made the request, as a frame or an image does.
 
     >>> verdict("https://shop.example/cart/view", "lang=en; Max-Age=60")[:5]
     ('lang', 'en', 'shop.example', '/cart', 60)
@@ -138,35 +104,41 @@ def verdict(
     found = found_at(address, bytes_of(text), list_text(suffixes), second_of(now))
     if found.refusal:
         return Refusal(STEPS[found.refusal - 1], shown(found.sentence), shown(found.section))
-    cookie = found.cookie
-    return Stored(
-        name=shown(found.name), value=shown(found.value), domain=shown(found.domain), path=shown(found.path),
-        lifetime=cookie.lifetime if cookie.is_persistent else None, same_site=RULES[cookie.same_site],
-        is_host_only=cookie.is_host_only, is_secure=cookie.is_secure, is_http_only=cookie.is_http_only,
+    return Stored(*fields_of(found.cookie, map(shown, found[3:7]), found.cookie.lifetime))
+
+
+def fields_of(cookie: Any, texts: Iterable[str], end: int) -> tuple[Any, ...]:
+    """The fields of a `Stored`, or of an agent's cookie, whose end is the second of its expiry."""
+    return (
+        *texts, end if cookie.is_persistent else None, RULES[cookie.same_site], cookie.is_host_only, cookie.is_secure,
+        cookie.is_http_only,
     )
+
+
+@functools.lru_cache(maxsize=1024)
+def request_of(address: Address, is_safe: bool = True) -> Any:
+    """The request to the address, for C."""
+    host, path = bytes_of(address.host), bytes_of(address.path)
+    return Request(host, len(host), path, len(path), *address[2:], is_safe)
 
 
 def found_at(address: Address, text: bytes, suffixes: bytes, now: int) -> Found:
     """What a browser without cookies makes of the text that comes from the address."""
-    host, path = bytes_of(address.host), bytes_of(address.path)
-    request = Request(host, len(host), path, len(path), *address[2:])
     # The texts of a stored cookie come from these three.
-    room = ROOM + len(host) + len(path) + len(text)
-    buffer = ctypes.create_string_buffer(room)
-    rules = rules_of(suffixes)
+    room = ROOM + len(bytes_of(address.host)) + len(bytes_of(address.path)) + len(text)
+    buffer, rules = ctypes.create_string_buffer(room), rules_of(suffixes)
     with rules.lock:
-        answer = EXPLAIN(rules.handle, request, text, len(text), now, buffer, room)
-    if answer.status != DONE:
-        raise error_of(answer.status)
+        answer = checked(EXPLAIN(rules.handle, request_of(address), text, len(text), now, buffer, room))
     cookie, texts = answer.stored, buffer.raw
+    spans = answer.sentence, answer.section, cookie.name, cookie.value, cookie.domain, cookie.path
+    return Found._make((answer.refusal, *(bytes_at(texts, span) for span in spans), cookie))
 
-    def taken(at: Span) -> bytes:
-        return texts[at.start : at.start + at.length]
 
-    return Found(
-        answer.refusal, taken(answer.sentence), taken(answer.section), taken(cookie.name), taken(cookie.value),
-        taken(cookie.domain), taken(cookie.path), cookie,
-    )
+@functools.lru_cache(maxsize=None)
+def refusal_of(number: int) -> Refusal:
+    """Why the step with the number refuses a cookie."""
+    sentence, section = (bytes_from(call, number, room=ROOM).decode() for call in (REFUSAL_SENTENCE, REFUSAL_SECTION))
+    return Refusal(STEPS[number - 1], sentence, section)
 
 
 def refusal(
@@ -174,8 +146,8 @@ def refusal(
 ) -> Refusal | None:
     """Why a browser refuses the cookie, as `verdict` says, or None if it stores it.
 
-    >>> refusal("https://shop.example/", "a=1; SameSite=None")
-    Refusal(step='NoneWithoutSecure', sentence='SameSite=None needs Secure: set Secure over https', section='Storage Model')
+    >>> refusal("https://shop.example/", "a=1; SameSite=None")[:2]
+    ('NoneWithoutSecure', 'SameSite=None needs Secure: set Secure over https')
     >>> refusal("https://shop.example/", "a=1; SameSite=None; Secure") is None
     True
     """
@@ -204,19 +176,17 @@ def report_of(found: Found, text: bytes, now: int, removal: bytes = b"would remo
     if found.refusal:
         return b"refused: %b (RFC 6265bis, %b)" % (found.sentence, found.section)
     cookie = found.cookie
-    scope = b"; for %b%b; path %b" % (
-        found.domain, b" only" if cookie.is_host_only else b" and the hosts below it", found.path
-    )
+    hosts = b" only" if cookie.is_host_only else b" and the hosts below it"
+    scope = b"; for %b%b; path %b" % (found.domain, hosts, found.path)
     if cookie.is_persistent and cookie.lifetime == 0:
         return removal + found.name + scope + partition_of(text, cookie.is_secure)
-    flags = b"; Secure" * cookie.is_secure + b"; HttpOnly" * cookie.is_http_only
+    flags: bytes = b"; Secure" * cookie.is_secure + b"; HttpOnly" * cookie.is_http_only
     site = f"; SameSite={RULES[cookie.same_site]}".encode() if cookie.same_site else b""
     pair = b"stored: %b=%b" % (found.name, found.value)
-    line: bytes = pair + scope + end_of(cookie, now) + flags + site + partition_of(text, cookie.is_secure)
-    return line
+    return pair + scope + end_of(cookie, now) + flags + site + partition_of(text, cookie.is_secure)
 
 
-def end_of(cookie: StoredCookie, now: int) -> bytes:
+def end_of(cookie: Any, now: int) -> bytes:
     """Until when the browser has the cookie."""
     if not cookie.is_persistent:
         return b"; until the browser closes"
@@ -229,7 +199,8 @@ def partition_of(text: bytes, is_secure: bool) -> bytes:
     for piece in text.split(b";")[1:]:
         name, _, value = (part.strip(b" \t") for part in piece.partition(b"="))
         if name.lower() == b"partitioned" and len(value) <= 1024:
-            note = b"kept apart for each top-level site" if is_secure else b"browsers that know it refuse it without Secure"
+            refused = b"browsers that know it refuse it without Secure"
+            note = b"kept apart for each top-level site" if is_secure else refused
             return b"; Partitioned (not in RFC 6265bis: %b)" % note
     return b""
 
@@ -238,11 +209,9 @@ def partition_of(text: bytes, is_secure: bool) -> bytes:
 def suffix_list() -> tuple[str, bytes]:
     """Which list of public suffixes there is, and its text: Debian's, or the project's own, or an empty one."""
     own = "the list of 2026-10-07 that comes with cookie_explain"
-    for path, title in ((pathlib.Path(DEBIAN), DEBIAN), *((path, own) for path in COPIES)):
-        try:
-            return title, path.read_bytes()
-        except OSError:
-            pass
+    for path in (DEBIAN, *COPIES):
+        with contextlib.suppress(OSError):
+            return str(path) if path == DEBIAN else own, path.read_bytes()
     return "none found, so only a domain of one label is one", b""
 
 

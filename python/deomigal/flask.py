@@ -21,7 +21,7 @@ from flask.sessions import SecureCookieSession, SecureCookieSessionInterface, Se
 from flask.sessions import SessionInterface as FlaskSessionInterface
 from flask.sessions import session_json_serializer as tagged
 from itsdangerous import BadData
-from werkzeug.exceptions import Conflict, HTTPException, ServiceUnavailable
+from werkzeug.exceptions import Conflict, ServiceUnavailable
 
 from ._library import header_of
 from .cookies import pairs
@@ -29,10 +29,10 @@ from .errors import Gone, RevocationsError
 from .revocations import Revocations
 from .secrets import keys_of
 from .sessions import Session, Sessions
-from .values import CODER, FAILURES, Failure, Opened, checked_refresh, log_failure, note_unsaved, with_expiry
+from .values import CODER, FAILURES, Failure, Opened, checked_refresh, counted, log_failure, note_unsaved, with_expiry
 
-# Where a request's environment has the session that was opened for it, since to read `flask.session` counts as its use; and
-# where the application's extensions have the interface.
+# Where a request's environment has its session, since to read `flask.session` counts as its use; and where the
+# application's extensions have the interface.
 KEY = "deomigal.flask.session"
 # The version of marshal's format that says no more of a value than what it is.
 MARSHAL_VERSION = 2
@@ -46,7 +46,6 @@ class Unavailable(RevocationsError, ServiceUnavailable):
     def __init__(self, error: RevocationsError) -> None:
         ServiceUnavailable.__init__(self, retry_after=1)
         self.args = error.args
-        log_failure(error)
 
 
 class Changed(Gone, Conflict):
@@ -55,18 +54,17 @@ class Changed(Gone, Conflict):
     def __init__(self, error: Gone) -> None:
         Conflict.__init__(self)
         self.args = error.args
-        log_failure(error)
 
 
 def http_error_of(error: Failure) -> Failure:
-    """The error as one that Flask answers."""
+    """The error as one that Flask answers. It is logged."""
+    log_failure(error)
     return Changed(error) if isinstance(error, Gone) else Unavailable(error)
 
 
 class FlaskSession(Opened, SecureCookieSession):
-    """What `flask.session` is. A change within a value is saved too. `source` is the session that it was opened from, and
-    `sessions` how the site keeps it. `is_old` is whether it was a session of Flask's own class. `serializer` prints each
-    value."""
+    """What `flask.session` is. A change within a value is saved too. `source` is the session that it was opened from.
+    `is_old` is whether it was a session of Flask's own class. `serializer` prints each value."""
 
     def __init__(
         self, sessions: Sessions, source: Session, values: Mapping[str, Any], is_old: bool = False,
@@ -74,30 +72,21 @@ class FlaskSession(Opened, SecureCookieSession):
     ) -> None:
         super().__init__(values)
         self.sessions, self.source, self.new, self.is_old = sessions, source, source.is_new and not is_old, is_old
-        # The texts of the cookie that it was opened from; and each value's text with what it was when that was its text.
+        # The texts of the cookie that it was opened from; and each value's text with what it was when that was its
+        # text.
         self.serializer, self.opened = serializer, dict(source.texts)
         self.printed = {name: (mark_of(values[name]), text) for name, text in self.opened.items() if name in values}
         # The texts that were saved last, and the cookie's text, or None if it was too large.
         self.saved: tuple[dict[str, str], str | None] | None = None
-        # Whether the request has only revoked sessions. Then it drops no cookie: the browser may have another one by now.
+        # Whether the request has only revoked sessions. Then it drops no cookie: the browser may have another one by
+        # now.
         self.showed_revoked = source.shows_revoked
-        # Whether it couldn't be revoked, or was renewed or ended by another request. Then the browser keeps what it has.
+        # Whether it couldn't be revoked, or was renewed or ended by another request. Then the browser keeps what it
+        # has.
         self.is_failed = False
 
-    def items(self) -> Any:
-        """Its names and values. Flask's own doesn't count that as a use."""
-        self.accessed = True
-        return super().items()
-
-    def values(self) -> Any:
-        """Its values. Flask's own doesn't count that as a use."""
-        self.accessed = True
-        return super().values()
-
-    def copy(self) -> dict[str, Any]:
-        """Its names and values as a dict. Flask's own doesn't count that as a use."""
-        self.accessed = True
-        return super().copy()
+    # Flask's own don't count as a use.
+    items, values, copy = (counted(SecureCookieSession, name) for name in ("items", "values", "copy"))
 
     def __deepcopy__(self, memo: dict[int, Any]) -> FlaskSession:
         values = copy.deepcopy(dict(self), memo)
@@ -107,23 +96,19 @@ class FlaskSession(Opened, SecureCookieSession):
 
     def renew(self) -> None:
         """Starts it anew with the same values and another id, so that the lifetime counts from this request. Call it at
-        a login, and on a page that keeps something for one, such as a token against forged requests. With `revocations` no
-        copy of the session of before opens once this one is saved."""
+        a login, and on a page that keeps something for one. With `revocations` the old session opens no more."""
         self.source.renew()
         self.modified = self.accessed = True
         self.saved = None
 
     def clear(self) -> None:
-        """Drops the values, and starts it anew. The browser drops its cookie, but a copy of the cookie stays open until
-        its limits: at a logout call `revoke`."""
+        """Drops the values, and starts it anew. A copy of its cookie stays open: at a logout call `revoke`."""
         super().clear()
         self.renew()
 
     def revoke(self) -> bool:
-        """Logs the visitor out: revokes what the browser has, drops the values, and has the browser drop its cookie. No copy
-        of the cookie opens any more, whenever it was saved. Returns whether the browser had something. What is put in later
-        is a new session. Raises `Gone` if another request has renewed or ended it, `RevocationsError` if it can't be kept,
-        and `RuntimeError` if the interface has no `revocations`."""
+        """Logs the visitor out: revokes what the browser has, in each copy of its cookie, drops the values, and has the
+        browser drop its cookie. Returns whether the browser had something. Raises what `Sessions.revoke` does."""
         is_ended = self.end()
         is_forgotten = self.get(REMEMBER) == "clear"
         super().clear()
@@ -133,8 +118,7 @@ class FlaskSession(Opened, SecureCookieSession):
         return is_ended
 
     def end(self) -> bool:
-        """Revokes what the browser has, and is a new session with the same values then. Returns whether the browser had
-        something."""
+        """Revokes what the browser has, and is a new session with the same values. Returns whether it had something."""
         try:
             is_ended = self.sessions.revoke(self.source)
         except FAILURES as error:
@@ -146,8 +130,8 @@ class FlaskSession(Opened, SecureCookieSession):
         return is_ended
 
     def check(self) -> None:
-        """Raises `TooLarge` if no browser would store the session as it is now. It is checked so after each view, if
-        `SessionInterface.init_app` was called. What is too large isn't saved, and the browser keeps what it has."""
+        """Raises `TooLarge` if no browser would store the session as it is now. `SessionInterface.init_app` has it
+        checked after each view. What is too large isn't saved, and the browser keeps what it has."""
         if self and self.is_changed() and not self.shows_revoked:
             self.save()
 
@@ -173,18 +157,15 @@ class FlaskSession(Opened, SecureCookieSession):
         """The text of a value. One that is as it was when it was opened or printed has its text of then."""
         mark, (known, text) = mark_of(value), self.printed.get(name, (None, ""))
         if mark is None or mark != known:
-            text = self.text(value)
+            text = self.serializer.dumps(value)
+            # Flask's JSON escapes what is outside ASCII, which has fewer bytes as it is.
+            text = without_escapes(text) if isinstance(self.serializer, TaggedJSONSerializer) else text
             self.printed[name] = mark, text
         return text
 
     def is_changed(self) -> bool:
         """Whether it was changed, or a value within it."""
         return self.modified or self.texts() != self.opened
-
-    def text(self, value: Any) -> str:
-        """The text of a value. Flask's JSON escapes what is outside ASCII, which has fewer bytes as it is."""
-        text: str = self.serializer.dumps(value)
-        return without_escapes(text) if isinstance(self.serializer, TaggedJSONSerializer) else text
 
     def is_refused(self) -> bool:
         """Whether a check raised `TooLarge` for the values that it has."""
@@ -195,7 +176,7 @@ class FlaskSession(Opened, SecureCookieSession):
 
 
 def mark_of(value: Any) -> bytes | None:
-    """The same bytes for a value as long as it is the same, or None if it doesn't only have values of Python's own types."""
+    """The same bytes for a value as long as it is the same, or None if it has other types than Python's own."""
     try:
         return marshal.dumps(value, MARSHAL_VERSION)
     except ValueError:
@@ -203,7 +184,7 @@ def mark_of(value: Any) -> bytes | None:
 
 
 def name_of(name: Any) -> str:
-    """The text of a value's name, which is the name of a member in JSON. Raises `TypeError` for a name that JSON hasn't.
+    """The text of a value's name, as JSON has it. Raises `TypeError` for one that JSON hasn't.
 
     >>> name_of("user"), name_of(None), name_of(3)
     ('user', 'null', '3')
@@ -232,10 +213,9 @@ def without_escapes(text: str) -> str:
 
 
 class RefusedSession(Dict[str, Any], SessionMixin):
-    """What `flask.session` is once this error was raised: a dict that isn't saved, for pages of errors, and for functions of
-    `after_request` such as Flask-Login's. No view is called."""
+    """What `flask.session` is once this error was raised: a dict that isn't saved, for pages of errors."""
 
-    def __init__(self, error: Unavailable) -> None:
+    def __init__(self, error: Failure) -> None:
         self.error = error
 
     def fail(self, *_: Any, **__: Any) -> NoReturn:
@@ -262,19 +242,14 @@ session = cast(FlaskSession, flask.session)
 
 class SessionInterface(FlaskSessionInterface):
     """Keeps Flask's sessions. `keys` has keys of at least 64 random bytes, the newest first. Without it they are
-    derived from the application's SECRET_KEY and SECRET_KEY_FALLBACKS, of which each has at least 32 bytes, and from
-    `salt`.
+    derived from the application's SECRET_KEY and SECRET_KEY_FALLBACKS, each of at least 32 bytes, and from `salt`.
 
     A session is over PERMANENT_SESSION_LIFETIME after its start, and `idle` seconds after it was last saved, if `idle`
-    is given. An unchanged session is saved again once a tenth of its idle time has passed, and with `refresh` at each
-    request. With `migrate` the sessions of Flask's own class are read too, and saved as these. `clock` returns the
-    time, in seconds since 1970. `serializer` prints and reads each value. `revocations`, such as `SqliteRevocations`,
-    keeps which sessions are revoked, by `session.revoke()` and by what is saved after `session.renew()`. If it fails, the
-    request is answered with status 503, or by `errorhandler(RevocationsError)`. If another request has renewed or ended the
-    session, it is answered with status 409, or by `errorhandler(Gone)`. With `compress` a session is saved compressed: see
-    `deomigal.Sessions` for when not to.
-
-    With Flask-Login each login starts the session anew, and with `revocations` each logout revokes it.
+    is given. With `refresh` each request saves it. With `migrate` the sessions of Flask's own class are read too.
+    `clock` returns the time, in seconds since 1970. `serializer` prints and reads each value. `revocations` keeps which
+    sessions are revoked. If it fails, the request is answered with status 503, or by `errorhandler(RevocationsError)`,
+    and with 409, or by `errorhandler(Gone)`, if another request has renewed or ended the session. For `compress` see
+    `deomigal.Sessions`. With Flask-Login each login renews the session, and each logout revokes it.
     """
 
     session_class = FlaskSession
@@ -295,30 +270,40 @@ class SessionInterface(FlaskSessionInterface):
         self.revocations, self.compress = revocations, compress
         # The last settings, and the sessions that they make.
         self.latest: tuple[Any, Sessions] | None = None
-        connect_to_logins(self.renew_at_login, self.end_at_logout)
+        try:
+            from flask_login import user_logged_in, user_logged_out
+
+            user_logged_in.connect(self.renew_at_login)
+            user_logged_out.connect(self.end_at_logout)
+        except (ImportError, RuntimeError):
+            # There is no Flask-Login, or no blinker, which its signals need.
+            pass
 
     def init_app(self, app: Flask) -> None:
         """Has the application keep its sessions so, and check after each view that a browser would store what it left.
-        Raises why, if no session could be saved with its settings: such as `MasterTooShort` for a SECRET_KEY that is
-        too short, with the line that makes a good one."""
+        Raises why, if no session could be saved with its settings, such as `MasterTooShort` for a short SECRET_KEY."""
         self.sessions(app)
         app.session_interface = self
         app.extensions[KEY] = self
         app.before_request(self.refuse_unopened)
-        # Flask offers nothing between the view and the functions of `after_request`, and what these or `save_session` raise
-        # no `errorhandler(TooLarge)` answers. So the call that makes the view's answer is replaced.
+        # Flask offers nothing between the view and the functions of `after_request`, and what these or `save_session`
+        # raise no `errorhandler(TooLarge)` answers. So the call that makes the view's answer is replaced.
         setattr(app, "dispatch_request", self.with_check(app, app.dispatch_request))
 
     def with_check(self, app: Flask, dispatch: Callable[..., Any]) -> Callable[..., Any]:
-        """A call that calls the view, and then checks the session. So `errorhandler(TooLarge)` answers what is raised."""
+        """The call of a view, which then checks the session, so that `errorhandler(TooLarge)` answers."""
         def dispatch_request(*arguments: Any) -> Any:
-            answer = dispatch(*arguments)
-            opened = opened_session()
-            if app.session_interface is self and isinstance(opened, FlaskSession):
+            answer, opened = dispatch(*arguments), self.opened_in(app)
+            if opened is not None:
                 opened.check()
             return answer
 
         return dispatch_request
+
+    def opened_in(self, app: Flask) -> FlaskSession | None:
+        """The session that was opened for the request, if this keeps the application's sessions."""
+        opened = opened_session()
+        return opened if app.session_interface is self and isinstance(opened, FlaskSession) else None
 
     def refuse_unopened(self) -> None:
         """Before each view, raises why the session can't be opened. So `errorhandler(RevocationsError)` answers it."""
@@ -354,20 +339,14 @@ class SessionInterface(FlaskSessionInterface):
         if not self.keys and not app.secret_key:
             return None
         sessions, header = self.sessions(app), request.environ.get("HTTP_COOKIE", "")
-        opened: SessionMixin
         try:
-            opened = self.session_in(app, sessions, header)
+            source = sessions.open(header, self.clock())
         except RevocationsError as error:
-            opened = UnopenedSession(Unavailable(error))
+            refused = request.environ[KEY] = UnopenedSession(http_error_of(error))
             if app.extensions.get(KEY) is not self:
                 # Without `init_app` nothing refuses it before the view.
-                opened.fail()
-        request.environ[KEY] = opened
-        return opened
-
-    def session_in(self, app: Flask, sessions: Sessions, header: str) -> FlaskSession:
-        """The session in the request's header, or a new one."""
-        source = sessions.open(header, self.clock())
+                refused.fail()
+            return refused
         try:
             values = self.values_of(source.texts)
         except Exception:
@@ -375,7 +354,8 @@ class SessionInterface(FlaskSessionInterface):
             source, values = sessions.start(source.now), {}
         old = self.old_values(app, header) if self.migrate and source.is_new else None
         values = values if old is None else old
-        return self.session_class(sessions, source, values, old is not None, self.serializer)
+        opened = request.environ[KEY] = self.session_class(sessions, source, values, old is not None, self.serializer)
+        return opened
 
     def values_of(self, texts: Mapping[str, str]) -> dict[str, Any]:
         """The values of these texts. Flask's JSON reads all of them at once."""
@@ -401,30 +381,32 @@ class SessionInterface(FlaskSessionInterface):
 
     def should_set_cookie(self, app: Flask, session: SessionMixin) -> bool:
         """Whether to save the session: it was changed, an older key or Flask's own class opened it, or its use is to
-        count."""
+        count, since it wasn't saved for a part of its idle time."""
         assert isinstance(session, FlaskSession)
-        return session.is_changed() or session.is_old or bool(session.source.place) or self.is_due(app, session)
-
-    def is_due(self, app: Flask, session: FlaskSession) -> bool:
-        """Whether the use of a session that wasn't changed is to count: it wasn't saved for a part of its idle time."""
+        if session.is_changed() or session.is_old or session.source.place:
+            return True
         counts = app.config["SESSION_REFRESH_EACH_REQUEST"] and (session.permanent or self.idle is not None)
         return bool(counts and (self.refresh or session.sessions.must_save(session.source)))
 
     def save_session(self, app: Flask, session: SessionMixin, response: Response) -> None:
-        """Saves the session in the response, or removes its cookie if it was emptied. An error page or a file that
-        didn't use the session saves nothing."""
+        """Saves the session in the response, or drops its cookie. Error pages and files that didn't use it save
+        none."""
         if not isinstance(session, FlaskSession):
             # It couldn't be opened, which is the one error.
             return
         if session.accessed:
             response.vary.add("Cookie")
-        elif not session.modified and (response.status_code >= 400 or is_static()):
-            return
+        elif not session.modified:
+            # A file is one of the application or of a blueprint.
+            endpoint = flask.request.endpoint if flask.has_request_context() else ""
+            if response.status_code >= 400 or (endpoint or "").rpartition(".")[2] == "static":
+                return
         try:
             text = self.text_of(app, session)
         except (Unavailable, Changed) as error:
             # It was changed after the view, where no `errorhandler` answers.
-            answer_by(error, response)
+            response.status_code, response.data = error.code, error.get_body()
+            response.headers.update(error.get_headers())
             return
         if text is not None:
             response.headers.add("Set-Cookie", text)
@@ -447,40 +429,17 @@ class SessionInterface(FlaskSessionInterface):
 
     def renew_at_login(self, app: Flask, **_: Any) -> None:
         """Starts the session anew at a login, if this keeps the application's sessions."""
-        opened = opened_session()
-        if app.session_interface is self and isinstance(opened, FlaskSession):
+        opened = self.opened_in(app)
+        if opened is not None:
             opened.renew()
 
     def end_at_logout(self, app: Flask, **_: Any) -> None:
         """Revokes the session at a logout, if this keeps the application's sessions and which are revoked."""
-        opened = opened_session()
-        if app.session_interface is self and isinstance(opened, FlaskSession) and self.revocations is not None:
+        opened = self.opened_in(app)
+        if opened is not None and self.revocations is not None:
             opened.end()
 
 
 def opened_session() -> SessionMixin | None:
     """The session that was opened for the request, if any."""
     return cast("SessionMixin | None", flask.request.environ.get(KEY))
-
-
-def answer_by(error: HTTPException, response: Response) -> None:
-    """Has the response answer as the error does."""
-    response.status_code, response.data = error.code or 500, error.get_body()
-    for name, value in error.get_headers():
-        response.headers[name] = value
-
-
-def connect_to_logins(login: Callable[..., None], logout: Callable[..., None]) -> None:
-    """Has them called at each login and logout by Flask-Login, if that is installed, and blinker, which its signals need."""
-    try:
-        from flask_login import user_logged_in, user_logged_out
-
-        user_logged_in.connect(login)
-        user_logged_out.connect(logout)
-    except (ImportError, RuntimeError):
-        pass
-
-
-def is_static() -> bool:
-    """Whether the request is for a file of the application or of a blueprint."""
-    return flask.has_request_context() and (flask.request.endpoint or "").rpartition(".")[2] == "static"

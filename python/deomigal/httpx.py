@@ -10,13 +10,9 @@ These are its `transport` and its `cookies`, which stay empty. The agent decides
 redirect and each request of an `auth`. `verify`, `cert`, `http2` and a proxy are for the transport within:
 `cookies_of(agent, httpx.HTTPTransport(verify=context))`. Around it go other transports, of `mounts`. What a request's
 `cookies=` or a header `Cookie` of the caller says isn't sent: have the agent read such a cookie.
-
-Without the empty `cookies` httpx fills its own, by the rules of `http.cookiejar`, and then raises `UnicodeEncodeError` at
-each request to a site that set a cookie outside ASCII.
 """
 from __future__ import annotations
 
-from types import TracebackType
 from typing import Any
 
 import httpx
@@ -48,20 +44,16 @@ class Cookies:
         self.agent, self.context = Agent() if agent is None else agent, context
 
     def prepare(self, request: httpx.Request) -> Address | None:
-        """Sets the request's `Cookie` header. Returns where it goes, or None if that is no URL of http or https with a
-        host: then no cookie is read or sent."""
+        """Sets the request's `Cookie` header. Returns where httpx connects to, or None if there is no cookie."""
         fields = [field for field in request.headers.raw if field[0].lower() != b"cookie"]
-        address = self.address_of(request.url)
+        url = request.url
+        path = url.raw_path.partition(b"?")[0].decode("latin-1")
+        address = self.agent.address_at(url.scheme, url.raw_host.decode(), path, self.context)
         if address is not None:
             header = self.agent.header_for(address, request.method, self.context)
             fields += [(b"Cookie", header)] * bool(header)
         request.headers = httpx.Headers(fields)
         return address
-
-    def address_of(self, url: httpx.URL) -> Address | None:
-        """Where a request to the URL goes: the host is the one that httpx connects to."""
-        path = url.raw_path.partition(b"?")[0].decode("latin-1")
-        return self.agent.address_at(url.scheme, url.raw_host.decode(), path, self.context)
 
     def read(self, address: Address | None, response: httpx.Response) -> None:
         """Reads the cookies of the response."""
@@ -93,11 +85,8 @@ class CookieTransport(Cookies, httpx.BaseTransport):
         self.transport.__enter__()
         return self
 
-    def __exit__(
-        self, kind: type[BaseException] | None = None, error: BaseException | None = None,
-        trace: TracebackType | None = None,
-    ) -> None:
-        self.transport.__exit__(kind, error, trace)
+    def __exit__(self, *error: Any) -> None:
+        self.transport.__exit__(*error)
 
     def close(self) -> None:
         """Closes the transport within."""
@@ -125,11 +114,8 @@ class AsyncCookieTransport(Cookies, httpx.AsyncBaseTransport):
         await self.transport.__aenter__()
         return self
 
-    async def __aexit__(
-        self, kind: type[BaseException] | None = None, error: BaseException | None = None,
-        trace: TracebackType | None = None,
-    ) -> None:
-        await self.transport.__aexit__(kind, error, trace)
+    async def __aexit__(self, *error: Any) -> None:
+        await self.transport.__aexit__(*error)
 
     async def aclose(self) -> None:
         """Closes the transport within."""

@@ -19,12 +19,9 @@ ROOM = 4096
 
 
 class Jar(Uncopied):
-    """A jar whose originals are the cookies in a `Cookie` header, decoded. `with Jar(header) as jar` frees it at last.
-
-    Pieces of the header that aren't cookies or UTF-8 are left out, and so is a name that another host of the domain
-    disguised, such as `%5F_Host-a`. Of several cookies with one name the first counts. A jar is looked up as
-    `http.cookies.SimpleCookie` is, but `jar[name]` is the value itself. Iterating gives the names, in any order. Threads
-    may share it.
+    """A jar whose originals are the cookies in a `Cookie` header, as `decoded_pairs` reads it. `with Jar(header) as
+    jar` frees it at last. Of several cookies with one name the first counts. `jar[name]` is the value. Iterating gives
+    the names, in any order. Threads may share it.
 
     >>> with Jar("lang=en") as jar:
     ...     jar.add("theme=dark; Path=/")
@@ -44,20 +41,14 @@ class Jar(Uncopied):
         self.close()
 
     def add(self, text: str) -> None:
-        """Adds the cookie in a `Set-Cookie` header's value.
-
-        Raises `MissingPair`, `EmptyName`, `BadEscape` or `NotUtf8`, and `InvalidValue` for a path or a domain with a
-        control character.
-        """
+        """Adds the cookie in a `Set-Cookie` header's value. Raises `MissingPair`, `EmptyName`, `BadEscape` or
+        `NotUtf8`, and `InvalidValue` for a path or a domain with a control character."""
         with LOCK:
             perform(JAR_ADD, self.handle, text)
 
     def remove(self, name: str, moment: datetime.datetime | None = None, path: str = "", domain: str = "") -> None:
-        """Removes the cookie of that name, now or at the time `moment`.
-
-        If the request sent the name, the client gets a cookie that drops the one set with this path and this domain. A
-        browser keeps any other. Raises `InvalidValue` for a path or a domain with a control character or a `;`.
-        """
+        """Removes the cookie of that name, now or at the time `moment`. If the request sent the name, the client gets a
+        cookie that drops the one set with this path and this domain. Raises `InvalidValue` as `add`."""
         moment = moment or datetime.datetime.now(datetime.timezone.utc)
         with LOCK:
             perform(JAR_REMOVE_SCOPED, self.handle, print_date(moment), name, path, domain)
@@ -81,8 +72,8 @@ class Jar(Uncopied):
     def items(self) -> list[tuple[str, str]]:
         """The names of the jar's cookies with their values, in any order."""
         with LOCK:
-            lines = bytes_from(JAR_COOKIES, self.handle, room=ROOM).split(b"\n")[:-1]
-        pairs = (line.partition(b"=") for line in lines)
+            lines = bytes_from(JAR_COOKIES, self.handle, room=ROOM).decode().split("\n")[:-1]
+        pairs = (line.partition("=") for line in lines)
         return [(unescaped(name), unescaped(value)) for name, _, value in pairs]
 
     def __iter__(self) -> Iterator[str]:
@@ -104,9 +95,7 @@ class Jar(Uncopied):
 
 
 def run(moment: str | datetime.datetime, text: str) -> str:
-    """What the program `cookiejar` writes at the time `moment`, for the input.
-
-    Raises `BadMoment`, `BadLine` or `NotUtf8`.
+    """What the program `cookiejar` writes at this time for the input. Raises `BadMoment`, `BadLine` or `NotUtf8`.
 
     >>> run("Wed, 21 Oct 2015 07:28:00 GMT", "name=value\\nadd a=1\\n")
     'Set-Cookie: a=1\\nCookie: a=1; name=value\\n'

@@ -5,15 +5,14 @@
 
     session = session_of(Agent())
 
-It is a `requests.Session` with a `CookieAdapter` for both schemes, and with the agent's cookies as `session.cookies`. The
-agent decides what is stored and sent, also at each redirect and at each answer to a 401. Around it go other adapters that
-are mounted on longer prefixes, and the responses that urllib3 retries by itself (`max_retries`): their cookies aren't read. What a
-request's `cookies=` or a header `Cookie` of the caller says isn't sent: have the agent read such a cookie.
+It is a `requests.Session` with a `CookieAdapter` for both schemes, and with the agent's cookies as `session.cookies`.
+The agent decides what is stored and sent, also at each redirect and at each answer to a 401. Around it go adapters that
+are mounted on longer prefixes, and the responses that urllib3 retries by itself (`max_retries`). What a request's
+`cookies=` or a header `Cookie` of the caller says isn't sent: have the agent read such a cookie.
 """
 from __future__ import annotations
 
-import http.cookiejar
-from typing import Any, Iterator
+from typing import Any
 from urllib.parse import urlsplit
 
 from requests import PreparedRequest, Response, Session
@@ -28,8 +27,7 @@ from .cookiejar import CookieJar, texts_of
 
 
 def session_of(agent: Agent | None = None, *, context: Context = SAME_SITE) -> Session:
-    """A session that keeps the cookies of an agent, by default a new one. `context` says how its requests come about, by
-    default same-site.
+    """A session that keeps the cookies of an agent, by default a new one, for requests in this context.
 
     >>> session = session_of()
     >>> session.cookies.set("lang", "en", domain="shop.example").domain_specified
@@ -53,11 +51,16 @@ class AgentJar(CookieJar, JarOfRequests):
     """An agent's cookies with the calls of a dict that jars of requests have."""
 
 
-class SessionCookies(Uncopied):
-    """An agent's cookies as `session.cookies`, with the calls of requests' jars: `cookies["lang"]`, `get`, `set`, `items`,
-    `get_dict`, `clear`. What is set without a `domain` raises `ValueError`: RFC 6265bis knows no cookie of all hosts.
+def jar_call(name: str) -> Any:
+    """A call of the jar of a `SessionCookies`."""
+    return lambda cookies, *words: getattr(cookies.jar, name)(*words)
 
-    It isn't a `http.cookiejar.CookieJar`: what is in one requests sends by other rules, also to hosts of other adapters.
+
+class SessionCookies(Uncopied):
+    """An agent's cookies as `session.cookies`, with the calls of requests' jars: `cookies["lang"]`, `get`, `set`,
+    `items`, `get_dict`, `clear`. What is set without a `domain` raises `ValueError`.
+
+    It isn't a `http.cookiejar.CookieJar`, whose cookies requests sends by other rules, also with other adapters.
     """
 
     def __init__(self, agent: Agent) -> None:
@@ -69,24 +72,10 @@ class SessionCookies(Uncopied):
     def __getattr__(self, name: str) -> Any:
         return getattr(self.jar, name)
 
-    def __getitem__(self, name: str) -> str | None:
-        value: str | None = self.jar[name]
-        return value
-
-    def __setitem__(self, name: str, value: str | None) -> None:
-        self.jar[name] = value
-
-    def __delitem__(self, name: str) -> None:
-        del self.jar[name]
-
-    def __contains__(self, name: object) -> bool:
-        return name in self.jar
-
-    def __iter__(self) -> Iterator[http.cookiejar.Cookie]:
-        return iter(self.jar)
-
-    def __len__(self) -> int:
-        return len(self.jar)
+    # Python looks these up in the class, where `__getattr__` isn't asked.
+    __getitem__, __setitem__, __delitem__, __contains__, __iter__, __len__ = map(
+        jar_call, ("__getitem__", "__setitem__", "__delitem__", "__contains__", "__iter__", "__len__")
+    )
 
     def __repr__(self) -> str:
         return f"<SessionCookies of {len(self)} cookies>"
@@ -95,8 +84,7 @@ class SessionCookies(Uncopied):
 class CookieAdapter(Uncopied, HTTPAdapter):
     """An adapter that sends the cookies of an agent, by default a new one, and has it read those of each response.
 
-    `context` says how its requests come about, by default same-site. The other arguments are those of `HTTPAdapter`.
-    Sessions and threads may share it.
+    `context` says how its requests come about. The other arguments are `HTTPAdapter`'s. Threads may share it.
     """
 
     def __init__(self, agent: Agent | None = None, *, context: Context = SAME_SITE, **options: Any) -> None:
@@ -118,8 +106,8 @@ class CookieAdapter(Uncopied, HTTPAdapter):
         return response
 
     def address_of(self, url: str) -> Address | None:
-        """Where the request goes, by the two readings of URLs that requests and urllib3 connect by. None if they differ,
-        or there is no host: then no cookie is read or sent."""
+        """Where the request goes, by the two readings of URLs that requests and urllib3 connect by. None if they
+        differ, or there is no host: then no cookie is read or sent."""
         try:
             parts, named = urlsplit(url), parse_url(url)
             is_one = parts.port == named.port and "\\" not in parts.netloc

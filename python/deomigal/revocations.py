@@ -2,8 +2,8 @@
 
     sessions = Sessions(keys, "__Host-session", 12 * 3600, 1800, revocations=SqliteRevocations("/var/lib/site/revoked"))
 
-A session's id is revoked until the session's own end. So a site keeps only the ids of few sessions, each for a while.
-Whatever one of these raises, `Sessions` raises as `RevocationsError`, and the session isn't opened.
+A session's id is revoked until the session's own end. Whatever one of these raises, `Sessions` raises as
+`RevocationsError`, and the session isn't opened.
 """
 from __future__ import annotations
 
@@ -35,18 +35,17 @@ SLACK = 3600
 
 
 class Revocations(Protocol):
-    """Where a site keeps which sessions are revoked. Threads share it.
-
-    An id has sixteen bytes. Seconds count from 1970 in UTC. A call that can't do what it is for raises an exception. If a
-    class also has `are_revoked(ids)`, which returns a list of bools, a request's sessions are looked up by one call of it.
+    """Where a site keeps which sessions are revoked. Threads share it. An id has sixteen bytes, and seconds count from
+    1970. A call that fails raises an exception. With `are_revoked(ids)` too, a list of bools, a request needs one
+    look-up.
     """
 
     def is_revoked(self, id: bytes) -> bool:
         """Whether the session with this id is revoked."""
 
     def revoke(self, id: bytes, until: int) -> bool:
-        """Revokes the session with this id until that second. If it is revoked already, the later second counts. Returns
-        whether it was revoked already: of several calls at the same moment exactly one returns False."""
+        """Revokes the session with this id until that second, or a later one. Returns whether it was revoked already:
+        of several calls at the same moment exactly one returns False."""
 
     def forget(self, now: float) -> None:
         """Forgets each session whose second isn't after `now`. It is over then."""
@@ -59,7 +58,7 @@ class AsyncRevocations(Protocol):
         """Whether the session with this id is revoked."""
 
     async def revoke(self, id: bytes, until: int) -> bool:
-        """Revokes the session with this id until that second, or a later one. Returns whether it was revoked already."""
+        """Revokes the session with this id until that second or later. Returns whether it was revoked already."""
 
 
 AnyRevocations = Union[Revocations, AsyncRevocations]
@@ -114,8 +113,7 @@ def as_revocations_error(what: str) -> Iterator[None]:
 
 
 class MemoryRevocations:
-    """Keeps them in the memory of this process: for tests, and for a server of one process. When it ends, no session is
-    revoked any more.
+    """Keeps them in the memory of this process, for tests.
 
     >>> revocations = MemoryRevocations()
     >>> revocations.revoke(b"an id of 16 byte", until=1445412480)
@@ -140,7 +138,7 @@ class MemoryRevocations:
         return [self.is_revoked(id) for id in ids]
 
     def revoke(self, id: bytes, until: int) -> bool:
-        """Revokes the session with this id until that second, or a later one. Returns whether it was revoked already."""
+        """Revokes the session with this id until that second or later. Returns whether it was revoked already."""
         with self.lock:
             was_revoked = id_of(id) in self.until
             self.until[id] = max(until, self.until.get(id, until))
@@ -153,7 +151,7 @@ class MemoryRevocations:
 
 
 class Connection(Lock):
-    """A connection to an SQLite file, for one thread at a time. It is opened at a statement, and closed before a fork."""
+    """A connection to an SQLite file, for one thread at a time. It is closed before a fork."""
 
     def __init__(self, path: str, timeout: float) -> None:
         super().__init__()
@@ -185,8 +183,8 @@ LEFT: list[sqlite3.Connection] = []
 
 
 def connect(path: str, timeout: float, create: bool = False) -> sqlite3.Connection:
-    """A new connection, over a file that has the table. SQLite doesn't wait for another process that switches a new file
-    to WAL at the same time, or closes it, so this does."""
+    """A new connection, over a file that has the table. It waits for a process that switches a new file to WAL at the
+    same time, or closes it, which SQLite doesn't."""
     end = time.monotonic() + timeout
     while True:
         try:
@@ -236,13 +234,13 @@ def close_all(connections: Iterable[Connection]) -> None:
 
 
 class SqliteRevocations:
-    """Keeps them in an SQLite file of their own. Threads and processes of one machine share it. What was revoked is on the
-    disk when `revoke` returns. A call waits for at most `timeout` seconds for another process, and as long for one of the
-    three connections that a process has. A fork waits for the calls of other threads, and carries no connection along.
+    """Keeps them in an SQLite file of their own. Threads and processes of one machine share it. What was revoked is on
+    the disk when `revoke` returns. A call waits for at most `timeout` seconds for another process, and as long for one
+    of the three connections that a process has.
 
     An empty or missing file gets the table, unless `create` is false. Raises `RevocationsError` if the file can't be
-    opened or written, isn't a database, or has another table, and if this Python's SQLite is older than 3.37. Each call
-    raises it if the file is gone from its path or another one is there, until it is back.
+    opened or written, isn't a database, or has another table, and if SQLite is older than 3.37. So does each call while
+    the file is gone from its path or another one is there.
 
     >>> import tempfile
     >>> folder = tempfile.TemporaryDirectory()
@@ -274,15 +272,17 @@ class SqliteRevocations:
 
     def read(self, statement: str, *values: Any) -> list[Any]:
         """The rows of a statement that only reads."""
-        return self.perform(self.connections, (statement, *values))[0]
+        return self.perform((statement, *values), first=0)[0]
 
-    def write(self, *statements: tuple[Any, ...]) -> list[list[Any]]:
-        """The rows of each statement. The first connection is left to those that read: they wait for none."""
-        return self.perform(self.connections[1:], *statements)
-
-    def perform(self, connections: list[Connection], *statements: tuple[Any, ...]) -> list[list[Any]]:
-        """The rows of each statement by one of the connections, if the file is still at its path afterwards."""
-        connection = self.free_one(connections)
+    def perform(self, *statements: tuple[Any, ...], first: int = 1) -> list[list[Any]]:
+        """The rows of each statement, if the file is still at its path afterwards. The first connection is left to
+        those that read: they wait for none. If another thread is in each, this waits for one."""
+        connections = self.connections[first:]
+        connection = next((one for one in connections if one.inner.acquire(False)), None)
+        if connection is None:
+            connection = connections[0]
+            if not connection.inner.acquire(timeout=self.timeout):
+                raise RevocationsError(f"no connection to the file {self.path} was free for {self.timeout} seconds")
         try:
             if connection.opened is None:
                 self.check_file()
@@ -298,15 +298,6 @@ class SqliteRevocations:
             raise RevocationsError(f"the file {self.path} of revoked sessions: {error!r}") from error
         finally:
             connection.inner.release()
-
-    def free_one(self, connections: list[Connection]) -> Connection:
-        """Enters a connection that no other thread is in. Waits for the first if there is none."""
-        for connection in connections:
-            if connection.inner.acquire(False):
-                return connection
-        if not connections[0].inner.acquire(timeout=self.timeout):
-            raise RevocationsError(f"no connection to the file {self.path} was free for {self.timeout} seconds")
-        return connections[0]
 
     def check_file(self) -> None:
         """Raises an error if the file at the path isn't the one that was opened first."""
@@ -326,21 +317,21 @@ class SqliteRevocations:
         return [(id,) in found for id in ids]
 
     def revoke(self, id: bytes, until: int) -> bool:
-        """Revokes the session with this id until that second, or a later one. Returns whether it was revoked already."""
+        """Revokes the session with this id until that second or later. Returns whether it was revoked already."""
         look = "SELECT 1 FROM revoked WHERE id = ? LIMIT 1"
         insert = "INSERT INTO revoked SELECT ?, ? WHERE NOT EXISTS (SELECT 1 FROM revoked WHERE id = ? AND until >= ?)"
         # Begun so, no other process writes between the two.
-        _, found, *_ = self.write(("BEGIN IMMEDIATE",), (look, id_of(id)), (insert, id, until, id, until), ("COMMIT",))
+        words = (look, id_of(id)), (insert, id, until, id, until)
+        _, found, *_ = self.perform(("BEGIN IMMEDIATE",), *words, ("COMMIT",))
         return bool(found)
 
     def forget(self, now: float) -> None:
-        """Forgets each session whose second isn't after `now`, in transactions of at most some 50 ms. Between them it
-        waits as long, so that others write."""
+        """Forgets each session whose second isn't after `now`, in transactions of some 50 ms, so that others write."""
         last, count = -(2**63), 100
         batch = "SELECT max(rowid) FROM (SELECT rowid FROM revoked WHERE rowid > ? ORDER BY rowid LIMIT ?)"
         while (end := self.read(batch, last, count)[0][0]) is not None:
             begun = time.monotonic()
-            self.write(("DELETE FROM revoked WHERE rowid > ? AND rowid <= ? AND until <= ?", last, end, int(now)))
+            self.perform(("DELETE FROM revoked WHERE rowid > ? AND rowid <= ? AND until <= ?", last, end, int(now)))
             seconds, last = time.monotonic() - begun, end
             count = max(1, count // 2) if seconds > LONGEST / 3 else 2 * count if seconds < LONGEST / 10 else count
             time.sleep(seconds)
@@ -369,7 +360,7 @@ class RedisCommands:
         return [outcome(value, None, b"", "") is not None for value in found]
 
     async def revoking(self, id: bytes, until: int) -> bool:
-        """Revokes the session with this id until that second, or a later one. Returns whether it was revoked already."""
+        """Revokes the session with this id until that second or later. Returns whether it was revoked already."""
         key, end = self.key(id), until + SLACK
         # Between two commands the key may expire.
         for attempt in range(3):
@@ -392,12 +383,9 @@ def outcome(found: Any, *known: Any) -> Any:
 
 
 class RedisRevocations(RedisCommands):
-    """Keeps them in Redis or Valkey, so that the servers of many machines share them. `client` has redis-py's calls
-    `mget`, `set` with `nx` and `exat`, `expireat` with `gt`, and `expiretime`, which Redis has from 7.0 on. Give it a
-    time limit, such as `redis.Redis(socket_timeout=2)`. Each key begins with `prefix`. Redis forgets it by its own clock,
-    an hour after its second.
-
-    Redis must keep what it was told: run it with `appendonly yes`, `appendfsync always` and
+    """Keeps them in Redis 7 or Valkey, for many machines. `client` has redis-py's calls `mget`, `set`, `expireat` and
+    `expiretime`. Give it a time limit, such as `redis.Redis(socket_timeout=2)`. Each key begins with `prefix`. Redis
+    forgets it by its own clock, an hour after its second. Run it with `appendonly yes`, `appendfsync always` and
     `maxmemory-policy noeviction`. What a primary hadn't yet copied to a replica is lost if the replica takes over.
     """
 
@@ -410,7 +398,7 @@ class RedisRevocations(RedisCommands):
         return run(self.looking_up(ids))
 
     def revoke(self, id: bytes, until: int) -> bool:
-        """Revokes the session with this id until that second, or a later one. Returns whether it was revoked already."""
+        """Revokes the session with this id until that second or later. Returns whether it was revoked already."""
         return run(self.revoking(id, until))
 
     def forget(self, now: float) -> None:

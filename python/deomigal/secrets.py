@@ -29,10 +29,8 @@ def derive_key(master: bytes) -> bytes:
 
 
 def keys_of(secrets: Iterable[str | bytes], salt: str | bytes | None = None) -> list[bytes]:
-    """The keys that are derived from a site's secrets, in their order. Each secret has at least 32 random bytes.
-
-    With a salt, or with another salt, they are other keys (HMAC-SHA256 of the salt under the secret, RFC 2104). So what
-    is sealed with one salt doesn't open with another. Raises `MasterTooShort`, and says how to make a secret.
+    """The keys that are derived from a site's secrets, in their order. Each secret has at least 32 random bytes. With
+    another salt they are other keys (HMAC-SHA256 of the salt under the secret, RFC 2104). Raises `MasterTooShort`.
 
     >>> one, other = (keys_of(["a secret of at least thirty-two bytes"], salt) for salt in ("one", "other"))
     >>> len(one[0]), one == other

@@ -1,16 +1,15 @@
-"""Sessions in one encrypted cookie: keys that rotate, limits that the server checks, and an error if a browser wouldn't
-store the cookie."""
+"""Sessions in one encrypted cookie: with keys that rotate, and limits that the server checks."""
 from __future__ import annotations
 
 import ctypes
 import os
-from typing import Any, Callable, Iterator, MutableMapping, Sequence
+from typing import Any, Callable, Iterator, MutableMapping, Sequence, cast
 
 from ._library import (
     DONE, OPENED_FREE, OPENED_IDS, OPENED_NEW, OPENED_TAKE, SESSION_DESCRIBE, SESSION_END, SESSION_FREE, SESSION_GIVEN,
     SESSION_LOG_OUT, SESSION_MUST_SAVE, SESSION_OPEN, SESSION_RENEW, SESSION_REPLACE, SESSION_SAVE, SESSION_SET_TEXTS,
-    SESSION_START, SESSION_TEXTS, SESSIONS_FREE, SESSIONS_NEW, OwnHandle, Settings, Uncopied, bytes_from, header_of, perform,
-    ring_of,
+    SESSION_START, SESSION_TEXTS, SESSIONS_FREE, SESSIONS_NEW, OwnHandle, Settings, Uncopied, bytes_from, checked,
+    header_of, perform, ring_of,
 )
 from ._locks import Lock
 from ._steps import run
@@ -24,21 +23,53 @@ from .revocations import ID_LENGTH, AnyRevocations, Ask, ask, ask_async, was_rev
 ROOM = 10000
 
 
-class Session(MutableMapping[str, str]):
+class Generations:
+    """What a session may keep: the number of the user's generation, an int, or its digits in a text."""
+
+    kind: type[int] | type[str] = int
+
+    @property
+    def generation(self: Any) -> int | None:
+        """The number of the user's generation that it keeps, if it does, as `generation`. A site keeps one number a
+        user, and adds one where all sessions of the user are to end, as after a change of the password.
+
+        >>> session = Session(1445412480)
+        >>> session.generation = 7
+        >>> session["generation"], session.is_since(7), session.is_since(8)
+        ('7', True, False)
+        """
+        kept = self.get("generation")
+        if type(kept) is not self.kind:
+            return None
+        is_number = self.kind is int or kept.isascii() and kept.isdigit() and len(kept) <= 20 and str(int(kept)) == kept
+        return int(kept) if is_number and (self.kind is int or int(kept) < 2**64) else None
+
+    @generation.setter
+    def generation(self: Any, number: int) -> None:
+        self["generation"] = self.kind(generation_of(number))
+
+    def is_since(self, generation: int) -> bool:
+        """Whether it keeps this generation or a later one. Treat its visitor as nobody if it doesn't."""
+        least, kept = generation_of(generation), self.generation
+        return kept is not None and kept >= least
+
+
+class Session(Generations, MutableMapping[str, str]):
     """A session: a dict of texts. `Sessions.open` makes it.
 
-    `started` is when it started, and `seen` when it was last saved, in seconds since 1970. `end` is when it is over, and
-    `idle` how many seconds it lives unsaved. It gets both when it is first saved, and keeps them if the site's limits are
-    raised. Before that they are None. `place` is the place of the key that opened it: 0 is the newest, and a new session
-    has None. `id` has sixteen random bytes: each copy of its cookie has them, whenever it was saved, until it is renewed.
-    `shows_revoked` is whether the request has only sessions that are revoked, and this one, which is new, wasn't renewed
-    since. Such a request may be an old tab's, whose browser has another session by now, so don't save it.
+    `started` is when it started, and `seen` when it was last saved, in seconds since 1970. `end` is when it is over,
+    and `idle` how many seconds it lives unsaved: both are None until it is first saved. `place` is the place of the key
+    that opened it: 0 is the newest, and a new session has None. `id` has sixteen random bytes, which each copy of its
+    cookie has until it is renewed. `shows_revoked` is whether the request has only revoked sessions, and this one,
+    which is new, wasn't renewed since. Don't save it then: the browser may have another session by now.
 
     >>> session = Session(1445412480)
     >>> session["user"] = "ann"
     >>> dict(session), session.started, session.is_new
     ({'user': 'ann'}, 1445412480, True)
     """
+
+    kind = str
 
     def __init__(self, now: int) -> None:
         if not isinstance(now, int):
@@ -49,12 +80,10 @@ class Session(MutableMapping[str, str]):
     def begin(self) -> None:
         """Makes it a new session without texts, of which the browser has none."""
         # What the library keeps of the session, once it is opened or saved: also which one the browser has.
-        self.handle = OwnHandle(SESSION_FREE)
-        self.place: int | None = None
-        # The header that it was opened from, or its cookie once it is saved; and the ids in it that are revoked, or None
-        # before they are looked up.
-        self.header = b""
-        self.revoked: bytes | None = None
+        self.handle, self.place = OwnHandle(SESSION_FREE), cast("int | None", None)
+        # The header that it was opened from, or its cookie once it is saved; and the ids in it that are revoked, or
+        # None before they are looked up.
+        self.header, self.revoked = b"", cast("bytes | None", None)
         self.texts: dict[str, str] = {}
         # The texts that the library has, if it is known which.
         self.known: dict[str, str] | None = None
@@ -76,40 +105,18 @@ class Session(MutableMapping[str, str]):
         1445412480
         """
         self.started = self.seen = self.now
-        self.end: int | None = None
-        self.idle: int | None = None
-        self.id = os.urandom(ID_LENGTH)
-        self.shows_revoked = False
+        self.end = self.idle = cast("int | None", None)
+        self.id, self.shows_revoked = os.urandom(ID_LENGTH), False
         # Whether it started at this request, and whether the library knows that it did.
         self.is_renewed, self.is_started = True, False
 
     def describe(self) -> None:
         """Has the id and the times that the library tells of it."""
         facts = SESSION_DESCRIBE(self.handle)
-        self.id, self.started, self.seen, self.end, self.idle = bytes(facts.id), facts.started, facts.seen, facts.end, facts.idle
+        self.id, self.started, self.seen = bytes(facts.id), facts.started, facts.seen
+        self.end, self.idle = facts.end, facts.idle
         self.place = facts.index if facts.is_opened else self.place
         self.is_started = True
-
-    @property
-    def generation(self) -> int | None:
-        """The number of the user's generation that it keeps, if it does, as the text `generation` in decimal digits. A site
-        keeps one number a user, and adds one where all sessions of the user are to end, as after a change of the password.
-
-        >>> session = Session(1445412480)
-        >>> session.generation = 7
-        >>> session["generation"], session.is_since(7), session.is_since(8)
-        ('7', True, False)
-        """
-        return generation_in(self.texts.get("generation"))
-
-    @generation.setter
-    def generation(self, number: int) -> None:
-        self["generation"] = str(generation_of(number))
-
-    def is_since(self, generation: int) -> bool:
-        """Whether it keeps this generation or a later one. Treat its visitor as nobody if it doesn't."""
-        least, kept = generation_of(generation), self.generation
-        return kept is not None and kept >= least
 
     def __getitem__(self, name: str) -> str:
         return self.texts[name]
@@ -144,20 +151,17 @@ class Session(MutableMapping[str, str]):
 class Sessions(Uncopied):
     """How a site keeps its sessions: one encrypted cookie holds a session. Threads may share it.
 
-    `keys` are the site's keys, each of at least 64 random bytes, the newest first. The newest encrypts, and each of them
-    decrypts. A session is over `lifetime` seconds after its start, and `idle` seconds after it was last saved. It keeps the
-    limits that it started with: lower ones end it sooner, and higher ones count for new sessions. `name` and the arguments
-    after the limits are the cookie's. Settings that no session could be saved with are refused at once:
-    a path or a domain with a control character or a `;` with `InvalidValue`, and a limit past 32 bits with
-    `OverflowError`.
+    `keys` are the site's keys, each of at least 64 random bytes, the newest first. The newest encrypts, and each of
+    them decrypts. A session is over `lifetime` seconds after its start, and `idle` seconds after it was last saved. It
+    keeps the limits that it started with: lower ones end it sooner, and higher ones count for new sessions. `name` and
+    the arguments after the limits are the cookie's. Settings that no session could be saved with are refused at once: a
+    path or a domain with a control character or a `;` with `InvalidValue`, a limit past 32 bits with `OverflowError`.
 
     With `revocations`, such as `SqliteRevocations`, `revoke` ends a session in each copy of its cookie, and so does the
     first `save` after a renewal. In a coroutine await `aopen`, `asave` and `arevoke`, so that others go on meanwhile.
 
-    With `compress` a session is saved compressed, if that is shorter. Then the length of its cookie, which encryption
-    doesn't hide, tells of its texts: whoever chooses one of them and sees many lengths learns a secret beside it, byte
-    by byte. So leave it off if a session has a secret, such as a token against forged requests, beside what strangers
-    choose, such as a search. Reading doesn't depend on it.
+    With `compress` a session is saved compressed, if that is shorter. The length of its cookie then tells of its texts.
+    So leave it off if a session has a secret, such as a token against forged requests, beside what strangers choose.
 
     >>> from deomigal import derive_key
     >>> keys = [derive_key(b"a master key of at least 32 bytes")]
@@ -192,7 +196,7 @@ class Sessions(Uncopied):
             raise TypeError("a limit is an int of seconds")
         if not all(0 <= limit < 2**32 for limit in (lifetime, idle)):
             raise OverflowError("a limit has at most 32 bits")
-        if revocations is not None and not (hasattr(revocations, "is_revoked") and hasattr(revocations, "revoke")):
+        if revocations is not None and not all(hasattr(revocations, name) for name in ("is_revoked", "revoke")):
             raise TypeError("revocations have calls is_revoked and revoke")
         self.revocations, self.compress = revocations, compress
         cookie = print_cookie(
@@ -202,25 +206,24 @@ class Sessions(Uncopied):
         # As the cookie has it.
         self.name = cookie.partition(b"=")[0].decode()
         self.handle = OwnHandle(SESSIONS_FREE)
-        # Only one call at a time may use the handle and the buffer.
-        self.lock, self.buffer = Lock(), ctypes.create_string_buffer(ROOM)
+        # Only one call at a time may use the handle and the buffer, which has room for the cookie's attributes too.
+        self.lock, self.buffer = Lock(), cast(Any, ctypes.create_string_buffer(ROOM + len(cookie)))
         perform(SESSIONS_NEW, Settings(ring, len(ring), cookie, len(cookie), lifetime, idle), self.handle)
         self.save(self.start())
 
     def start(self, now: float | None = None) -> Session:
         """A new session without texts. `now` is in seconds since 1970; without it the clock's time counts.
 
-        Start one at a login, if no text of before it may survive. Raises `NoDate` for a time before 1970, or from 2^64 on.
+        Start one at a login, if no text may survive it. Raises `NoDate` for a time before 1970 or from 2^64 on.
         """
-        return Session(whole_second(now))
+        return Session(now if isinstance(now, int) else whole_second(now))
 
     def open(self, header: str | bytes | None, now: float | None = None) -> Session:
         """The session in a request's `Cookie` header, or a new one if the header has no open session, or is None.
 
-        A session isn't open if the site's cookie is missing, isn't encrypted under one of the keys, is over, or is
-        revoked. Of several cookies of its name the first in which a session is open counts. `now` is in seconds since
-        1970; without it the clock's time counts. Raises `RevocationsError` if it can't be looked up whether a session
-        is revoked.
+        A session isn't open if it isn't encrypted under one of the keys, is over, or is revoked. Of several cookies of
+        the site's name the first in which a session is open counts. `now` is in seconds since 1970; without it the
+        clock's time counts. Raises `RevocationsError` if it can't be looked up whether a session is revoked.
 
         >>> from deomigal import derive_key
         >>> sessions = Sessions([derive_key(b"a master key of at least 32 bytes")], "session", 12 * 3600, 1800)
@@ -228,12 +231,11 @@ class Sessions(Uncopied):
         >>> sessions.open(cookie, now=1445414279).is_new, sessions.open(cookie, now=1445414280).is_new
         (False, True)
         """
-        return run(self.opening(header, now, self.ask))
+        return run(self.opening(header, now, ask))
 
     async def aopen(self, header: str | bytes | None, now: float | None = None) -> Session:
-        """What `open` returns. Calls of the revocations that are coroutines are awaited, and others made in a worker
-        thread."""
-        return await self.opening(header, now, self.ask_async)
+        """The same in a coroutine. The revocations' calls are awaited, or made in a worker thread."""
+        return await self.opening(header, now, ask_async)
 
     async def opening(self, header: str | bytes | None, now: float | None, ask: Ask) -> Session:
         """Opens the session in a request's header."""
@@ -248,7 +250,11 @@ class Sessions(Uncopied):
         session.describe()
         session.is_renewed = False
         with self.lock:
-            form = bytes_from(SESSION_TEXTS, session.handle, buffer=self.buffer)
+            answer = SESSION_TEXTS(session.handle, self.buffer, ROOM)
+            form = self.buffer[: answer.length]
+        if answer.status != DONE:
+            # No browser sends so many.
+            form = bytes_from(SESSION_TEXTS, session.handle, room=answer.length)
         try:
             session.texts = texts_of(form)
         except ValueError:
@@ -261,8 +267,11 @@ class Sessions(Uncopied):
         """Opens the session of its header for its handle. For a copy the revocations were asked before."""
         if self.revocations is None and not session.revoked:
             session.revoked = b""
+            header = session.header
             with self.lock:
-                perform(SESSION_OPEN, self.handle, session.header, session.now, session.handle)
+                status = SESSION_OPEN(self.handle, header, len(header), session.now, session.handle)
+            if status != DONE:
+                raise error_of(status)
             return
         opened = OwnHandle(OPENED_FREE)
         with self.lock:
@@ -276,32 +285,23 @@ class Sessions(Uncopied):
         each = list(dict.fromkeys(ids[at : at + ID_LENGTH] for at in range(0, len(ids), ID_LENGTH)))
         revoked = b""
         if each and hasattr(self.revocations, "are_revoked"):
-            found = await ask("are_revoked", each)
+            found = await ask(self.revocations, "are_revoked", each)
             if not isinstance(found, list) or len(found) != len(each):
                 raise RevocationsError("are_revoked returns a list with a bool for each id")
             return b"".join(id for id, is_revoked in zip(each, found) if is_true(is_revoked))
         for id in each:
-            if not is_true(await ask("is_revoked", id)):
+            if not is_true(await ask(self.revocations, "is_revoked", id)):
                 break
             revoked += id
         return revoked
 
-    async def ask(self, name: str, *words: Any) -> Any:
-        """What this call of the revocations returns. Raises `RevocationsError` for whatever it raises."""
-        return await ask(self.revocations, name, *words)
-
-    async def ask_async(self, name: str, *words: Any) -> Any:
-        """The same, awaited."""
-        return await ask_async(self.revocations, name, *words)
-
     def revoke(self, session: Session) -> bool:
-        """Logs the visitor out: revokes what the browser has, in each copy of its cookie, whenever it was saved, and whichever
-        requests renewed it before. Send what `end` returns then. Returns whether there was something to revoke. The object
-        is a new session without texts then, so nothing is saved of the old one.
+        """Logs the visitor out: revokes what the browser has, in each copy of its cookie. Send what `end` returns then.
+        Returns whether there was something to revoke. The object is a new session without texts then.
 
-        Raises `Gone` if what the browser has is over or was revoked already: another request has renewed the session since,
-        or logged out. Don't say then that the user is logged out. Raises `RevocationsError` if it can't be kept: tell the user
-        then that the logout failed. Without `revocations` it raises `RuntimeError`.
+        Raises `Gone` if what the browser has is over or was revoked already: another request has renewed the session,
+        or logged out. Raises `RevocationsError` if it can't be kept. Don't say after either that the user is logged
+        out. Without `revocations` it raises `RuntimeError`.
 
         >>> from deomigal import derive_key
         >>> from deomigal.revocations import MemoryRevocations
@@ -314,12 +314,11 @@ class Sessions(Uncopied):
         >>> sessions.open(cookie).is_new
         True
         """
-        return run(self.revoking(session, self.ask))
+        return run(self.revoking(session, ask))
 
     async def arevoke(self, session: Session) -> bool:
-        """Does what `revoke` does. Calls of the revocations that are coroutines are awaited, and others made in a worker
-        thread."""
-        return await self.revoking(session, self.ask_async)
+        """The same in a coroutine, as `aopen`."""
+        return await self.revoking(session, ask_async)
 
     async def revoking(self, session: Session, ask: Ask) -> bool:
         """Revokes what the browser has, if it has something, and makes the session a new one."""
@@ -333,11 +332,10 @@ class Sessions(Uncopied):
         return True
 
     async def spend(self, session: Session, ask: Ask, tell: Callable[..., int]) -> None:
-        """Revokes what the browser has, if the site keeps what is revoked, and tells the library so. Raises `Gone` if it was
-        revoked already."""
+        """Revokes what the browser has, and tells the library so. Raises `Gone` if it was revoked already."""
         was, given = False, SESSION_GIVEN(session.handle)
         if self.revocations is not None:
-            was = was_revoked(await ask("revoke", bytes(given.id), given.end))
+            was = was_revoked(await ask(self.revocations, "revoke", bytes(given.id), given.end))
         status = tell(session.handle, session.now, was)
         if status != DONE:
             # Another call for this object may have come first, so that the handle has none any more.
@@ -354,13 +352,12 @@ class Sessions(Uncopied):
     def save(self, session: Session) -> str:
         """The value of the `Set-Cookie` header that saves the session, encrypted under the newest key.
 
-        Save at each request, so that the idle time counts from it. The first save after a renewal revokes what the browser
-        has, if the site has `revocations`. Raises `Gone` if that is over or was revoked already: of two requests that renew
-        one session at the same moment one gets it, and so does a renewal after a logout. Raises `RevocationsError` if it
-        can't be kept. Set no cookie after either.
+        Save at each request, so that the idle time counts from it. The first save after a renewal revokes what the
+        browser has, if the site has `revocations`. Raises `Gone` if that is over or was revoked already, by another
+        request, and `RevocationsError` if it can't be kept. Set no cookie after either.
 
-        Raises `TooLarge` if a browser wouldn't store the cookie: there is room for about 2,930 bytes of texts in UTF-8, or of
-        what they are when they are compressed. Raises `NotUtf8` for a text with a lone surrogate. Nothing is revoked then.
+        Raises `TooLarge` if a browser wouldn't store the cookie: there is room for about 2,930 bytes of texts in UTF-8,
+        or of them compressed. Raises `NotUtf8` for a text with a lone surrogate. Nothing is revoked then.
 
         >>> from deomigal import derive_key
         >>> from deomigal.errors import TooLarge
@@ -373,12 +370,11 @@ class Sessions(Uncopied):
         ...     print(error.size > 4096)
         True
         """
-        return run(self.saving(session, self.ask))
+        return run(self.saving(session, ask))
 
     async def asave(self, session: Session) -> str:
-        """Does what `save` does. Calls of the revocations that are coroutines are awaited, and others made in a worker
-        thread."""
-        return await self.saving(session, self.ask_async)
+        """The same in a coroutine, as `aopen`."""
+        return await self.saving(session, ask_async)
 
     async def saving(self, session: Session, ask: Ask) -> str:
         """Saves the session, once what it replaces is revoked."""
@@ -411,18 +407,23 @@ class Sessions(Uncopied):
             except UnicodeEncodeError:
                 # A lone surrogate.
                 raise error_of(NotUtf8.status) from None
-            perform(SESSION_SET_TEXTS, session.handle, form)
+            status = SESSION_SET_TEXTS(session.handle, form, len(form))
+            if status != DONE:
+                raise error_of(status)
             session.known = dict(session.texts)
 
     def text_of(self, session: Session) -> str:
         """The text of the session's cookie, under a nonce of its own."""
         with self.lock:
-            nonce = os.urandom(12)
-            return bytes_from(SESSION_SAVE, self.handle, session.handle, nonce, session.now, buffer=self.buffer).decode()
+            buffer, words = self.buffer, (os.urandom(12), 12, session.now)
+            answer = SESSION_SAVE(self.handle, session.handle, *words, buffer, len(buffer))
+            text: bytes = buffer[: answer.length]
+        checked(answer)
+        return text.decode()
 
     def check(self, session: Session) -> None:
         """Raises what `save` raises for the session as it is now, but asks no store and revokes nothing."""
-        run(self.prepare(session, self.ask))
+        run(self.prepare(session, ask))
         with self.lock:
             answer = SESSION_SAVE(self.handle, session.handle, os.urandom(12), 12, session.now, None, 0)
         # Without room nothing is given.
@@ -430,9 +431,8 @@ class Sessions(Uncopied):
             raise error_of(answer.status, answer.length)
 
     def must_save(self, session: Session) -> bool:
-        """Whether the session must be saved: it was changed or renewed, it is new, an older key opened it, or a tenth of its
-        idle time has passed since it was last saved. A new session without texts needn't be saved, nor one that
-        `shows_revoked`.
+        """Whether the session must be saved: it was changed or renewed, it is new, an older key opened it, or a tenth
+        of its idle time has passed. A new one without texts needn't, nor one that `shows_revoked`.
 
         >>> from deomigal import derive_key
         >>> sessions = Sessions([derive_key(b"a master key of at least 32 bytes")], "session", 12 * 3600, 1800)
@@ -448,16 +448,13 @@ class Sessions(Uncopied):
         """
         if session.shows_revoked or not (session.texts or session.header or session.handle.is_open):
             return False
-        run(self.prepare(session, self.ask))
+        run(self.prepare(session, ask))
         with self.lock:
             need = SESSION_MUST_SAVE(self.handle, session.handle, session.now)
-        if need.status != DONE:
-            raise error_of(need.status)
-        return bool(need.must_save)
+        return bool(checked(need).must_save)
 
     def end(self, now: float | None = None) -> str:
-        """The value of the `Set-Cookie` header that has the browser drop the cookie. A copy stays open until its
-        limits, unless `revoke` is called.
+        """The value of the `Set-Cookie` header that drops the cookie. A copy stays open, unless `revoke` is called.
 
         >>> from deomigal import derive_key
         >>> sessions = Sessions([derive_key(b"a master key of at least 32 bytes")], "session", 12 * 3600, 1800)
@@ -482,10 +479,3 @@ def generation_of(number: int) -> int:
     if not 0 <= number < 2**64:
         raise OverflowError("a generation has at most 64 bits")
     return number
-
-
-def generation_in(text: Any) -> int | None:
-    """The number of a generation in a session's text, or None if it is none."""
-    if not isinstance(text, str) or not (text.isascii() and text.isdigit() and len(text) <= 20):
-        return None
-    return int(text) if str(int(text)) == text and int(text) < 2**64 else None

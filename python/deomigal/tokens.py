@@ -2,12 +2,12 @@
 from __future__ import annotations
 
 import os
-from typing import NamedTuple, Sequence
+from typing import Any, NamedTuple, Sequence
 
-from ._library import DONE, TOKEN_MAKE, TOKEN_READ, TokenSettings, Uncopied, answer_and_bytes, bytes_from, bytes_of
+from ._library import TOKEN_MAKE, TOKEN_READ, TokenSettings, Uncopied, answer_and_bytes, bytes_from, bytes_of, checked
 from ._steps import run
 from .dates import whole_second
-from .errors import NotSealed, NotUtf8, error_of
+from .errors import NotSealed, NotUtf8
 from .revocations import AnyRevocations, Ask, ask, ask_async, was_revoked
 from .secrets import LOCK, Keys
 
@@ -27,9 +27,8 @@ class Token(NamedTuple):
 class Tokens(Uncopied):
     """How a site makes tokens for one purpose. A token is a value, such as a user's name, encrypted for the purpose and
     `lifetime` seconds. It has only letters, digits, `-` and `_`, so a link can have it as it is. Threads may share it.
-
-    `keys` are the site's keys, each of at least 64 random bytes, the newest first, or `Keys` of them. The newest encrypts,
-    and each of them decrypts. They may be those of its `Sessions`. Raises `KeyTooShort`, or `OverflowError` for a lifetime past 32 bits.
+    `keys` are as those of `Sessions`, or `Keys` of them. Raises `KeyTooShort`, or `OverflowError` for a lifetime past 32
+    bits.
 
     >>> from deomigal import derive_key
     >>> keys = [derive_key(b"a master key of at least 32 bytes")]
@@ -46,7 +45,7 @@ class Tokens(Uncopied):
         self.settings = self.settings_for(lifetime)
         self.make("")
 
-    def settings_for(self, lifetime: int) -> TokenSettings:
+    def settings_for(self, lifetime: int) -> Any:
         """The settings with this lifetime."""
         if not 0 <= lifetime < 2**32:
             raise OverflowError("a lifetime has at most 32 bits")
@@ -55,8 +54,7 @@ class Tokens(Uncopied):
     def make(self, value: str, now: float | None = None) -> str:
         """A token of the value. `now` is in seconds since 1970; without it the clock's time counts.
 
-        It draws twelve random bytes: let at most 2^32 be drawn under one key (SP 800-38D 8.3). Raises `NotUtf8`,
-        `TooLong` or `NoDate`.
+        Make at most 2^32 under one key (SP 800-38D 8.3). Raises `NotUtf8`, `TooLong` or `NoDate`.
         """
         nonce, room = os.urandom(12), len(value) + ROOM
         with LOCK:
@@ -64,9 +62,8 @@ class Tokens(Uncopied):
         return text.decode()
 
     def read(self, token: str | bytes, now: float | None = None, *, max_age: int | None = None) -> str | None:
-        """The value of a token that `make` made for the same purpose under one of the keys, or None if it is over: `lifetime`
-        or `max_age` seconds after it was made, or at the end that it was made with. Raises `NoDate`. Nothing is stored, so a
-        token can be read again."""
+        """The value of a token that `make` made for the same purpose under one of the keys, or None if it is over:
+        `lifetime` or `max_age` seconds after it was made, or at the end that it was made with. Raises `NoDate`."""
         found = self.open(token, now, max_age=max_age)
         return found.value if found else None
 
@@ -84,16 +81,13 @@ class Tokens(Uncopied):
             reading, value = answer_and_bytes(TOKEN_READ, self.keys.handle, settings, token, whole_second(now), room=ROOM)
         if reading.status in (NotSealed.status, NotUtf8.status):
             return None
-        if reading.status != DONE:
-            raise error_of(reading.status)
-        return Token(value.decode(), reading.made, reading.end, bytes(reading.id))
+        return Token(value.decode(), checked(reading).made, reading.end, bytes(reading.id))
 
     def read_once(
         self, token: str | bytes, revocations: AnyRevocations, now: float | None = None, *, max_age: int | None = None
     ) -> str | None:
-        """The value of a token, as `read` returns it, or None too if it was read before. `revocations` keep until its end that
-        it was read: they may be those of the site's sessions. Of two calls at the same moment one gets the value. Raises
-        `RevocationsError` if that can't be kept. It may be kept then, or not.
+        """The value of a token, as `read` returns it, or None too if it was read before: `revocations` keep that until
+        its end. Of two calls at the same moment one gets the value. Raises `RevocationsError` if that can't be kept.
 
         >>> from deomigal import derive_key
         >>> from deomigal.revocations import MemoryRevocations
@@ -107,8 +101,7 @@ class Tokens(Uncopied):
     async def aread_once(
         self, token: str | bytes, revocations: AnyRevocations, now: float | None = None, *, max_age: int | None = None
     ) -> str | None:
-        """Does what `read_once` does. Calls of the revocations that are coroutines are awaited, and others made in a worker
-        thread."""
+        """The same in a coroutine. The revocations' calls are awaited, or made in a worker thread."""
         return await self.reading_once(token, revocations, now, max_age, ask_async)
 
     async def reading_once(

@@ -2,10 +2,11 @@
 from __future__ import annotations
 
 import base64
+import contextlib
 import json
 import logging
 import time
-from typing import TYPE_CHECKING, Any, Callable, Dict, Iterable, Iterator, Mapping, MutableMapping, Union
+from typing import TYPE_CHECKING, Any, Callable, Dict, Iterable, Mapping, MutableMapping, Union
 
 from .compression import MARKS
 from .dates import print_second
@@ -13,7 +14,7 @@ from .errors import Gone, RevocationsError
 from .explain import LAST
 from .revocations import AnyRevocations, Ask
 from .secrets import keys_of
-from .sessions import Session, Sessions, generation_of
+from .sessions import Generations, Session, Sessions
 
 # The names of the one text that a session of values has: as it is, or in base64url.
 PLAIN, ENCODED = "j", "b"
@@ -21,8 +22,9 @@ PLAIN, ENCODED = "j", "b"
 EMPTY = b"{}"
 # What is answered if it can't be looked up whether a session is revoked (RFC 9110 15.6.4), and if another request has
 # renewed or ended the session that this one renews or ends (15.5.10).
-UNAVAILABLE = "503 Service Unavailable", [("Content-Type", "text/plain"), ("Retry-After", "1")], b"Try again in a moment.\n"
-CONFLICT = "409 Conflict", [("Content-Type", "text/plain")], b"Your session has changed meanwhile. Load the page again.\n"
+PLAIN_TEXT = ("Content-Type", "text/plain")
+UNAVAILABLE = "503 Service Unavailable", [PLAIN_TEXT, ("Retry-After", "1")], b"Try again in a moment.\n"
+CONFLICT = "409 Conflict", [PLAIN_TEXT], b"Your session has changed meanwhile. Load the page again.\n"
 Failure = Union[RevocationsError, Gone]
 FAILURES = (RevocationsError, Gone)
 LOG = logging.getLogger("deomigal")
@@ -57,13 +59,12 @@ def pack(data: bytes) -> dict[str, str]:
     >>> pack(b'{"a":1}'), pack(b"a=b&c=d")
     ({'j': '{"a":1}'}, {'b': 'YT1iJmM9ZA'})
     """
-    encoded = base64.urlsafe_b64encode(data).rstrip(b"=").decode()
-    try:
+    with contextlib.suppress(UnicodeDecodeError):
         text = data.decode()
-    except UnicodeDecodeError:
-        return {ENCODED: encoded}
-    length = len(data) + 2 * sum(map(text.count, MARKS))
-    return {PLAIN: text} if length <= len(encoded) else {ENCODED: encoded}
+        # In base64url three bytes are four characters.
+        if len(data) + 2 * sum(map(text.count, MARKS)) <= -(-4 * len(data) // 3):
+            return {PLAIN: text}
+    return {ENCODED: base64.urlsafe_b64encode(data).rstrip(b"=").decode()}
 
 
 def unpack(texts: Mapping[str, str]) -> bytes:
@@ -80,16 +81,8 @@ def unpack(texts: Mapping[str, str]) -> bytes:
     raise ValueError("these texts aren't a session of values")
 
 
-def json_of(values: Any) -> bytes:
-    """The values in JSON. A lone surrogate has no UTF-8, and is escaped."""
-    try:
-        return CODER.encode(values).encode()
-    except UnicodeEncodeError:
-        return ASCII_CODER.encode(values).encode()
-
-
 def checked_refresh(refresh: bool) -> bool:
-    """Whether each request that used a session saves it.."""
+    """Whether each request that used a session saves it."""
     if not isinstance(refresh, bool):
         raise TypeError("refresh is a bool: whether each request that used the session saves it")
     return refresh
@@ -100,30 +93,6 @@ def with_expiry(text: str, session: Session, is_lasting: bool = True) -> str:
     neither if the browser isn't to keep it when it closes."""
     head, _, age = text.rpartition("; Max-Age=")
     return f"{text}; Expires={print_second(min(session.now + int(age), LAST))}" if is_lasting else head
-
-
-class Generations:
-    """What sessions of values share: the number of the user's generation, as their value `generation`."""
-
-    if TYPE_CHECKING:
-        get: Callable[..., Any]
-        __setitem__: Callable[..., None]
-
-    @property
-    def generation(self) -> int | None:
-        """The number of the user's generation that the session keeps, if it does. A site keeps one number a user, and adds
-        one where all sessions of the user are to end, as after a change of the password."""
-        number = self.get("generation")
-        return number if type(number) is int else None
-
-    @generation.setter
-    def generation(self, number: int) -> None:
-        self["generation"] = generation_of(number)
-
-    def is_since(self, generation: int) -> bool:
-        """Whether the session keeps this generation or a later one. Treat its visitor as nobody if it doesn't."""
-        least, kept = generation_of(generation), self.generation
-        return kept is not None and kept >= least
 
 
 class Opened(Generations):
@@ -143,9 +112,21 @@ class Opened(Generations):
 
     @property
     def shows_revoked(self) -> bool:
-        """Whether the request has only sessions that are revoked, and this one, which is new, wasn't renewed since. It may be
-        an old tab's, whose browser has another session by now, so it isn't saved."""
+        """Whether the request has only revoked sessions, and this one, which is new, wasn't renewed since. It isn't
+        saved then: the request may be an old tab's, whose browser has another session by now."""
         return self.source.shows_revoked
+
+
+def counted(kind: type, name: str) -> Any:
+    """The call of a dict's class, which counts as a use of the session."""
+    call = getattr(kind, name)
+
+    def counted_call(session: Any, *words: Any) -> Any:
+        session.accessed = True
+        return call(session, *words)
+
+    counted_call.__doc__ = f"`{name}` of a dict, which counts as a use of the session."
+    return counted_call
 
 
 if TYPE_CHECKING:
@@ -153,14 +134,18 @@ if TYPE_CHECKING:
 else:
 
     class Mapped(MutableMapping, dict):
-        """A dict whose calls go through the five of a `MutableMapping`."""
+        """A dict whose calls go through the five of a `MutableMapping`, each of which counts as a use."""
+
+        __getitem__, __setitem__, __delitem__, __iter__, __len__, __reversed__ = (
+            counted(dict, f"__{name}__") for name in ("getitem", "setitem", "delitem", "iter", "len", "reversed")
+        )
 
 
 class CookieSession(Opened, Mapped):
     """The session of a request: a dict of what JSON has. A change within a value is saved too. A copy is a plain dict.
 
-    `accessed` is whether the request used it. `source` is the session that it was opened from, and `opened` the JSON that
-    its values had then: a change shows when they are printed again.
+    `accessed` is whether the request used it. `source` is the session that it was opened from, and `opened` the JSON
+    that its values had then: a change shows when they are printed again.
     """
 
     def __init__(self, sessions: Sessions, source: Session, values: Mapping[str, Any], opened: bytes) -> None:
@@ -168,30 +153,6 @@ class CookieSession(Opened, Mapped):
         self.sessions, self.source, self.opened, self.accessed = sessions, source, opened, False
         # Whether the browser has a cookie that it must drop.
         self.is_ended = False
-
-    def __getitem__(self, name: str) -> Any:
-        self.accessed = True
-        return dict.__getitem__(self, name)
-
-    def __setitem__(self, name: str, value: Any) -> None:
-        self.accessed = True
-        dict.__setitem__(self, name, value)
-
-    def __delitem__(self, name: str) -> None:
-        self.accessed = True
-        dict.__delitem__(self, name)
-
-    def __iter__(self) -> Iterator[str]:
-        self.accessed = True
-        return dict.__iter__(self)
-
-    def __len__(self) -> int:
-        self.accessed = True
-        return dict.__len__(self)
-
-    def __reversed__(self) -> Iterator[str]:
-        self.accessed = True
-        return dict.__reversed__(self)
 
     def popitem(self) -> tuple[str, Any]:
         """Removes the name that was put in last, and returns it with its value, or raises `KeyError`."""
@@ -206,7 +167,7 @@ class CookieSession(Opened, Mapped):
 
     def __reduce_ex__(self, _: Any) -> tuple[Any, ...]:
         self.accessed = True
-        return dict, (dict.copy(self),)
+        return dict, (dict(dict.items(self)),)
 
     def __repr__(self) -> str:
         return f"<CookieSession {list(dict.keys(self))!r}>"
@@ -218,22 +179,18 @@ class CookieSession(Opened, Mapped):
 
     def renew(self) -> None:
         """Starts it anew with the same values and another id, so that the lifetime counts from this request. Call it at
-        a login, and on a page that keeps something for one, such as a token against forged requests. With `revocations` no
-        copy of the session of before opens once this one is saved."""
+        a login, and on a page that keeps something for one. With `revocations` the old session opens no more."""
         self.accessed = True
         self.source.renew()
 
     def clear(self) -> None:
-        """Drops the values, and starts it anew. A copy of its cookie stays open until its limits: at a logout call
-        `revoke`."""
+        """Drops the values, and starts it anew. A copy of its cookie stays open: at a logout call `revoke`."""
         super().clear()
         self.renew()
 
     def revoke(self) -> bool:
-        """Logs the visitor out: revokes what the browser has, drops the values, and has the browser drop its cookie. No copy
-        of the cookie opens any more, whenever it was saved. Returns whether the browser had something. What is put in later
-        is a new session. Raises `Gone` if another request has renewed or ended it, `RevocationsError` if it can't be kept,
-        and `RuntimeError` if the middleware has no `revocations`."""
+        """Logs the visitor out: revokes what the browser has, in each copy of its cookie, drops the values, and has the
+        browser drop its cookie. Returns whether the browser had something. Raises what `Sessions.revoke` does."""
         return self.drop_values(self.sessions.revoke(self.source))
 
     async def arevoke(self) -> bool:
@@ -247,23 +204,19 @@ class CookieSession(Opened, Mapped):
         return is_ended
 
     def check(self) -> None:
-        """Raises `TooLarge` if no browser would store the session as it is now. Else that is raised where the response
-        starts."""
+        """Raises `TooLarge` now, and not where the response starts, if no browser would store the session."""
         data = self.json()
         if data not in (self.opened, EMPTY):
             self.source.texts = pack(data)
             self.sessions.check(self.source)
 
     def json(self) -> bytes:
-        """Its values in JSON."""
-        return json_of(dict.copy(self))
-
-    def replace(self, values: Mapping[str, Any] | None) -> None:
-        """Has these values, if an application put another dict in its place."""
-        if values is not self:
-            self.accessed = True
-            super().clear()
-            self.update(values or {})
+        """Its values in JSON. A lone surrogate has no UTF-8, and is escaped."""
+        values = dict(dict.items(self))
+        try:
+            return CODER.encode(values).encode()
+        except UnicodeEncodeError:
+            return ASCII_CODER.encode(values).encode()
 
 
 def session_at(place: Mapping[str, Any], key: str) -> CookieSession:
@@ -279,13 +232,10 @@ class Middleware:
 
     `secret_key` has at least 32 bytes, and so has each key of `fallbacks`, which only open. A session is over `max_age`
     seconds after its start, and `idle` seconds after it was last saved, if `idle` is given. If `max_age` is None, the
-    browser drops the cookie when it closes, and the session is over after 14 days. A session that was only read is saved
-    again once a tenth of its idle time has passed, and with `refresh` at each request that read it. Settings that no session
-    could be saved with are refused at once. `revocations` keeps which sessions are revoked, by their `revoke` and by the
-    first save after their `renew`. If it fails, the request is answered with status 503, and with 409 if another request
-    has renewed or ended the session. The logger `deomigal` has the cause. `too_large` is another application, which answers
-    a request that raises `TooLarge` before its response has begun. With `compress` a session is saved compressed: see
-    `Sessions` for when not to.
+    browser drops the cookie when it closes, and the session is over after 14 days. With `refresh` each request that
+    read a session saves it. `revocations` keeps which sessions are revoked. If it fails, the request is answered with
+    status 503, and with 409 if another request has renewed or ended the session. `too_large` is another application,
+    which answers a request that raises `TooLarge`. For `compress` see `Sessions`.
     """
 
     def __init__(
@@ -316,9 +266,9 @@ class Middleware:
         self.app, self.clock, self.is_lasting, self.too_large = app, clock, max_age is not None, too_large
         self.refresh = checked_refresh(refresh)
         self.sessions = Sessions(
-            keys_of([newest, *fallbacks], salt), session_cookie, lifetime, lifetime if idle is None else idle, path=path,
-            domain=domain, secure=https_only, http_only=http_only, same_site=same_site.title(), partitioned=partitioned,
-            revocations=revocations, compress=compress,
+            keys_of([newest, *fallbacks], salt), session_cookie, lifetime, lifetime if idle is None else idle,
+            path=path, domain=domain, secure=https_only, http_only=http_only, same_site=same_site.title(),
+            partitioned=partitioned, revocations=revocations, compress=compress,
         )
 
     def session_from(self, source: Session) -> CookieSession:
@@ -339,9 +289,11 @@ class Middleware:
         self, session: CookieSession, values: Mapping[str, Any] | None, ask: Ask
     ) -> list[tuple[str, str]]:
         """The fields that the response needs: the cookie of a session that is to be saved or dropped, and that the page
-        depends on cookies, if it does. `values` is what the application left in the session's place, and `ask` makes the
-        calls of the revocations."""
-        session.replace(values)
+        depends on cookies. `values` is what the application left in the session's place."""
+        if values is not session:
+            session.drop_values(False)
+            session.update(values or {})
+            session.accessed = True
         text = await self.cookie_of(session, ask)
         fields = [] if text is None else [("Set-Cookie", text)]
         return [*fields, ("Vary", "Cookie")] if session.accessed or fields else fields
@@ -360,6 +312,6 @@ class Middleware:
             return None
         if is_changed:
             source.texts = pack(data)
-        if not (self.refresh or self.sessions.must_save(source)):
+        if not (is_changed or self.refresh or self.sessions.must_save(source)):
             return None
         return with_expiry(await self.sessions.saving(source, ask), source, self.is_lasting)

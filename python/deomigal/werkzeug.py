@@ -1,11 +1,11 @@
 """`dump_cookie` and `parse_cookie` with the arguments of `werkzeug.http`, over the library's calls.
 
-They differ from Werkzeug's where RFC 6265 says otherwise: a value of other characters than it allows is escaped by `%`,
-not quoted, a `;` always ends a value, and a piece without `=` is no cookie. Names that another host of the domain
-disguised are left out.
+They differ from Werkzeug's where RFC 6265 says otherwise: a value is escaped by `%`, not quoted, a `;` always ends a
+value, and a piece without `=` is no cookie. Names that another host of the domain disguised are left out.
 """
 from __future__ import annotations
 
+import contextlib
 import datetime
 import re
 import time
@@ -15,11 +15,11 @@ from urllib.parse import quote, unquote_to_bytes
 
 from werkzeug.datastructures import MultiDict
 
+from ._library import wire_bytes
 from .cookies import pairs, print_cookie
 from .dates import read_date
 from .errors import BadAttribute, EmptyName, NoDate, error_of
 from .explain import LAST
-from .wsgi import wsgi_bytes
 
 # What a value is printed with as it is: the characters that RFC 6265 4.1.1 allows, but for `%`.
 ALLOWED = "!#$&'()*+-./:<=>?@[]^_`{|}~"
@@ -112,14 +112,12 @@ def parse_cookie(
     text = header.get("HTTP_COOKIE") if isinstance(header, Mapping) else header
     read = [
         (unquote_to_bytes(name), value.encode() if keep_quotes and is_quoted(value) else decoded(value))
-        for name, value in pairs(wsgi_bytes(text) if isinstance(text, str) else text)
+        for name, value in pairs(wire_bytes(text) if isinstance(text, str) else text)
     ]
     found = []
     for name, value in read:
-        try:
+        with contextlib.suppress(UnicodeDecodeError):
             found.append((name.decode(), value.decode()))
-        except UnicodeDecodeError:
-            pass
     return MultiDict(found) if cls is None else cls(found)
 
 
@@ -132,9 +130,6 @@ def decoded(value: str) -> bytes:
     """The bytes of a value, without its quotes and escapes."""
     if not is_quoted(value):
         return unquote_to_bytes(value)
-    return re.sub(rb"(?s)\\([0-3][0-7]{2}|.)", lambda found: unescape(found[1]), value[1:-1].encode())
-
-
-def unescape(text: bytes) -> bytes:
-    """What stands after a backslash: the number of a byte, or the byte."""
-    return bytes([int(text, 8)]) if len(text) == 3 else text
+    # After a backslash is the number of a byte, or the byte.
+    text, escaped = value[1:-1].encode(), rb"(?s)\\(?:([0-3][0-7]{2})|(.))"
+    return re.sub(escaped, lambda found: found[2] or bytes([int(found[1], 8)]), text)

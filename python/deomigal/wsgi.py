@@ -11,8 +11,10 @@ from __future__ import annotations
 import sys
 from typing import Any, Callable, Iterable, Iterator, Mapping
 
+from ._library import wire_bytes
 from ._steps import run
 from .errors import TooLarge
+from .revocations import ask
 from .values import FAILURES, CookieSession, Middleware, answer_to, session_at
 
 __all__ = ["CookieSession", "SessionMiddleware", "session_of"]
@@ -29,9 +31,9 @@ def session_of(environ: Mapping[str, Any]) -> CookieSession:
 
 
 class SessionMiddleware(Middleware):
-    """Keeps the session of a request in `environ["deomigal.session"]`, and saves it when the response starts. If it raises
-    `TooLarge` there, the application may start another response with `sys.exc_info()`, which saves nothing if it does so
-    again. Else `too_large` answers, if it is given."""
+    """Keeps the session of a request in `environ["deomigal.session"]`, and saves it when the response starts. If it
+    raises `TooLarge` there, the application may start another response with `sys.exc_info()`, which saves nothing if it
+    does so again. Else `too_large` answers, if it is given."""
 
     def __call__(self, environ: dict[str, Any], start_response: Start) -> Iterable[bytes]:
         is_begun = False
@@ -39,7 +41,7 @@ class SessionMiddleware(Middleware):
         def start_with_cookie(status: str, headers: list[tuple[str, str]], *error: Any) -> Any:
             nonlocal is_begun
             try:
-                fields = run(self.fields(session, environ.get(KEY), self.sessions.ask))
+                fields = run(self.fields(session, environ.get(KEY), ask))
             except TooLarge:
                 if not any(error):
                     raise
@@ -84,12 +86,4 @@ class SessionMiddleware(Middleware):
 
 def header_in(environ: Mapping[str, Any]) -> bytes:
     """The bytes of the request's `Cookie` header."""
-    return wsgi_bytes(environ.get("HTTP_COOKIE", ""))
-
-
-def wsgi_bytes(text: str) -> bytes:
-    """The bytes of a text of WSGI, which has one in each character. A text that hasn't is taken as UTF-8."""
-    try:
-        return text.encode("latin-1")
-    except UnicodeEncodeError:
-        return text.encode("utf-8", "surrogatepass")
+    return wire_bytes(environ.get("HTTP_COOKIE", ""))

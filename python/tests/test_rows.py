@@ -10,20 +10,18 @@ import sys
 from functools import partial
 
 import pytest
-from deomigal import _agent, agents, errors, explain
+from deomigal import agents, errors, explain
 from deomigal import _library as library
 from deomigal.addresses import Address
 from helpers import TOP
 
 CALLS = {"derive_key": library.DERIVE_KEY, "print": library.PRINT, "print_date": library.PRINT_DATE, "run": library.RUN,
-         "refusal_sentence": _agent.REFUSAL_SENTENCE, "refusal_section": _agent.REFUSAL_SECTION}
+         "refusal_sentence": library.REFUSAL_SENTENCE, "refusal_section": library.REFUSAL_SECTION}
 # The calls with keys.
 KEY_CALLS = {"sign": library.SIGN, "verify": library.VERIFY, "seal": library.SEAL, "open": library.OPEN}
 TOKEN_CALLS = {"token_make": library.TOKEN_MAKE, "token_read": library.TOKEN_READ}
 # The names of the statuses in the rows, such as NOT_UTF8 for `NotUtf8`.
 STATUSES = ["DONE"] + [re.sub(r"(?<!^)(?=[A-Z])", "_", error.__name__).upper() for _, error in sorted(errors.ERRORS.items())]
-# The names of the forms of a file, by their numbers.
-FORMS = {number: form for form, number in _agent.FORMS.items()}
 FIELDS = ("year", "month", "day", "hour", "minute", "second")
 STEPS = TOP / "tools/c/steps"
 
@@ -131,10 +129,10 @@ def play_explain(inputs, out, length):
     """What a browser makes of a cookie: the row's last numbers are the step, the lengths of the texts, and what is stored."""
     host, path, numbers, listed, text, told = inputs
     *flags, now = numbers_in(numbers, 5)
-    request = explain.Request(host, len(host), path, len(path), *(flag == 1 for flag in flags))
+    request = library.Request(host, len(host), path, len(path), *(flag == 1 for flag in flags))
     suffixes = library.Handle()
     library.SUFFIXES_NEW(listed or None, len(listed), suffixes)
-    why = explain.EXPLAIN(suffixes, request, text or None, len(text), now, out, length)
+    why = library.EXPLAIN(suffixes, request, text or None, len(text), now, out, length)
     library.SUFFIXES_FREE(suffixes)
     it = why.stored
     places = [why.sentence, why.section] if why.refusal else [it.name, it.value, it.domain, it.path]
@@ -155,18 +153,20 @@ def agent_step(agent, step):
     numbers, *texts = rest.split(b"\n", 1 if word == b"load" else 3)
     numbers = [int(number) for number in numbers.split()]
     if word == b"load":
-        agent.core.load(FORMS[numbers[0]], *texts, numbers[1])
+        library.AGENT_LOAD(agent.handle, agent.rules.handle, numbers[0], *texts, len(*texts), numbers[1], None, 0)
     elif word == b"save":
-        text, _ = agent.core.save(FORMS[numbers[0]], numbers[1])
+        _, text = library.answer_and_bytes(library.AGENT_SAVE, agent.handle, *numbers)
         return "DONE", len(text), text
-    elif word in (b"evict", b"trim"):
-        (agent.core.evict if word == b"evict" else agent.core.trim)(*numbers)
+    elif word == b"evict":
+        library.perform(library.AGENT_EVICT, agent.handle, *numbers)
+    elif word == b"trim":
+        library.perform(library.AGENT_TRIM, agent.handle, agent.rules.handle, *numbers)
     elif word == b"remove":
         name, domain, path = (text.decode() for text in texts)
-        is_found = agent.remove(_agent.AgentCookie(name, "", domain, path, None, None, numbers[0] == 1, False, False))
+        is_found = agent.remove(agents.AgentCookie(name, "", domain, path, None, None, numbers[0] == 1, False, False))
         return "DONE" if is_found else "NOT_FOUND", 0, b""
     elif word == b"cookie":
-        kept = list(agent.core.cookies(numbers[1]))[numbers[0]]
+        kept = list(agent.cookies(numbers[1]))[numbers[0]]
         if kept.is_host_only != (numbers[2] == 1):
             fault("another scope")
         text = "".join((kept.name, kept.value, kept.domain, kept.path)).encode()
@@ -175,10 +175,8 @@ def agent_step(agent, step):
         host, path = texts
         *flags, is_safe, now, index = numbers
         address = Address(host.decode(), path.decode(), *(flag == 1 for flag in flags))
-        try:
-            return "DONE", agent.core.obstacles(index, address, is_safe == 1, now), b""
-        except errors.NotFound:
-            return "NOT_FOUND", 0, b""
+        answer = library.AGENT_OBSTACLES(agent.handle, index, explain.request_of(address, is_safe == 1), now)
+        return STATUSES[answer.status], answer.obstacles, b""
     elif texts:
         host, path, *text = texts
         *flags, is_safe, now = numbers
@@ -186,7 +184,7 @@ def agent_step(agent, step):
         if word == b"read":
             refusal = agent.read_at(address, *text, now)
             return "DONE", explain.STEPS.index(refusal.step) + 1 if refusal else 0, b""
-        find = agent.header_at if word == b"retrieve" else partial(agent.core.header, call=_agent.AGENT_HEADER)
+        find = agent.header_at if word == b"retrieve" else partial(agent.header_at, call=library.AGENT_HEADER)
         header = find(address, is_safe == 1, now)
         return "DONE", len(header), header
     return "DONE", 0, b""
