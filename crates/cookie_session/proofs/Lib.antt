@@ -8,7 +8,6 @@ pub mod MarkLemmas
 pub mod ReadLemmas
 pub mod RotateLemmas
 pub mod SaveLemmas
-pub mod SerializedLemmas
 pub mod SessionLemmas
 pub mod TextLemmas
 pub mod TokenLemmas

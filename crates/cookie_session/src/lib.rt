@@ -25,7 +25,6 @@ mod revocations;
 mod save_if_needed;
 mod saved_cookie;
 mod seconds;
-mod serialized;
 mod session;
 mod session_error;
 mod session_form;

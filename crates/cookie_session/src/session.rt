@@ -9,10 +9,10 @@ ghost use Rattle.cookie_session.specs.Session.{IsAlive, IsSessionText, pass_of, 
 use crate::id::ID_LENGTH;
 use crate::pair_text::push_pair;
 use crate::pass::Pass;
-use crate::serialized::push_serialized_pair;
 use crate::times::Times;
 use base64::engine::general_purpose::URL_SAFE_NO_PAD;
 use cookie::{Pairs, TextMap};
+use form_urlencoded::Serializer;
 use itoa::Buffer;
 use std::alloc::{AllocError, Global};
 use std::marker::Model;
@@ -197,11 +197,11 @@ impl Session {
         // Read as a form, it is these texts again.
         ensures back { IfOk result (λ form. texts_of_form (string_bytes form) ≡ self.now.texts) }
     {
-        let mut form = String::new(alloc);
+        let mut form = Serializer::new(String::new(alloc));
         for (name, value) in self.texts.pairs() {
-            push_serialized_pair(&mut form, name, value)?;
+            form.append_pair(name, value)?;
         }
-        Ok(form)
+        Ok(form.finish())
     }
 
     // Whether it lives in the second `now`, if it was last saved in the second `seen`.

@@ -10,5 +10,5 @@ pub returns-clause-back : goal.returns-clause-back
 returns-clause-back c =
     let pairs = c.pairs-name-items.ensures in
     let are = subst (λ (s : SessionState). AreTexts (entries s.texts)) c.self.view_is (subst AreTexts pairs.listed pairs.texts) in
-    let written : string_bytes c.loop-name.form ≡ form_of_texts c.args.self.now.texts = search rules in
+    let written : string_bytes c.finish.result ≡ form_of_texts c.args.self.now.texts = search rules in
     ap texts_of_form written ∙ texts-form c.args.self.now.texts are
