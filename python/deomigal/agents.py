@@ -79,14 +79,14 @@ class AgentCookie(NamedTuple):
 
     def obstacles(self, address: Address, is_safe: bool, now: int) -> Iterator[str]:
         """Why a request to the address doesn't send it (RFC 6265bis, Retrieval Algorithm)."""
-        is_for = address.host == self.domain
-        if not self.is_host_only:
-            is_for = is_in_domain(address.host, address.is_address, self.domain)
+        # Domain Matching, and Paths and Path-Match.
+        is_below = not self.is_host_only and not address.is_address and address.host.endswith(f".{self.domain}")
+        folder = self.path if self.path.endswith("/") else f"{self.path}/"
         if not self.lasts(now):
             yield "it is expired"
-        if not is_for:
+        if not (address.host == self.domain or is_below):
             yield "the request goes to another host"
-        if not is_under_path(address.path, self.path):
+        if not (address.path == self.path or address.path.startswith(folder)):
             yield "the request goes to another path"
         if self.is_secure and not address.is_secure:
             yield "the connection is insecure and the cookie Secure"
@@ -379,17 +379,6 @@ def replace(path: str, text: bytes) -> None:
         os.fsync(directory)
     finally:
         os.close(directory)
-
-
-def is_in_domain(host: str, is_address: bool, domain: str) -> bool:
-    """Whether the host is the domain, or is below it (RFC 6265bis, Domain Matching)."""
-    return host == domain or (not is_address and host.endswith("." + domain))
-
-
-def is_under_path(request: str, cookie: str) -> bool:
-    """Whether the path is the cookie's, or is below it (RFC 6265bis, Paths and Path-Match)."""
-    below = request.startswith(cookie) and (cookie.endswith("/") or request[len(cookie) :].startswith("/"))
-    return request == cookie or below
 
 
 def header_bytes(text: str | bytes) -> bytes:

@@ -180,18 +180,14 @@ def report_of(found: Found, text: bytes, now: int, removal: bytes = b"would remo
     scope = b"; for %b%b; path %b" % (found.domain, hosts, found.path)
     if cookie.is_persistent and cookie.lifetime == 0:
         return removal + found.name + scope + partition_of(text, cookie.is_secure)
+    end = b"; until the browser closes"
+    if cookie.is_persistent:
+        end = f"; until {print_date(date_after(now, cookie.lifetime))}".encode()
+        end += b" (400 days, the most that a browser allows)" * (cookie.lifetime == LONGEST)
     flags: bytes = b"; Secure" * cookie.is_secure + b"; HttpOnly" * cookie.is_http_only
     site = f"; SameSite={RULES[cookie.same_site]}".encode() if cookie.same_site else b""
     pair = b"stored: %b=%b" % (found.name, found.value)
-    return pair + scope + end_of(cookie, now) + flags + site + partition_of(text, cookie.is_secure)
-
-
-def end_of(cookie: Any, now: int) -> bytes:
-    """Until when the browser has the cookie."""
-    if not cookie.is_persistent:
-        return b"; until the browser closes"
-    end = f"; until {print_date(date_after(now, cookie.lifetime))}".encode()
-    return end + b" (400 days, the most that a browser allows)" if cookie.lifetime == LONGEST else end
+    return pair + scope + end + flags + site + partition_of(text, cookie.is_secure)
 
 
 def partition_of(text: bytes, is_secure: bool) -> bytes:

@@ -284,12 +284,13 @@ class Sessions(Uncopied):
         with self.lock:
             perform(OPENED_NEW, self.handle, session.header, session.now, opened)
         if session.revoked is None:
-            session.revoked = await self.revoked_of(bytes_from(OPENED_IDS, opened), ask)
+            ids = bytes_from(OPENED_IDS, opened)
+            each = list(dict.fromkeys(ids[at : at + ID_LENGTH] for at in range(0, len(ids), ID_LENGTH)))
+            session.revoked = await self.revoked_of(each, ask)
         perform(OPENED_TAKE, opened, session.revoked, session.handle)
 
-    async def revoked_of(self, ids: bytes, ask: Ask) -> bytes:
+    async def revoked_of(self, each: list[bytes], ask: Ask) -> bytes:
         """Those of the ids that are revoked, or only those before the first that isn't."""
-        each = list(dict.fromkeys(ids[at : at + ID_LENGTH] for at in range(0, len(ids), ID_LENGTH)))
         revoked = b""
         if each and hasattr(self.revocations, "are_revoked"):
             found = await ask(self.revocations, "are_revoked", each)
