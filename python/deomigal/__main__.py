@@ -20,8 +20,7 @@ def date(text: str) -> int:
 
 def explain(arguments: argparse.Namespace) -> None:
     """Prints what a browser makes of the lines of standard input."""
-    address = address_of(arguments.url, arguments.cross_site)
-    path = arguments.suffixes
+    address, path = address_of(arguments.url, arguments.cross_site), arguments.suffixes
     title, suffixes = (path, pathlib.Path(path).read_bytes()) if path else suffix_list()
     out, paste = sys.stdout.buffer, sys.stdin.buffer.read()
     out.write(f"public suffixes: {title}\n".encode())

@@ -123,7 +123,7 @@ class Agent(Uncopied):
         # How many cookies were stored since the limits were looked at, and at how many it looks again.
         self.stored, self.enough = 0, min(self.limits)
         # Only one call at a time may use the handle.
-        self.lock, self.handle, self.rules = Lock(), OwnHandle(AGENT_FREE), rules_of(self.suffixes)
+        self.lock, self.handle, (self.rules, self.rules_lock) = Lock(), OwnHandle(AGENT_FREE), rules_of(self.suffixes)
         # Where headers are written to.
         self.room = ctypes.create_string_buffer(HEADER_ROOM)
         perform(AGENT_NEW, self.handle)
@@ -160,9 +160,9 @@ class Agent(Uncopied):
     def read_at(self, address: Address, text: bytes, second: int | None = None) -> Refusal | None:
         """Reads the value of a `Set-Cookie` header of a response from the address, as `read` does."""
         second = self.second(None) if second is None else whole_second(second)
-        request, rules = request_of(address), self.rules
-        with self.lock, rules.lock:
-            found = checked(AGENT_READ(self.handle, rules.handle, request, text, len(text), second)).refusal
+        request = request_of(address)
+        with self.lock, self.rules_lock:
+            found = checked(AGENT_READ(self.handle, self.rules, request, text, len(text), second)).refusal
             self.stored += not found
             if self.stored >= self.enough:
                 self.trim(second)
@@ -330,8 +330,8 @@ class Agent(Uncopied):
         form = form if form is not None else JSON if text.lstrip()[:1] == b"{" else NETSCAPE
         number, second, most = number_of(form), self.second(None), text.count(b"\n") + 1
         bad = (SIZE * most)()
-        with self.lock, self.rules.lock:
-            words = self.handle, self.rules.handle, number, text, len(text), second, bad, most
+        with self.lock, self.rules_lock:
+            words = self.handle, self.rules, number, text, len(text), second, bad, most
             count = checked(AGENT_LOAD(*words)).bad_lines
             self.trim(second)
         return bad[:count]
@@ -392,17 +392,6 @@ def replace(path: str, text: bytes) -> None:
         os.fsync(directory)
     finally:
         os.close(directory)
-
-
-def is_in_domain(host: str, is_address: bool, domain: str) -> bool:
-    """Whether the host is the domain, or is below it (RFC 6265bis, Domain Matching)."""
-    return host == domain or (not is_address and host.endswith("." + domain))
-
-
-def is_under_path(request: str, cookie: str) -> bool:
-    """Whether the path is the cookie's, or is below it (RFC 6265bis, Paths and Path-Match)."""
-    below = request.startswith(cookie) and (cookie.endswith("/") or request[len(cookie) :].startswith("/"))
-    return request == cookie or below
 
 
 def header_bytes(text: str | bytes) -> bytes:

@@ -14,7 +14,7 @@ from typing import Any, Awaitable, Callable, Mapping, MutableMapping
 
 from .errors import TooLarge
 from .revocations import ask_async
-from .values import FAILURES, CookieSession, Failure, Middleware, answer_to, session_at
+from .values import FAILURES, CookieSession, Middleware, answer_to, session_at
 
 __all__ = ["CookieSession", "SessionMiddleware", "session_of"]
 Message = MutableMapping[str, Any]
@@ -56,21 +56,16 @@ class SessionMiddleware(Middleware):
             if isinstance(failure, TooLarge):
                 assert self.too_large
                 await self.too_large(scope, receive, send)
-            else:
-                await refuse(failure, scope["type"], send)
+                return
+            status, answered, page = answer_to(failure)
+            if scope["type"] == "websocket":
+                # Try again later (RFC 6455 7.4, and IANA's registry of close codes).
+                await send({"type": "websocket.close", "code": 1013})
+                return
+            await send({"type": "http.response.start", "status": int(status[:3]), "headers": lines(answered)})
+            await send({"type": "http.response.body", "body": page})
 
 
 def lines(fields: list[tuple[str, str]]) -> list[tuple[bytes, bytes]]:
     """The fields as ASGI has them."""
     return [(name.lower().encode(), value.encode()) for name, value in fields]
-
-
-async def refuse(error: Failure, kind: str, send: Send) -> None:
-    """Answers a request whose session can't be looked up, or was renewed or ended by another one."""
-    status, fields, page = answer_to(error)
-    if kind == "websocket":
-        # Try again later (RFC 6455 7.4, and IANA's registry of close codes).
-        await send({"type": "websocket.close", "code": 1013})
-        return
-    await send({"type": "http.response.start", "status": int(status[:3]), "headers": lines(fields)})
-    await send({"type": "http.response.body", "body": page})

@@ -56,7 +56,7 @@ def escaped_form(texts: Mapping[str, str]) -> bytes:
 def escape(text: str) -> str:
     """The text with escapes of the marks."""
     for mark, code in ESCAPES:
-        text = text.replace(mark, code)
+        text = text.replace(mark, code) if mark in text else text
     return text
 
 

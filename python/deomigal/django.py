@@ -91,21 +91,17 @@ class SessionStore(Generations, SessionBase):
         if not self.source.is_new:
             try:
                 values: dict[str, Any] = self.serializer().loads(unpack(self.source.texts))
-                if self.lives(values):
+                # The age that Django's settings or `set_expiry` allow.
+                zone = datetime.timezone.utc if settings.USE_TZ else None
+                saved = datetime.datetime.fromtimestamp(self.source.seen, zone)
+                age = self.get_expiry_age(modification=saved, expiry=values.get("_session_expiry"))
+                if self.source.now < self.source.seen + age:
                     return values
             except Exception:
                 # Another program or another serializer saved it, as pickle, which raises what it wants.
                 pass
         self.source, self.header, self._session_key = None, None, ""
         return {}
-
-    def lives(self, values: dict[str, Any]) -> bool:
-        """Whether the age that Django's settings or `set_expiry` allow isn't over."""
-        assert self.source
-        zone = datetime.timezone.utc if settings.USE_TZ else None
-        saved = datetime.datetime.fromtimestamp(self.source.seen, zone)
-        age: float = self.get_expiry_age(modification=saved, expiry=values.get("_session_expiry"))
-        return self.source.now < self.source.seen + age
 
     def save(self, must_create: bool = False) -> None:
         """Encrypts the session, as the value of its cookie. Raises `TooLarge` if a browser wouldn't store it."""

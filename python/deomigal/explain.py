@@ -35,16 +35,6 @@ HERE = pathlib.Path(__file__).resolve().parent
 COPIES = (HERE / "public_suffix_list.dat", HERE.parents[1] / "crates/cookie_explain/data/public_suffix_list.dat")
 
 
-class Suffixes:
-    """The rules of a list of public suffixes, read once. Threads may share it."""
-
-    def __init__(self, text: bytes) -> None:
-        self.handle = OwnHandle(SUFFIXES_FREE)
-        # Only one call at a time may use the handle.
-        self.lock = Lock()
-        perform(SUFFIXES_NEW, text, self.handle)
-
-
 class Refusal(NamedTuple):
     """Why a browser refuses a cookie: the step, one of STEPS, a sentence, and the title of RFC 6265bis's section."""
 
@@ -126,9 +116,9 @@ def found_at(address: Address, text: bytes, suffixes: bytes, now: int) -> Found:
     """What a browser without cookies makes of the text that comes from the address."""
     # The texts of a stored cookie come from these three.
     room = ROOM + len(bytes_of(address.host)) + len(bytes_of(address.path)) + len(text)
-    buffer, rules = ctypes.create_string_buffer(room), rules_of(suffixes)
-    with rules.lock:
-        answer = checked(EXPLAIN(rules.handle, request_of(address), text, len(text), now, buffer, room))
+    buffer, (rules, lock) = ctypes.create_string_buffer(room), rules_of(suffixes)
+    with lock:
+        answer = checked(EXPLAIN(rules, request_of(address), text, len(text), now, buffer, room))
     cookie, texts = answer.stored, buffer.raw
     spans = answer.sentence, answer.section, cookie.name, cookie.value, cookie.domain, cookie.path
     return Found._make((answer.refusal, *(bytes_at(texts, span) for span in spans), cookie))
@@ -180,18 +170,14 @@ def report_of(found: Found, text: bytes, now: int, removal: bytes = b"would remo
     scope = b"; for %b%b; path %b" % (found.domain, hosts, found.path)
     if cookie.is_persistent and cookie.lifetime == 0:
         return removal + found.name + scope + partition_of(text, cookie.is_secure)
+    end = b"; until the browser closes"
+    if cookie.is_persistent:
+        end = f"; until {print_date(date_after(now, cookie.lifetime))}".encode()
+        end += b" (400 days, the most that a browser allows)" * (cookie.lifetime == LONGEST)
     flags: bytes = b"; Secure" * cookie.is_secure + b"; HttpOnly" * cookie.is_http_only
     site = f"; SameSite={RULES[cookie.same_site]}".encode() if cookie.same_site else b""
     pair = b"stored: %b=%b" % (found.name, found.value)
-    return pair + scope + end_of(cookie, now) + flags + site + partition_of(text, cookie.is_secure)
-
-
-def end_of(cookie: Any, now: int) -> bytes:
-    """Until when the browser has the cookie."""
-    if not cookie.is_persistent:
-        return b"; until the browser closes"
-    end = f"; until {print_date(date_after(now, cookie.lifetime))}".encode()
-    return end + b" (400 days, the most that a browser allows)" if cookie.lifetime == LONGEST else end
+    return pair + scope + end + flags + site + partition_of(text, cookie.is_secure)
 
 
 def partition_of(text: bytes, is_secure: bool) -> bytes:
@@ -216,9 +202,11 @@ def suffix_list() -> tuple[str, bytes]:
 
 
 @functools.lru_cache(maxsize=4)
-def rules_of(suffixes: bytes) -> Suffixes:
-    """The rules of the list, of which the last ones are kept."""
-    return Suffixes(suffixes)
+def rules_of(suffixes: bytes) -> tuple[OwnHandle, Lock]:
+    """The rules of the list, and a lock: only one call at a time may use them. The last lists are kept."""
+    rules = OwnHandle(SUFFIXES_FREE)
+    perform(SUFFIXES_NEW, suffixes, rules)
+    return rules, Lock()
 
 
 def list_text(suffixes: str | bytes | None) -> bytes:

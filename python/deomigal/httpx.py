@@ -13,13 +13,15 @@ redirect and each request of an `auth`. `verify`, `cert`, `http2` and a proxy ar
 """
 from __future__ import annotations
 
-from typing import Any
+from typing import Any, Callable, Generic, TypeVar
 
 import httpx
 
 from .addresses import Address
 from .agents import SAME_SITE, Agent, Context
 from .cookiejar import NoCookies
+
+Transport = TypeVar("Transport", httpx.BaseTransport, httpx.AsyncBaseTransport)
 
 
 def cookies_of(
@@ -37,14 +39,19 @@ def async_cookies_of(
     return {"transport": AsyncCookieTransport(agent, transport, context=context), "cookies": NoCookies()}
 
 
-class Cookies:
-    """What both transports share: the agent, by default a new one, and how the requests come about."""
+class Cookies(Generic[Transport]):
+    """What both transports share. `own` makes httpx's own."""
 
-    def __init__(self, agent: Agent | None, context: Context) -> None:
+    own: Callable[[], Transport]
+
+    def __init__(
+        self, agent: Agent | None = None, transport: Transport | None = None, *, context: Context = SAME_SITE
+    ) -> None:
         self.agent, self.context = Agent() if agent is None else agent, context
+        self.transport: Transport = type(self).own() if transport is None else transport
 
     def prepare(self, request: httpx.Request) -> Address | None:
-        """Sets the request's `Cookie` header. Returns where httpx connects to, or None if there is no cookie."""
+        """Sets the request's `Cookie` header. Returns where httpx connects to, or None if no cookie goes there."""
         fields = [field for field in request.headers.raw if field[0].lower() != b"cookie"]
         url = request.url
         path = url.raw_path.partition(b"?")[0].decode("latin-1")
@@ -62,17 +69,12 @@ class Cookies:
             self.agent.read_all(address, texts)
 
 
-class CookieTransport(Cookies, httpx.BaseTransport):
-    """A transport that sends the cookies of an agent, by default a new one, and has it read those of each response.
-
+class CookieTransport(Cookies[httpx.BaseTransport], httpx.BaseTransport):
+    """A transport that sends the cookies of an agent, by default a new one, and has it read those that are set.
     `transport` makes the requests, by default httpx's own. `context` says how they come about, by default same-site.
     """
 
-    def __init__(
-        self, agent: Agent | None = None, transport: httpx.BaseTransport | None = None, *, context: Context = SAME_SITE
-    ) -> None:
-        super().__init__(agent, context)
-        self.transport = httpx.HTTPTransport() if transport is None else transport
+    own = httpx.HTTPTransport
 
     def handle_request(self, request: httpx.Request) -> httpx.Response:
         """Sends the request with the agent's cookies, and reads the cookies of the response."""
@@ -93,15 +95,10 @@ class CookieTransport(Cookies, httpx.BaseTransport):
         self.transport.close()
 
 
-class AsyncCookieTransport(Cookies, httpx.AsyncBaseTransport):
+class AsyncCookieTransport(Cookies[httpx.AsyncBaseTransport], httpx.AsyncBaseTransport):
     """The same for `httpx.AsyncClient`."""
 
-    def __init__(
-        self, agent: Agent | None = None, transport: httpx.AsyncBaseTransport | None = None, *,
-        context: Context = SAME_SITE,
-    ) -> None:
-        super().__init__(agent, context)
-        self.transport = httpx.AsyncHTTPTransport() if transport is None else transport
+    own = httpx.AsyncHTTPTransport
 
     async def handle_async_request(self, request: httpx.Request) -> httpx.Response:
         """Sends the request with the agent's cookies, and reads the cookies of the response."""

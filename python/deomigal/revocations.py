@@ -185,32 +185,24 @@ LEFT: list[sqlite3.Connection] = []
 def connect(path: str, timeout: float, create: bool = False) -> sqlite3.Connection:
     """A new connection, over a file that has the table. It waits for a process that switches a new file to WAL at the
     same time, or closes it, which SQLite doesn't."""
-    end = time.monotonic() + timeout
+    end, uri = time.monotonic() + timeout, f"{pathlib.Path(path).as_uri()}?mode={'rwc' if create else 'rw'}"
     while True:
+        connection = sqlite3.connect(uri, timeout=timeout, isolation_level=None, check_same_thread=False, uri=True)
         try:
-            return open_connection(path, timeout, create)
-        except sqlite3.OperationalError as error:
-            if "locked" not in str(error) or time.monotonic() > end:
+            rows(connection, "PRAGMA journal_mode = WAL")
+            rows(connection, "PRAGMA synchronous = FULL")
+            if create and not tables(connection):
+                # Another process may make it meanwhile.
+                rows(connection, TABLE.replace("TABLE", "TABLE IF NOT EXISTS"))
+            if tables(connection) != [TABLE]:
+                raise RevocationsError("it has other tables than the one of revoked sessions")
+            return connection
+        except BaseException as error:
+            connection.close()
+            is_locked = isinstance(error, sqlite3.OperationalError) and "locked" in str(error)
+            if not is_locked or time.monotonic() > end:
                 raise
         time.sleep(0.01)
-
-
-def open_connection(path: str, timeout: float, create: bool) -> sqlite3.Connection:
-    """A new connection, over a file that has the table."""
-    uri = f"{pathlib.Path(path).as_uri()}?mode={'rwc' if create else 'rw'}"
-    connection = sqlite3.connect(uri, timeout=timeout, isolation_level=None, check_same_thread=False, uri=True)
-    try:
-        rows(connection, "PRAGMA journal_mode = WAL")
-        rows(connection, "PRAGMA synchronous = FULL")
-        if create and not tables(connection):
-            # Another process may make it meanwhile.
-            rows(connection, TABLE.replace("TABLE", "TABLE IF NOT EXISTS"))
-        if tables(connection) != [TABLE]:
-            raise RevocationsError("it has other tables than that of revoked sessions")
-    except BaseException:
-        connection.close()
-        raise
-    return connection
 
 
 def rows(connection: sqlite3.Connection, statement: str, *values: Any) -> list[Any]:

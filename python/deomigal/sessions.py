@@ -6,10 +6,10 @@ import os
 from typing import Any, Callable, Iterator, MutableMapping, Sequence, cast
 
 from ._library import (
-    DONE, OPENED_FREE, OPENED_IDS, OPENED_NEW, OPENED_TAKE, SESSION_DESCRIBE, SESSION_END, SESSION_FREE, SESSION_GIVEN,
-    SESSION_LOG_OUT, SESSION_MUST_SAVE, SESSION_OPEN, SESSION_RENEW, SESSION_REPLACE, SESSION_SAVE, SESSION_SET_TEXTS,
-    SESSION_START, SESSION_TEXTS, SESSIONS_FREE, SESSIONS_NEW, OwnHandle, Settings, Uncopied, bytes_from, checked,
-    header_of, perform, ring_of,
+    DONE, OPENED_FREE, OPENED_IDS, OPENED_NEW, OPENED_TAKE, SESSION_DESCRIBE, SESSION_END, SESSION_FREE, SESSION_GET,
+    SESSION_GIVEN, SESSION_LOG_OUT, SESSION_MUST_SAVE, SESSION_OPEN, SESSION_RENEW, SESSION_REPLACE, SESSION_SAVE,
+    SESSION_SET_TEXTS, SESSION_START, SESSION_TEXTS, SESSIONS_FREE, SESSIONS_NEW, OwnHandle, Settings, Uncopied,
+    bytes_from, checked, header_of, perform, ring_of,
 )
 from ._locks import Lock
 from ._steps import run
@@ -19,6 +19,8 @@ from .dates import whole_second
 from .errors import BufferTooShort, Gone, NoSession, NotUtf8, Replaces, RevocationsError, error_of
 from .revocations import ID_LENGTH, AnyRevocations, Ask, ask, ask_async, was_revoked
 
+# The name of the one text that a session of values has, unless that is encoded, and how its form begins.
+PLAIN, ONLY = "j", b"j="
 # Room for a cookie that a browser stores, and for the form of its texts, of which each byte may be escaped as three.
 ROOM = 10000
 
@@ -249,19 +251,24 @@ class Sessions(Uncopied):
             return started
         session.describe()
         session.is_renewed = False
-        with self.lock:
-            answer = SESSION_TEXTS(session.handle, self.buffer, ROOM)
-            form = self.buffer[: answer.length]
-        if answer.status != DONE:
-            # No browser sends so many.
-            form = bytes_from(SESSION_TEXTS, session.handle, room=answer.length)
         try:
-            session.texts = texts_of(form)
+            session.texts = self.texts_in(session.handle)
         except ValueError:
             # Another program saved it, under the same key.
             return self.start(session.now)
         session.known = dict(session.texts)
         return session
+
+    def texts_in(self, handle: OwnHandle) -> dict[str, str]:
+        """The texts of the library's session. One by itself is read as it is, without the form's escapes."""
+        with self.lock:
+            buffer = self.buffer
+            answer = SESSION_TEXTS(handle, buffer, len(buffer))
+            form = buffer[: answer.length]
+            if answer.status == DONE and form.startswith(ONLY) and b"&" not in form:
+                return {PLAIN: buffer[: checked(SESSION_GET(handle, ONLY, 1, buffer, len(buffer))).length].decode()}
+        # No browser sends more than there is room for.
+        return texts_of(form if answer.status == DONE else bytes_from(SESSION_TEXTS, handle, room=answer.length))
 
     async def fill(self, session: Session, ask: Ask) -> None:
         """Opens the session of its header for its handle. For a copy the revocations were asked before."""
@@ -277,12 +284,13 @@ class Sessions(Uncopied):
         with self.lock:
             perform(OPENED_NEW, self.handle, session.header, session.now, opened)
         if session.revoked is None:
-            session.revoked = await self.revoked_of(bytes_from(OPENED_IDS, opened), ask)
+            ids = bytes_from(OPENED_IDS, opened)
+            each = list(dict.fromkeys(ids[at : at + ID_LENGTH] for at in range(0, len(ids), ID_LENGTH)))
+            session.revoked = await self.revoked_of(each, ask)
         perform(OPENED_TAKE, opened, session.revoked, session.handle)
 
-    async def revoked_of(self, ids: bytes, ask: Ask) -> bytes:
+    async def revoked_of(self, each: list[bytes], ask: Ask) -> bytes:
         """Those of the ids that are revoked, or only those before the first that isn't."""
-        each = list(dict.fromkeys(ids[at : at + ID_LENGTH] for at in range(0, len(ids), ID_LENGTH)))
         revoked = b""
         if each and hasattr(self.revocations, "are_revoked"):
             found = await ask(self.revocations, "are_revoked", each)

@@ -14,10 +14,10 @@ from .errors import Gone, RevocationsError
 from .explain import LAST
 from .revocations import AnyRevocations, Ask
 from .secrets import keys_of
-from .sessions import Generations, Session, Sessions
+from .sessions import PLAIN, Generations, Session, Sessions
 
-# The names of the one text that a session of values has: as it is, or in base64url.
-PLAIN, ENCODED = "j", "b"
+# The name of the one text that a session of values has in base64url.
+ENCODED = "b"
 # The JSON of no values.
 EMPTY = b"{}"
 # What is answered if it can't be looked up whether a session is revoked (RFC 9110 15.6.4), and if another request has

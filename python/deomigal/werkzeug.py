@@ -57,11 +57,15 @@ def dump_cookie(
         raise error_of(EmptyName.status)
     if samesite == "":
         raise error_of(BadAttribute.status)
+    if domain:
+        if not isinstance(domain, str):
+            raise TypeError("a domain is a str")
+        domain = domain.partition(":")[0].lstrip(".").encode("idna").decode("ascii")
     age = int(max_age.total_seconds()) if isinstance(max_age, datetime.timedelta) else max_age
     text = print_cookie(
         print_cookie(key, "").rpartition("=")[0], quote(value, safe=ALLOWED), is_escaped=False,
         http_only=httponly or None, secure=secure or None, partitioned=partitioned or None, max_age=age,
-        expires=expiry(expires, age if sync_expires else None), domain=ascii_of(domain) if domain else None,
+        expires=expiry(expires, age if sync_expires else None), domain=domain or None,
         path=None if path is None else quote(path, safe=PATH_ALLOWED),
         same_site=samesite.title() if isinstance(samesite, str) else samesite,
     )
@@ -71,13 +75,6 @@ def dump_cookie(
         warning = f"The {key!r} cookie is too large: it has {len(text)} bytes, and the limit is {max_size} bytes."
         warnings.warn(f"{warning} Browsers may ignore it.", stacklevel=2)
     return text
-
-
-def ascii_of(domain: str) -> str:
-    """The domain without its port and without leading dots, in Punycode. Raises `UnicodeError` if it has none."""
-    if not isinstance(domain, str):
-        raise TypeError("a domain is a str")
-    return domain.partition(":")[0].lstrip(".").encode("idna").decode("ascii")
 
 
 def expiry(expires: Expiry, age: int | None) -> datetime.datetime | None:
