@@ -37,13 +37,13 @@ static inline cookie_answer cookie_undrawn(void) {
 }
 
 /* cookie_seal with a nonce that is drawn. */
-static inline cookie_answer cookie_seal_drawn(const uint8_t *key, size_t key_length, const uint8_t *name,
-                                              size_t name_length, const uint8_t *value, size_t value_length,
-                                              uint8_t *out, size_t out_length) {
+static inline cookie_answer cookie_seal_drawn(cookie_keys *keys, const uint8_t *name, size_t name_length,
+                                              const uint8_t *value, size_t value_length, uint8_t *out,
+                                              size_t out_length) {
     uint8_t nonce[COOKIE_NONCE_LENGTH];
     if (cookie_draw(nonce, sizeof nonce) != COOKIE_DONE)
         return cookie_undrawn();
-    return cookie_seal(key, key_length, nonce, sizeof nonce, name, name_length, value, value_length, out, out_length);
+    return cookie_seal(keys, nonce, sizeof nonce, name, name_length, value, value_length, out, out_length);
 }
 
 /* cookie_run with seeds that are drawn. */
@@ -89,13 +89,13 @@ static inline cookie_answer cookie_session_save_drawn(cookie_sessions *sessions,
 }
 
 /* cookie_token_make with a nonce that is drawn. */
-static inline cookie_answer cookie_token_make_drawn(const cookie_token_settings *settings, const uint8_t *value,
-                                                    size_t value_length, uint64_t now, uint8_t *out,
-                                                    size_t out_length) {
+static inline cookie_answer cookie_token_make_drawn(cookie_keys *keys, const cookie_token_settings *settings,
+                                                    const uint8_t *value, size_t value_length, uint64_t now,
+                                                    uint8_t *out, size_t out_length) {
     uint8_t nonce[COOKIE_NONCE_LENGTH];
     if (cookie_draw(nonce, sizeof nonce) != COOKIE_DONE)
         return cookie_undrawn();
-    return cookie_token_make(settings, value, value_length, nonce, sizeof nonce, now, out, out_length);
+    return cookie_token_make(keys, settings, value, value_length, nonce, sizeof nonce, now, out, out_length);
 }
 
 #endif

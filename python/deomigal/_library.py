@@ -58,7 +58,7 @@ class Held(ctypes.Structure):
 
 
 class Handle(ctypes.Structure):
-    """What the library keeps for a jar, a site's sessions, those of a request, a session, or a list of public suffixes."""
+    """What the library keeps for keys, a jar, a site's sessions, those of a request, a session, or a list of public suffixes."""
 
     _fields_ = [("is_open", ctypes.c_bool), ("held", Held)]
 
@@ -73,7 +73,6 @@ class Settings(ctypes.Structure):
 
 class TokenSettings(ctypes.Structure):
     _fields_ = [
-        ("keys", ctypes.c_char_p), ("keys_length", ctypes.c_size_t),
         ("purpose", ctypes.c_char_p), ("purpose_length", ctypes.c_size_t), ("lifetime", ctypes.c_uint32),
     ]
 
@@ -133,10 +132,12 @@ def declare(name: str, parameters: list[Any], result: Any) -> Callable[..., Any]
 if declare("version", [], ctypes.c_uint32)() != VERSION:
     raise ImportError("deomigal found another version of its library: install the wheel that tools/c/install makes")
 DERIVE_KEY = declare("derive_key", TEXT * 2, Answer)
-SIGN = declare("sign", TEXT * 4, Answer)
-VERIFY = declare("verify", TEXT * 4, Answer)
-SEAL = declare("seal", TEXT * 5, Answer)
-OPEN = declare("open", TEXT * 4, Answer)
+KEYS_NEW = declare("keys_new", TEXT + HANDLE, ctypes.c_uint32)
+KEYS_FREE = declare("keys_free", HANDLE, None)
+SIGN = declare("sign", HANDLE + TEXT * 3, Answer)
+VERIFY = declare("verify", HANDLE + TEXT * 3, Answer)
+SEAL = declare("seal", HANDLE + TEXT * 4, Answer)
+OPEN = declare("open", HANDLE + TEXT * 3, Answer)
 READ_DATE = declare("read_date", TEXT, Moment)
 PRINT_DATE = declare("print_date", [ctypes.c_int16] + [ctypes.c_int8] * 5 + TEXT, Answer)
 NEXT_PAIR = declare("next_pair", TEXT + [ctypes.c_size_t], Pair)
@@ -179,8 +180,9 @@ SESSION_REPLACE = declare("session_replace", HANDLE + SECOND + [ctypes.c_bool], 
 SESSION_LOG_OUT = declare("session_log_out", HANDLE + SECOND + [ctypes.c_bool], ctypes.c_uint32)
 SESSION_END = declare("session_end", HANDLE + SECOND + TEXT, Answer)
 SESSION_FREE = declare("session_free", HANDLE, None)
-TOKEN_MAKE = declare("token_make", [ctypes.POINTER(TokenSettings)] + TEXT * 2 + SECOND + TEXT, Answer)
-TOKEN_READ = declare("token_read", [ctypes.POINTER(TokenSettings)] + TEXT + SECOND + TEXT, TokenReading)
+TOKENS: list[Any] = [*HANDLE, ctypes.POINTER(TokenSettings)]
+TOKEN_MAKE = declare("token_make", TOKENS + TEXT * 2 + SECOND + TEXT, Answer)
+TOKEN_READ = declare("token_read", TOKENS + TEXT + SECOND + TEXT, TokenReading)
 SUFFIXES_NEW = declare("suffixes_new", TEXT + HANDLE, ctypes.c_uint32)
 SUFFIXES_FREE = declare("suffixes_free", HANDLE, None)
 

@@ -141,6 +141,10 @@ class Gone(CookieError, status=30):
     is done, and answer the request with an error, such as status 409 (RFC 9110 15.5.10)."""
 
 
+class NoKeys(CookieError, status=31):
+    """The handle has no keys. No call of this package raises it."""
+
+
 class RevocationsError(RuntimeError):
     """Whether a session is revoked can't be looked up, or that it is can't be kept. Answer the request with an error,
     such as status 503 (RFC 9110 15.6.4), and never as that of a visitor without a session."""

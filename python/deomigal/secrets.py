@@ -3,11 +3,17 @@ from __future__ import annotations
 
 import hmac
 import os
-from typing import Iterable
+from typing import Iterable, Sequence
 
-from ._library import DERIVE_KEY, OPEN, SEAL, SIGN, VERIFY, bytes_of, bytes_from, key_of, text_or_none
+from ._library import (
+    DERIVE_KEY, KEYS_FREE, KEYS_NEW, OPEN, SEAL, SIGN, VERIFY, OwnHandle, Uncopied, bytes_from, bytes_of, key_of, perform,
+    ring_of, text_or_none,
+)
+from ._locks import Lock
 from .errors import MasterTooShort, NotSealed, NotSigned, NotUtf8
 
+# Only one call at a time may use a handle of keys. They are short, so all have one lock.
+LOCK = Lock()
 # The fewest bytes of a master key.
 SHORTEST = 32
 ADVICE = "python3 -c 'import secrets; print(secrets.token_hex(32))'"
@@ -42,36 +48,69 @@ def keys_of(secrets: Iterable[str | bytes], salt: str | bytes | None = None) -> 
     return [derive_key(master) for master in masters]
 
 
-def sign(key: bytes, name: str, value: str) -> str:
-    """The signature of the value under the cookie's name, and then the value. The key has at least 64 random bytes.
+class Keys(Uncopied):
+    """Keys that are ready, each of at least 64 random bytes, the newest first. The newest signs and seals, and each of them
+    verifies and opens. Make it once, when the program starts. Threads may share it. Raises `KeyTooShort`.
 
-    Raises `KeyTooShort` or `NotUtf8`.
+    >>> old, new = (derive_key(master * 4) for master in (b"an older", b"a newer!"))
+    >>> Keys([new, old]).verify("session", Keys([old]).sign("session", "ann"))
+    'ann'
+    """
+
+    def __init__(self, keys: Sequence[bytes]) -> None:
+        self.handle = OwnHandle(KEYS_FREE)
+        perform(KEYS_NEW, ring_of(keys), self.handle)
+
+    def sign(self, name: str, value: str) -> str:
+        """The signature of the value under the cookie's name, and then the value. Raises `NotUtf8`."""
+        with LOCK:
+            return bytes_from(SIGN, self.handle, name, value).decode()
+
+    def verify(self, name: str, text: str) -> str | None:
+        """The value of a text that one of the keys signed under the name, or None."""
+        with LOCK:
+            return text_or_none(VERIFY, (NotSigned, NotUtf8), self.handle, name, text)
+
+    def seal(self, name: str, value: str, nonce: bytes | None = None) -> str:
+        """The value, encrypted under the cookie's name. Twelve random bytes are drawn, unless you pass in such a nonce.
+
+        Never use a nonce twice under one key, and let at most 2^32 be drawn for one (SP 800-38D 8.3). Raises `NotUtf8`,
+        `TooLong` or `BadNonce`.
+        """
+        drawn = os.urandom(12) if nonce is None else key_of(nonce, "a nonce is bytes")
+        with LOCK:
+            return bytes_from(SEAL, self.handle, drawn, name, value).decode()
+
+    def open(self, name: str, text: str) -> str | None:
+        """The value of a text that one of the keys sealed under the name, or None."""
+        with LOCK:
+            return text_or_none(OPEN, (NotSealed, NotUtf8), self.handle, name, text)
+
+
+def sign(key: bytes, name: str, value: str) -> str:
+    """What `Keys.sign` returns for one key. A program that signs much makes `Keys` once.
 
     >>> sign(derive_key(b"a master key of at least 32 bytes"), "session", "ann")
     'yfpi77iCbAHvzPqzaNqCydxDHw00Rx+/JAtbZtMf68U=ann'
     """
-    return bytes_from(SIGN, key_of(key), name, value).decode()
+    return Keys([key]).sign(name, value)
 
 
 def verify(key: bytes, name: str, text: str) -> str | None:
-    """The value of a text that `sign` made under the same key and name, or None. Raises `KeyTooShort`."""
-    return text_or_none(VERIFY, (NotSigned, NotUtf8), key_of(key), name, text)
+    """What `Keys.verify` returns for one key."""
+    return Keys([key]).verify(name, text)
 
 
 def seal(key: bytes, name: str, value: str, nonce: bytes | None = None) -> str:
-    """The value, encrypted under the cookie's name. Twelve random bytes are drawn, unless you pass in such a nonce.
-
-    Never use a nonce twice under one key, and let at most 2^32 be drawn for one (SP 800-38D 8.3). Raises `KeyTooShort`,
-    `NotUtf8`, `TooLong` or `BadNonce`.
+    """What `Keys.seal` returns for one key.
 
     >>> key = derive_key(b"a master key of at least 32 bytes")
     >>> open_sealed(key, "session", seal(key, "session", "ann"))
     'ann'
     """
-    drawn = os.urandom(12) if nonce is None else key_of(nonce, "a nonce is bytes")
-    return bytes_from(SEAL, key_of(key), drawn, name, value).decode()
+    return Keys([key]).seal(name, value, nonce)
 
 
 def open_sealed(key: bytes, name: str, text: str) -> str | None:
-    """The value of a text that `seal` made under the same key and name, or None. Raises `KeyTooShort`."""
-    return text_or_none(OPEN, (NotSealed, NotUtf8), key_of(key), name, text)
+    """What `Keys.open` returns for one key."""
+    return Keys([key]).open(name, text)

@@ -4,11 +4,12 @@ from __future__ import annotations
 import os
 from typing import NamedTuple, Sequence
 
-from ._library import DONE, TOKEN_MAKE, TOKEN_READ, TokenSettings, Uncopied, answer_and_bytes, bytes_from, bytes_of, ring_of
+from ._library import DONE, TOKEN_MAKE, TOKEN_READ, TokenSettings, Uncopied, answer_and_bytes, bytes_from, bytes_of
 from ._steps import run
 from .dates import whole_second
 from .errors import NotSealed, NotUtf8, error_of
 from .revocations import AnyRevocations, Ask, ask, ask_async, was_revoked
+from .secrets import LOCK, Keys
 
 # Room for most values.
 ROOM = 256
@@ -27,8 +28,8 @@ class Tokens(Uncopied):
     """How a site makes tokens for one purpose. A token is a value, such as a user's name, encrypted for the purpose and
     `lifetime` seconds. It has only letters, digits, `-` and `_`, so a link can have it as it is. Threads may share it.
 
-    `keys` are the site's keys, each of at least 64 random bytes, the newest first. The newest encrypts, and each of them
-    decrypts. They may be those of its `Sessions`. Raises `KeyTooShort`, or `OverflowError` for a lifetime past 32 bits.
+    `keys` are the site's keys, each of at least 64 random bytes, the newest first, or `Keys` of them. The newest encrypts,
+    and each of them decrypts. They may be those of its `Sessions`. Raises `KeyTooShort`, or `OverflowError` for a lifetime past 32 bits.
 
     >>> from deomigal import derive_key
     >>> keys = [derive_key(b"a master key of at least 32 bytes")]
@@ -40,8 +41,8 @@ class Tokens(Uncopied):
     True
     """
 
-    def __init__(self, keys: Sequence[bytes], purpose: str, lifetime: int) -> None:
-        self.ring, self.purpose = ring_of(keys), bytes_of(purpose)
+    def __init__(self, keys: Sequence[bytes] | Keys, purpose: str, lifetime: int) -> None:
+        self.keys, self.purpose = keys if isinstance(keys, Keys) else Keys(keys), bytes_of(purpose)
         self.settings = self.settings_for(lifetime)
         self.make("")
 
@@ -49,7 +50,7 @@ class Tokens(Uncopied):
         """The settings with this lifetime."""
         if not 0 <= lifetime < 2**32:
             raise OverflowError("a lifetime has at most 32 bits")
-        return TokenSettings(self.ring, len(self.ring), self.purpose, len(self.purpose), lifetime)
+        return TokenSettings(self.purpose, len(self.purpose), lifetime)
 
     def make(self, value: str, now: float | None = None) -> str:
         """A token of the value. `now` is in seconds since 1970; without it the clock's time counts.
@@ -57,7 +58,10 @@ class Tokens(Uncopied):
         It draws twelve random bytes: let at most 2^32 be drawn under one key (SP 800-38D 8.3). Raises `NotUtf8`,
         `TooLong` or `NoDate`.
         """
-        return bytes_from(TOKEN_MAKE, self.settings, value, os.urandom(12), whole_second(now), room=len(value) + ROOM).decode()
+        nonce, room = os.urandom(12), len(value) + ROOM
+        with LOCK:
+            text = bytes_from(TOKEN_MAKE, self.keys.handle, self.settings, value, nonce, whole_second(now), room=room)
+        return text.decode()
 
     def read(self, token: str | bytes, now: float | None = None, *, max_age: int | None = None) -> str | None:
         """The value of a token that `make` made for the same purpose under one of the keys, or None if it is over: `lifetime`
@@ -76,7 +80,8 @@ class Tokens(Uncopied):
         ('ann', 1445412480, 1445416080)
         """
         settings = self.settings if max_age is None else self.settings_for(min(max_age, self.settings.lifetime))
-        reading, value = answer_and_bytes(TOKEN_READ, settings, token, whole_second(now), room=ROOM)
+        with LOCK:
+            reading, value = answer_and_bytes(TOKEN_READ, self.keys.handle, settings, token, whole_second(now), room=ROOM)
         if reading.status in (NotSealed.status, NotUtf8.status):
             return None
         if reading.status != DONE:

@@ -15,9 +15,11 @@ from deomigal import _library as library
 from deomigal.addresses import Address
 from helpers import TOP
 
-CALLS = {"derive_key": library.DERIVE_KEY, "sign": library.SIGN, "verify": library.VERIFY, "seal": library.SEAL,
-         "open": library.OPEN, "print": library.PRINT, "print_date": library.PRINT_DATE, "run": library.RUN,
+CALLS = {"derive_key": library.DERIVE_KEY, "print": library.PRINT, "print_date": library.PRINT_DATE, "run": library.RUN,
          "refusal_sentence": _agent.REFUSAL_SENTENCE, "refusal_section": _agent.REFUSAL_SECTION}
+# The calls with keys.
+KEY_CALLS = {"sign": library.SIGN, "verify": library.VERIFY, "seal": library.SEAL, "open": library.OPEN}
+TOKEN_CALLS = {"token_make": library.TOKEN_MAKE, "token_read": library.TOKEN_READ}
 # The names of the statuses in the rows, such as NOT_UTF8 for `NotUtf8`.
 STATUSES = ["DONE"] + [re.sub(r"(?<!^)(?=[A-Z])", "_", error.__name__).upper() for _, error in sorted(errors.ERRORS.items())]
 # The names of the forms of a file, by their numbers.
@@ -57,6 +59,11 @@ def attributes_in(text):
 def numbers_of_pair(pair):
     """The places of a pair, and where the rest begins."""
     return [number for place in (pair.name, pair.value) for number in (place.start, place.length)] + [pair.next]
+
+
+def arguments_of(texts):
+    """The arguments for C: each text, which is null if it is empty, and its length."""
+    return [part for text in texts for part in (text or None, len(text))]
 
 
 def step(handle, text, out, length):
@@ -106,15 +113,14 @@ def played(call, inputs, length):
     if call.startswith("session_"):
         answer = play_session(call, inputs, out, length)
         return answer.status, answer.length, buffer.raw
-    if call.startswith("token_"):
-        answer = play_token(call, inputs, out, length)
+    if call in KEY_CALLS or call in TOKEN_CALLS:
+        answer = play_keys(call, inputs, out, length)
         return answer.status, answer.length, buffer.raw
     arguments = [1, 2] if call == "run" else []
     if call in ("print_date", "refusal_sentence", "refusal_section"):
         arguments = [int(number) for number in inputs[0].split()]
     else:
-        for value in inputs[:4] if call == "print" else inputs:
-            arguments += [value or None, len(value)]
+        arguments += arguments_of(inputs[:4] if call == "print" else inputs)
     if call == "print":
         arguments += [attributes_in(inputs[4]), inputs[5] == b"1"]
     answer = CALLS[call](*arguments, out, length)
@@ -280,13 +286,25 @@ def play_session(call, inputs, out, length):
     return answer
 
 
-def play_token(call, inputs, out, length):
+def play_keys(call, inputs, out, length):
+    """A call with the row's keys, which are 64 bytes each. The key of a signed or sealed value may have more."""
+    handle, keys = library.Handle(), inputs[0] if call.startswith("token_") else inputs[0][:64]
+    answer = library.Answer(library.KEYS_NEW(keys or None, len(keys), handle), 0)
+    if answer.status == library.DONE:
+        if call in TOKEN_CALLS:
+            answer = play_token(call, handle, inputs[1:], out, length)
+        else:
+            answer = KEY_CALLS[call](handle, *arguments_of(inputs[1:]), out, length)
+    library.KEYS_FREE(handle)
+    return answer
+
+
+def play_token(call, handle, inputs, out, length):
     """A token that is made, of a row with a nonce, or read. The row's numbers are the lifetime and the second."""
-    keys, purpose, numbers, *rest = inputs
+    purpose, numbers, *rest = inputs
     lifetime, now = map(int, numbers.split())
-    settings = library.TokenSettings(keys, len(keys), purpose, len(purpose), lifetime)
-    texts = [part for value in rest for part in (value or None, len(value))]
-    return (library.TOKEN_MAKE if call == "token_make" else library.TOKEN_READ)(settings, *texts, now, out, length)
+    settings = library.TokenSettings(purpose, len(purpose), lifetime)
+    return TOKEN_CALLS[call](handle, settings, *arguments_of(rest), now, out, length)
 
 
 def check(call, inputs, length, status, count, text):

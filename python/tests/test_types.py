@@ -8,7 +8,7 @@ from inspect import isclass
 
 import deomigal
 import pytest
-from deomigal import Agent, Jar, Session, Sessions, Tokens, errors, explain
+from deomigal import Agent, Jar, Keys, Session, Sessions, Tokens, errors, explain
 from deomigal.errors import TooLarge
 
 KEY = bytes(64)
@@ -39,6 +39,11 @@ CALLS = [
     (deomigal.verify, [KEY, "a", "b"], "012"),
     (deomigal.seal, [KEY, "a", "b", bytes(12)], "0123"),
     (deomigal.open_sealed, [KEY, "a", "b"], "012"),
+    (Keys, [[KEY]], "0"),
+    (Keys([KEY]).sign, ["a", "b"], "01"),
+    (Keys([KEY]).verify, ["a", "b"], "01"),
+    (Keys([KEY]).seal, ["a", "b", bytes(12)], "012"),
+    (Keys([KEY]).open, ["a", "b"], "01"),
     (deomigal.pairs, ["a=1"], "0"),
     (deomigal.decoded_pairs, ["a=1"], "0"),
     (deomigal.read_cookie, ["a=1"], "0"),

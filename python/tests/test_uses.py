@@ -35,6 +35,16 @@ def test_secrets():
     assert deomigal.open_sealed(KEY, "other", sealed) is None
 
 
+def test_rotated_keys():
+    """The newest key signs and seals, and each one verifies and opens."""
+    old, both = deomigal.Keys([KEY]), deomigal.Keys([bytes(64), KEY])
+    assert both.verify("a", old.sign("a", "b")) == "b" and both.open("a", old.seal("a", "b")) == "b"
+    assert old.verify("a", both.sign("a", "b")) is None and old.open("a", both.seal("a", "b")) is None
+    assert deomigal.Tokens(both, "link", 60).read(deomigal.Tokens(old, "link", 60).make("ann")) == "ann"
+    with pytest.raises(TypeError):
+        copy.copy(old)
+
+
 def test_dates():
     """Dates are printed and read."""
     assert deomigal.print_date(MOMENT) == "Wed, 21 Oct 2015 07:28:00 GMT"
@@ -282,6 +292,7 @@ def closed():
 REFUSALS = [
     (lambda: deomigal.sign(b"short", "a", "b"), errors.KeyTooShort),
     (lambda: deomigal.sign(KEY, "a", b"\xff"), errors.NotUtf8),
+    (lambda: deomigal.Keys([KEY, b"short"]), errors.KeyTooShort),
     (lambda: deomigal.run(MOMENT, "\nnonsense"), errors.BadLine),
     (lambda: deomigal.print_cookie("a", "1", path=b"\xff"), errors.NotUtf8),
     (lambda: deomigal.print_cookie("a", "1", same_site="lax"), errors.BadAttribute),

@@ -42,20 +42,43 @@ static bool lies(cookie_span span, size_t start, size_t length) {
     return span.start == start && span.length == length;
 }
 
-/* The key is looked at before the texts, and the nonce before both. A text that doesn't fit is not written. */
+/* The keys are looked at before the texts, and the texts before the nonce. A text that doesn't fit is not written. Each
+ * key verifies and opens, and the newest one signs and seals. */
 static void keys_and_nonces(void) {
+    uint8_t both[128], made[64];
+    cookie_keys none = {0}, keys = {0}, newer = {0};
+    memset(both, 1, 64);
+    memcpy(both + 64, KEY, 64);
+    MUST(cookie_keys_new(KEY, 0, &keys) == COOKIE_KEY_TOO_SHORT && cookie_keys_new(NULL, 0, &keys) == COOKIE_KEY_TOO_SHORT);
+    MUST(cookie_keys_new(both, 63, &keys) == COOKIE_KEY_TOO_SHORT && cookie_keys_new(both, 127, &keys) == COOKIE_KEY_TOO_SHORT);
+    MUST(is(cookie_sign(&keys, T("n"), T("v"), OUT), COOKIE_NO_KEYS, 0));
+    MUST(cookie_keys_new(KEY, 64, &keys) == COOKIE_DONE && cookie_keys_new(both, 128, &newer) == COOKIE_DONE);
+    MUST(cookie_keys_new(both, 65, &keys) == COOKIE_KEY_TOO_SHORT);
     for (size_t room = 0; room < 48; room += 47)
-        MUST(is(cookie_sign(KEY, 64, T("session"), T("anna"), ROOM(room)), COOKIE_BUFFER_TOO_SHORT, 48));
-    MUST(is(cookie_sign(KEY, 63, T("\xff"), T("\xff"), OUT), COOKIE_KEY_TOO_SHORT, 0));
-    MUST(is(cookie_verify(KEY, 63, T("\xff"), T("\xff"), OUT), COOKIE_KEY_TOO_SHORT, 0));
-    MUST(is(cookie_open(NULL, 0, T("\xff"), T("\xff"), OUT), COOKIE_KEY_TOO_SHORT, 0));
-    MUST(is(cookie_seal(KEY, 63, KEY, 12, T("n"), T("v"), OUT), COOKIE_KEY_TOO_SHORT, 0));
-    MUST(is(cookie_seal(KEY, 64, KEY, 0, T("n"), T("v"), OUT), COOKIE_BAD_NONCE, 0));
-    MUST(is(cookie_seal(KEY, 64, KEY, 11, T("n"), T("v"), OUT), COOKIE_BAD_NONCE, 0));
-    MUST(is(cookie_seal(KEY, 64, KEY, 13, T("n"), T("v"), OUT), COOKIE_BAD_NONCE, 0));
-    MUST(is(cookie_verify(KEY, 64, T("n"), T("\xff"), OUT), COOKIE_NOT_UTF8, 0));
+        MUST(is(cookie_sign(&keys, T("session"), T("anna"), ROOM(room)), COOKIE_BUFFER_TOO_SHORT, 48));
+    MUST(is(cookie_sign(&none, T("\xff"), T("\xff"), OUT), COOKIE_NO_KEYS, 0));
+    MUST(is(cookie_verify(&none, T("\xff"), T("\xff"), OUT), COOKIE_NO_KEYS, 0));
+    MUST(is(cookie_open(&none, T("\xff"), T("\xff"), OUT), COOKIE_NO_KEYS, 0));
+    MUST(is(cookie_seal(&none, KEY, 0, T("\xff"), T("v"), OUT), COOKIE_NO_KEYS, 0));
+    MUST(is(cookie_seal(&keys, KEY, 0, T("n"), T("\xff"), OUT), COOKIE_NOT_UTF8, 0));
+    MUST(is(cookie_seal(&keys, KEY, 0, T("n"), T("v"), OUT), COOKIE_BAD_NONCE, 0));
+    MUST(is(cookie_seal(&keys, KEY, 11, T("n"), T("v"), OUT), COOKIE_BAD_NONCE, 0));
+    MUST(is(cookie_seal(&keys, KEY, 13, T("n"), T("v"), OUT), COOKIE_BAD_NONCE, 0));
+    MUST(is(cookie_verify(&keys, T("n"), T("\xff"), OUT), COOKIE_NOT_UTF8, 0));
     MUST(is(cookie_derive_key(KEY, 31, OUT), COOKIE_MASTER_TOO_SHORT, 0));
     MUST(holds(""));
+    size_t length = cookie_sign(&keys, T("n"), T("v"), made, sizeof made).length;
+    MUST(length == 45 && is(cookie_verify(&newer, T("n"), made, length, OUT), COOKIE_DONE, 1) && holds("v"));
+    length = cookie_sign(&newer, T("n"), T("v"), made, sizeof made).length;
+    MUST(length == 45 && is(cookie_verify(&keys, T("n"), made, length, OUT), COOKIE_NOT_SIGNED, 0) && holds(""));
+    length = cookie_seal(&keys, KEY, 12, T("n"), T("v"), made, sizeof made).length;
+    MUST(length == 40 && is(cookie_open(&newer, T("n"), made, length, OUT), COOKIE_DONE, 1) && holds("v"));
+    length = cookie_seal(&newer, KEY, 12, T("n"), T("v"), made, sizeof made).length;
+    MUST(length == 40 && is(cookie_open(&keys, T("n"), made, length, OUT), COOKIE_NOT_SEALED, 0) && holds(""));
+    cookie_keys_free(&newer);
+    cookie_keys_free(&keys);
+    cookie_keys_free(&keys);
+    MUST(is(cookie_sign(&keys, T("n"), T("v"), OUT), COOKIE_NO_KEYS, 0) && holds(""));
 }
 
 static void dates_out_of_range(void) {
@@ -452,25 +475,31 @@ static void lists_and_times(void) {
 
 /* A token's times and its id are told, also where its value has no room, and of no other text. */
 static void tokens(void) {
-    cookie_token_settings settings = {KEY, 64, T("password reset"), 1200};
+    cookie_token_settings settings = {T("password reset"), 1200};
+    cookie_keys keys = {0};
     uint8_t text[128];
     holds("");
-    cookie_answer made = cookie_token_make(&settings, T("ann"), KEY, 12, NOW, text, sizeof text);
+    MUST(is(cookie_token_make(&keys, &settings, T("ann"), KEY, 11, NOW, OUT), COOKIE_BAD_NONCE, 0));
+    MUST(is(cookie_token_make(&keys, &settings, T("ann"), KEY, 12, NOW, OUT), COOKIE_NO_KEYS, 0));
+    MUST(cookie_token_read(&keys, &settings, T("ann"), NOW, OUT).status == COOKIE_NO_KEYS && holds(""));
+    MUST(cookie_keys_new(KEY, sizeof KEY, &keys) == COOKIE_DONE);
+    cookie_answer made = cookie_token_make(&keys, &settings, T("ann"), KEY, 12, NOW, text, sizeof text);
     MUST(made.status == COOKIE_DONE && made.length > 16);
     for (size_t room = 2; room < 4; room++) {
-        cookie_token_reading token = cookie_token_read(&settings, text, made.length, NOW + 1199, ROOM(room));
+        cookie_token_reading token = cookie_token_read(&keys, &settings, text, made.length, NOW + 1199, ROOM(room));
         MUST(token.status == (room < 3 ? COOKIE_BUFFER_TOO_SHORT : COOKIE_DONE) && token.length == 3);
         MUST(token.made == NOW && token.end == NOW + 1200 && memcmp(token.id, text, 16) == 0);
         MUST(holds(room < 3 ? "" : "ann"));
     }
-    cookie_token_reading over = cookie_token_read(&settings, text, made.length, NOW + 1200, OUT), none = {0};
+    cookie_token_reading over = cookie_token_read(&keys, &settings, text, made.length, NOW + 1200, OUT), none = {0};
     none.status = COOKIE_NOT_SEALED;
     MUST(over.status == none.status && over.length == 0 && over.made == 0 && over.end == 0);
     MUST(memcmp(over.id, none.id, 16) == 0);
     settings.lifetime = 60;
-    MUST(cookie_token_read(&settings, text, made.length, NOW + 59, OUT).status == COOKIE_DONE);
-    MUST(cookie_token_read(&settings, text, made.length, NOW + 60, OUT).status == COOKIE_NOT_SEALED);
+    MUST(cookie_token_read(&keys, &settings, text, made.length, NOW + 59, OUT).status == COOKIE_DONE);
+    MUST(cookie_token_read(&keys, &settings, text, made.length, NOW + 60, OUT).status == COOKIE_NOT_SEALED);
     MUST(holds("ann"));
+    cookie_keys_free(&keys);
 }
 
 static const char FILE_OF_LINES[] = "a.example\tFALSE\t/\tFALSE\t1445500000\tn\tv\nbad\n\nworse\n"

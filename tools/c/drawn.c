@@ -14,7 +14,7 @@
 #include <sys/mman.h>
 #include <unistd.h>
 
-enum { ROOM = 1 << 16, SLOTS = 8, KEPT = 4, MARGIN = 64, LONGEST = 6000, STATUSES = 31, PAIR = 2 };
+enum { ROOM = 1 << 16, SLOTS = 8, KEPT = 4, MARGIN = 64, LONGEST = 6000, STATUSES = 32, PAIR = 2 };
 
 typedef struct text {
     const uint8_t *bytes;
@@ -32,25 +32,28 @@ typedef struct drawing {
     int slot;
     uint8_t *out;
     size_t length, margin_before, margin_after;
+    cookie_keys keys[PAIR];
     cookie_jar jars[PAIR];
     cookie_sessions sites[PAIR];
     cookie_opened opened[PAIR];
     cookie_session sessions[PAIR];
     cookie_suffixes lists[PAIR];
     cookie_agent agents[PAIR];
-    bool has_jar[PAIR], has_site[PAIR], has_opened[PAIR], has_session[PAIR], has_list[PAIR], has_agent[PAIR];
+    bool has_keys[PAIR], has_jar[PAIR], has_site[PAIR], has_opened[PAIR], has_session[PAIR], has_list[PAIR], has_agent[PAIR];
     char kept[KEPT][LONGEST];
-    size_t met[72][STATUSES];
+    size_t met[80][STATUSES];
 } drawing;
 
 /* The calls, and the statuses that the header has for each, beside COOKIE_DONE and COOKIE_OUT_OF_MEMORY. */
 #define S(status) ((uint32_t)1 << COOKIE_##status)
 #define CALLS(X) \
     X(derive_key, S(BUFFER_TOO_SHORT) | S(MASTER_TOO_SHORT)) \
-    X(sign, S(BUFFER_TOO_SHORT) | S(KEY_TOO_SHORT) | S(NOT_UTF8)) \
-    X(verify, S(BUFFER_TOO_SHORT) | S(KEY_TOO_SHORT) | S(NOT_UTF8) | S(NOT_SIGNED)) \
-    X(seal, S(BUFFER_TOO_SHORT) | S(KEY_TOO_SHORT) | S(NOT_UTF8) | S(BAD_NONCE) | S(TOO_LONG)) \
-    X(open, S(BUFFER_TOO_SHORT) | S(KEY_TOO_SHORT) | S(NOT_UTF8) | S(NOT_SEALED)) \
+    X(keys_new, S(KEY_TOO_SHORT)) \
+    X(keys_free, 0) \
+    X(sign, S(BUFFER_TOO_SHORT) | S(NO_KEYS) | S(NOT_UTF8)) \
+    X(verify, S(BUFFER_TOO_SHORT) | S(NO_KEYS) | S(NOT_UTF8) | S(NOT_SIGNED)) \
+    X(seal, S(BUFFER_TOO_SHORT) | S(NO_KEYS) | S(NOT_UTF8) | S(BAD_NONCE) | S(TOO_LONG)) \
+    X(open, S(BUFFER_TOO_SHORT) | S(NO_KEYS) | S(NOT_UTF8) | S(NOT_SEALED)) \
     X(read_date, S(NOT_UTF8) | S(NO_DATE)) \
     X(print_date, S(BUFFER_TOO_SHORT) | S(NO_DATE)) \
     X(run, S(BUFFER_TOO_SHORT) | S(BAD_MOMENT) | S(NOT_UTF8) | S(BAD_LINE)) \
@@ -96,8 +99,8 @@ typedef struct drawing {
                         | S(OVER) | S(TOO_LONG) | S(TOO_LARGE) | S(REPLACES)) \
     X(session_end, S(BUFFER_TOO_SHORT) | S(NO_SESSIONS) | S(NO_DATE)) \
     X(session_free, 0) \
-    X(token_make, S(BUFFER_TOO_SHORT) | S(BAD_NONCE) | S(KEY_TOO_SHORT) | S(NOT_UTF8) | S(NO_DATE) | S(TOO_LONG)) \
-    X(token_read, S(BUFFER_TOO_SHORT) | S(KEY_TOO_SHORT) | S(NOT_UTF8) | S(NO_DATE) | S(TOO_LONG) | S(NOT_SEALED)) \
+    X(token_make, S(BUFFER_TOO_SHORT) | S(BAD_NONCE) | S(NO_KEYS) | S(NOT_UTF8) | S(NO_DATE) | S(TOO_LONG)) \
+    X(token_read, S(BUFFER_TOO_SHORT) | S(NO_KEYS) | S(NOT_UTF8) | S(NO_DATE) | S(TOO_LONG) | S(NOT_SEALED)) \
     X(suffixes_new, 0) \
     X(suffixes_free, 0) \
     X(explain, S(BUFFER_TOO_SHORT) | S(NO_SUFFIXES) | S(NO_DATE)) \
@@ -483,40 +486,61 @@ static bool starve(drawing *d) {
 
 #define IN(text) text.bytes, text.length
 
-static void play_plain(drawing *d, int call) {
+static void play_keys(drawing *d, int call) {
+    size_t i = below(d, PAIR);
+    cookie_keys *keys = &d->keys[i];
+    bool *has = &d->has_keys[i];
     cookie_answer answer;
     uint32_t status;
     bool starved;
-    text key = draw_keys(d, false), name = draw_text(d, A_NAME), value = draw_text(d, A_VALUE);
+    text name = draw_text(d, A_NAME), value = draw_text(d, A_VALUE), nonce = draw_bytes(d, 12);
     switch (call) {
-    case derive_key_call: {
-        text master = draw_bytes(d, 32);
-        WRITES(derive_key, cookie_derive_key(IN(master), d->out, d->length));
-        break;
+    case keys_new_call: {
+        text made = draw_keys(d, false);
+        STATUS(keys_new, cookie_keys_new(IN(made), keys));
+        *has |= status == COOKIE_DONE;
+        return;
     }
+    case keys_free_call:
+        cookie_keys_free(keys);
+        *has = false;
+        d->met[call][0]++;
+        return;
     case sign_call:
     case verify_call: {
-        WRITES(sign, cookie_sign(IN(key), IN(name), IN(value), d->out, d->length));
+        WRITES(sign, cookie_sign(keys, IN(name), IN(value), d->out, d->length));
         text made = answer.status == COOKIE_DONE && !one_in(d, 4) ? text_of(d, d->out, answer.length) : value;
-        WRITES(verify, cookie_verify(IN(key), IN(name), IN(made), d->out, d->length));
+        WRITES(verify, cookie_verify(keys, IN(name), IN(made), d->out, d->length));
         break;
     }
     case seal_call:
     case open_call: {
-        text nonce = draw_bytes(d, 12);
-        WRITES(seal, cookie_seal(IN(key), IN(nonce), IN(name), IN(value), d->out, d->length));
+        WRITES(seal, cookie_seal(keys, IN(nonce), IN(name), IN(value), d->out, d->length));
         text made = answer.status == COOKIE_DONE && !one_in(d, 4) ? text_of(d, d->out, answer.length) : value;
-        WRITES(open, cookie_open(IN(key), IN(name), IN(made), d->out, d->length));
+        WRITES(open, cookie_open(keys, IN(name), IN(made), d->out, d->length));
         break;
     }
-    case token_make_call:
-    case token_read_call: {
-        text keys = draw_keys(d, true), purpose = text_there(d, IN(name)), nonce = draw_bytes(d, 12);
+    default: {
+        text purpose = text_there(d, IN(name));
         uint64_t now = draw_now(d), later = one_in(d, 4) ? draw_now(d) : now + below(d, 90);
-        cookie_token_settings settings = {IN(keys), IN(purpose), one_in(d, 9) ? (uint32_t)draw(d) : 60};
-        WRITES(token_make, cookie_token_make(&settings, IN(value), IN(nonce), now, d->out, d->length));
+        cookie_token_settings settings = {IN(purpose), one_in(d, 9) ? (uint32_t)draw(d) : 60};
+        WRITES(token_make, cookie_token_make(keys, &settings, IN(value), IN(nonce), now, d->out, d->length));
+        look_at_handle(d, token_make_call, status, *has, COOKIE_NO_KEYS, S(BAD_NONCE));
         text made = answer.status == COOKIE_DONE && !one_in(d, 4) ? text_of(d, d->out, answer.length) : value;
-        WRITES(token_read, answer_of_token(cookie_token_read(&settings, IN(made), later, d->out, d->length)));
+        WRITES(token_read, answer_of_token(cookie_token_read(keys, &settings, IN(made), later, d->out, d->length)));
+    }
+    }
+    look_at_handle(d, call, status, *has, COOKIE_NO_KEYS, 0);
+}
+
+static void play_plain(drawing *d, int call) {
+    cookie_answer answer;
+    uint32_t status;
+    bool starved;
+    switch (call) {
+    case derive_key_call: {
+        text master = draw_bytes(d, 32);
+        WRITES(derive_key, cookie_derive_key(IN(master), d->out, d->length));
         break;
     }
     case read_date_call: {
@@ -536,6 +560,7 @@ static void play_plain(drawing *d, int call) {
         break;
     }
     case print_call: {
+        text name = draw_text(d, A_NAME), value = draw_text(d, A_VALUE);
         text path = draw_text(d, A_PATH), domain = draw_text(d, A_HOST);
         cookie_attributes it = draw_attributes(d);
         bool is_escaped = one_in(d, 2);
@@ -966,6 +991,10 @@ static void play(drawing *d) {
         play_reading(d, call);
     else if (call == read_pairs_call)
         play_pairs(d);
+    else if (call >= keys_new_call && call <= open_call)
+        play_keys(d, call);
+    else if (call == token_make_call || call == token_read_call)
+        play_keys(d, call);
     else if (strncmp(NAMES[call], "jar", 3) == 0)
         play_jar(d, call);
     else if (call == sessions_new_call || call == sessions_free_call || call == session_end_call)
@@ -990,6 +1019,7 @@ static void *play_all(void *at) {
     while (d->count < wanted)
         play(d);
     for (int i = 0; i < PAIR; i++) {
+        cookie_keys_free(&d->keys[i]);
         cookie_jar_free(&d->jars[i]);
         cookie_sessions_free(&d->sites[i]);
         cookie_opened_free(&d->opened[i]);

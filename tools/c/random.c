@@ -71,7 +71,7 @@ typedef struct text {
     uint8_t bytes[ROOM];
 } text;
 
-static uint8_t key[COOKIE_KEY_LENGTH];
+static cookie_keys keys;
 static cookie_sessions sessions;
 static cookie_session session;
 static cookie_jar jar;
@@ -86,13 +86,13 @@ static text write_drawn(int writer) {
     memset(&made, 0xa5, sizeof made);
     const char *date = "Wed, 21 Oct 2015 07:28:00 GMT", *input = "a=1; b=2\nadd c=3\nremove a";
     if (writer == 0)
-        made.answer = cookie_seal_drawn(key, sizeof key, TEXT("name"), TEXT("value"), made.bytes, ROOM);
+        made.answer = cookie_seal_drawn(&keys, TEXT("name"), TEXT("value"), made.bytes, ROOM);
     else if (writer == 1)
         made.answer = cookie_run_drawn(TEXT(date), TEXT(input), made.bytes, ROOM);
     else if (writer == 2)
         made.answer = cookie_session_save_drawn(&sessions, &session, NOW, made.bytes, ROOM);
     else
-        made.answer = cookie_token_make_drawn(&settings, TEXT("value"), NOW, made.bytes, ROOM);
+        made.answer = cookie_token_make_drawn(&keys, &settings, TEXT("value"), NOW, made.bytes, ROOM);
     return made;
 }
 
@@ -103,13 +103,13 @@ static text write_with(int writer, const uint8_t *bytes) {
     memcpy(seeds, bytes, sizeof seeds);
     const char *date = "Wed, 21 Oct 2015 07:28:00 GMT", *input = "a=1; b=2\nadd c=3\nremove a";
     if (writer == 0)
-        made.answer = cookie_seal(key, sizeof key, bytes, 12, TEXT("name"), TEXT("value"), made.bytes, ROOM);
+        made.answer = cookie_seal(&keys, bytes, 12, TEXT("name"), TEXT("value"), made.bytes, ROOM);
     else if (writer == 1)
         made.answer = cookie_run(seeds[0], seeds[1], TEXT(date), TEXT(input), made.bytes, ROOM);
     else if (writer == 2)
         made.answer = cookie_session_save(&sessions, &session, bytes, 12, NOW, made.bytes, ROOM);
     else
-        made.answer = cookie_token_make(&settings, TEXT("value"), bytes, 12, NOW, made.bytes, ROOM);
+        made.answer = cookie_token_make(&keys, &settings, TEXT("value"), bytes, 12, NOW, made.bytes, ROOM);
     return made;
 }
 
@@ -126,9 +126,9 @@ static bool is(const uint8_t *bytes, size_t length, const char *wanted) {
 static void play_round(void) {
     uint8_t value[100];
     text sealed = write_drawn(0), saved = write_drawn(2), token = write_drawn(3);
-    cookie_answer opened = cookie_open(key, sizeof key, TEXT("name"), IN(sealed), value, sizeof value);
+    cookie_answer opened = cookie_open(&keys, TEXT("name"), IN(sealed), value, sizeof value);
     check(opened.status == COOKIE_DONE && is(value, opened.length, "value"), "what is sealed doesn't open");
-    cookie_token_reading read = cookie_token_read(&settings, IN(token), NOW, value, sizeof value);
+    cookie_token_reading read = cookie_token_read(&keys, &settings, IN(token), NOW, value, sizeof value);
     check(read.status == COOKIE_DONE && is(value, read.length, "value"), "a token isn't read");
     cookie_session found;
     memset(&found, 0, sizeof found);
@@ -222,8 +222,9 @@ static void play_failure(enum generator chosen) {
 
 int main(void) {
     cookie_session_settings site;
+    uint8_t key[COOKIE_KEY_LENGTH];
     const char *cookie = "session=; Path=/; Secure";
-    if (cookie_draw(key, sizeof key) != COOKIE_DONE)
+    if (cookie_draw(key, sizeof key) != COOKIE_DONE || cookie_keys_new(key, sizeof key, &keys) != COOKIE_DONE)
         return 2;
     memset(&site, 0, sizeof site);
     site.keys = key;
@@ -231,8 +232,6 @@ int main(void) {
     site.cookie = (const uint8_t *)cookie;
     site.cookie_length = strlen(cookie);
     site.lifetime = site.idle = 600;
-    settings.keys = key;
-    settings.keys_length = sizeof key;
     settings.purpose = (const uint8_t *)"password reset";
     settings.purpose_length = strlen("password reset");
     settings.lifetime = 600;
@@ -249,6 +248,7 @@ int main(void) {
     cookie_jar_free(&jar);
     cookie_session_free(&session);
     cookie_sessions_free(&sessions);
+    cookie_keys_free(&keys);
     printf("cookie_random.h: %d faults\n", faults);
     return faults != 0;
 }

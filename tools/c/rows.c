@@ -451,21 +451,43 @@ static cookie_answer end_session(const text *in, uint8_t *out, size_t length) {
 }
 
 /* A token that is made, of a row with a nonce, or read. The row's numbers are the lifetime and the second. */
-static cookie_answer play_token(const char *name, const text *in, uint8_t *out, size_t length) {
+static cookie_answer token_call(const char *name, const text *in, cookie_keys *keys, uint8_t *out, size_t length) {
     static const uint8_t nothing = 0;
     long long n[2];
     numbers_in(in[2], 2, n);
     cookie_token_settings settings = {
-        .keys = in[0].length > 0 ? in[0].bytes : &nothing,
-        .keys_length = in[0].length,
         .purpose = in[1].length > 0 ? in[1].bytes : &nothing,
         .purpose_length = in[1].length,
         .lifetime = (uint32_t)n[0],
     };
     if (strcmp(name, "token_make") == 0)
-        return cookie_token_make(&settings, IN(3), IN(4), (uint64_t)n[1], out, length);
-    cookie_token_reading token = cookie_token_read(&settings, IN(3), (uint64_t)n[1], out, length);
+        return cookie_token_make(keys, &settings, IN(3), IN(4), (uint64_t)n[1], out, length);
+    cookie_token_reading token = cookie_token_read(keys, &settings, IN(3), (uint64_t)n[1], out, length);
     return (cookie_answer){token.status, token.length};
+}
+
+static cookie_answer key_call(const char *name, const text *in, cookie_keys *keys, uint8_t *out, size_t length) {
+    if (strcmp(name, "sign") == 0)
+        return cookie_sign(keys, IN(1), IN(2), out, length);
+    if (strcmp(name, "verify") == 0)
+        return cookie_verify(keys, IN(1), IN(2), out, length);
+    if (strcmp(name, "seal") == 0)
+        return cookie_seal(keys, IN(1), IN(2), IN(3), out, length);
+    if (strcmp(name, "open") == 0)
+        return cookie_open(keys, IN(1), IN(2), out, length);
+    return token_call(name, in, keys, out, length);
+}
+
+/* A call with the row's keys, which are 64 bytes each. The key of a signed or sealed value may have more. */
+static cookie_answer play_keys(const char *name, const text *in, uint8_t *out, size_t length) {
+    bool is_one = strncmp(name, "token", 5) != 0;
+    cookie_keys keys = {0};
+    size_t count = is_one && in[0].length > COOKIE_KEY_LENGTH ? COOKIE_KEY_LENGTH : in[0].length;
+    cookie_answer answer = of_status(cookie_keys_new(in[0].bytes, count, &keys));
+    if (answer.status == COOKIE_DONE)
+        answer = key_call(name, in, &keys, out, length);
+    cookie_keys_free(&keys);
+    return answer;
 }
 
 /* Whether the spans have these lengths, and are one right after the other; or all are 0. */
@@ -611,17 +633,17 @@ static cookie_answer play_agent(const text *in, uint8_t *out, size_t length) {
     return answer;
 }
 
+static bool is_one_of(const char *name, const char *const *names) {
+    while (*names != NULL && strcmp(name, *names) != 0)
+        names++;
+    return *names != NULL;
+}
+
 static cookie_answer call(const char *name, const text *in, uint8_t *out, size_t length) {
     if (strcmp(name, "derive_key") == 0)
         return cookie_derive_key(IN(0), out, length);
-    if (strcmp(name, "sign") == 0)
-        return cookie_sign(IN(0), IN(1), IN(2), out, length);
-    if (strcmp(name, "verify") == 0)
-        return cookie_verify(IN(0), IN(1), IN(2), out, length);
-    if (strcmp(name, "seal") == 0)
-        return cookie_seal(IN(0), IN(1), IN(2), IN(3), out, length);
-    if (strcmp(name, "open") == 0)
-        return cookie_open(IN(0), IN(1), IN(2), out, length);
+    if (is_one_of(name, (const char *[]){"sign", "verify", "seal", "open", "token_make", "token_read", NULL}))
+        return play_keys(name, in, out, length);
     if (strcmp(name, "run") == 0)
         return cookie_run(1, 2, IN(0), IN(1), out, length);
     if (strcmp(name, "jar") == 0)
@@ -642,8 +664,6 @@ static cookie_answer call(const char *name, const text *in, uint8_t *out, size_t
         return save_session(in, out, length);
     if (strcmp(name, "session_end") == 0)
         return end_session(in, out, length);
-    if (strcmp(name, "token_make") == 0 || strcmp(name, "token_read") == 0)
-        return play_token(name, in, out, length);
     if (strcmp(name, "print_date") == 0) {
         int n[6];
         numbers_of(in[0], n);
@@ -817,15 +837,18 @@ static void overlap(void) {
     int right = 0, tried = 0;
     for (size_t at = 0; at < 60; at++) {
         uint8_t key[64], memory[260], wanted[48];
+        cookie_keys keys = {0};
         memset(key, 7, sizeof key);
         memset(memory, 0xa5, sizeof memory);
-        cookie_sign(key, 64, name, 7, value, 4, wanted, 48);
+        cookie_keys_new(key, 64, &keys);
+        cookie_sign(&keys, name, 7, value, 4, wanted, 48);
         memcpy(memory + 100 + at, value, 4);
-        cookie_answer answer = cookie_sign(key, 64, name, 7, memory + 100 + at, 4, memory + 100, 60);
+        cookie_answer answer = cookie_sign(&keys, name, 7, memory + 100 + at, 4, memory + 100, 60);
         tried++;
         right += answer.status == COOKIE_DONE && answer.length == 48 && memcmp(memory + 100, wanted, 48) == 0;
         memcpy(memory + 100 + at, wanted, 48);
-        answer = cookie_verify(key, 64, name, 7, memory + 100 + at, 48, memory + 100, 60);
+        answer = cookie_verify(&keys, name, 7, memory + 100 + at, 48, memory + 100, 60);
+        cookie_keys_free(&keys);
         tried++;
         right += answer.status == COOKIE_DONE && answer.length == 4 && memcmp(memory + 100, value, 4) == 0;
         for (size_t i = 0; i < sizeof memory; i++)

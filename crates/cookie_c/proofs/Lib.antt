@@ -7,12 +7,11 @@ mod HandleLemmas
 mod HeldBox
 mod JarLemmas
 mod KeyBytesLemmas
-mod KeyedLemmas
+mod KeyCallLemmas
 mod LogoutLemmas
 mod OpenLemmas
 mod PairLemmas
 mod PrintLemmas
-mod ReadLemmas
 mod ReadingLemmas
 mod RevokedLemmas
 mod SaveLemmas

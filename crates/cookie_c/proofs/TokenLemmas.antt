@@ -1,33 +1,12 @@
--- Tokens for C, by what the library's calls do.
-use Rattle.std.proofs.Common.{◌≡◌, ℕ, inl, List, sym, ap, subst, ◌∙◌}
+-- How a token is made for C, by what the library's call does.
+use Rattle.std.proofs.Common.{◌≡◌, ℕ, inl, List, ap, subst, ◌∙◌}
 use Rattle.jiff.specs.Types.{DateTime}
 use Rattle.cookie_session.specs.Tokens.{CanMakeToken, IsReadUntilEnd, made_token, new_token}
 use Rattle.cookie_session.specs.declared.tokens.Tokens.{Tokens}
 use Rattle.cookie_c.specs.Answers.{IsGiven, IsRefused}
-use Rattle.cookie_c.specs.Sites.{AreKeys}
-use Rattle.cookie_c.specs.Tokens.{AreTokensOf, CallsTokens, IsCallOf, MakesToken}
+use Rattle.cookie_c.specs.Tokens.{MakesToken}
 use Rattle.cookie_c.specs.declared.answer.Answer.{Answer}
-use Rattle.cookie_c.specs.declared.status.Status.{Status}
 use Rattle.cookie_c.specs.declared.status.Status.TheVariants as status
-use Rattle.cookie_c.specs.declared.tokens.TokenSettings.{TokenSettings}
-use Rattle.cookie_c.specs.declared.tokens.call.TokenCall.{TokenCall}
-
--- what holds of a call's tokens holds of those of the settings
-pub call_holds : (settings : TokenSettings) (text : List ℕ) (now : ℕ) (call : TokenCall) (site : Tokens) (Holds : List ℕ → Tokens → DateTime → Type 0) (Refuses : Status → Type 0)
-    → IsCallOf settings text now call → AreTokensOf call site → Holds call.text.now site call.time → CallsTokens settings text now (Holds text) Refuses
-call_holds settings text now call site Holds Refuses is are holds =
-    inl (
-      site,
-      call.time,
-      record {
-        keys = subst (AreKeys settings.keys.now) (sym are.keys) is.keys;
-        purpose = are.purpose ∙ is.purpose;
-        lifetime = are.lifetime ∙ is.lifetime;
-        texts = is.texts;
-        dated = is.dated;
-      },
-      subst (λ t. Holds t site call.time) is.text holds,
-    )
 
 module _ (site : Tokens) (nonce : List ℕ) (time : DateTime) (value : List ℕ) (answer : Answer) (old new : List ℕ) where
   -- the token is made under this nonce, and given

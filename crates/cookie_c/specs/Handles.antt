@@ -21,6 +21,10 @@ abbrev pub jar_in : Option Content → Option JarState
 jar_in (Some (content.Jar jar)) = Some jar
 jar_in _ = None
 
+abbrev pub keys_in : Option Content → Option (List (List ℕ))
+keys_in (Some (content.Keys ring)) = Some ring
+keys_in _ = None
+
 abbrev pub site_in : Option Content → Option Site
 site_in (Some (content.Sessions site)) = Some site
 site_in _ = None

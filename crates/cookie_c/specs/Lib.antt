@@ -9,7 +9,8 @@ pub mod Explanations
 pub mod Handles
 pub mod Held
 pub mod Jars
-pub mod Keyed
+pub mod KeyCalls
+pub mod Keys
 pub mod NextPiece
 pub mod Numbers
 pub mod OpenedSessions

@@ -1,17 +1,16 @@
 -- The site that C's settings stand for, and a call on it in a second.
 use Rattle.std.specs.Prelude.{◌≡◌, ℕ, pos, ◌<◌, ◌≤◌, ◌%◌, ◌⊎◌, List, length, All, Option, Some, None, true, IsUtf8}
-use Rattle.std.specs.List.{concat}
 use Rattle.jiff.specs.Types.{DateTime}
 use Rattle.jiff.specs.Words.{civil_nanos, nanos_of_seconds}
 use Rattle.cookie.specs.AttributeValues.{FitsField}
 use Rattle.cookie.specs.CookieOf.{cookie_of}
-use Rattle.cookie.specs.Keys.{key_length}
 use Rattle.cookie.specs.Record.{Record}
 use Rattle.cookie.specs.declared.ParseError.{ParseError}
 use Rattle.cookie_session.specs.declared.sessions.Sessions.{Sessions}
 use Rattle.cookie_c.specs.Codes.{refusal_status}
 use Rattle.cookie_c.specs.Decoded.{IsDecodingRefusal}
 use Rattle.cookie_c.specs.Handles.{IsKept, IsPut, site_in}
+use Rattle.cookie_c.specs.Keys.{AreKeys, HasKeys}
 use Rattle.cookie_c.specs.declared.sessions.SessionSettings.{SessionSettings}
 use Rattle.cookie_c.specs.declared.sessions.Sessions.{Sessions as Handle}
 use Rattle.cookie_c.specs.declared.sessions.site.Site.{Site}
@@ -21,16 +20,6 @@ use Rattle.cookie_c.specs.declared.status.Status.TheVariants as status
 -- what a handle has as a site
 abbrev pub site_of : Handle → Option Site
 site_of sessions = site_in sessions.handle.held.content
-
--- the bytes of one key or more
-abbrev pub HasKeys : List ℕ → Type 0
-HasKeys bytes = (0 < length bytes) × (length bytes % key_length ≡ 0)
-
--- the bytes are these keys, one after the other
-pub record AreKeys (bytes : List ℕ) (keys : List (List ℕ)) : Type 0 where
-  pub joined : concat keys ≡ bytes
-  pub long : All (λ key. length key ≡ key_length) keys
-  pub some : 0 < length keys
 
 -- the site has these keys, this cookie, which fits a header, and these limits
 pub record IsSiteOf (settings : SessionSettings) (site : Site) : Type 0 where

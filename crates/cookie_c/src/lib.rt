@@ -11,7 +11,7 @@ mod explanation;
 mod handle;
 mod jar;
 mod key;
-mod keyed;
+mod keys;
 mod next_piece;
 mod pair;
 mod print;

@@ -1,82 +1,113 @@
 //! Signed values for C (RFC 2104).
-ghost use Rattle.std.specs.Prelude.{◌≡◌, Some, None};
-ghost use Rattle.cookie.specs.Keys.{key_bytes, signing_half};
-ghost use Rattle.cookie.specs.Signing.{IsSigned, signing};
-ghost use Rattle.cookie_c.specs.Answers.{IsGivenInMemory, IsRead, IsRefused};
-ghost use Rattle.cookie_c.specs.Keyed.{refusal_of};
-ghost use Rattle.cookie_c.specs.declared.status.Status.{Status as StatusValue};
+ghost use Rattle.std.specs.Prelude.{◌≡◌, ℕ, List, MatchOption};
+ghost use Rattle.cookie_c.specs.Answers.{IsRead};
+ghost use Rattle.cookie_c.specs.Handles.{Reads};
+ghost use Rattle.cookie_c.specs.KeyCalls.{IsSignedBy, Signs, Verifies};
+ghost use Rattle.cookie_c.specs.Keys.{keys_of};
 ghost use Rattle.cookie_c.specs.declared.status.Status.TheVariants as status;
 
 use crate::answer::Answer;
-use crate::keyed::Keyed;
+use crate::handle::with_content;
+use crate::keys::Keys;
 use crate::status::Status;
+use cookie_session::KeyRing;
 use std::alloc::Global;
 
-/// Signs the value as a signed jar stores it under the name, for the buffer: 44 characters of signature, and the value.
-/// The key has at least 64 random bytes, of which the first 64 count.
+/// Signs the value as a signed jar stores it under the name, by the newest key, for the buffer: 44 characters of
+/// signature, and the value. The keys are as before.
 ///
-/// Refuses a shorter key, and then a name or a value that isn't UTF-8. Else it fails only when memory runs out.
-#[tactic(auto, using(crate::proofs::KeyedLemmas::refused_only))]
+/// Refuses a handle without keys, and then a name or a value that isn't UTF-8. Else it fails only when memory runs out.
 #[unsafe(no_mangle)]
 pub extern "C" fn cookie_sign(
     alloc: Global,
-    key: &[u8],
+    keys: &mut Keys,
     name: &[u8],
     value: &[u8],
     out: &mut [u8],
 ) -> Answer
-    ensures refused { (why : StatusValue) → refusal_of key.now name.now value.now ≡ Some why
-        → IsRefused why result out.old out.new }
-    ensures signed { refusal_of key.now name.now value.now ≡ None
-        → IsGivenInMemory (signing (signing_half (key_bytes key.now)) name.now value.now)
-        result out.old out.new }
+    ensures kept { keys_of keys.new ≡ keys_of keys.old }
+    ensures signed { Reads status.NoKeys (Signs name.now value.now)
+        (keys_of keys.old) result out.old out.new }
 {
-    match Keyed::of(key, name, value) {
-        Ok(keyed) => give_signed(alloc, &keyed, out),
-        Err(why) => Answer::refusal(why),
-    }
+    with_content!(alloc, keys.handle,
+        Keys(ring) => sign(alloc, ring, name, value, out),
+        _ => Answer::refusal(Status::NoKeys),
+    )
 }
 
-/// Verifies a text that was signed as `cookie_sign` does, under the same key and name. The value that was signed is for
-/// the buffer.
+/// Verifies a text that was signed as `cookie_sign` does, under the same name by one of the keys. The value that was
+/// signed is for the buffer. The keys are as before.
 ///
-/// Refuses a short key, and then a name or a text that isn't UTF-8, and then a text that isn't signed under the key and
-/// the name. It needs no memory.
-#[tactic(auto, using(crate::proofs::KeyedLemmas::refused_only))]
+/// Refuses a handle without keys, then a name or a text that isn't UTF-8, and then a text that isn't signed under one of
+/// the keys and the name. It doesn't allocate.
 #[unsafe(no_mangle)]
-pub extern "C" fn cookie_verify(key: &[u8], name: &[u8], text: &[u8], out: &mut [u8]) -> Answer
-    ensures refused { (why : StatusValue) → refusal_of key.now name.now text.now ≡ Some why
-        → IsRefused why result out.old out.new }
-    ensures verified { refusal_of key.now name.now text.now ≡ None
-        → IsRead (IsSigned (signing_half (key_bytes key.now)) name.now text.now)
-        status.NotSigned result out.old out.new }
+pub extern "C" fn cookie_verify(
+    alloc: Global,
+    keys: &mut Keys,
+    name: &[u8],
+    text: &[u8],
+    out: &mut [u8],
+) -> Answer
+    ensures kept { keys_of keys.new ≡ keys_of keys.old }
+    ensures verified { Reads status.NoKeys (Verifies name.now text.now)
+        (keys_of keys.old) result out.old out.new }
 {
-    match Keyed::of(key, name, text) {
-        Ok(keyed) => give_verified(&keyed, out),
-        Err(why) => Answer::refusal(why),
-    }
+    with_content!(alloc, keys.handle,
+        Keys(ring) => verify(ring, name, text, out),
+        _ => Answer::refusal(Status::NoKeys),
+    )
 }
 
 // The signed value, for the buffer.
-fn give_signed(alloc: Global, keyed: &Keyed<'_>, out: &mut [u8]) -> Answer
-    ensures { IsGivenInMemory
-        (signing (signing_half keyed.now.key) keyed.now.name.now keyed.now.text.now)
-        result out.old out.new }
+fn sign(alloc: Global, keys: &KeyRing, name: &[u8], value: &[u8], out: &mut [u8]) -> Answer
+    ensures { Signs name.now value.now keys.now result out.old out.new }
 {
-    match keyed.key.signer().sign(alloc, keyed.name, keyed.text) {
+    let Ok(name) = str::from_utf8(name) else {
+        return Answer::refusal(Status::NotUtf8);
+    };
+    let Ok(value) = str::from_utf8(value) else {
+        return Answer::refusal(Status::NotUtf8);
+    };
+    match keys.newest().signer().sign(alloc, name, value) {
         Ok(text) => Answer::give(text.as_bytes(), out),
         Err(_) => Answer::refusal(Status::OutOfMemory),
     }
 }
 
 // The value that was signed, if the text is a signed value, for the buffer.
-#[tactic(auto, using(crate::proofs::ReadLemmas::read_some, crate::proofs::ReadLemmas::read_none))]
-fn give_verified(keyed: &Keyed<'_>, out: &mut [u8]) -> Answer
-    ensures { IsRead (IsSigned (signing_half keyed.now.key) keyed.now.name.now keyed.now.text.now)
-        status.NotSigned result out.old out.new }
+fn verify(keys: &KeyRing, name: &[u8], text: &[u8], out: &mut [u8]) -> Answer
+    ensures { Verifies name.now text.now keys.now result out.old out.new }
 {
-    match keyed.key.signer().verify(keyed.name, keyed.text) {
+    let Ok(name) = str::from_utf8(name) else {
+        return Answer::refusal(Status::NotUtf8);
+    };
+    let Ok(text) = str::from_utf8(text) else {
+        return Answer::refusal(Status::NotUtf8);
+    };
+    give_verified(keys, name, text, out)
+}
+
+// The same of texts that are UTF-8.
+fn give_verified(keys: &KeyRing, name: &str, text: &str, out: &mut [u8]) -> Answer
+    ensures { IsRead (IsSignedBy keys.now name.now text.now) status.NotSigned
+        result out.old out.new }
+{
+    match signed_value(keys, name, text) {
         Some(value) => Answer::give(value.as_bytes(), out),
         None => Answer::refusal(Status::NotSigned),
     }
+}
+
+// The value that one of the keys signed.
+fn signed_value<'t>(keys: &KeyRing, name: &str, text: &'t str) -> Option<&'t str>
+    ensures { MatchOption result
+        ((value : List ℕ) → ¬ IsSignedBy keys.now name.now text.now value)
+        (λ value. IsSignedBy keys.now name.now text.now value.now) }
+{
+    for place in 0..keys.len() {
+        if let Some(value) = keys.at(place).signer().verify(name, text) {
+            return Some(value);
+        }
+    }
+    None
 }

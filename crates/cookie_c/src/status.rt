@@ -67,6 +67,8 @@ pub enum Status {
     Replaces = 29,
     /// The session was over or revoked already: another request renewed or ended it.
     Gone = 30,
+    /// The handle has no keys.
+    NoKeys = 31,
 }
 
 impl Status {

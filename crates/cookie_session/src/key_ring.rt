@@ -156,8 +156,12 @@ impl KeyRing {
         }))
     }
 
-    // The value that is sealed in the text, by the newest key that opens it, for the purpose if there is one.
-    pub(crate) fn open_text(
+    /// Returns the value that is sealed in the text under the name, and the place of the key that opened it: the newest
+    /// that does. The text is sealed as by `Sealer::seal`, or for the purpose, if there is one, as by `Sealer::seal_for`.
+    /// Returns `None` if no key opens it.
+    ///
+    /// Fails only if out of memory.
+    pub fn open_text(
         &self,
         purpose: Option<&str>,
         name: &str,
@@ -229,8 +233,8 @@ impl KeyRing {
         Ok(())
     }
 
-    // The key at a place.
-    fn at(&self, place: usize) -> &Key
+    /// The key at a place: 0 is the newest.
+    pub fn at(&self, place: usize) -> &Key
         requires { place < length self.now }
         ensures { slice_get self.now place ≡ Some result.now }
     {

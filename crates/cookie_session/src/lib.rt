@@ -45,6 +45,7 @@ pub use key_text_error::KeyTextError;
 pub use never_revoked::NeverRevoked;
 pub use open_error::OpenError;
 pub use opened::Opened;
+pub use opened_text::OpenedText;
 pub use opening::Opening;
 pub use pass::Pass;
 pub use revocations::Revocations;

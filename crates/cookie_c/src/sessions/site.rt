@@ -8,7 +8,7 @@ ghost use Rattle.cookie_c.specs.Sites.{AreOf, IsSiteOf, IsUnusable};
 ghost use Rattle.cookie_c.specs.declared.status.Status.TheVariants as status;
 
 use super::SessionSettings;
-use super::keys::{has_keys, ring_of};
+use crate::keys::ring::{has_keys, ring_of};
 use crate::status::Status;
 use cookie::{Cookie, fits_field};
 use cookie_session::{KeyRing, Sessions};

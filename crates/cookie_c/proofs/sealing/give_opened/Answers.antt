@@ -1,17 +1,9 @@
-use Rattle.std.proofs.Common.{◌≡◌, ◌↔◌, ℕ, List, Some, inl, refl, subst}
-use Rattle.std.specs.Option.{option_map}
-use Rattle.std.specs.String.{string_bytes}
-use Rattle.cookie.specs.Sealing.{IsSealed}
+use Rattle.std.proofs.Common.{inl, subst}
 use Rattle.cookie_c.specs.Answers.{IsGiven}
-use Rattle.cookie_c.proofs.ReadLemmas.{read_some}
+use Rattle.cookie_c.proofs.KeyCallLemmas.{sealed_some}
 use Rattle.cookie_c.proofs.sealing.give_opened.Goals as goal
 
 pub returns-in-Ok-Some : goal.returns-in-Ok-Some
 returns-in-Ok-Some c =
-    let keyed = c.args.keyed.now in
-    let value = string_bytes c.in-Ok-Some.value in
-    let finds = subst (λ key. (v : List ℕ) → (Some value ≡ Some v) ↔ IsSealed key keyed.name.now keyed.text.now v) c.sealer.ensures
-    (subst (λ found. (v : List ℕ) → (option_map string_bytes found ≡ Some v) ↔ IsSealed c.sealer.result.now keyed.name.now keyed.text.now v) c.in-Ok-Some.field-0-is
-    c.in-Ok-Some.ensures) in
-    inl (read_some _ (Some value) finds _ _ _ _ value refl
-    (subst (λ text. IsGiven text c.give.result c.args.out.now c.give.new.out) c.as_bytes.ensures.value c.give.ensures))
+    inl (sealed_some c.args.keys.now c.args.name.now c.args.text.now c.in-Ok-Some.field-0 c.in-Ok-Some.ensures c.give.result c.args.out.now c.give.new.out
+    c.in-Ok-Some.opened c.in-Ok-Some.field-0-is (subst (λ text. IsGiven text c.give.result c.args.out.now c.give.new.out) c.as_bytes.ensures.value c.give.ensures))

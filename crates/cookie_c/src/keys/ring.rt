@@ -1,6 +1,6 @@
 //! The keys of a site that C passes in, one after the other.
 ghost use Rattle.std.specs.Prelude.{IfOk, IsTrue, ◌↔◌};
-ghost use Rattle.cookie_c.specs.Sites.{AreKeys, HasKeys};
+ghost use Rattle.cookie_c.specs.Keys.{AreKeys, HasKeys};
 
 use cookie::Key;
 use cookie_session::KeyRing;
