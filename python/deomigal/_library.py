@@ -12,6 +12,8 @@ from typing import Any, Callable, NoReturn, Sequence
 from .errors import BufferTooShort, CookieError, KeyTooShort, error_of
 
 DONE = 0
+# How long a browser keeps the cookie of a saved session: by its age, by its expiry too, or until it closes.
+MAX_AGE, MAX_AGE_AND_EXPIRES, UNTIL_CLOSED = range(3)
 # COOKIE_VERSION of the header that this file follows.
 VERSION = 2
 
@@ -174,7 +176,7 @@ SESSION_SET_GENERATION = declare("session_set_generation", HANDLE + SECOND, ctyp
 SESSION_IS_SINCE = declare("session_is_since", HANDLE + SECOND, ctypes.c_bool)
 SESSION_RENEW = declare("session_renew", HANDLE * 2 + TEXT + SECOND, ctypes.c_uint32)
 SESSION_MUST_SAVE = declare("session_must_save", HANDLE * 2 + SECOND, Need)
-SESSION_SAVE = declare("session_save", HANDLE * 2 + TEXT + SECOND + TEXT, Answer)
+SESSION_SAVE = declare("session_save", HANDLE * 2 + [ctypes.c_uint32] + TEXT + SECOND + TEXT, Answer)
 SESSION_GIVEN = declare("session_given", HANDLE, Pass)
 SESSION_REPLACE = declare("session_replace", HANDLE + SECOND + [ctypes.c_bool], ctypes.c_uint32)
 SESSION_LOG_OUT = declare("session_log_out", HANDLE + SECOND + [ctypes.c_bool], ctypes.c_uint32)

@@ -7,10 +7,10 @@ import os
 from typing import Any, Callable, Iterator, MutableMapping, Sequence
 
 from ._library import (
-    DONE, OPENED_FREE, OPENED_IDS, OPENED_NEW, OPENED_TAKE, SESSION_DESCRIBE, SESSION_END, SESSION_FREE, SESSION_GIVEN,
-    SESSION_LOG_OUT, SESSION_MUST_SAVE, SESSION_OPEN, SESSION_RENEW, SESSION_REPLACE, SESSION_SAVE, SESSION_SET_TEXTS,
-    SESSION_START, SESSION_TEXTS, SESSIONS_FREE, SESSIONS_NEW, OwnHandle, Settings, Uncopied, bytes_from, header_of, perform,
-    ring_of,
+    DONE, MAX_AGE, OPENED_FREE, OPENED_IDS, OPENED_NEW, OPENED_TAKE, SESSION_DESCRIBE, SESSION_END, SESSION_FREE,
+    SESSION_GIVEN, SESSION_LOG_OUT, SESSION_MUST_SAVE, SESSION_OPEN, SESSION_RENEW, SESSION_REPLACE, SESSION_SAVE,
+    SESSION_SET_TEXTS, SESSION_START, SESSION_TEXTS, SESSIONS_FREE, SESSIONS_NEW, OwnHandle, Settings, Uncopied, bytes_from,
+    header_of, perform, ring_of,
 )
 from ._locks import Lock
 from ._steps import run
@@ -351,8 +351,11 @@ class Sessions(Uncopied):
             # What was renewed since has another id.
             session.is_started = bytes(SESSION_DESCRIBE(session.handle).id) == session.id
 
-    def save(self, session: Session) -> str:
+    def save(self, session: Session, lasting: int = MAX_AGE) -> str:
         """The value of the `Set-Cookie` header that saves the session, encrypted under the newest key.
+
+        `lasting` is how long the browser keeps the cookie: `MAX_AGE`, `MAX_AGE_AND_EXPIRES`, for clients that know only one of
+        the two attributes, or `UNTIL_CLOSED`.
 
         Save at each request, so that the idle time counts from it. The first save after a renewal revokes what the browser
         has, if the site has `revocations`. Raises `Gone` if that is over or was revoked already: of two requests that renew
@@ -373,21 +376,21 @@ class Sessions(Uncopied):
         ...     print(error.size > 4096)
         True
         """
-        return run(self.saving(session, self.ask))
+        return run(self.saving(session, self.ask, lasting))
 
-    async def asave(self, session: Session) -> str:
+    async def asave(self, session: Session, lasting: int = MAX_AGE) -> str:
         """Does what `save` does. Calls of the revocations that are coroutines are awaited, and others made in a worker
         thread."""
-        return await self.saving(session, self.ask_async)
+        return await self.saving(session, self.ask_async, lasting)
 
-    async def saving(self, session: Session, ask: Ask) -> str:
+    async def saving(self, session: Session, ask: Ask, lasting: int = MAX_AGE) -> str:
         """Saves the session, once what it replaces is revoked."""
         await self.prepare(session, ask)
         try:
-            text = self.text_of(session)
+            text = self.text_of(session, lasting)
         except Replaces:
             await self.spend(session, ask, SESSION_REPLACE)
-            text = self.text_of(session)
+            text = self.text_of(session, lasting)
         # A copy of it opens this cookie again.
         session.header, session.revoked = text.partition(";")[0].encode(), b""
         return text
@@ -414,17 +417,17 @@ class Sessions(Uncopied):
             perform(SESSION_SET_TEXTS, session.handle, form)
             session.known = dict(session.texts)
 
-    def text_of(self, session: Session) -> str:
+    def text_of(self, session: Session, lasting: int) -> str:
         """The text of the session's cookie, under a nonce of its own."""
         with self.lock:
-            nonce = os.urandom(12)
-            return bytes_from(SESSION_SAVE, self.handle, session.handle, nonce, session.now, buffer=self.buffer).decode()
+            words = self.handle, session.handle, lasting, os.urandom(12), session.now
+            return bytes_from(SESSION_SAVE, *words, buffer=self.buffer).decode()
 
     def check(self, session: Session) -> None:
         """Raises what `save` raises for the session as it is now, but asks no store and revokes nothing."""
         run(self.prepare(session, self.ask))
         with self.lock:
-            answer = SESSION_SAVE(self.handle, session.handle, os.urandom(12), 12, session.now, None, 0)
+            answer = SESSION_SAVE(self.handle, session.handle, MAX_AGE, os.urandom(12), 12, session.now, None, 0)
         # Without room nothing is given.
         if answer.status not in (BufferTooShort.status, Replaces.status):
             raise error_of(answer.status, answer.length)

@@ -386,7 +386,7 @@ static void replace_session(cookie_sessions *sessions, cookie_session *session, 
         fault("the browser hasn't the session that was saved");
     if (cookie_session_renew(sessions, session, id, sizeof id, now) != COOKIE_DONE)
         fault("a session that was saved isn't renewed");
-    cookie_answer answer = cookie_session_save(sessions, session, nonce, sizeof nonce, now, out, sizeof out);
+    cookie_answer answer = cookie_session_save(sessions, session, 0, nonce, sizeof nonce, now, out, sizeof out);
     if (answer.status != COOKIE_REPLACES || answer.length != 0 || out[0] != 0)
         fault("a session is saved that replaces another one");
     cookie_need need = cookie_session_must_save(sessions, session, now);
@@ -399,10 +399,10 @@ static void replace_session(cookie_sessions *sessions, cookie_session *session, 
         || cookie_session_replace(session, now, false) != COOKIE_NOT_FOUND
         || cookie_session_log_out(session, now, false) != COOKIE_NOT_FOUND)
         fault("a session that is replaced is still the browser's");
-    answer = cookie_session_save(sessions, session, nonce, sizeof nonce, now, out, 0);
+    answer = cookie_session_save(sessions, session, 0, nonce, sizeof nonce, now, out, 0);
     if (answer.status != COOKIE_BUFFER_TOO_SHORT || !is_given(session, COOKIE_NOT_FOUND, &before))
         fault("the browser has a session that had no room");
-    answer = cookie_session_save(sessions, session, nonce, sizeof nonce, now, out, sizeof out);
+    answer = cookie_session_save(sessions, session, 0, nonce, sizeof nonce, now, out, sizeof out);
     before = cookie_session_describe(session);
     if (answer.status != COOKIE_DONE || !is_given(session, COOKIE_DONE, &before))
         fault("a session that replaced another one isn't saved");
@@ -430,7 +430,7 @@ static cookie_answer save_session(const text *in, uint8_t *out, size_t length) {
     if (answer.status == COOKIE_DONE)
         answer.status = make_session(in, n, &sessions, &session);
     if (answer.status == COOKIE_DONE)
-        answer = cookie_session_save(&sessions, &session, in[6].bytes, 12, (uint64_t)n[2], out, length);
+        answer = cookie_session_save(&sessions, &session, COOKIE_MAX_AGE, in[6].bytes, 12, (uint64_t)n[2], out, length);
     if (answer.status == COOKIE_DONE) {
         replace_session(&sessions, &session, (uint64_t)n[2]);
         end_saved_session(&session, (uint64_t)n[2]);
@@ -986,7 +986,7 @@ static uint32_t session_step(int step, site_handles *at) {
         return cookie_session_set_texts(&at->session, form, sizeof form - 1);
     case 4: {
         cookie_answer answer =
-            cookie_session_save(&at->sessions, &at->session, nonce, 12, 1445412480, saved, sizeof saved);
+            cookie_session_save(&at->sessions, &at->session, COOKIE_MAX_AGE, nonce, 12, 1445412480, saved, sizeof saved);
         if (answer.status == COOKIE_DONE)
             length = (size_t)((uint8_t *)memchr(saved, ';', answer.length) - saved);
         return answer.status;

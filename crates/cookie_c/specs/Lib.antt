@@ -11,6 +11,7 @@ pub mod Held
 pub mod Jars
 pub mod KeyCalls
 pub mod Keys
+pub mod Lastings
 pub mod NextPiece
 pub mod Numbers
 pub mod OpenedSessions

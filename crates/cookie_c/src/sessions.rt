@@ -7,6 +7,7 @@ pub(crate) mod ending;
 pub(crate) mod facts;
 pub(crate) mod generation;
 pub(crate) mod given;
+pub(crate) mod lasting;
 pub(crate) mod logout;
 pub(crate) mod need;
 pub(crate) mod open;
