@@ -14,6 +14,8 @@ from .errors import BufferTooShort, CookieError, KeyTooShort, error_of
 DONE = 0
 # How long a browser keeps the cookie of a saved session: by its age, by its expiry too, or until it closes.
 MAX_AGE, MAX_AGE_AND_EXPIRES, UNTIL_CLOSED = range(3)
+# The lengths of a name and its text in a list.
+LENGTHS = struct.Struct("<QQ")
 # COOKIE_VERSION of the header that this file follows.
 VERSION = 2
 
@@ -171,6 +173,7 @@ SESSION_GET = declare("session_get", HANDLE + TEXT * 2, Answer)
 SESSION_SET = declare("session_set", HANDLE + TEXT * 2, ctypes.c_uint32)
 SESSION_REMOVE = declare("session_remove", HANDLE + TEXT, ctypes.c_uint32)
 SESSION_TEXTS = declare("session_texts", HANDLE + TEXT, Answer)
+SESSION_LIST = declare("session_list", HANDLE + TEXT, Answer)
 SESSION_SET_TEXTS = declare("session_set_texts", HANDLE + TEXT, ctypes.c_uint32)
 SESSION_SET_GENERATION = declare("session_set_generation", HANDLE + SECOND, ctypes.c_uint32)
 SESSION_IS_SINCE = declare("session_is_since", HANDLE + SECOND, ctypes.c_bool)
@@ -289,6 +292,17 @@ def text_or_none(function: Callable[..., Any], none: tuple[type[CookieError], ..
 def text_at(text: bytes, span: Span) -> str:
     """The text of the span."""
     return text[span.start : span.start + span.length].decode()
+
+
+def listed(texts: bytes) -> dict[str, str]:
+    """The texts by name of `SESSION_LIST`: each after the lengths of its name and itself."""
+    found, at = {}, 0
+    while at < len(texts):
+        name, text = LENGTHS.unpack_from(texts, at)
+        middle = at + LENGTHS.size + name
+        found[texts[middle - name : middle].decode()] = texts[middle : middle + text].decode()
+        at = middle + text
+    return found
 
 
 def unescaped(text: bytes) -> str:

@@ -8,13 +8,13 @@ from typing import Any, Callable, Iterator, MutableMapping, Sequence
 
 from ._library import (
     DONE, MAX_AGE, OPENED_FREE, OPENED_IDS, OPENED_NEW, OPENED_TAKE, SESSION_DESCRIBE, SESSION_END, SESSION_FREE,
-    SESSION_GIVEN, SESSION_LOG_OUT, SESSION_MUST_SAVE, SESSION_OPEN, SESSION_RENEW, SESSION_REPLACE, SESSION_SAVE,
-    SESSION_SET_TEXTS, SESSION_START, SESSION_TEXTS, SESSIONS_FREE, SESSIONS_NEW, OwnHandle, Settings, Uncopied, bytes_from,
-    header_of, perform, ring_of,
+    SESSION_GIVEN, SESSION_LIST, SESSION_LOG_OUT, SESSION_MUST_SAVE, SESSION_OPEN, SESSION_REMOVE, SESSION_RENEW,
+    SESSION_REPLACE, SESSION_SAVE, SESSION_SET, SESSION_START, SESSIONS_FREE, SESSIONS_NEW, OwnHandle, Settings, Uncopied,
+    bytes_from, header_of, listed, perform, ring_of,
 )
 from ._locks import Lock
 from ._steps import run
-from .compression import form_of, texts_of
+from .compression import kept_of, texts_of
 from .cookies import print_cookie
 from .dates import whole_second
 from .errors import BufferTooShort, Gone, NoSession, NotUtf8, Replaces, RevocationsError, error_of
@@ -56,8 +56,9 @@ class Session(MutableMapping[str, str]):
         self.header = b""
         self.revoked: bytes | None = None
         self.texts: dict[str, str] = {}
-        # The texts that the library has, if it is known which.
+        # The texts that the library has, and what it keeps of them, if it is known which.
         self.known: dict[str, str] | None = None
+        self.kept: dict[str, str] | None = None
         self.renew()
 
     @property
@@ -248,9 +249,9 @@ class Sessions(Uncopied):
         session.describe()
         session.is_renewed = False
         with self.lock:
-            form = bytes_from(SESSION_TEXTS, session.handle, buffer=self.buffer)
+            session.kept = listed(bytes_from(SESSION_LIST, session.handle, buffer=self.buffer))
         try:
-            session.texts = texts_of(form)
+            session.texts = dict(texts_of(session.kept))
         except ValueError:
             # Another program saved it, under the same key.
             return self.start(session.now)
@@ -347,7 +348,7 @@ class Sessions(Uncopied):
         """Opens the session of a copy for its handle, as it was opened or saved."""
         if not session.handle.is_open and session.header:
             await self.fill(session, ask)
-            session.known = None
+            session.known = session.kept = None
             # What was renewed since has another id.
             session.is_started = bytes(SESSION_DESCRIBE(session.handle).id) == session.id
 
@@ -406,16 +407,27 @@ class Sessions(Uncopied):
                     perform(SESSION_RENEW, self.handle, session.handle, session.id, session.now)
                 else:
                     perform(SESSION_START, self.handle, session.id, session.now, session.handle)
-                    session.known = {}
+                    session.known, session.kept = {}, {}
             session.describe()
         if session.texts != session.known:
-            try:
-                form = form_of(session.texts, self.compress)
-            except UnicodeEncodeError:
-                # A lone surrogate.
-                raise error_of(NotUtf8.status) from None
-            perform(SESSION_SET_TEXTS, session.handle, form)
-            session.known = dict(session.texts)
+            self.keep(session)
+
+    def keep(self, session: Session) -> None:
+        """Has the library keep the session's texts: those that it hasn't."""
+        try:
+            texts = kept_of(session.texts, self.compress)
+        except UnicodeEncodeError:
+            # A lone surrogate.
+            raise error_of(NotUtf8.status) from None
+        kept, session.known, session.kept = session.kept, None, None
+        if kept is None:
+            kept = listed(bytes_from(SESSION_LIST, session.handle, room=ROOM))
+        for name in kept.keys() - texts.keys():
+            perform(SESSION_REMOVE, session.handle, name)
+        for name, text in texts.items():
+            if kept.get(name) != text:
+                perform(SESSION_SET, session.handle, name, text)
+        session.known, session.kept = dict(session.texts), dict(texts)
 
     def text_of(self, session: Session, lasting: int) -> str:
         """The text of the session's cookie, under a nonce of its own."""

@@ -291,6 +291,10 @@ static void sessions(void) {
     MUST(has_limits(&facts, NOW, NOW + 1200, 600) && memcmp(facts.id, KEY, 16) == 0);
     MUST(is(cookie_session_texts(&session, ROOM(7)), COOKIE_BUFFER_TOO_SHORT, 8) && holds(""));
     MUST(is(cookie_session_texts(&session, ROOM(8)), COOKIE_DONE, 8) && holds("user=ann"));
+    MUST(is(cookie_session_list(&session, ROOM(22)), COOKIE_BUFFER_TOO_SHORT, 23) && holds(""));
+    MUST(is(cookie_session_list(&session, ROOM(23)), COOKIE_DONE, 23));
+    MUST(memcmp(out, "\4\0\0\0\0\0\0\0\3\0\0\0\0\0\0\0userann", 23) == 0 && out[23] == 0xa5);
+    holds("");
     /* A site with other limits: an open session keeps its own, and one that starts or is renewed has the new ones. */
     site.lifetime = 3000;
     site.idle = 2000;

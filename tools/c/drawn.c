@@ -92,6 +92,7 @@ typedef struct drawing {
     X(session_set, S(NO_SESSION) | S(NOT_UTF8)) \
     X(session_remove, S(NO_SESSION) | S(NOT_UTF8)) \
     X(session_texts, S(BUFFER_TOO_SHORT) | S(NO_SESSION)) \
+    X(session_list, S(BUFFER_TOO_SHORT) | S(NO_SESSION)) \
     X(session_set_texts, S(NO_SESSION)) \
     X(session_renew, S(BAD_NONCE) | S(NO_SESSIONS) | S(NO_DATE) | S(NO_SESSION)) \
     X(session_must_save, S(NO_SESSIONS) | S(NO_DATE) | S(NO_SESSION)) \
@@ -825,6 +826,9 @@ static void play_session(drawing *d, int call) {
         break;
     case session_texts_call:
         WRITES(session_texts, cookie_session_texts(session, d->out, d->length));
+        break;
+    case session_list_call:
+        WRITES(session_list, cookie_session_list(session, d->out, d->length));
         break;
     case session_set_texts_call: {
         text form = draw_text(d, A_FORM);

@@ -292,6 +292,32 @@ static uint32_t find_session(const text *in, uint64_t now, cookie_sessions *sess
     return status;
 }
 
+/* The number in eight bytes, of which the lowest is the first. */
+static size_t listed(const uint8_t *bytes) {
+    size_t number = 0;
+    for (int i = 8; i > 0; i--)
+        number = number << 8 | bytes[i - 1];
+    return number;
+}
+
+/* Whether the session's list has as many texts as its form, each as it is at its name. */
+static void look_at_list(cookie_session *session) {
+    static uint8_t form[20000], list[20000], out[20000];
+    size_t form_length = cookie_session_texts(session, form, sizeof form).length, at = 0, pairs = form_length > 0;
+    cookie_answer told = cookie_session_list(session, list, sizeof list);
+    for (size_t i = 0; i < form_length; i++)
+        pairs += form[i] == '&';
+    for (; at < told.length && pairs > 0; pairs--) {
+        size_t name = listed(list + at), text = listed(list + at + 8);
+        cookie_answer got = cookie_session_get(session, list + at + 16, name, out, sizeof out);
+        if (got.status != COOKIE_DONE || got.length != text || memcmp(out, list + at + 16 + name, text) != 0)
+            fault("a listed text isn't the session's");
+        at += 16 + name + text;
+    }
+    if (told.status != COOKIE_DONE || at != told.length || pairs != 0)
+        fault("the list lacks a text of the session, or has one more");
+}
+
 /* A session that is opened: the index of its key and its times are the row's last numbers, and its id is the last text. */
 static cookie_answer open_session(const text *in, uint8_t *out, size_t length) {
     long long n[6], told[3];
@@ -301,8 +327,10 @@ static cookie_answer open_session(const text *in, uint8_t *out, size_t length) {
     if (answer.status == COOKIE_DONE)
         answer.status = find_session(in, (uint64_t)n[2], &sessions, &session);
     cookie_session_facts facts = cookie_session_describe(&session);
-    if (answer.status == COOKIE_DONE)
+    if (answer.status == COOKIE_DONE) {
+        look_at_list(&session);
         answer = cookie_session_texts(&session, out, length);
+    }
     numbers_in(in[5], 3, told);
     if (facts.index != (size_t)told[0] || facts.started != (uint64_t)told[1] || facts.seen != (uint64_t)told[2])
         fault("another key or another time");

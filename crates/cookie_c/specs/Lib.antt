@@ -25,4 +25,5 @@ pub mod SavedSessions
 pub mod SessionCalls
 pub mod Sites
 pub mod Spans
+pub mod TextLists
 pub mod Tokens
