@@ -80,12 +80,13 @@ static inline uint32_t cookie_session_renew_drawn(cookie_sessions *sessions, coo
 }
 
 /* cookie_session_save with a nonce that is drawn. */
-static inline cookie_answer cookie_session_save_drawn(cookie_sessions *sessions, cookie_session *session, uint64_t now,
-                                                      uint8_t *out, size_t out_length) {
+static inline cookie_answer cookie_session_save_drawn(cookie_sessions *sessions, cookie_session *session,
+                                                      uint32_t lasting, uint64_t now, uint8_t *out,
+                                                      size_t out_length) {
     uint8_t nonce[COOKIE_NONCE_LENGTH];
     if (cookie_draw(nonce, sizeof nonce) != COOKIE_DONE)
         return cookie_undrawn();
-    return cookie_session_save(sessions, session, nonce, sizeof nonce, now, out, out_length);
+    return cookie_session_save(sessions, session, lasting, nonce, sizeof nonce, now, out, out_length);
 }
 
 /* cookie_token_make with a nonce that is drawn. */

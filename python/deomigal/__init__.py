@@ -22,6 +22,6 @@ from .tokens import Tokens
 __version__ = "0.3.0"
 __all__ = [
     "Agent", "CookieError", "Jar", "Keys", "Session", "Sessions", "Tokens", "decoded_pairs", "derive_key", "errors",
-    "explain", "keys_of", "open_sealed", "pairs", "print_cookie", "print_date", "read_cookie", "read_date", "read_decoded_cookie",
-    "revocations", "run", "seal", "sign", "verify",
+    "explain", "keys_of", "open_sealed", "pairs", "print_cookie", "print_date", "read_cookie", "read_date",
+    "read_decoded_cookie", "revocations", "run", "seal", "sign", "verify",
 ]

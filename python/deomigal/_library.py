@@ -12,6 +12,10 @@ from typing import Any, Callable, NoReturn, Sequence
 from .errors import BufferTooShort, CookieError, KeyTooShort, error_of
 
 DONE = 0
+# How long a browser keeps the cookie of a saved session: by its age, by its expiry too, or until it closes.
+MAX_AGE, MAX_AGE_AND_EXPIRES, UNTIL_CLOSED = range(3)
+# The lengths of a name and its text in a list.
+LENGTHS = struct.Struct("<QQ")
 # COOKIE_VERSION of the header that this file follows.
 VERSION = 2
 
@@ -136,12 +140,13 @@ SESSION_GET = declare("session_get", HANDLE + TEXT * 2, Answer)
 SESSION_SET = declare("session_set", HANDLE + TEXT * 2, U32)
 SESSION_REMOVE = declare("session_remove", HANDLE + TEXT, U32)
 SESSION_TEXTS = declare("session_texts", HANDLE + TEXT, Answer)
+SESSION_LIST = declare("session_list", HANDLE + TEXT, Answer)
 SESSION_SET_TEXTS = declare("session_set_texts", HANDLE + TEXT, U32)
 SESSION_SET_GENERATION = declare("session_set_generation", HANDLE + SECOND, U32)
 SESSION_IS_SINCE = declare("session_is_since", HANDLE + SECOND, BOOL)
 SESSION_RENEW = declare("session_renew", HANDLE * 2 + TEXT + SECOND, U32)
 SESSION_MUST_SAVE = declare("session_must_save", HANDLE * 2 + SECOND, Need)
-SESSION_SAVE = declare("session_save", HANDLE * 2 + TEXT + SECOND + TEXT, Answer)
+SESSION_SAVE = declare("session_save", HANDLE * 2 + [U32] + TEXT + SECOND + TEXT, Answer)
 SESSION_GIVEN = declare("session_given", HANDLE, Pass)
 SESSION_REPLACE = declare("session_replace", HANDLE + SECOND + [BOOL], U32)
 SESSION_LOG_OUT = declare("session_log_out", HANDLE + SECOND + [BOOL], U32)
@@ -282,6 +287,17 @@ def text_or_none(function: Callable[..., Any], none: tuple[type[CookieError], ..
 def bytes_at(text: bytes, span: Any) -> bytes:
     """The bytes of the span."""
     return text[span.start : span.start + span.length]
+
+
+def listed(texts: bytes) -> dict[str, str]:
+    """The texts by name of `SESSION_LIST`: each after the lengths of its name and itself."""
+    found, at = {}, 0
+    while at < len(texts):
+        name, text = LENGTHS.unpack_from(texts, at)
+        middle = at + LENGTHS.size + name
+        found[texts[middle - name : middle].decode()] = texts[middle : middle + text].decode()
+        at = middle + text
+    return found
 
 
 def unescaped(text: str) -> str:

@@ -14,8 +14,9 @@ import time
 from typing import Any, Callable, Iterable, Iterator, NamedTuple
 
 from ._library import (
-    AGENT_CLEAR, AGENT_COOKIE, AGENT_COUNT, AGENT_FREE, AGENT_LOAD, AGENT_NEW, AGENT_OBSTACLES, AGENT_READ, AGENT_REMOVE,
-    AGENT_RETRIEVE, AGENT_SAVE, AGENT_TRIM, SIZE, OwnHandle, Uncopied, answer_and_bytes, bytes_at, bytes_of, checked, perform,
+    AGENT_CLEAR, AGENT_COOKIE, AGENT_COUNT, AGENT_FREE, AGENT_LOAD, AGENT_NEW, AGENT_OBSTACLES, AGENT_READ,
+    AGENT_REMOVE, AGENT_RETRIEVE, AGENT_SAVE, AGENT_TRIM, SIZE, OwnHandle, Uncopied, answer_and_bytes, bytes_at,
+    bytes_of, checked, perform,
 )
 from ._locks import Lock
 from .addresses import Address, address_at, address_of

@@ -24,28 +24,30 @@ VALUES = {digit: value for value, digit in enumerate(DIGITS)}
 BYTES, PLACES = 13, 15
 
 
-def form_of(texts: Mapping[str, str], compress: bool) -> bytes:
-    """The texts as a form (URL Standard 5.1): compressed, if `compress` is set and that is shorter.
+def kept_of(texts: dict[str, str], compress: bool) -> dict[str, str]:
+    """The texts that the library keeps: one with all of them compressed, if `compress` is set and that is shorter.
+    Raises `UnicodeEncodeError` for a lone surrogate in what is compressed.
 
     >>> texts = {"notes": "to be, or not to be " * 20}
-    >>> len(form_of(texts, False)), len(form_of(texts, True)) < 50, texts_of(form_of(texts, True)) == texts
-    (406, True, True)
+    >>> kept_of(texts, False) == texts, kept_of(texts, True) == texts, texts_of(kept_of(texts, True)) == texts
+    (True, False, True)
     """
-    form = escaped_form(texts)
     # What would be read as a compressed session is kept whole in one.
     is_taken = list(texts) == [COMPRESSED]
+    if not (compress or is_taken):
+        return texts
+    form = escaped_form(texts)
     # No browser stores more than so many bytes.
-    if not (compress or is_taken) or len(form) > MOST_BYTES:
-        return form
-    compressed = escaped_form({COMPRESSED: digits_of(deflate(form, 9 if compress else 0))})
-    return compressed if is_taken or len(compressed) < len(form) else form
+    if len(form) > MOST_BYTES:
+        return texts
+    compressed = {COMPRESSED: digits_of(deflate(form, 9 if compress else 0))}
+    return compressed if is_taken or len(escaped_form(compressed)) < len(form) else texts
 
 
-def texts_of(form: bytes) -> dict[str, str]:
-    """The texts of a form, as `form_of` or the library printed it. Raises `ValueError` if another program compressed
-    them, and so if they have more than `MOST_BYTES`."""
-    texts = form_texts(form)
-    return form_texts(inflate(bytes_of_digits(texts[COMPRESSED]))) if list(texts) == [COMPRESSED] else texts
+def texts_of(kept: dict[str, str]) -> dict[str, str]:
+    """The texts that `kept_of` made these of. Raises `ValueError` if another program compressed them, and so if they
+    have more than `MOST_BYTES`."""
+    return form_texts(inflate(bytes_of_digits(kept[COMPRESSED]))) if list(kept) == [COMPRESSED] else kept
 
 
 def escaped_form(texts: Mapping[str, str]) -> bytes:

@@ -2,7 +2,6 @@
 from __future__ import annotations
 
 import datetime
-import functools
 import time
 from typing import Any
 
@@ -53,16 +52,6 @@ def read_date(text: str | bytes) -> datetime.datetime | None:
     """
     text = bytes_of(text)
     return date_of(READ_DATE(text, len(text)))
-
-
-@functools.lru_cache(maxsize=16)
-def print_second(second: int) -> str:
-    """The text of a second since 1970.
-
-    >>> print_second(1445412480)
-    'Wed, 21 Oct 2015 07:28:00 GMT'
-    """
-    return bytes_from(PRINT_DATE, *time.gmtime(second)[:6], room=32).decode()
 
 
 def print_date(moment: datetime.datetime) -> str:

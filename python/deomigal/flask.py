@@ -23,13 +23,13 @@ from flask.sessions import session_json_serializer as tagged
 from itsdangerous import BadData
 from werkzeug.exceptions import Conflict, ServiceUnavailable
 
-from ._library import header_of
+from ._library import MAX_AGE_AND_EXPIRES, UNTIL_CLOSED, header_of
 from .cookies import pairs
 from .errors import Gone, RevocationsError
 from .revocations import Revocations
 from .secrets import keys_of
 from .sessions import Session, Sessions
-from .values import CODER, FAILURES, Failure, Opened, checked_refresh, counted, log_failure, note_unsaved, with_expiry
+from .values import CODER, FAILURES, Failure, Opened, checked_refresh, counted, log_failure, note_unsaved
 
 # Where a request's environment has its session, since to read `flask.session` counts as its use; and where the
 # application's extensions have the interface.
@@ -76,8 +76,9 @@ class FlaskSession(Opened, SecureCookieSession):
         # text.
         self.serializer, self.opened = serializer, dict(source.texts)
         self.printed = {name: (mark_of(values[name]), text) for name, text in self.opened.items() if name in values}
-        # The texts that were saved last, and the cookie's text, or None if it was too large.
-        self.saved: tuple[dict[str, str], str | None] | None = None
+        # The texts that were saved last, how long the browser keeps them, and the cookie's text, or None if it was too
+        # large.
+        self.saved: tuple[dict[str, str], int, str | None] | None = None
         # Whether the request has only revoked sessions. Then it drops no cookie: the browser may have another one by
         # now.
         self.showed_revoked = source.shows_revoked
@@ -136,16 +137,17 @@ class FlaskSession(Opened, SecureCookieSession):
             self.save()
 
     def save(self) -> str:
-        """The text of the cookie that saves it. It is made once for the same values."""
-        texts = self.texts()
-        if self.saved is None or self.saved[0] != texts or self.saved[1] is None:
-            self.source.texts, self.saved = texts, (texts, None)
+        """The text of the cookie that saves it, until the browser closes if it isn't permanent. It is made once for the
+        same values."""
+        texts, lasting = self.texts(), MAX_AGE_AND_EXPIRES if self.permanent else UNTIL_CLOSED
+        if self.saved is None or self.saved[:2] != (texts, lasting) or self.saved[2] is None:
+            self.source.texts, self.saved = texts, (texts, lasting, None)
             try:
-                self.saved = texts, self.sessions.save(self.source)
+                self.saved = texts, lasting, self.sessions.save(self.source, lasting)
             except FAILURES as error:
                 self.is_failed = True
                 raise http_error_of(error) from error
-        return cast(str, self.saved[1])
+        return cast(str, self.saved[2])
 
     def texts(self) -> dict[str, str]:
         """The texts of its values. What wasn't used has the texts that it was opened from."""
@@ -169,7 +171,7 @@ class FlaskSession(Opened, SecureCookieSession):
 
     def is_refused(self) -> bool:
         """Whether a check raised `TooLarge` for the values that it has."""
-        return self.saved is not None and self.saved[1] is None and self.saved[0] == self.texts()
+        return self.saved is not None and self.saved[2] is None and self.saved[0] == self.texts()
 
     def __repr__(self) -> str:
         return f"<FlaskSession {list(self.keys())!r}>"
@@ -425,7 +427,7 @@ class SessionInterface(FlaskSessionInterface):
             return session.sessions.end(session.source.now) if is_dropped else None
         if not self.should_set_cookie(app, session) or session.is_refused():
             return None
-        return with_expiry(session.save(), session.source, session.permanent)
+        return session.save()
 
     def renew_at_login(self, app: Flask, **_: Any) -> None:
         """Starts the session anew at a login, if this keeps the application's sessions."""

@@ -6,8 +6,8 @@ import os
 from typing import Iterable, Sequence
 
 from ._library import (
-    DERIVE_KEY, KEYS_FREE, KEYS_NEW, OPEN, SEAL, SIGN, VERIFY, OwnHandle, Uncopied, bytes_from, bytes_of, key_of, perform,
-    ring_of, text_or_none,
+    DERIVE_KEY, KEYS_FREE, KEYS_NEW, OPEN, SEAL, SIGN, VERIFY, OwnHandle, Uncopied, bytes_from, bytes_of, key_of,
+    perform, ring_of, text_or_none,
 )
 from ._locks import Lock
 from .errors import MasterTooShort, NotSealed, NotSigned, NotUtf8
@@ -47,8 +47,8 @@ def keys_of(secrets: Iterable[str | bytes], salt: str | bytes | None = None) -> 
 
 
 class Keys(Uncopied):
-    """Keys that are ready, each of at least 64 random bytes, the newest first. The newest signs and seals, and each of them
-    verifies and opens. Make it once, when the program starts. Threads may share it. Raises `KeyTooShort`.
+    """Keys that are ready, each of at least 64 random bytes, the newest first. The newest signs and seals, and each of
+    them verifies and opens. Make it once, when the program starts. Threads may share it. Raises `KeyTooShort`.
 
     >>> old, new = (derive_key(master * 4) for master in (b"an older", b"a newer!"))
     >>> Keys([new, old]).verify("session", Keys([old]).sign("session", "ann"))

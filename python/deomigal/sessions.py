@@ -6,22 +6,20 @@ import os
 from typing import Any, Callable, Iterator, MutableMapping, Sequence, cast
 
 from ._library import (
-    DONE, OPENED_FREE, OPENED_IDS, OPENED_NEW, OPENED_TAKE, SESSION_DESCRIBE, SESSION_END, SESSION_FREE, SESSION_GET,
-    SESSION_GIVEN, SESSION_LOG_OUT, SESSION_MUST_SAVE, SESSION_OPEN, SESSION_RENEW, SESSION_REPLACE, SESSION_SAVE,
-    SESSION_SET_TEXTS, SESSION_START, SESSION_TEXTS, SESSIONS_FREE, SESSIONS_NEW, OwnHandle, Settings, Uncopied,
-    bytes_from, checked, header_of, perform, ring_of,
+    DONE, MAX_AGE, OPENED_FREE, OPENED_IDS, OPENED_NEW, OPENED_TAKE, SESSION_DESCRIBE, SESSION_END, SESSION_FREE,
+    SESSION_GIVEN, SESSION_LIST, SESSION_LOG_OUT, SESSION_MUST_SAVE, SESSION_OPEN, SESSION_REMOVE, SESSION_RENEW,
+    SESSION_REPLACE, SESSION_SAVE, SESSION_SET, SESSION_START, SESSIONS_FREE, SESSIONS_NEW, OwnHandle, Settings,
+    Uncopied, bytes_from, checked, header_of, listed, perform, ring_of,
 )
 from ._locks import Lock
 from ._steps import run
-from .compression import form_of, texts_of
+from .compression import kept_of, texts_of
 from .cookies import print_cookie
 from .dates import whole_second
 from .errors import BufferTooShort, Gone, NoSession, NotUtf8, Replaces, RevocationsError, error_of
 from .revocations import ID_LENGTH, AnyRevocations, Ask, ask, ask_async, was_revoked
 
-# The name of the one text that a session of values has, unless that is encoded, and how its form begins.
-PLAIN, ONLY = "j", b"j="
-# Room for a cookie that a browser stores, and for the form of its texts, of which each byte may be escaped as three.
+# Room for a cookie that a browser stores, and for its texts.
 ROOM = 10000
 
 
@@ -87,8 +85,9 @@ class Session(Generations, MutableMapping[str, str]):
         # None before they are looked up.
         self.header, self.revoked = b"", cast("bytes | None", None)
         self.texts: dict[str, str] = {}
-        # The texts that the library has, if it is known which.
+        # The texts that the library has, and what it keeps of them, if it is known which.
         self.known: dict[str, str] | None = None
+        self.kept: dict[str, str] | None = None
         self.renew()
 
     @property
@@ -251,24 +250,15 @@ class Sessions(Uncopied):
             return started
         session.describe()
         session.is_renewed = False
+        with self.lock:
+            session.kept = listed(bytes_from(SESSION_LIST, session.handle, buffer=self.buffer))
         try:
-            session.texts = self.texts_in(session.handle)
+            session.texts = dict(texts_of(session.kept))
         except ValueError:
             # Another program saved it, under the same key.
             return self.start(session.now)
         session.known = dict(session.texts)
         return session
-
-    def texts_in(self, handle: OwnHandle) -> dict[str, str]:
-        """The texts of the library's session. One by itself is read as it is, without the form's escapes."""
-        with self.lock:
-            buffer = self.buffer
-            answer = SESSION_TEXTS(handle, buffer, len(buffer))
-            form = buffer[: answer.length]
-            if answer.status == DONE and form.startswith(ONLY) and b"&" not in form:
-                return {PLAIN: buffer[: checked(SESSION_GET(handle, ONLY, 1, buffer, len(buffer))).length].decode()}
-        # No browser sends more than there is room for.
-        return texts_of(form if answer.status == DONE else bytes_from(SESSION_TEXTS, handle, room=answer.length))
 
     async def fill(self, session: Session, ask: Ask) -> None:
         """Opens the session of its header for its handle. For a copy the revocations were asked before."""
@@ -353,12 +343,13 @@ class Sessions(Uncopied):
         """Opens the session of a copy for its handle, as it was opened or saved."""
         if not session.handle.is_open and session.header:
             await self.fill(session, ask)
-            session.known = None
+            session.known = session.kept = None
             # What was renewed since has another id.
             session.is_started = bytes(SESSION_DESCRIBE(session.handle).id) == session.id
 
-    def save(self, session: Session) -> str:
-        """The value of the `Set-Cookie` header that saves the session, encrypted under the newest key.
+    def save(self, session: Session, lasting: int = MAX_AGE) -> str:
+        """The value of the `Set-Cookie` header that saves the session, encrypted under the newest key. The browser
+        keeps it by `MAX_AGE`, by `MAX_AGE_AND_EXPIRES` for clients that know only one, or `UNTIL_CLOSED`.
 
         Save at each request, so that the idle time counts from it. The first save after a renewal revokes what the
         browser has, if the site has `revocations`. Raises `Gone` if that is over or was revoked already, by another
@@ -378,20 +369,20 @@ class Sessions(Uncopied):
         ...     print(error.size > 4096)
         True
         """
-        return run(self.saving(session, ask))
+        return run(self.saving(session, ask, lasting))
 
-    async def asave(self, session: Session) -> str:
+    async def asave(self, session: Session, lasting: int = MAX_AGE) -> str:
         """The same in a coroutine, as `aopen`."""
-        return await self.saving(session, ask_async)
+        return await self.saving(session, ask_async, lasting)
 
-    async def saving(self, session: Session, ask: Ask) -> str:
+    async def saving(self, session: Session, ask: Ask, lasting: int = MAX_AGE) -> str:
         """Saves the session, once what it replaces is revoked."""
         await self.prepare(session, ask)
         try:
-            text = self.text_of(session)
+            text = self.text_of(session, lasting)
         except Replaces:
             await self.spend(session, ask, SESSION_REPLACE)
-            text = self.text_of(session)
+            text = self.text_of(session, lasting)
         # A copy of it opens this cookie again.
         session.header, session.revoked = text.partition(";")[0].encode(), b""
         return text
@@ -407,23 +398,32 @@ class Sessions(Uncopied):
                     perform(SESSION_RENEW, self.handle, session.handle, session.id, session.now)
                 else:
                     perform(SESSION_START, self.handle, session.id, session.now, session.handle)
-                    session.known = {}
+                    session.known, session.kept = {}, {}
             session.describe()
         if session.texts != session.known:
-            try:
-                form = form_of(session.texts, self.compress)
-            except UnicodeEncodeError:
-                # A lone surrogate.
-                raise error_of(NotUtf8.status) from None
-            status = SESSION_SET_TEXTS(session.handle, form, len(form))
-            if status != DONE:
-                raise error_of(status)
-            session.known = dict(session.texts)
+            self.keep(session)
 
-    def text_of(self, session: Session) -> str:
+    def keep(self, session: Session) -> None:
+        """Has the library keep the session's texts: those that it hasn't."""
+        try:
+            texts = kept_of(session.texts, self.compress)
+        except UnicodeEncodeError:
+            # A lone surrogate.
+            raise error_of(NotUtf8.status) from None
+        kept, session.known, session.kept = session.kept, None, None
+        if kept is None:
+            kept = listed(bytes_from(SESSION_LIST, session.handle, room=ROOM))
+        for name in kept.keys() - texts.keys():
+            perform(SESSION_REMOVE, session.handle, name)
+        for name, text in texts.items():
+            if kept.get(name) != text:
+                perform(SESSION_SET, session.handle, name, text)
+        session.known, session.kept = dict(session.texts), dict(texts)
+
+    def text_of(self, session: Session, lasting: int) -> str:
         """The text of the session's cookie, under a nonce of its own."""
         with self.lock:
-            buffer, words = self.buffer, (os.urandom(12), 12, session.now)
+            buffer, words = self.buffer, (lasting, os.urandom(12), 12, session.now)
             answer = SESSION_SAVE(self.handle, session.handle, *words, buffer, len(buffer))
             text: bytes = buffer[: answer.length]
         checked(answer)
@@ -433,7 +433,7 @@ class Sessions(Uncopied):
         """Raises what `save` raises for the session as it is now, but asks no store and revokes nothing."""
         run(self.prepare(session, ask))
         with self.lock:
-            answer = SESSION_SAVE(self.handle, session.handle, os.urandom(12), 12, session.now, None, 0)
+            answer = SESSION_SAVE(self.handle, session.handle, MAX_AGE, os.urandom(12), 12, session.now, None, 0)
         # Without room nothing is given.
         if answer.status not in (BufferTooShort.status, Replaces.status):
             raise error_of(answer.status, answer.length)

@@ -25,9 +25,9 @@ class Token(NamedTuple):
 
 
 class Tokens(Uncopied):
-    """How a site makes tokens for one purpose. A token is a value, such as a user's name, encrypted for the purpose and
-    `lifetime` seconds. It has only letters, digits, `-` and `_`, so a link can have it as it is. Threads may share it.
-    `keys` are as those of `Sessions`, or `Keys` of them. Raises `KeyTooShort`, or `OverflowError` for a lifetime past 32
+    """How a site makes tokens for one purpose. A token is a value, such as a user's name, encrypted for the purpose
+    and `lifetime` seconds. It has only letters, digits, `-` and `_`, so a link can have it as it is. Threads may share
+    it. `keys` are as those of `Sessions`, or `Keys` of them. Raises `KeyTooShort`, or `OverflowError` for a lifetime past 32
     bits.
 
     >>> from deomigal import derive_key

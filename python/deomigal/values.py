@@ -8,16 +8,15 @@ import logging
 import time
 from typing import TYPE_CHECKING, Any, Callable, Dict, Iterable, Mapping, MutableMapping, Union
 
+from ._library import MAX_AGE_AND_EXPIRES, UNTIL_CLOSED
 from .compression import MARKS
-from .dates import print_second
 from .errors import Gone, RevocationsError
-from .explain import LAST
 from .revocations import AnyRevocations, Ask
 from .secrets import keys_of
-from .sessions import PLAIN, Generations, Session, Sessions
+from .sessions import Generations, Session, Sessions
 
-# The name of the one text that a session of values has in base64url.
-ENCODED = "b"
+# The names of the one text that a session of values has: as it is, or in base64url.
+PLAIN, ENCODED = "j", "b"
 # The JSON of no values.
 EMPTY = b"{}"
 # What is answered if it can't be looked up whether a session is revoked (RFC 9110 15.6.4), and if another request has
@@ -86,13 +85,6 @@ def checked_refresh(refresh: bool) -> bool:
     if not isinstance(refresh, bool):
         raise TypeError("refresh is a bool: whether each request that used the session saves it")
     return refresh
-
-
-def with_expiry(text: str, session: Session, is_lasting: bool = True) -> str:
-    """The text of the saved session's cookie with `Expires` beside its `Max-Age`, for browsers that know only one. With
-    neither if the browser isn't to keep it when it closes."""
-    head, _, age = text.rpartition("; Max-Age=")
-    return f"{text}; Expires={print_second(min(session.now + int(age), LAST))}" if is_lasting else head
 
 
 class Opened(Generations):
@@ -263,7 +255,8 @@ class Middleware:
         # Starlette's `Secret` shows its text only by `str`.
         newest: str | bytes = secret_key if isinstance(secret_key, bytes) else str(secret_key)
         lifetime = FORTNIGHT if max_age is None else max_age
-        self.app, self.clock, self.is_lasting, self.too_large = app, clock, max_age is not None, too_large
+        self.app, self.clock, self.too_large = app, clock, too_large
+        self.lasting = UNTIL_CLOSED if max_age is None else MAX_AGE_AND_EXPIRES
         self.refresh = checked_refresh(refresh)
         self.sessions = Sessions(
             keys_of([newest, *fallbacks], salt), session_cookie, lifetime, lifetime if idle is None else idle,
@@ -314,4 +307,4 @@ class Middleware:
             source.texts = pack(data)
         if not (is_changed or self.refresh or self.sessions.must_save(source)):
             return None
-        return with_expiry(await self.sessions.saving(source, ask), source, self.is_lasting)
+        return await self.sessions.saving(source, ask, self.lasting)

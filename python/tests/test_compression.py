@@ -251,7 +251,7 @@ class SessionsFacts(unittest.TestCase):
 
     def test_taken_whole(self):
         """Without the option a session with that name isn't compressed either."""
-        sizes = [len(compression.form_of({COMPRESSED: "x" * 900}, compress)) for compress in (False, True)]
+        sizes = [len(compression.kept_of({COMPRESSED: "x" * 900}, compress)[COMPRESSED]) for compress in (False, True)]
         assert sizes[0] > 900
         assert sizes[1] < 100
 
@@ -265,7 +265,7 @@ class SessionsFacts(unittest.TestCase):
         """A compressed text that is none is no session."""
         whole = deflate(b"user=ann&" * 50, 9)
         broken = [digits_of(data) for data in (whole[:-1], whole + b"x", b"", b"\xff" * 20, deflate(b"\xff=", 9))]
-        with mock.patch("deomigal.sessions.form_of", lambda texts, _: compression.escaped_form(texts)):
+        with mock.patch("deomigal.sessions.kept_of", lambda texts, _: texts):
             assert dict(self.reopened({COMPRESSED: digits_of(deflate(b"user=ann", 9))})) == {"user": "ann"}
             for text in ("", "junk", "%", "\u03b1", "\x7f" * 15, *broken):
                 assert self.reopened({COMPRESSED: text}).is_new, text
@@ -274,7 +274,7 @@ class SessionsFacts(unittest.TestCase):
         """What deflate doesn't make shorter stays as it is, so 2,900 bytes have room whatever they are."""
         texts = {"notes": "".join(random.Random(1).choices(DIGITS, k=2900))}
         assert dict(self.reopened(texts, True)) == texts
-        assert compression.form_of(texts, True) == compression.form_of(texts, False)
+        assert compression.kept_of(texts, True) == texts
 
     def test_digits(self):
         """Each number of bytes has its digits, which are characters of a session's cookie as they are."""

@@ -281,7 +281,7 @@ def play_session(call, inputs, out, length):
     elif answer.status == library.DONE and call == "session_save":
         answer.status = make_session(inputs, now, [*starts, lifetime, idle][:3], handle, session)
         if answer.status == library.DONE:
-            answer = library.SESSION_SAVE(handle, session, rest[-1][:12], 12, now, out, length)
+            answer = library.SESSION_SAVE(handle, session, library.MAX_AGE, rest[-1][:12], 12, now, out, length)
             library.SESSION_SET_GENERATION(session, 7)
             if [library.SESSION_IS_SINCE(session, number) for number in (6, 7, 8)] != [True, True, False]:
                 fault("a session keeps another generation")

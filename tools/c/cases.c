@@ -262,7 +262,7 @@ static void settings_that_are_no_sites(void) {
     MUST(needs(cookie_session_must_save(&sessions, &session, LATE), COOKIE_NO_DATE, false));
     MUST(needs(cookie_session_must_save(&sessions, &session, NOW), COOKIE_NO_SESSION, false));
     MUST(cookie_session_renew(&sessions, &session, KEY, 16, NOW) == COOKIE_NO_SESSION);
-    MUST(is(cookie_session_save(&sessions, &session, KEY, 12, NOW, NULL, 0), COOKIE_NO_SESSION, 0));
+    MUST(is(cookie_session_save(&sessions, &session, 0, KEY, 12, NOW, NULL, 0), COOKIE_NO_SESSION, 0));
     MUST(cookie_session_describe(&session).status == COOKIE_NO_SESSION);
     MUST(cookie_session_given(&session).status == COOKIE_NO_SESSION);
     MUST(cookie_session_replace(&session, LATE, true) == COOKIE_NO_DATE);
@@ -291,6 +291,10 @@ static void sessions(void) {
     MUST(has_limits(&facts, NOW, NOW + 1200, 600) && memcmp(facts.id, KEY, 16) == 0);
     MUST(is(cookie_session_texts(&session, ROOM(7)), COOKIE_BUFFER_TOO_SHORT, 8) && holds(""));
     MUST(is(cookie_session_texts(&session, ROOM(8)), COOKIE_DONE, 8) && holds("user=ann"));
+    MUST(is(cookie_session_list(&session, ROOM(22)), COOKIE_BUFFER_TOO_SHORT, 23) && holds(""));
+    MUST(is(cookie_session_list(&session, ROOM(23)), COOKIE_DONE, 23));
+    MUST(memcmp(out, "\4\0\0\0\0\0\0\0\3\0\0\0\0\0\0\0userann", 23) == 0 && out[23] == 0xa5);
+    holds("");
     /* A site with other limits: an open session keeps its own, and one that starts or is renewed has the new ones. */
     site.lifetime = 3000;
     site.idle = 2000;
@@ -308,6 +312,38 @@ static void sessions(void) {
     MUST(!facts.is_opened && has_limits(&facts, NOW + 1, NOW + 3001, 2000) && memcmp(facts.id, KEY, 16) == 0);
     cookie_sessions_free(&sessions);
     cookie_session_free(&session);
+}
+
+/* Whether the saved text ends so, after the cookie's name and value and the site's attributes. */
+static bool ends(cookie_sessions *sessions, cookie_session *session, uint32_t lasting, uint64_t now, const char *end) {
+    static const char head[] = "__Host-session=";
+    char text[500], site[] = "; Secure; Path=/";
+    cookie_answer saved = cookie_session_save(sessions, session, lasting, KEY, 12, now, (uint8_t *)text, sizeof text - 1);
+    text[saved.length] = '\0';
+    const char *rest = strchr(text, ';');
+    return saved.status == COOKIE_DONE && strncmp(text, head, sizeof head - 1) == 0 && rest != NULL
+        && strncmp(rest, site, sizeof site - 1) == 0 && strcmp(rest + sizeof site - 1, end) == 0;
+}
+
+/* A saved text says how long the browser keeps the cookie: by the age, by the expiry too, or by neither. The last expiry is
+ * the last second that a call takes. */
+static void lasting(void) {
+    const uint64_t LAST = 253402207200;
+    cookie_sessions sessions = {0};
+    cookie_session session = {0};
+    cookie_session_settings site = settings(KEY, 64, "__Host-session=; Path=/; Secure; Max-Age=7; Expires=Wed, 21 Oct 2015 07:28:00 GMT");
+    MUST(is(cookie_session_save(&sessions, &session, 3, KEY, 11, NOW, NULL, 0), COOKIE_BAD_NONCE, 0));
+    MUST(is(cookie_session_save(&sessions, &session, 3, KEY, 12, NOW, NULL, 0), COOKIE_BAD_ATTRIBUTE, 0));
+    MUST(is(cookie_session_save(&sessions, &session, 2, KEY, 12, NOW, NULL, 0), COOKIE_NO_SESSIONS, 0));
+    MUST(cookie_sessions_new(&site, &sessions) == COOKIE_DONE);
+    MUST(cookie_session_start(&sessions, KEY, 16, NOW, &session) == COOKIE_DONE);
+    MUST(ends(&sessions, &session, COOKIE_MAX_AGE, NOW, "; Max-Age=600"));
+    MUST(ends(&sessions, &session, COOKIE_MAX_AGE_AND_EXPIRES, NOW, "; Max-Age=600; Expires=Wed, 21 Oct 2015 07:38:00 GMT"));
+    MUST(ends(&sessions, &session, COOKIE_UNTIL_CLOSED, NOW, ""));
+    MUST(cookie_session_start(&sessions, KEY, 16, LAST - 1, &session) == COOKIE_DONE);
+    MUST(ends(&sessions, &session, 1, LAST - 1, "; Max-Age=600; Expires=Thu, 30 Dec 9999 22:00:00 GMT"));
+    cookie_session_free(&session);
+    cookie_sessions_free(&sessions);
 }
 
 /* What the browser has is another pass than that of a handle's session. */
@@ -335,18 +371,18 @@ static void renewals(void) {
     MUST(cookie_session_renew(&sessions, &session, (const uint8_t *)BOB_ID, 16, NOW + 5) == COOKIE_DONE);
     MUST(is_given(&session, COOKIE_DONE, ANN_ID, NOW + 1200));
     MUST(cookie_session_set(&session, T("a"), large, sizeof large) == COOKIE_DONE);
-    MUST(cookie_session_save(&sessions, &session, KEY, 12, NOW + 5, NULL, 0).status == COOKIE_TOO_LARGE);
+    MUST(cookie_session_save(&sessions, &session, 0, KEY, 12, NOW + 5, NULL, 0).status == COOKIE_TOO_LARGE);
     MUST(cookie_session_remove(&session, T("a")) == COOKIE_DONE);
-    MUST(is(cookie_session_save(&sessions, &session, KEY, 12, NOW + 5, NULL, 0), COOKIE_REPLACES, 0));
+    MUST(is(cookie_session_save(&sessions, &session, 0, KEY, 12, NOW + 5, NULL, 0), COOKIE_REPLACES, 0));
     MUST(cookie_session_replace(&session, NOW + 1200, false) == COOKIE_GONE);
     MUST(cookie_session_log_out(&session, NOW + 1200, false) == COOKIE_GONE);
     MUST(cookie_session_replace(&session, NOW + 1199, true) == COOKIE_GONE);
     MUST(is_given(&session, COOKIE_DONE, ANN_ID, NOW + 1200));
     MUST(cookie_session_replace(&session, NOW + 1199, false) == COOKIE_DONE);
     MUST(is_given(&session, COOKIE_NOT_FOUND, NONE, 0));
-    MUST(cookie_session_save(&sessions, &session, KEY, 12, NOW + 5, NULL, 0).status == COOKIE_BUFFER_TOO_SHORT);
+    MUST(cookie_session_save(&sessions, &session, 0, KEY, 12, NOW + 5, NULL, 0).status == COOKIE_BUFFER_TOO_SHORT);
     MUST(is_given(&session, COOKIE_NOT_FOUND, NONE, 0));
-    MUST(cookie_session_save(&sessions, &session, KEY, 12, NOW + 5, large, sizeof large).status == COOKIE_DONE);
+    MUST(cookie_session_save(&sessions, &session, 0, KEY, 12, NOW + 5, large, sizeof large).status == COOKIE_DONE);
     MUST(is_given(&session, COOKIE_DONE, BOB_ID, NOW + 1205));
     MUST(cookie_session_set_generation(&session, 18446744073709551615u) == COOKIE_DONE);
     MUST(cookie_session_is_since(&session, 18446744073709551615u));
@@ -571,6 +607,7 @@ int main(void) {
     jars();
     settings_that_are_no_sites();
     sessions();
+    lasting();
     renewals();
     needed_saves();
     handles_without_opened_sessions();

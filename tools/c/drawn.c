@@ -92,11 +92,12 @@ typedef struct drawing {
     X(session_set, S(NO_SESSION) | S(NOT_UTF8)) \
     X(session_remove, S(NO_SESSION) | S(NOT_UTF8)) \
     X(session_texts, S(BUFFER_TOO_SHORT) | S(NO_SESSION)) \
+    X(session_list, S(BUFFER_TOO_SHORT) | S(NO_SESSION)) \
     X(session_set_texts, S(NO_SESSION)) \
     X(session_renew, S(BAD_NONCE) | S(NO_SESSIONS) | S(NO_DATE) | S(NO_SESSION)) \
     X(session_must_save, S(NO_SESSIONS) | S(NO_DATE) | S(NO_SESSION)) \
-    X(session_save, S(BUFFER_TOO_SHORT) | S(BAD_NONCE) | S(NO_SESSIONS) | S(NO_DATE) | S(NO_SESSION) | S(BAD_PREFIX) \
-                        | S(OVER) | S(TOO_LONG) | S(TOO_LARGE) | S(REPLACES)) \
+    X(session_save, S(BUFFER_TOO_SHORT) | S(BAD_NONCE) | S(BAD_ATTRIBUTE) | S(NO_SESSIONS) | S(NO_DATE) | S(NO_SESSION) \
+                        | S(BAD_PREFIX) | S(OVER) | S(TOO_LONG) | S(TOO_LARGE) | S(REPLACES)) \
     X(session_end, S(BUFFER_TOO_SHORT) | S(NO_SESSIONS) | S(NO_DATE)) \
     X(session_free, 0) \
     X(token_make, S(BUFFER_TOO_SHORT) | S(BAD_NONCE) | S(NO_KEYS) | S(NOT_UTF8) | S(NO_DATE) | S(TOO_LONG)) \
@@ -827,6 +828,9 @@ static void play_session(drawing *d, int call) {
     case session_texts_call:
         WRITES(session_texts, cookie_session_texts(session, d->out, d->length));
         break;
+    case session_list_call:
+        WRITES(session_list, cookie_session_list(session, d->out, d->length));
+        break;
     case session_set_texts_call: {
         text form = draw_text(d, A_FORM);
         STATUS(session_set_texts, cookie_session_set_texts(session, IN(form)));
@@ -835,8 +839,8 @@ static void play_session(drawing *d, int call) {
     case session_renew_call: {
         text id = draw_bytes(d, 16);
         STATUS(session_renew, cookie_session_renew(&d->sites[j], session, IN(id), now));
-        look_at_handle(d, call, status, d->has_site[j], COOKIE_NO_SESSIONS, S(BAD_NONCE));
-        first = S(BAD_NONCE) | S(NO_SESSIONS) | S(NO_DATE);
+        look_at_handle(d, call, status, d->has_site[j], COOKIE_NO_SESSIONS, S(BAD_NONCE) | S(BAD_ATTRIBUTE));
+        first = S(BAD_NONCE) | S(BAD_ATTRIBUTE) | S(NO_SESSIONS) | S(NO_DATE);
         break;
     }
     case session_must_save_call: {
@@ -851,11 +855,12 @@ static void play_session(drawing *d, int call) {
     default: {
         text nonce = draw_bytes(d, 12);
         cookie_sessions *site = &d->sites[j];
-        WRITES(session_save, cookie_session_save(site, session, IN(nonce), now, d->out, d->length));
+        uint32_t lasting = (uint32_t)(one_in(d, 20) ? draw(d) : below(d, 3));
+        WRITES(session_save, cookie_session_save(site, session, lasting, IN(nonce), now, d->out, d->length));
         if (answer.status == COOKIE_DONE)
             keep(d, answer.length);
-        look_at_handle(d, call, status, d->has_site[j], COOKIE_NO_SESSIONS, S(BAD_NONCE));
-        first = S(BAD_NONCE) | S(NO_SESSIONS) | S(NO_DATE);
+        look_at_handle(d, call, status, d->has_site[j], COOKIE_NO_SESSIONS, S(BAD_NONCE) | S(BAD_ATTRIBUTE));
+        first = S(BAD_NONCE) | S(BAD_ATTRIBUTE) | S(NO_SESSIONS) | S(NO_DATE);
     }
     }
     look_at_handle(d, call, status, *has, COOKIE_NO_SESSION, first);

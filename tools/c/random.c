@@ -90,7 +90,7 @@ static text write_drawn(int writer) {
     else if (writer == 1)
         made.answer = cookie_run_drawn(TEXT(date), TEXT(input), made.bytes, ROOM);
     else if (writer == 2)
-        made.answer = cookie_session_save_drawn(&sessions, &session, NOW, made.bytes, ROOM);
+        made.answer = cookie_session_save_drawn(&sessions, &session, COOKIE_MAX_AGE, NOW, made.bytes, ROOM);
     else
         made.answer = cookie_token_make_drawn(&keys, &settings, TEXT("value"), NOW, made.bytes, ROOM);
     return made;
@@ -107,7 +107,7 @@ static text write_with(int writer, const uint8_t *bytes) {
     else if (writer == 1)
         made.answer = cookie_run(seeds[0], seeds[1], TEXT(date), TEXT(input), made.bytes, ROOM);
     else if (writer == 2)
-        made.answer = cookie_session_save(&sessions, &session, bytes, 12, NOW, made.bytes, ROOM);
+        made.answer = cookie_session_save(&sessions, &session, COOKIE_MAX_AGE, bytes, 12, NOW, made.bytes, ROOM);
     else
         made.answer = cookie_token_make(&keys, &settings, TEXT("value"), bytes, 12, NOW, made.bytes, ROOM);
     return made;

@@ -292,6 +292,32 @@ static uint32_t find_session(const text *in, uint64_t now, cookie_sessions *sess
     return status;
 }
 
+/* The number in eight bytes, of which the lowest is the first. */
+static size_t listed(const uint8_t *bytes) {
+    size_t number = 0;
+    for (int i = 8; i > 0; i--)
+        number = number << 8 | bytes[i - 1];
+    return number;
+}
+
+/* Whether the session's list has as many texts as its form, each as it is at its name. */
+static void look_at_list(cookie_session *session) {
+    static uint8_t form[20000], list[20000], out[20000];
+    size_t form_length = cookie_session_texts(session, form, sizeof form).length, at = 0, pairs = form_length > 0;
+    cookie_answer told = cookie_session_list(session, list, sizeof list);
+    for (size_t i = 0; i < form_length; i++)
+        pairs += form[i] == '&';
+    for (; at < told.length && pairs > 0; pairs--) {
+        size_t name = listed(list + at), text = listed(list + at + 8);
+        cookie_answer got = cookie_session_get(session, list + at + 16, name, out, sizeof out);
+        if (got.status != COOKIE_DONE || got.length != text || memcmp(out, list + at + 16 + name, text) != 0)
+            fault("a listed text isn't the session's");
+        at += 16 + name + text;
+    }
+    if (told.status != COOKIE_DONE || at != told.length || pairs != 0)
+        fault("the list lacks a text of the session, or has one more");
+}
+
 /* A session that is opened: the index of its key and its times are the row's last numbers, and its id is the last text. */
 static cookie_answer open_session(const text *in, uint8_t *out, size_t length) {
     long long n[6], told[3];
@@ -301,8 +327,10 @@ static cookie_answer open_session(const text *in, uint8_t *out, size_t length) {
     if (answer.status == COOKIE_DONE)
         answer.status = find_session(in, (uint64_t)n[2], &sessions, &session);
     cookie_session_facts facts = cookie_session_describe(&session);
-    if (answer.status == COOKIE_DONE)
+    if (answer.status == COOKIE_DONE) {
+        look_at_list(&session);
         answer = cookie_session_texts(&session, out, length);
+    }
     numbers_in(in[5], 3, told);
     if (facts.index != (size_t)told[0] || facts.started != (uint64_t)told[1] || facts.seen != (uint64_t)told[2])
         fault("another key or another time");
@@ -386,7 +414,7 @@ static void replace_session(cookie_sessions *sessions, cookie_session *session, 
         fault("the browser hasn't the session that was saved");
     if (cookie_session_renew(sessions, session, id, sizeof id, now) != COOKIE_DONE)
         fault("a session that was saved isn't renewed");
-    cookie_answer answer = cookie_session_save(sessions, session, nonce, sizeof nonce, now, out, sizeof out);
+    cookie_answer answer = cookie_session_save(sessions, session, 0, nonce, sizeof nonce, now, out, sizeof out);
     if (answer.status != COOKIE_REPLACES || answer.length != 0 || out[0] != 0)
         fault("a session is saved that replaces another one");
     cookie_need need = cookie_session_must_save(sessions, session, now);
@@ -399,10 +427,10 @@ static void replace_session(cookie_sessions *sessions, cookie_session *session, 
         || cookie_session_replace(session, now, false) != COOKIE_NOT_FOUND
         || cookie_session_log_out(session, now, false) != COOKIE_NOT_FOUND)
         fault("a session that is replaced is still the browser's");
-    answer = cookie_session_save(sessions, session, nonce, sizeof nonce, now, out, 0);
+    answer = cookie_session_save(sessions, session, 0, nonce, sizeof nonce, now, out, 0);
     if (answer.status != COOKIE_BUFFER_TOO_SHORT || !is_given(session, COOKIE_NOT_FOUND, &before))
         fault("the browser has a session that had no room");
-    answer = cookie_session_save(sessions, session, nonce, sizeof nonce, now, out, sizeof out);
+    answer = cookie_session_save(sessions, session, 0, nonce, sizeof nonce, now, out, sizeof out);
     before = cookie_session_describe(session);
     if (answer.status != COOKIE_DONE || !is_given(session, COOKIE_DONE, &before))
         fault("a session that replaced another one isn't saved");
@@ -430,7 +458,7 @@ static cookie_answer save_session(const text *in, uint8_t *out, size_t length) {
     if (answer.status == COOKIE_DONE)
         answer.status = make_session(in, n, &sessions, &session);
     if (answer.status == COOKIE_DONE)
-        answer = cookie_session_save(&sessions, &session, in[6].bytes, 12, (uint64_t)n[2], out, length);
+        answer = cookie_session_save(&sessions, &session, COOKIE_MAX_AGE, in[6].bytes, 12, (uint64_t)n[2], out, length);
     if (answer.status == COOKIE_DONE) {
         replace_session(&sessions, &session, (uint64_t)n[2]);
         end_saved_session(&session, (uint64_t)n[2]);
@@ -999,7 +1027,7 @@ static uint32_t session_step(int step, site_handles *at) {
         return cookie_session_set_texts(&at->session, form, sizeof form - 1);
     case 4: {
         cookie_answer answer =
-            cookie_session_save(&at->sessions, &at->session, nonce, 12, 1445412480, saved, sizeof saved);
+            cookie_session_save(&at->sessions, &at->session, COOKIE_MAX_AGE, nonce, 12, 1445412480, saved, sizeof saved);
         if (answer.status == COOKIE_DONE)
             length = (size_t)((uint8_t *)memchr(saved, ';', answer.length) - saved);
         return answer.status;

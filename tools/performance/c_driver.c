@@ -109,7 +109,7 @@ static lines joined(lines all) {
 static cookie_answer save(cookie_sessions *sessions, cookie_session *session) {
     static uint8_t nonce[12];
     nonce[0]++;
-    return cookie_session_save(sessions, session, nonce, sizeof nonce, 1445412480, out, sizeof out);
+    return cookie_session_save(sessions, session, COOKIE_MAX_AGE, nonce, sizeof nonce, 1445412480, out, sizeof out);
 }
 
 /* How many sessions were opened, or the bytes of what was saved. 0 if a call is refused. */

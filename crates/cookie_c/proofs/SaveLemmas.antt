@@ -3,7 +3,6 @@ use Rattle.std.proofs.Common.{◌≡◌, ◌↔◌, ℕ, ◌<◌, ◌≤◌, ◌
 use Rattle.jiff.specs.Types.{DateTime}
 use Rattle.cookie.specs.Record.{Record}
 use Rattle.cookie.specs.Sealing.{IsNonce}
-use Rattle.cookie.specs.Text.{cookie_text}
 use Rattle.cookie_session.specs.Seconds.{second_of}
 use Rattle.cookie_session.specs.Session.{SessionState, seen_at}
 use Rattle.cookie_session.specs.Sessions.{CanSave, CanSealSession, IsStored, bare_cookie, meets_prefix, saved_cookie}
@@ -22,6 +21,7 @@ use Rattle.cookie_c.specs.declared.answer.Answer.{Answer}
 use Rattle.cookie_c.specs.declared.handle.content.Content.{Content}
 use Rattle.cookie_c.specs.declared.handle.content.Content.TheVariants as content
 use Rattle.cookie_c.specs.declared.sessions.Session.{Session}
+use Rattle.cookie_c.specs.declared.sessions.lasting.Lasting.{Lasting}
 use Rattle.cookie_c.specs.declared.status.Status.{Status}
 use Rattle.cookie_c.specs.declared.status.Status.TheVariants as status
 
@@ -36,7 +36,7 @@ module _ (site : Sessions) (nonce : List ℕ) (time : DateTime) (session : Sessi
         → (most_bytes < size) × (size ≡ browser_length (saved_cookie site nonce time session))
     drawn : ¬ (result ≡ Err failure.Generator)
 
-  module _ (Fails : SessionError → Type 0) (Gives : List ℕ → Type 0) where
+  module _ (Fails : SessionError → Type 0) (Gives : Record → Type 0) where
     -- memory ran out
     saves_memory : Fails failure.OutOfMemory → Saves site nonce time session Fails Gives
     saves_memory fails = record {
@@ -51,7 +51,7 @@ module _ (site : Sessions) (nonce : List ℕ) (time : DateTime) (session : Sessi
     pub saves_given : (cookie : Record) (other : List ℕ) → other ≡ nonce → cookie ≡ saved_cookie site other time session
         → meets_prefix site.cookie.now.fields ≡ true → CanSave site time session → CanSealSession (bare_cookie site time session)
         → browser_length cookie ≤ most_bytes → IsStored site (Some cookie) (seen_at (second_of time) session)
-        → Gives (cookie_text true false cookie) ⊎ Fails failure.OutOfMemory → Saves site nonce time session Fails Gives
+        → Gives cookie ⊎ Fails failure.OutOfMemory → Saves site nonce time session Fails Gives
     saves_given cookie other drawn is meets can seals fits stored (inr fails) = saves_memory fails
     saves_given cookie other drawn is meets can seals fits stored (inl gives) =
         let same : cookie ≡ saved_cookie site nonce time session = is ∙ ap (λ n. saved_cookie site n time session) drawn in
@@ -61,7 +61,7 @@ module _ (site : Sessions) (nonce : List ℕ) (time : DateTime) (session : Sessi
           over = λ _ no. absurd (no can);
           too_long = λ _ _ no. absurd (no seals);
           too_large = λ _ _ _ large. absurd (omega (arith, within, large));
-          saved = λ _ _ _ _. inl (subst (λ r. Gives (cookie_text true false r) × IsStored site (Some r) (seen_at (second_of time) session)) same (gives, stored));
+          saved = λ _ _ _ _. inl (subst (λ r. Gives r × IsStored site (Some r) (seen_at (second_of time) session)) same (gives, stored));
         }
 
     -- the call refused it
@@ -164,10 +164,10 @@ module _ (text : List ℕ) (answer : Answer) (had : VisitState) (old new : List 
   gives_undone (inr refused) undone = inr (refused, refl)
 
 -- what a call that saves makes of a handle's session: `held` is what the handle had, and `seen` what the call saw of it
-pub saves_held : (site : Sessions) (nonce : List ℕ) (time : DateTime) (answer : Answer) (out left : List ℕ) (old new : Session) (held seen : Content) (had made : VisitState)
+pub saves_held : (lasting : Lasting) (site : Sessions) (nonce : List ℕ) (time : DateTime) (answer : Answer) (out left : List ℕ) (old new : Session) (held seen : Content) (had made : VisitState)
     → Some held ≡ old.handle.held.content → seen ≡ held → seen ≡ content.Session had → new.handle.held.content ≡ Some (content.Session made)
-    → SavesVisit site nonce time answer had made out left → SavesHeld site nonce time answer (session_of old) (session_of new) out left
-saves_held site nonce time answer out left old new held seen had made some same is put saves =
-    subst (λ h. SavesHeld site nonce time answer h (session_of new) out left)
+    → SavesVisit lasting site nonce time answer had made out left → SavesHeld lasting site nonce time answer (session_of old) (session_of new) out left
+saves_held lasting site nonce time answer out left old new held seen had made some same is put saves =
+    subst (λ h. SavesHeld lasting site nonce time answer h (session_of new) out left)
     (sym (ap (λ (c : Content). session_in (Some c)) is) ∙ ap (λ (c : Content). session_in (Some c)) same ∙ ap session_in some)
     (made, ap session_in put, saves)

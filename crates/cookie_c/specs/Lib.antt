@@ -11,6 +11,7 @@ pub mod Held
 pub mod Jars
 pub mod KeyCalls
 pub mod Keys
+pub mod Lastings
 pub mod NextPiece
 pub mod Numbers
 pub mod Obstacles
@@ -25,4 +26,5 @@ pub mod SavedSessions
 pub mod SessionCalls
 pub mod Sites
 pub mod Spans
+pub mod TextLists
 pub mod Tokens

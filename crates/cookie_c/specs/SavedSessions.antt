@@ -1,6 +1,7 @@
 -- A session that is saved for C: `old` is the buffer at the call and `new` at the return.
 use Rattle.std.specs.Prelude.{◌≡◌, ◌↔◌, ℕ, ◌<◌, ◌≤◌, ◌⊎◌, true, false, IsTrue, List, length, Option, None, Some}
 use Rattle.jiff.specs.Types.{DateTime}
+use Rattle.cookie.specs.Record.{Record}
 use Rattle.cookie.specs.Text.{cookie_text}
 use Rattle.cookie_session.specs.Seconds.{second_of}
 use Rattle.cookie_session.specs.Session.{SessionState, seen_at}
@@ -13,8 +14,12 @@ use Rattle.cookie_session.specs.declared.session_error.SessionError.TheVariants 
 use Rattle.cookie_session.specs.declared.sessions.Sessions.{Sessions}
 use Rattle.cookie_c.specs.Answers.{IsGiven, IsRefused, IsTold}
 use Rattle.cookie_c.specs.Codes.{code_of}
+use Rattle.cookie_c.specs.Lastings.{AsLasting, IsKept, lasting_of}
+use Rattle.cookie_c.specs.Sites.{AtSite}
 use Rattle.cookie_c.specs.declared.answer.Answer.{Answer}
+use Rattle.cookie_c.specs.declared.sessions.lasting.Lasting.{Lasting}
 use Rattle.cookie_c.specs.declared.sessions.need.Need.{Need}
+use Rattle.cookie_c.specs.declared.sessions.site.Site.{Site}
 use Rattle.cookie_c.specs.declared.status.Status.{Status}
 use Rattle.cookie_c.specs.declared.status.Status.TheVariants as status
 
@@ -40,7 +45,7 @@ IsUnsaved answer old new why =
 -- How a session is saved under this nonce: it fails for a reason, or the text of its cookie is given. Memory may run
 -- out in any case.
 pub record Saves (site : Sessions) (nonce : List ℕ) (time : DateTime) (session : SessionState)
-    (Fails : SessionError → Type 0) (Gives : List ℕ → Type 0) : Type 0 where
+    (Fails : SessionError → Type 0) (Gives : Record → Type 0) : Type 0 where
   pub prefix : ¬ (meets_prefix site.cookie.now.fields ≡ true)
       → Fails failure.Prefix ⊎ Fails failure.OutOfMemory
   pub over : meets_prefix site.cookie.now.fields ≡ true → ¬ CanSave site time session
@@ -57,7 +62,7 @@ pub record Saves (site : Sessions) (nonce : List ℕ) (time : DateTime) (session
   pub saved : meets_prefix site.cookie.now.fields ≡ true → CanSave site time session
       → CanSealSession (bare_cookie site time session)
       → browser_length (saved_cookie site nonce time session) ≤ most_bytes
-      → (Gives (cookie_text true false (saved_cookie site nonce time session))
+      → (Gives (saved_cookie site nonce time session)
       × IsStored site (Some (saved_cookie site nonce time session))
       (seen_at (second_of time) session))
       ⊎ Fails failure.OutOfMemory
@@ -80,21 +85,50 @@ GivesSavedInMemory text answer had made old new =
     GivesSaved text answer had made old new
     ⊎ (IsRefused status.OutOfMemory answer old new × (made ≡ had))
 
+-- the text of the visit's cookie is given, with the attributes that say how long a browser keeps it
+abbrev pub GivesKept : Lasting → ℕ → Record → Answer → VisitState → VisitState → List ℕ → List ℕ
+    → Type 0
+GivesKept lasting now cookie answer had made old new =
+    (given : Record) × IsKept lasting now cookie given
+    × GivesSaved (cookie_text true false given) answer had made old new
+
 -- how a visit is saved under this nonce, with what its handle has then
-abbrev pub SavesVisit : Sessions → List ℕ → DateTime → Answer → VisitState → VisitState → List ℕ
-    → List ℕ → Type 0
-SavesVisit site nonce time answer had made old new =
+abbrev pub SavesVisit : Lasting → Sessions → List ℕ → DateTime → Answer → VisitState → VisitState
+    → List ℕ → List ℕ → Type 0
+SavesVisit lasting site nonce time answer had made old new =
     Saves site nonce time had.session
     (λ why. IsUnsaved answer old new why × (made ≡ had))
-    (λ text. GivesSaved text answer had made old new)
+    (λ cookie. GivesKept lasting (second_of time) cookie answer had made old new)
 
 -- the same of the session that a handle has, which a handle without one refuses
-abbrev pub SavesHeld : Sessions → List ℕ → DateTime → Answer → Option VisitState
+abbrev pub SavesHeld : Lasting → Sessions → List ℕ → DateTime → Answer → Option VisitState
     → Option VisitState → List ℕ → List ℕ → Type 0
-SavesHeld site nonce time answer None left old new =
+SavesHeld lasting site nonce time answer None left old new =
     (left ≡ None) × IsRefused status.NoSession answer old new
-SavesHeld site nonce time answer (Some had) left old new =
-    (made : VisitState) × (left ≡ Some made) × SavesVisit site nonce time answer had made old new
+SavesHeld lasting site nonce time answer (Some had) left old new =
+    (made : VisitState) × (left ≡ Some made)
+    × SavesVisit lasting site nonce time answer had made old new
+
+-- the call is refused, and the handle has what it had
+abbrev pub RefusesSave : Answer → Option VisitState → Option VisitState → List ℕ → List ℕ → Status
+    → Type 0
+RefusesSave answer had left old new why = IsRefused why answer old new × (left ≡ had)
+
+-- the same at a handle of a site, in a second
+abbrev pub SavesAt : Lasting → Option Site → List ℕ → ℕ → Answer → Option VisitState
+    → Option VisitState → List ℕ → List ℕ → Type 0
+SavesAt lasting site nonce now answer had left old new =
+    AtSite site now
+    (λ sessions time. SavesHeld lasting sessions nonce time answer had left old new)
+    (RefusesSave answer had left old new)
+
+-- the same for the number of what a browser is told
+abbrev pub SavesFor : ℕ → Option Site → List ℕ → ℕ → Answer → Option VisitState
+    → Option VisitState → List ℕ → List ℕ → Type 0
+SavesFor number site nonce now answer had left old new =
+    AsLasting (lasting_of number)
+    (λ lasting. SavesAt lasting site nonce now answer had left old new)
+    (RefusesSave answer had left old new)
 
 -- ---- whether a session must be saved
 

@@ -94,7 +94,7 @@ fn presence(is_set: bool) -> u32
     if is_set { 1 } else { 0 }
 }
 
-fn seconds(age: Option<SignedDuration>) -> i64
+pub(crate) fn seconds(age: Option<SignedDuration>) -> i64
     ensures { result ≡ whole_seconds (option_map signed_nanos age) }
 {
     match age {

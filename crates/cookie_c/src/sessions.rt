@@ -7,6 +7,8 @@ pub(crate) mod ending;
 pub(crate) mod facts;
 pub(crate) mod generation;
 pub(crate) mod given;
+pub(crate) mod lasting;
+pub(crate) mod list;
 pub(crate) mod logout;
 pub(crate) mod need;
 pub(crate) mod open;

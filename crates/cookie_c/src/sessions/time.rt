@@ -6,7 +6,7 @@ use jiff::Timestamp;
 use jiff::civil::DateTime;
 use jiff::tz::Offset;
 
-const LAST_SECOND: u64 = 253402207200;
+pub(super) const LAST_SECOND: u64 = 253402207200;
 
 // The time in UTC that many seconds after 1970-01-01 00:00:00, if it is a date.
 pub(crate) fn time_at(second: u64) -> Option<DateTime>
