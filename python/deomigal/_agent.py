@@ -56,7 +56,7 @@ AGENT_FREE = declare("agent_free", HANDLE, None)
 AGENT_READ = declare("agent_read", HANDLE * 2 + REQUEST + TEXT + SECOND, AgentReading)
 AGENT_HEADER = declare("agent_header", HANDLE + REQUEST + SECOND + TEXT, Answer)
 AGENT_RETRIEVE = declare("agent_retrieve", HANDLE + REQUEST + SECOND + TEXT, Answer)
-AGENT_TRIM = declare("agent_trim", HANDLE + COUNT * 2 + SECOND, ctypes.c_uint32)
+AGENT_TRIM = declare("agent_trim", HANDLE * 2 + COUNT * 3 + SECOND, ctypes.c_uint32)
 AGENT_EVICT = declare("agent_evict", HANDLE + SECOND, ctypes.c_uint32)
 AGENT_REMOVE = declare("agent_remove", HANDLE + TEXT * 2 + [ctypes.c_bool] + TEXT, ctypes.c_uint32)
 AGENT_CLEAR = declare("agent_clear", HANDLE + TEXT, ctypes.c_uint32)
@@ -129,9 +129,10 @@ class Core:
         """Drops what is expired."""
         perform(AGENT_EVICT, self.handle, now)
 
-    def trim(self, per_domain: int, total: int, now: int) -> None:
+    def trim(self, per_domain: int, per_site: int, total: int, now: int) -> None:
         """Drops what is expired, and then what is above the limits."""
-        perform(AGENT_TRIM, self.handle, per_domain, total, now)
+        with self.rules.lock:
+            perform(AGENT_TRIM, self.handle, self.rules.handle, per_domain, per_site, total, now)
 
     def count(self) -> int:
         """How many cookies are stored, also those that are expired."""

@@ -51,9 +51,10 @@ class Agent(Uncopied):
     one label are public suffixes. `title` names the list.
 
     A connection is secure if the scheme is https, and to `localhost` or a loopback address too, as in browsers, unless
-    `is_localhost_secure` is false. `per_domain` limits the cookies of one domain, and `total` those in all: the agent drops
-    what is above after each `per_domain` cookies that it has stored, or a quarter of those that it has if these are more,
-    and when it loads a file. `clock` returns the time, in seconds since 1970.
+    `is_localhost_secure` is false. `per_domain` limits the cookies of one domain, `per_site` those of a registrable
+    domain with all hosts below it, and `total` those in all. Without `per_site` it is three times `per_domain`. The agent
+    drops what is above after each `per_domain` cookies that it has stored, or a quarter of those that it has if these are
+    more, and when it loads a file. `clock` returns the time, in seconds since 1970.
 
     >>> with Agent() as agent:
     ...     agent.read("https://shop.example/cart/view", "session=abc; Path=/; Secure")
@@ -67,6 +68,7 @@ class Agent(Uncopied):
         *,
         is_localhost_secure: bool = True,
         per_domain: int = 50,
+        per_site: int | None = None,
         total: int = 3000,
         clock: Callable[[], float] = time.time,
     ) -> None:
@@ -76,10 +78,11 @@ class Agent(Uncopied):
                 raise FileNotFoundError("there is no list of public suffixes: install Debian's publicsuffix, or pass one")
         else:
             self.title = "the caller's"
-        if not all(0 < limit < 2**32 for limit in (per_domain, total)):
+        per_site = 3 * per_domain if per_site is None else per_site
+        if not all(0 < limit < 2**32 for limit in (per_domain, per_site, total)):
             raise OverflowError("a limit is 1 at least, and has at most 32 bits")
         self.suffixes = bytes_of(suffixes)
-        self.is_localhost_secure, self.limits, self.clock = is_localhost_secure, (per_domain, total), clock
+        self.is_localhost_secure, self.limits, self.clock = is_localhost_secure, (per_domain, per_site, total), clock
         # How many cookies were stored since the limits were looked at, and at how many it looks again.
         self.stored, self.enough = 0, min(self.limits)
         # Only one call at a time may use the handle.

@@ -135,10 +135,11 @@ class CookieJar(http.cookiejar.CookieJar):
         >>> len(jar), len(other)
         (0, 1)
         """
-        (per_domain, total), clock = self.agent.limits, self.agent.clock
+        (per_domain, per_site, total), clock = self.agent.limits, self.agent.clock
         is_localhost_secure = self.agent.is_localhost_secure
         agent = Agent(
-            self.agent.suffixes, is_localhost_secure=is_localhost_secure, per_domain=per_domain, total=total, clock=clock
+            self.agent.suffixes, is_localhost_secure=is_localhost_secure, per_domain=per_domain, per_site=per_site,
+            total=total, clock=clock,
         )
         jar = CookieJar(agent, context=self.context)
         for cookie in self:

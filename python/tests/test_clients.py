@@ -376,6 +376,33 @@ class Files(unittest.TestCase):
                 assert len(agent) < 20
             assert b"n994=1" in agent.header("https://shop.example/")
 
+    def test_flood(self):
+        """However many cookies the hosts of one site set, they push out no other site's."""
+        now = [1_790_000_000]
+        with Agent(clock=lambda: now[0]) as agent:
+            agent.read("https://bank.example/", "__Host-session=1; Secure; Path=/")
+            now[0] += 1
+            for host in range(73):
+                for number in range(50):
+                    agent.read(f"https://h{host}.evil.example/", f"c{number}=1")
+            host = "a." * 100 + "evil.example"
+            for depth in range(80):
+                for number in range(50):
+                    agent.read(f"https://{host}/", f"c{number}=1; Domain={host[2 * depth :]}")
+            assert len(agent) < 2 * 150 + 50
+            assert agent.header("https://bank.example/") == b"__Host-session=1"
+
+    def test_flood_of_sites(self):
+        """Cookies of many sites push out those with the earliest last access."""
+        now = [1_790_000_000]
+        with Agent(per_domain=2, per_site=2, total=4, clock=lambda: now[0]) as agent:
+            agent.read("https://bank.example/", "session=1")
+            now[0] += 1
+            for site in ("one.example", "two.example", "three.example"):
+                agent.read(f"https://{site}/", "a=1")
+                agent.read(f"https://{site}/", "b=1")
+            assert agent.header("https://bank.example/") == b""
+
     def test_no_list(self):
         """Without a list of public suffixes an agent isn't made, unless the caller says so."""
         with mock.patch("deomigal.agents.suffix_list", lambda: ("none found", b"")):

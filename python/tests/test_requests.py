@@ -256,7 +256,7 @@ class More(unittest.TestCase):
         jar = CookieJar(agent)
         for other in (jar.copy(), copy.copy(jar)):
             assert list(other.agent) == list(agent)
-            assert other.agent.limits == (7, 3000)
+            assert other.agent.limits == (7, 21, 3000)
             other.clear()
             assert (len(other), len(agent)) == (0, 6)
 

@@ -108,7 +108,7 @@ typedef struct drawing {
     X(agent_header, S(BUFFER_TOO_SHORT) | S(NO_AGENT) | S(NO_DATE) | S(NOT_UTF8)) \
     X(agent_retrieve, S(BUFFER_TOO_SHORT) | S(NO_AGENT) | S(NO_DATE) | S(NOT_UTF8)) \
     X(agent_evict, S(NO_AGENT) | S(NO_DATE)) \
-    X(agent_trim, S(NO_AGENT) | S(NO_DATE)) \
+    X(agent_trim, S(NO_SUFFIXES) | S(NO_AGENT) | S(NO_DATE)) \
     X(agent_remove, S(NO_AGENT) | S(NOT_FOUND)) \
     X(agent_clear, S(NO_AGENT)) \
     X(agent_count, S(NO_AGENT)) \
@@ -920,7 +920,10 @@ static void play_agent(drawing *d, int call) {
         STATUS(agent_evict, cookie_agent_evict(agent, now));
         break;
     case agent_trim_call:
-        STATUS(agent_trim, cookie_agent_trim(agent, (size_t)(one_in(d, 4) ? draw(d) : below(d, 9)), below(d, 40), now));
+        STATUS(agent_trim, cookie_agent_trim(agent, list, (size_t)(one_in(d, 4) ? draw(d) : below(d, 9)),
+                                             (size_t)(one_in(d, 4) ? draw(d) : below(d, 20)), below(d, 40), now));
+        look_at_handle(d, call, status, d->has_list[j], COOKIE_NO_SUFFIXES, 0);
+        first = S(NO_SUFFIXES);
         break;
     case agent_remove_call:
         STATUS(agent_remove, cookie_agent_remove(agent, IN(name), IN(host), one_in(d, 2), IN(path)));

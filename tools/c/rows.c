@@ -569,7 +569,7 @@ static void count(cookie_agent *agent) {
 
 static cookie_answer agent_step(cookie_agent *agent, cookie_suffixes *suffixes, text step, uint8_t *out, size_t length) {
     text rest, in[4];
-    long long n[3];
+    long long n[4];
     if (is_step("new", step, &rest))
         return of_status(cookie_agent_new(agent));
     if (is_step("clear", step, &rest))
@@ -594,8 +594,8 @@ static cookie_answer agent_step(cookie_agent *agent, cookie_suffixes *suffixes, 
         return of_status(cookie_agent_evict(agent, (uint64_t)n[0]));
     }
     if (is_step("trim", step, &rest)) {
-        numbers_in(rest, 3, n);
-        return of_status(cookie_agent_trim(agent, (size_t)n[0], (size_t)n[1], (uint64_t)n[2]));
+        numbers_in(rest, 4, n);
+        return of_status(cookie_agent_trim(agent, suffixes, (size_t)n[0], (size_t)n[1], (size_t)n[2], (uint64_t)n[3]));
     }
     if (!is_step("cookie", step, &rest))
         return request_step(agent, suffixes, step, out, length);

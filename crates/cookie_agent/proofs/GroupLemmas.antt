@@ -1,4 +1,4 @@
--- The two groupings of ranked cookies, and their orders.
+-- The groupings of ranked cookies, and their orders.
 use Rattle.std.proofs.Common.{◌≡◌, ℕ, ℤ, ◌<◌, ◌&&◌, not, Bool, true, false, cond, List, refl, sym, ap, ◌∙◌, arith}
 use Rattle.std.proofs.lemmas.Bool.{false≢true}
 use Rattle.std.proofs.lemmas.Bool.Decides.{nat_tests}
@@ -13,11 +13,12 @@ use Rattle.std.specs.Str.{bytes_eq}
 use Rattle.std.specs.declared.cmp.Ordering.{Ordering}
 use Rattle.std.specs.declared.cmp.Ordering.TheVariants.{Less, Equal, Greater}
 use Rattle.jiff.proofs.SpanFacts.{signed_arith}
-use Rattle.cookie_browser.specs.Storage.{both_or_neither}
+use Rattle.cookie_browser.specs.Storage.{CookieStore, both_or_neither}
+use Rattle.cookie_browser.specs.Suffixes.{Rule}
 use Rattle.cookie_agent.specs.Limits.{counts, goes_first}
-use Rattle.cookie_agent.specs.LimitsCode.{Rank, access_cmp, comes_before, group_of, rank_cmp, shares}
+use Rattle.cookie_agent.specs.LimitsCode.{Rank, access_cmp, comes_before, counted_by, rank_at, rank_cmp, shares, text_cmp, text_of}
 use Rattle.cookie_agent.specs.declared.group.Group.{Group}
-use Rattle.cookie_agent.specs.declared.group.Group.TheVariants.{Domain, Whole}
+use Rattle.cookie_agent.specs.declared.group.Group.TheVariants.{Domain, Site, Whole}
 use Rattle.cookie_agent.proofs.RankLemmas.{AreGroups}
 
 -- ---- the orders are total
@@ -25,10 +26,14 @@ use Rattle.cookie_agent.proofs.RankLemmas.{AreGroups}
 pub access_total : IsTotalOrder access_cmp
 access_total = then_total (on_total (λ (r : Rank). r.cookie.last_access) int_cmp_total) (on_total (λ (r : Rank). r.place) nat_cmp_total)
 
-pub rank_total : (group : Group) → IsTotalOrder (rank_cmp group)
-rank_total Domain =
-    then_total (on_total (λ (r : Rank). r.cookie.domain) nat_list_cmp_total)
+text_total : IsTotalOrder text_cmp
+text_total =
+    then_total (on_total (λ (r : Rank). r.text) nat_list_cmp_total)
     (then_total (on_total (λ (r : Rank). r.cookie.is_secure_only) bool_cmp_total) access_total)
+
+pub rank_total : (group : Group) → IsTotalOrder (rank_cmp group)
+rank_total Domain = text_total
+rank_total Site = text_total
 rank_total Whole = access_total
 
 -- what neither comes before ties
@@ -53,37 +58,46 @@ then_first Greater b e = refl
 access_ties : (x y : Rank) → access_cmp x y ≡ Equal → x.place ≡ y.place
 access_ties x y e = exact_unsigned x.place y.place (then_equal (int_cmp x.cookie.last_access y.cookie.last_access) (nat_cmp x.place y.place) e).1
 
-rank_ties : (group : Group) (x y : Rank) → rank_cmp group x y ≡ Equal → x.place ≡ y.place
-rank_ties Domain x y e =
+text_ties : (x y : Rank) → text_cmp x y ≡ Equal → x.place ≡ y.place
+text_ties x y e =
     access_ties x y
     (then_equal (bool_cmp x.cookie.is_secure_only y.cookie.is_secure_only) (access_cmp x y)
-    (then_equal (slice_cmp nat_cmp x.cookie.domain y.cookie.domain) (ordering_then (bool_cmp x.cookie.is_secure_only y.cookie.is_secure_only) (access_cmp x y)) e).1).1
+    (then_equal (slice_cmp nat_cmp x.text y.text) (ordering_then (bool_cmp x.cookie.is_secure_only y.cookie.is_secure_only) (access_cmp x y)) e).1).1
+
+rank_ties : (group : Group) (x y : Rank) → rank_cmp group x y ≡ Equal → x.place ≡ y.place
+rank_ties Domain x y e = text_ties x y e
+rank_ties Site x y e = text_ties x y e
 rank_ties Whole x y e = access_ties x y e
 
 -- ---- the groups are together
 
-domains_meet : (x y z : Rank) → comes_before Domain y x ≡ false → comes_before Domain z y ≡ false → bytes_eq z.cookie.domain x.cookie.domain ≡ true
-    → bytes_eq y.cookie.domain x.cookie.domain ≡ true
-domains_meet x y z after-x after-y same =
-    let domain : z.cookie.domain ≡ x.cookie.domain = (bytes_eq-Decides z.cookie.domain x.cookie.domain).0 same in
-    let up = then_first (slice_cmp nat_cmp y.cookie.domain x.cookie.domain) (ordering_then (bool_cmp y.cookie.is_secure_only x.cookie.is_secure_only) (access_cmp y x)) after-x in
-    let down : is_lt (slice_cmp nat_cmp x.cookie.domain y.cookie.domain) ≡ false
-    = ap (λ d. is_lt (slice_cmp nat_cmp d y.cookie.domain)) (sym domain)
-    ∙ then_first (slice_cmp nat_cmp z.cookie.domain y.cookie.domain) (ordering_then (bool_cmp z.cookie.is_secure_only y.cookie.is_secure_only) (access_cmp z y)) after-y in
-    (bytes_eq-Decides y.cookie.domain x.cookie.domain).1
-    (exact_bytes y.cookie.domain x.cookie.domain
-    (tied (slice_cmp nat_cmp y.cookie.domain x.cookie.domain) (slice_cmp nat_cmp x.cookie.domain y.cookie.domain) (nat_list_cmp_total.antisymm y.cookie.domain x.cookie.domain) up down))
+texts_meet : (x y z : Rank) → is_lt (text_cmp y x) ≡ false → is_lt (text_cmp z y) ≡ false → bytes_eq z.text x.text ≡ true → bytes_eq y.text x.text ≡ true
+texts_meet x y z after-x after-y same =
+    let text : z.text ≡ x.text = (bytes_eq-Decides z.text x.text).0 same in
+    let up = then_first (slice_cmp nat_cmp y.text x.text) (ordering_then (bool_cmp y.cookie.is_secure_only x.cookie.is_secure_only) (access_cmp y x)) after-x in
+    let down : is_lt (slice_cmp nat_cmp x.text y.text) ≡ false
+    = ap (λ d. is_lt (slice_cmp nat_cmp d y.text)) (sym text)
+    ∙ then_first (slice_cmp nat_cmp z.text y.text) (ordering_then (bool_cmp z.cookie.is_secure_only y.cookie.is_secure_only) (access_cmp z y)) after-y in
+    (bytes_eq-Decides y.text x.text).1
+    (exact_bytes y.text x.text
+    (tied (slice_cmp nat_cmp y.text x.text) (slice_cmp nat_cmp x.text y.text) (nat_list_cmp_total.antisymm y.text x.text) up down))
 
 groups_itself : (group : Group) (x : Rank) → shares group x x ≡ true
-groups_itself Domain x = (bytes_eq-Decides x.cookie.domain x.cookie.domain).1 refl
+groups_itself Domain x = (bytes_eq-Decides x.text x.text).1 refl
+groups_itself Site x = (bytes_eq-Decides x.text x.text).1 refl
 groups_itself Whole x = refl
 
 groups_together : (group : Group) (x y z : Rank) → comes_before group y x ≡ false → comes_before group z y ≡ false → shares group x z ≡ true → shares group x y ≡ true
-groups_together Domain x y z e f g = domains_meet x y z e f g
+groups_together Domain x y z e f g = texts_meet x y z e f g
+groups_together Site x y z e f g = texts_meet x y z e f g
 groups_together Whole x y z e f g = refl
 
+texts_move : (x y z : Rank) → bytes_eq y.text x.text ≡ true → bytes_eq z.text x.text ≡ bytes_eq z.text y.text
+texts_move x y z e = ap (λ d. bytes_eq z.text d) (sym ((bytes_eq-Decides y.text x.text).0 e))
+
 groups_move : (group : Group) (x y : Rank) → shares group x y ≡ true → (z : Rank) → shares group x z ≡ shares group y z
-groups_move Domain x y e z = ap (λ d. bytes_eq z.cookie.domain d) (sym ((bytes_eq-Decides y.cookie.domain x.cookie.domain).0 e))
+groups_move Domain x y e z = texts_move x y z e
+groups_move Site x y e z = texts_move x y z e
 groups_move Whole x y e z = refl
 
 pub are_groups : (group : Group) → AreGroups (shares group) (comes_before group) (λ r. r.place)
@@ -139,32 +153,56 @@ secure_last true false b o e = refl
 secure_last false true b o e = refl
 secure_last false false b o e = e
 
-same_domain : (a b : List ℕ) (o : Ordering) → bytes_eq b a ≡ true → is_lt (ordering_then (slice_cmp nat_cmp a b) o) ≡ is_lt o
-same_domain a b o e = by (slice_cmp nat_cmp a b) (sym (texts_ties a b) ∙ (bytes_eq-Decides a b).1 (sym ((bytes_eq-Decides b a).0 e)))
+same_text : (a b : List ℕ) (o : Ordering) → bytes_eq b a ≡ true → is_lt (ordering_then (slice_cmp nat_cmp a b) o) ≡ is_lt o
+same_text a b o e = by (slice_cmp nat_cmp a b) (sym (texts_ties a b) ∙ (bytes_eq-Decides a b).1 (sym ((bytes_eq-Decides b a).0 e)))
   where
     by : (c : Ordering) → is_eq c ≡ true → is_lt (ordering_then c o) ≡ is_lt o
     by Less f = absurd (false≢true f)
     by Equal f = refl
     by Greater f = absurd (false≢true f)
 
-with_domain : (s b : Bool) (p q : Bool) → s ≡ b → (b ≡ true → p ≡ q) → s && p ≡ b && q
-with_domain s true p q e f = ap (λ t. t && p) e ∙ f refl
-with_domain s false p q e f = ap (λ t. t && p) e
+with_text : (s b : Bool) (p q : Bool) → s ≡ b → (b ≡ true → p ≡ q) → s && p ≡ b && q
+with_text s true p q e f = ap (λ t. t && p) e ∙ f refl
+with_text s false p q e f = ap (λ t. t && p) e
 
-pub before : (group : Group) (x y : Rank) → y.place < x.place
-    → shares group x y && comes_before group x y ≡ counts (group_of group x.cookie) y.cookie && goes_first (group_of group x.cookie) x.cookie y.cookie
-before Domain x y earlier =
-    with_domain _ _ _ _ refl (λ e.
-    same_domain x.cookie.domain y.cookie.domain _ e
+text_before : (x y : Rank) → y.place < x.place
+    → bytes_eq y.text x.text && is_lt (text_cmp x y)
+    ≡ bytes_eq y.text x.text && cond (both_or_neither x.cookie.is_secure_only y.cookie.is_secure_only) (int_lt x.cookie.last_access y.cookie.last_access) y.cookie.is_secure_only
+text_before x y earlier =
+    with_text _ _ _ _ refl (λ e.
+    same_text x.text y.text _ e
     ∙ secure_first x.cookie.is_secure_only y.cookie.is_secure_only (int_lt x.cookie.last_access y.cookie.last_access) (access_cmp x y)
     (int_before x.cookie.last_access y.cookie.last_access (nat_cmp x.place y.place) (place_before x.place y.place earlier)))
-before Whole x y earlier = int_before x.cookie.last_access y.cookie.last_access (nat_cmp x.place y.place) (place_before x.place y.place earlier)
 
-pub behind : (group : Group) (x y : Rank) → x.place < y.place
-    → shares group x y && comes_before group x y ≡ counts (group_of group x.cookie) y.cookie && not (goes_first (group_of group x.cookie) y.cookie x.cookie)
-behind Domain x y later =
-    with_domain _ _ _ _ refl (λ e.
-    same_domain x.cookie.domain y.cookie.domain _ e
+text_behind : (x y : Rank) → x.place < y.place
+    → bytes_eq y.text x.text && is_lt (text_cmp x y)
+    ≡ bytes_eq y.text x.text && not (cond (both_or_neither y.cookie.is_secure_only x.cookie.is_secure_only) (int_lt y.cookie.last_access x.cookie.last_access) x.cookie.is_secure_only)
+text_behind x y later =
+    with_text _ _ _ _ refl (λ e.
+    same_text x.text y.text _ e
     ∙ secure_last x.cookie.is_secure_only y.cookie.is_secure_only (int_lt y.cookie.last_access x.cookie.last_access) (access_cmp x y)
     (int_behind x.cookie.last_access y.cookie.last_access (nat_cmp x.place y.place) (place_behind x.place y.place later)))
-behind Whole x y later = int_behind x.cookie.last_access y.cookie.last_access (nat_cmp x.place y.place) (place_behind x.place y.place later)
+
+-- the cookie of the place, counted by the group's text
+abbrev ranked_at : List Rule → Group → CookieStore → ℕ → Rank
+ranked_at rules group store n = rank_at (text_of rules group) store n
+
+pub before : (rules : List Rule) (group : Group) (store : CookieStore) (n e : ℕ) → e < n
+    → shares group (ranked_at rules group store n) (ranked_at rules group store e) && comes_before group (ranked_at rules group store n) (ranked_at rules group store e)
+    ≡ counts (counted_by rules group) (ranked_at rules group store n).cookie (ranked_at rules group store e).cookie && goes_first (counted_by rules group) (ranked_at rules group store n).cookie (ranked_at rules group store e).cookie
+before rules Domain store n e earlier = text_before (ranked_at rules Domain store n) (ranked_at rules Domain store e) earlier
+before rules Site store n e earlier = text_before (ranked_at rules Site store n) (ranked_at rules Site store e) earlier
+before rules Whole store n e earlier =
+    let x = ranked_at rules Whole store n in
+    let y = ranked_at rules Whole store e in
+    int_before x.cookie.last_access y.cookie.last_access (nat_cmp x.place y.place) (place_before x.place y.place earlier)
+
+pub behind : (rules : List Rule) (group : Group) (store : CookieStore) (n l : ℕ) → n < l
+    → shares group (ranked_at rules group store n) (ranked_at rules group store l) && comes_before group (ranked_at rules group store n) (ranked_at rules group store l)
+    ≡ counts (counted_by rules group) (ranked_at rules group store n).cookie (ranked_at rules group store l).cookie && not (goes_first (counted_by rules group) (ranked_at rules group store l).cookie (ranked_at rules group store n).cookie)
+behind rules Domain store n l later = text_behind (ranked_at rules Domain store n) (ranked_at rules Domain store l) later
+behind rules Site store n l later = text_behind (ranked_at rules Site store n) (ranked_at rules Site store l) later
+behind rules Whole store n l later =
+    let x = ranked_at rules Whole store n in
+    let y = ranked_at rules Whole store l in
+    int_behind x.cookie.last_access y.cookie.last_access (nat_cmp x.place y.place) (place_behind x.place y.place later)

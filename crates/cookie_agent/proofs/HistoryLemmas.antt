@@ -2,14 +2,15 @@
 use Rattle.std.proofs.Common.{◌≡◌, ◌&&◌, not, Bool, true, false, cond, [], ◌∷◌, map, codes, Some, None, Ok, Err, refl, sym, ap, subst, ◌∙◌, All, inl, inr}
 use Rattle.std.proofs.lemmas.List.Elements.{All-filter, All-head, All-map, All-nil, All-tail, All-weaker}
 use Rattle.std.specs.List.{filter}
-use Rattle.std.specs.Prelude.{Result}
+use Rattle.std.specs.Prelude.{Result, List}
 use Rattle.jiff.specs.Types.{DateTime}
 use Rattle.jiff.specs.Words.{civil_nanos}
 use Rattle.cookie_browser.specs.Request.{RequestView}
 use Rattle.cookie_browser.specs.Storage.{CookieStore, KeptView, has_host_prefix, is_sent, kept_after_text, kept_after_verdict, kept_with, lasting, lasts, verdict}
 use Rattle.cookie_browser.specs.declared.refusal.Refusal.{Refusal}
+use Rattle.cookie_browser.specs.Suffixes.{Rule, site_domain}
 use Rattle.cookie_agent.specs.Histories.{Begins, Clears, Evicts, History, Loading, Loads, Reads, Removes, Requests, Response, Trims, WasRead, kept_after}
-use Rattle.cookie_agent.specs.Limits.{trimmed, within_domains}
+use Rattle.cookie_agent.specs.Limits.{trimmed, trimmed_sites, within_domains}
 use Rattle.cookie_agent.specs.Saved.{is_for_suffix, is_persistent, saved}
 use Rattle.cookie_agent.specs.SavedForms.{as_carried, carries, read_again}
 use Rattle.cookie_agent.specs.Sent.{accessed}
@@ -17,9 +18,10 @@ use Rattle.cookie_agent.specs.Stored.{IsApart, is_named_in, is_of_domain, kept_w
 use Rattle.cookie_agent.specs.declared.limits.Limits.{Limits}
 use Rattle.cookie_agent.specs.declared.saved.form.SavedForm.{SavedForm}
 use Rattle.cookie_agent.specs.declared.saved.form.SavedForm.TheVariants as form
+use Rattle.cookie_agent.proofs.ApartLemmas.{apart-trimmed}
 use Rattle.cookie_agent.proofs.CutOutLemmas.{stored_cut_out}
 use Rattle.cookie_agent.proofs.HostSetLemmas.{secure_verdict, verdict_host_set}
-use Rattle.cookie_agent.proofs.LimitLemmas.{All-staying, apart-staying}
+use Rattle.cookie_agent.proofs.LimitLemmas.{All-staying}
 use Rattle.cookie_agent.proofs.PutLemmas.{All-put, apart-accessed, apart-filter, apart-put, apart-stored}
 use Rattle.cookie_agent.proofs.SentFieldLemmas.{IsCutOut, IsCutOutOf}
 
@@ -127,10 +129,11 @@ module _ (P : KeptView → Type 0) where
   All-kept_with_each [] store each all = all
   All-kept_with_each (x ∷ xs) store each all = All-kept_with_each xs (kept_with x store) (All-tail P x xs each) (All-put P x (All-head P x xs each) store all)
 
-  All-trimmed : (limits : Limits) (now : DateTime) (store : CookieStore) → All P store → All P (trimmed limits now store)
-  All-trimmed limits now store all =
-      All-staying (λ cookie. None) limits.total P [] (within_domains limits.per_domain (lasting now store))
-      (All-staying (λ cookie. Some cookie.domain) limits.per_domain P [] (lasting now store) (All-filter (λ c. lasts c.expiry now) P store all))
+  All-trimmed : (rules : List Rule) (limits : Limits) (now : DateTime) (store : CookieStore) → All P store → All P (trimmed rules limits now store)
+  All-trimmed rules limits now store all =
+      All-staying None limits.total P [] (trimmed_sites rules limits now store)
+      (All-staying (Some (λ cookie. site_domain rules cookie.domain)) limits.per_site P [] (within_domains limits.per_domain (lasting now store))
+      (All-staying (Some (λ cookie. cookie.domain)) limits.per_domain P [] (lasting now store) (All-filter (λ c. lasts c.expiry now) P store all)))
 
 apart-kept_with_each : (xs store : CookieStore) → IsApart store → IsApart (kept_with_each xs store)
 apart-kept_with_each [] store apart = apart
@@ -181,7 +184,7 @@ all_stored (Requests site now before) = all_alike (read_in before) (read_in befo
 all_stored (Evicts now before) = All-filter (λ c. lasts c.expiry now) (IsStoredSo (read_in before)) (kept_after before) (all_stored before)
 all_stored (Removes name scope before) = All-filter (λ c. not (is_named_in name scope c)) (IsStoredSo (read_in before)) (kept_after before) (all_stored before)
 all_stored (Clears domain before) = All-filter (λ c. not (is_of_domain domain c)) (IsStoredSo (read_in before)) (kept_after before) (all_stored before)
-all_stored (Trims limits now before) = All-trimmed (IsStoredSo (read_in before)) limits now (kept_after before) (all_stored before)
+all_stored (Trims rules limits now before) = All-trimmed (IsStoredSo (read_in before)) rules limits now (kept_after before) (all_stored before)
 all_stored (Loads l saved_in before) = after_load l saved_in before (kept_after saved_in) (kept_after before) (all_stored saved_in) (all_stored before)
 
 -- no two are the same cookie
@@ -196,7 +199,5 @@ apart_stored (Requests site now before) = apart-accessed site now (kept_after be
 apart_stored (Evicts now before) = apart-filter (λ c. lasts c.expiry now) (kept_after before) (apart_stored before)
 apart_stored (Removes name scope before) = apart-filter (λ c. not (is_named_in name scope c)) (kept_after before) (apart_stored before)
 apart_stored (Clears domain before) = apart-filter (λ c. not (is_of_domain domain c)) (kept_after before) (apart_stored before)
-apart_stored (Trims limits now before) =
-    apart-staying (λ cookie. None) limits.total [] (within_domains limits.per_domain (lasting now (kept_after before)))
-    (apart-staying (λ cookie. Some cookie.domain) limits.per_domain [] (lasting now (kept_after before)) (apart-filter (λ c. lasts c.expiry now) (kept_after before) (apart_stored before)))
+apart_stored (Trims rules limits now before) = apart-trimmed rules limits now (kept_after before) (apart_stored before)
 apart_stored (Loads l saved_in before) = apart-kept_with_each (loaded l (kept_after saved_in)) (kept_after before) (apart_stored before)

@@ -411,8 +411,8 @@ module _ (site : RequestView) (name : Name) (prefixed : has_host_prefix name ≡
   left_here (Evicts now before) = left_here before
   left_here (Removes removed scope before) = passing_here (λ c. not (is_named_in removed scope c)) (own_left site name before) (left_here before)
   left_here (Clears domain before) = passing_here (λ c. not (is_of_domain domain c)) (own_left site name before) (left_here before)
-  left_here (Trims limits now before) =
-      passing_here (λ c. list_any (λ left. is_same_cookie left c) (trimmed limits now (kept_after before))) (own_left site name before) (left_here before)
+  left_here (Trims rules limits now before) =
+      passing_here (λ c. list_any (λ left. is_same_cookie left c) (trimmed rules limits now (kept_after before))) (own_left site name before) (left_here before)
   left_here (Loads l saved_in before) =
       or_here (if_loaded l (own_left site name saved_in)) (own_left site name before) (loaded_here l (own_left site name saved_in) (left_here saved_in)) (left_here before)
 
@@ -559,11 +559,11 @@ module _ (site : RequestView) (name : Name) (prefixed : has_host_prefix name ≡
   holds_after (Removes removed scope before) t order =
       passing_holds t (λ c. not (is_named_in removed scope c)) (kept_after before) (own_left site name before) (holds_after before t order)
   holds_after (Clears domain before) t order = passing_holds t (λ c. not (is_of_domain domain c)) (kept_after before) (own_left site name before) (holds_after before t order)
-  holds_after (Trims limits now before) t order =
-      let stays : KeptView → Bool = λ c. list_any (λ left. is_same_cookie left c) (trimmed limits now (kept_after before)) in
+  holds_after (Trims rules limits now before) t order =
+      let stays : KeptView → Bool = λ c. list_any (λ left. is_same_cookie left c) (trimmed rules limits now (kept_after before)) in
       let o = own_left site name before in
-      later_holds now t order.0 (trimmed limits now (kept_after before)) (if_passing stays o)
-      (subst (λ xs. Holds now xs (if_passing stays o)) (trimmed_as limits now (kept_after before) (apart_stored before))
+      later_holds now t order.0 (trimmed rules limits now (kept_after before)) (if_passing stays o)
+      (subst (λ xs. Holds now xs (if_passing stays o)) (trimmed_as rules limits now (kept_after before) (apart_stored before))
       (passing_holds now stays (lasting now (kept_after before)) o (evicted_holds now (kept_after before) o (holds_after before now order.1))))
   holds_after (Loads l saved_in before) t order =
       let o = own_left site name saved_in in

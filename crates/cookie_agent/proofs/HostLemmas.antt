@@ -172,7 +172,7 @@ module _ (site : RequestView) where
       filtered_like (λ c. not (is_named_in name scope c)) t (kept_after before) (kept_after (own_events site before)) (like_after before uncut t order)
   like_after (Clears domain before) uncut t order =
       filtered_like (λ c. not (is_of_domain domain c)) t (kept_after before) (kept_after (own_events site before)) (like_after before uncut t order)
-  like_after (Trims limits now before) uncut t order = absurd uncut
+  like_after (Trims rules limits now before) uncut t order = absurd uncut
   like_after (Loads loading saved before) uncut t order = absurd uncut
 
   all_bound : (history : History) → All IsBound (kept_after history)

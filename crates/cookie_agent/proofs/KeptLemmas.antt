@@ -5,7 +5,8 @@ use Rattle.std.specs.List.{filter, list_any}
 use Rattle.std.specs.Prelude.{nat_lt, Option, None, Some, List, ℕ}
 use Rattle.jiff.specs.Types.{DateTime}
 use Rattle.cookie_browser.specs.Storage.{CookieStore, KeptView, is_same_cookie, kept_with, lasting, lasts}
-use Rattle.cookie_agent.specs.Limits.{outlasting, staying, trimmed, within_domains}
+use Rattle.cookie_browser.specs.Suffixes.{Rule, site_domain}
+use Rattle.cookie_agent.specs.Limits.{outlasting, staying, trimmed, trimmed_sites, within_domains}
 use Rattle.cookie_agent.specs.Stored.{IsApart}
 use Rattle.cookie_agent.specs.declared.limits.Limits.{Limits}
 use Rattle.cookie_agent.proofs.HostSetLemmas.{agree_all, narrowed}
@@ -58,18 +59,18 @@ among_among xs ys zs first second =
     ∙ ap (filter (is_among xs)) second
     ∙ first
 
-module _ (group : KeptView → Option (List ℕ)) (limit : ℕ) where
+module _ (text : Option (KeptView → List ℕ)) (limit : ℕ) where
   none_same : (c : KeptView) (xs : CookieStore) → All (λ d. is_same_cookie d c ≡ false) xs → is_among xs c ≡ false
   none_same c [] all = refl
   none_same c (x ∷ xs) all =
       ap (λ b. b || is_among xs c) (All-head (λ d. is_same_cookie d c ≡ false) x xs all) ∙ none_same c xs (All-tail (λ d. is_same_cookie d c ≡ false) x xs all)
 
-  staying_among : (before xs : CookieStore) → IsApart xs → AreAmong (staying group limit before xs) xs
+  staying_among : (before xs : CookieStore) → IsApart xs → AreAmong (staying text limit before xs) xs
   staying_among before [] apart = refl
-  staying_among before (c ∷ xs) apart = by (staying_among (before ++ c ∷ []) xs apart.1) (nat_lt (outlasting (group c) before c xs) limit)
+  staying_among before (c ∷ xs) apart = by (staying_among (before ++ c ∷ []) xs apart.1) (nat_lt (outlasting text before c xs) limit)
     where
       rest : CookieStore
-      rest = staying group limit (before ++ c ∷ []) xs
+      rest = staying text limit (before ++ c ∷ []) xs
 
       others : filter (is_among (c ∷ rest)) xs ≡ filter (is_among rest) xs
       others =
@@ -82,15 +83,19 @@ module _ (group : KeptView → Option (List ℕ)) (limit : ℕ) where
           ∙ ap (λ l. c ∷ l) (others ∙ h)
       by h false =
           ap (λ b. cond b (c ∷ filter (is_among rest) xs) (filter (is_among rest) xs))
-          (none_same c rest (All-staying group limit (λ d. is_same_cookie d c ≡ false) (before ++ c ∷ []) xs apart.0))
+          (none_same c rest (All-staying text limit (λ d. is_same_cookie d c ≡ false) (before ++ c ∷ []) xs apart.0))
           ∙ h
 
 -- what a trim leaves
-pub trimmed_as : (limits : Limits) (now : DateTime) (store : CookieStore) → IsApart store
-    → filter (λ c. list_any (λ left. is_same_cookie left c) (trimmed limits now store)) (lasting now store) ≡ trimmed limits now store
-trimmed_as limits now store apart =
+pub trimmed_as : (rules : List Rule) (limits : Limits) (now : DateTime) (store : CookieStore) → IsApart store
+    → filter (λ c. list_any (λ left. is_same_cookie left c) (trimmed rules limits now store)) (lasting now store) ≡ trimmed rules limits now store
+trimmed_as rules limits now store apart =
     let kept = lasting now store in
     let fewer = within_domains limits.per_domain kept in
+    let least = trimmed_sites rules limits now store in
+    let site : KeptView → List ℕ = λ cookie. site_domain rules cookie.domain in
     let one : IsApart kept = apart-filter (λ c. lasts c.expiry now) store apart in
-    let two : IsApart fewer = apart-staying (λ cookie. Some cookie.domain) limits.per_domain [] kept one in
-    among_among (trimmed limits now store) fewer kept (staying_among (λ cookie. None) limits.total [] fewer two) (staying_among (λ cookie. Some cookie.domain) limits.per_domain [] kept one)
+    let two : IsApart fewer = apart-staying (Some (λ cookie. cookie.domain)) limits.per_domain [] kept one in
+    let three : IsApart least = apart-staying (Some site) limits.per_site [] fewer two in
+    among_among (trimmed rules limits now store) least kept (staying_among None limits.total [] least three)
+    (among_among least fewer kept (staying_among (Some site) limits.per_site [] fewer two) (staying_among (Some (λ cookie. cookie.domain)) limits.per_domain [] kept one))

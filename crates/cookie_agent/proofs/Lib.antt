@@ -1,3 +1,4 @@
+pub mod ApartLemmas
 pub mod CookiesTxtLemmas
 pub mod CutOutLemmas
 pub mod GroupLemmas

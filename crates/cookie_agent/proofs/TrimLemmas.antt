@@ -1,5 +1,5 @@
 -- Which places stay: the search by an order against what the standard leaves.
-use Rattle.std.proofs.Common.{◌≡◌, ℕ, ◌+◌, ◌<◌, ◌≤◌, Bool, true, false, cond, List, [], ◌∷◌, ◌++◌, length, get_or, map, take, Some, refl, sym, ap, subst, ◌∙◌, arith, append-nil}
+use Rattle.std.proofs.Common.{◌≡◌, ℕ, ◌+◌, ◌<◌, ◌≤◌, Bool, true, false, cond, List, [], ◌∷◌, ◌++◌, length, get_or, map, take, None, refl, sym, ap, subst, ◌∙◌, arith, append-nil}
 use Rattle.std.proofs.Math.ListN.{get_or-map}
 use Rattle.std.proofs.lemmas.List.{get_or_default, length-map, map-append}
 use Rattle.std.proofs.lemmas.List.Elements.{All-append, All-cons, All-filter, All-nil, All-weaker, filter_more}
@@ -7,15 +7,16 @@ use Rattle.std.specs.List.{count_by, filter}
 use Rattle.std.specs.List.Sorted.{IsPermutation}
 use Rattle.jiff.specs.Types.{DateTime}
 use Rattle.cookie_browser.specs.Storage.{CookieStore, KeptView, lasting, lasts}
+use Rattle.cookie_browser.specs.Suffixes.{Rule}
 use Rattle.cookie_agent.specs.Limits.{IsWithin, counts, staying}
-use Rattle.cookie_agent.specs.LimitsCode.{AreOnce, IsInOrder, Rank, Rises, blank, comes_before, group_of, picked, rank_at, rank_of, shares, stays}
+use Rattle.cookie_agent.specs.LimitsCode.{AreOnce, IsInOrder, Rank, Rises, blank, comes_before, counted_by, picked, rank_at, rank_of, shares, stays, text_of}
 use Rattle.cookie_agent.specs.declared.group.Group.{Group}
-use Rattle.cookie_agent.specs.declared.group.Group.TheVariants.{Domain, Whole}
+use Rattle.cookie_agent.specs.declared.group.Group.TheVariants.{Domain, Site, Whole}
 use Rattle.cookie_agent.specs.declared.limits.Limits.{Limits}
 use Rattle.cookie_agent.specs.declared.ranked.Ranked.{Ranked}
 use Rattle.cookie_agent.proofs.GroupLemmas.{are_groups, before, behind}
 use Rattle.cookie_agent.proofs.LimitLemmas.{count-every, count-staying, staying-kept}
-use Rattle.cookie_agent.proofs.RankLemmas.{ascends-filter, ascends-push, counted-map, few-kept, kept_places, kept_places-sorted, once-placed}
+use Rattle.cookie_agent.proofs.RankLemmas.{ascends-filter, ascends-push, counted-map, counted-same, few-kept, kept_places, kept_places-sorted, once-placed}
 
 -- ---- the element at a place
 
@@ -75,53 +76,78 @@ in_order_more places i order false = (order.0, All-weaker (λ p. p < i) (λ p. p
 
 -- ---- the places that are found
 
-module _ (group : Group) (limit : ℕ) (store : CookieStore) (places : List ℕ) (order : IsInOrder (length store) places) (items : List Rank)
-    (moved : IsPermutation (map (rank_at store) places) items) where
+shared_texts : (rules : List Rule) (group : Group) (store : CookieStore) (cookie : KeptView) (n : ℕ)
+    → shares group (record { place = 0; text = text_of rules group cookie; cookie = cookie }) (rank_at (text_of rules group) store n) ≡ counts (counted_by rules group) cookie (get_or store n blank)
+shared_texts rules Domain store cookie n = refl
+shared_texts rules Site store cookie n = refl
+shared_texts rules Whole store cookie n = refl
+
+module _ (rules : List Rule) (group : Group) (limit : ℕ) (store : CookieStore) (places : List ℕ) (order : IsInOrder (length store) places) (items : List Rank)
+    (moved : IsPermutation (map (rank_at (text_of rules group) store) places) items) where
+  abbrev at : ℕ → Rank
+  at n = rank_at (text_of rules group) store n
+
   pub once : AreOnce items
-  once = once-placed (shares group) (comes_before group) (λ r. r.place) (are_groups group) (rank_at store) (λ n. refl) places items order.0 moved
+  once = once-placed (shares group) (comes_before group) (λ r. r.place) (are_groups group) at (λ n. refl) places items order.0 moved
 
   module _ (rises : Rises (comes_before group) items) (found kept : List ℕ) (which : found ≡ map (λ r. r.place) (filter (stays group limit items) items))
       (turned : IsPermutation found kept) (up : (i j d : ℕ) → i ≤ j → j < length kept → get_or kept i d ≤ get_or kept j d) where
-    same_places : kept ≡ kept_places (shares group) (comes_before group) (λ r. r.place) (are_groups group) (rank_at store) (λ n. refl) limit places
+    same_places : kept ≡ kept_places (shares group) (comes_before group) (λ r. r.place) (are_groups group) at (λ n. refl) limit places
     same_places =
-        kept_places-sorted (shares group) (comes_before group) (λ r. r.place) (are_groups group) (rank_at store) (λ n. refl) limit places items order.0 moved found kept which turned up
+        kept_places-sorted (shares group) (comes_before group) (λ r. r.place) (are_groups group) at (λ n. refl) limit places items order.0 moved found kept which turned up
 
-    pub found-value : picked store kept ≡ staying (group_of group) limit [] (picked store places)
+    pub found-value : picked store kept ≡ staying (counted_by rules group) limit [] (picked store places)
     found-value =
         ap (picked store) same_places
-        ∙ sym (staying-kept (shares group) (comes_before group) (λ r. r.place) (are_groups group) (rank_at store) (group_of group) (λ n. get_or store n blank)
-        (λ n e lt. before group (rank_at store n) (rank_at store e) lt) (λ n l lt. behind group (rank_at store n) (rank_at store l) lt) limit places order.0)
+        ∙ sym (staying-kept (shares group) (comes_before group) (λ r. r.place) (are_groups group) at (counted_by rules group) (λ n. get_or store n blank)
+        (before rules group store) (behind rules group store) limit places order.0)
 
     pub found-in_order : IsInOrder (length store) kept
     found-in_order =
         subst (IsInOrder (length store)) (sym same_places) (
-          ascends-filter (λ n. stays group limit (map (rank_at store) places) (rank_at store n)) 0 places order.0,
-          All-filter (λ n. stays group limit (map (rank_at store) places) (rank_at store n)) (λ p. p < length store) places order.1,
+          ascends-filter (λ n. stays group limit (map at places) (at n)) 0 places order.0,
+          All-filter (λ n. stays group limit (map at places) (at n)) (λ p. p < length store) places order.1,
         )
 
-    pub found-few : (rank : Rank) → count_by (counts (group_of group rank.cookie)) (picked store kept) ≤ limit
-    found-few rank =
-        let most = few-kept (shares group) (comes_before group) (λ r. r.place) (are_groups group) (rank_at store) (λ n. refl) limit places items order.0 moved rises rank in
-        let there : count_by (counts (group_of group rank.cookie)) (picked store kept)
-        ≡ count_by (λ n. shares group rank (rank_at store n)) (kept_places (shares group) (comes_before group) (λ r. r.place) (are_groups group) (rank_at store) (λ n. refl) limit places)
-        = counted-map (counts (group_of group rank.cookie)) (λ n. get_or store n blank) kept
-        ∙ ap (count_by (λ n. shares group rank (rank_at store n))) same_places in
+    few_of : (cookie : KeptView) (rank : Rank) → ((n : ℕ) → shares group rank (at n) ≡ counts (counted_by rules group) cookie (get_or store n blank))
+        → count_by (counts (counted_by rules group) cookie) (picked store kept) ≤ limit
+    few_of cookie rank same =
+        let most = few-kept (shares group) (comes_before group) (λ r. r.place) (are_groups group) at (λ n. refl) limit places items order.0 moved rises rank in
+        let there : count_by (counts (counted_by rules group) cookie) (picked store kept)
+        ≡ count_by (λ n. shares group rank (at n)) (kept_places (shares group) (comes_before group) (λ r. r.place) (are_groups group) at (λ n. refl) limit places)
+        = counted-map (counts (counted_by rules group) cookie) (λ n. get_or store n blank) kept
+        ∙ counted-same (λ n. counts (counted_by rules group) cookie (get_or store n blank)) (λ n. shares group rank (at n)) kept (λ k d below. sym (same (get_or kept k d)))
+        ∙ ap (count_by (λ n. shares group rank (at n))) same_places in
         omega (arith, most, there)
+
+    pub found-few : (cookie : KeptView) → count_by (counts (counted_by rules group) cookie) (picked store kept) ≤ limit
+    found-few cookie = few_of cookie (record { place = 0; text = text_of rules group cookie; cookie = cookie }) (shared_texts rules group store cookie)
 
 -- ---- the limits
 
-pub is_within : (limits : Limits) (first second : CookieStore) → ((rank : Rank) → count_by (counts (group_of Domain rank.cookie)) first ≤ limits.per_domain)
-    → second ≡ staying (group_of Whole) limits.total [] first → ((rank : Rank) → count_by (counts (group_of Whole rank.cookie)) second ≤ limits.total)
-    → IsWithin limits second
-is_within limits first second few left fewer =
+pub is_within : (rules : List Rule) (limits : Limits) (first second third : CookieStore)
+    → ((c : KeptView) → count_by (counts (counted_by rules Domain) c) first ≤ limits.per_domain)
+    → second ≡ staying (counted_by rules Site) limits.per_site [] first → ((c : KeptView) → count_by (counts (counted_by rules Site) c) second ≤ limits.per_site)
+    → third ≡ staying (counted_by rules Whole) limits.total [] second → ((c : KeptView) → count_by (counts (counted_by rules Whole) c) third ≤ limits.total)
+    → IsWithin rules limits third
+is_within rules limits first second third few left fewer last fewest =
     record {
       domains = λ domain.
-          (let one = few (record { place = 0; cookie = record blank { domain = domain } }) in
-          let less = count-staying (group_of Whole) limits.total (counts (Some domain)) [] first in
-          let there = ap (count_by (counts (Some domain))) left in
+          (let c : KeptView = record blank { domain = domain } in
+          let one = few c in
+          let less = count-staying (counted_by rules Site) limits.per_site (counts (counted_by rules Domain) c) [] first in
+          let there = ap (count_by (counts (counted_by rules Domain) c)) left in
+          let least = count-staying None limits.total (counts (counted_by rules Domain) c) [] second in
+          let here = ap (count_by (counts (counted_by rules Domain) c)) last in
+          omega (arith, one, less, there, least, here));
+      sites = λ domain.
+          (let c : KeptView = record blank { domain = domain } in
+          let one = fewer c in
+          let less = count-staying None limits.total (counts (counted_by rules Site) c) [] second in
+          let there = ap (count_by (counts (counted_by rules Site) c)) last in
           omega (arith, one, less, there));
       total =
-          let every = count-every second in
-          let most = fewer (record { place = 0; cookie = blank }) in
+          let every = count-every blank third in
+          let most = fewest blank in
           omega (arith, every, most);
     }

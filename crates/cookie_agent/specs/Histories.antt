@@ -42,7 +42,7 @@ pub data History : Type 0 where
   -- `clear_domain`
   Clears : List ℕ → History → History
   -- `trim`
-  Trims : Limits → DateTime → History → History
+  Trims : List Rule → Limits → DateTime → History → History
   -- `load` of what was written of an agent to which the first of these happened
   Loads : Loading → History → History → History
 
@@ -57,7 +57,7 @@ kept_after (Removes name scope before) =
     filter (λ cookie. not (is_named_in name scope cookie)) (kept_after before)
 kept_after (Clears domain before) =
     filter (λ cookie. not (is_of_domain domain cookie)) (kept_after before)
-kept_after (Trims limits now before) = trimmed limits now (kept_after before)
+kept_after (Trims rules limits now before) = trimmed rules limits now (kept_after before)
 kept_after (Loads loading saved before) =
     kept_with_each (lasting loading.now
     (read_again loading.form loading.rules loading.written loading.now (kept_after saved)))
@@ -74,7 +74,7 @@ IsInOrder (Evicts now before) time =
     (civil_nanos now ≤ℤ civil_nanos time) × IsInOrder before now
 IsInOrder (Removes name scope before) time = IsInOrder before time
 IsInOrder (Clears domain before) time = IsInOrder before time
-IsInOrder (Trims limits now before) time =
+IsInOrder (Trims rules limits now before) time =
     (civil_nanos now ≤ℤ civil_nanos time) × IsInOrder before now
 IsInOrder (Loads loading saved before) time =
     (civil_nanos loading.now ≤ℤ civil_nanos time)
@@ -89,6 +89,6 @@ WasRead response (Requests site now before) = WasRead response before
 WasRead response (Evicts now before) = WasRead response before
 WasRead response (Removes name scope before) = WasRead response before
 WasRead response (Clears domain before) = WasRead response before
-WasRead response (Trims limits now before) = WasRead response before
+WasRead response (Trims rules limits now before) = WasRead response before
 WasRead response (Loads loading saved before) =
     WasRead response saved ⊎ WasRead response before

@@ -26,7 +26,7 @@ own_events site (Requests other now before) = Requests other now (own_events sit
 own_events site (Evicts now before) = Evicts now (own_events site before)
 own_events site (Removes name scope before) = Removes name scope (own_events site before)
 own_events site (Clears domain before) = Clears domain (own_events site before)
-own_events site (Trims limits now before) = Trims limits now (own_events site before)
+own_events site (Trims rules limits now before) = Trims rules limits now (own_events site before)
 own_events site (Loads loading saved before) =
     Loads loading (own_events site saved) (own_events site before)
 
@@ -38,7 +38,7 @@ IsUncut (Requests site now before) = IsUncut before
 IsUncut (Evicts now before) = IsUncut before
 IsUncut (Removes name scope before) = IsUncut before
 IsUncut (Clears domain before) = IsUncut before
-IsUncut (Trims limits now before) = ⊥
+IsUncut (Trims rules limits now before) = ⊥
 IsUncut (Loads loading saved before) = ⊥
 
 -- What an agent sends to a site under such names is what it would send without the responses of other hosts, hosts

@@ -17,6 +17,7 @@ pub mod Scopes
 pub mod Sent
 pub mod SentCode
 pub mod Site
+pub mod Sites
 pub mod Storable
 pub mod Store
 pub mod Stored

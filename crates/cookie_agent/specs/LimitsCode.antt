@@ -1,22 +1,25 @@
 -- Mirrors private code: the order in which cookies go, and which stay, by their places.
-use Rattle.std.specs.Prelude.{ℕ, suc, pos, ◌<◌, ◌≤◌, ◌≡◌, ◌==◌, ◌&&◌, Bool, false, List, [], ◌∷◌, All, map, count_by, nat_lt, slice_index_or, Option, Some, None}
+use Rattle.std.specs.Prelude.{ℕ, suc, pos, ◌<◌, ◌≤◌, ◌≡◌, ◌==◌, ◌&&◌, Bool, true, false, List, [], ◌∷◌, All, map, count_by, nat_lt, slice_index_or, Option, Some, None}
 use Rattle.std.specs.Cmp.Lexicographic.{slice_cmp}
 use Rattle.std.specs.Ordering.{bool_cmp, int_cmp, is_lt, nat_cmp, ordering_then}
 use Rattle.std.specs.declared.cmp.Ordering.{Ordering}
+use Rattle.std.specs.Str.{bytes_eq}
 use Rattle.cookie_browser.specs.Storage.{KeptView, CookieStore}
+use Rattle.cookie_browser.specs.Suffixes.{Rule, site_domain}
 use Rattle.cookie_browser.specs.declared.enforcement.Enforcement.TheVariants as enforcement
-use Rattle.cookie_agent.specs.Limits.{counts}
 use Rattle.cookie_agent.specs.declared.group.Group.{Group}
-use Rattle.cookie_agent.specs.declared.group.Group.TheVariants.{Domain, Whole}
+use Rattle.cookie_agent.specs.declared.group.Group.TheVariants.{Domain, Site, Whole}
 use Rattle.cookie_agent.specs.declared.ranked.Ranked.{Ranked}
 
--- a cookie and its place in the order of creation
+-- a cookie, its place in the order of creation, and the text that it is counted by
 pub record Rank : Type 0 where
   pub place : ℕ
+  pub text : List ℕ
   pub cookie : KeptView
 
 abbrev pub rank_of : Ranked → Rank
-rank_of ranked = record { place = ranked.place; cookie = ranked.cookie.now }
+rank_of ranked =
+    record { place = ranked.place; text = ranked.text.now; cookie = ranked.cookie.now }
 
 abbrev pub ranks : List Ranked → List Rank
 ranks items = map rank_of items
@@ -37,8 +40,14 @@ blank =
       last_access = pos 0;
     }
 
-abbrev pub rank_at : CookieStore → ℕ → Rank
-rank_at store place = record { place = place; cookie = slice_index_or store place blank }
+-- the cookie at this place, which is counted by the text that a function makes of it
+abbrev pub rank_at : (KeptView → List ℕ) → CookieStore → ℕ → Rank
+rank_at text store place =
+    record {
+      place = place;
+      text = text (slice_index_or store place blank);
+      cookie = slice_index_or store place blank;
+    }
 
 -- the cookies at these places
 abbrev pub picked : CookieStore → List ℕ → CookieStore
@@ -62,14 +71,21 @@ abbrev pub Rises : {X : Type 0} → (X → X → Bool) → List X → Type 0
 Rises before [] = Unit {0}
 Rises before (x ∷ xs) = All (λ y. before y x ≡ false) xs × Rises before xs
 
--- the group in which a cookie is counted: the cookies of its domain, or all
-abbrev pub group_of : Group → KeptView → Option (List ℕ)
-group_of Domain cookie = Some cookie.domain
-group_of Whole cookie = None
+-- the text that the group counts a cookie by: its domain, its site, or none
+abbrev pub text_of : List Rule → Group → KeptView → List ℕ
+text_of rules Domain cookie = cookie.domain
+text_of rules Site cookie = site_domain rules cookie.domain
+text_of rules Whole cookie = []
 
--- the right one is of the group of the left one
+-- what the group counts by, if it doesn't count all together
+abbrev pub counted_by : List Rule → Group → Option (KeptView → List ℕ)
+counted_by rules Whole = None
+counted_by rules group = Some (text_of rules group)
+
+-- the right one is counted with the left one
 abbrev pub shares : Group → Rank → Rank → Bool
-shares group left right = counts (group_of group left.cookie) right.cookie
+shares Whole left right = true
+shares group left right = bytes_eq right.text left.text
 
 -- by last access, and then by creation
 abbrev pub access_cmp : Rank → Rank → Ordering
@@ -77,13 +93,16 @@ access_cmp left right =
     ordering_then (int_cmp left.cookie.last_access right.cookie.last_access)
     (nat_cmp left.place right.place)
 
--- by domain, then those that aren't secure-only first, and then by last access
-abbrev pub rank_cmp : Group → Rank → Rank → Ordering
-rank_cmp Domain left right =
-    ordering_then (slice_cmp nat_cmp left.cookie.domain right.cookie.domain)
+-- by the text, then those that aren't secure-only first, and then by last access
+abbrev pub text_cmp : Rank → Rank → Ordering
+text_cmp left right =
+    ordering_then (slice_cmp nat_cmp left.text right.text)
     (ordering_then (bool_cmp left.cookie.is_secure_only right.cookie.is_secure_only)
     (access_cmp left right))
+
+abbrev pub rank_cmp : Group → Rank → Rank → Ordering
 rank_cmp Whole left right = access_cmp left right
+rank_cmp group left right = text_cmp left right
 
 abbrev pub comes_before : Group → Rank → Rank → Bool
 comes_before group left right = is_lt (rank_cmp group left right)

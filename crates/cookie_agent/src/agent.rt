@@ -9,6 +9,7 @@ ghost use Rattle.cookie_agent.specs.Hosts.{AreOnlyOwn};
 ghost use Rattle.cookie_agent.specs.Limits.{IsWithin, trimmed};
 ghost use Rattle.cookie_agent.specs.Removals.{IsMissed, IsRemovedAsSet};
 ghost use Rattle.cookie_agent.specs.Sent.{IsOrderedHeader, accessed};
+ghost use Rattle.cookie_agent.specs.Sites.{ReadsApart, TrimsApart};
 ghost use Rattle.cookie_agent.specs.Store.{agent_after_text, agent_verdict, refusal_of};
 ghost use Rattle.cookie_agent.specs.Stored.{is_named_in, is_of_domain};
 ghost use Rattle.cookie_agent.specs.VerdictCode.{verdict_result};
@@ -36,6 +37,7 @@ pub struct Agent<'r> {
 }
 
 impl<'r> Model for Agent<'r> {
+    ghost use Rattle.cookie_agent.specs.Sites.{ReadsApart, TrimsApart};
     ghost use Rattle.cookie_agent.specs.Store.{AgentView};
 
     ghost Value = { AgentView };
@@ -135,6 +137,9 @@ impl<'r> Agent<'r> {
         ensures err { OnErr result (self.new ≡ self.old) }
         ensures missed { OnOk result (IsMissed site.now now text.now self.old self.new) }
         ensures removed { OnOk result (IsRemovedAsSet site.now now text.now self.old self.new) }
+
+        // The response of another site drops no cookie of this one.
+        ensures apart { OnOk result (ReadsApart site.now now self.old self.new) }
     {
         match self.verdict(site, text, now)? {
             Verdict::Stored(cookie) => {
@@ -194,13 +199,17 @@ impl<'r> Agent<'r> {
     /// Fails only if out of memory, and then the agent is as before.
     pub fn trim(&mut self, limits: Limits, now: DateTime) -> Result<(), AllocError>
         ensures value { OnOk result (self.new
-            ≡ record self.old { cookies = trimmed limits now self.old.cookies }) }
-        ensures within { OnOk result (IsWithin limits self.new.cookies) }
-        ensures needed { OnOk result (IsWithin limits (lasting now self.old.cookies)
+            ≡ record self.old { cookies = trimmed self.old.rules limits now self.old.cookies }) }
+        ensures within { OnOk result (IsWithin self.old.rules limits self.new.cookies) }
+        ensures needed { OnOk result (IsWithin self.old.rules limits (lasting now self.old.cookies)
             → self.new.cookies ≡ lasting now self.old.cookies) }
+
+        // No site's cookies push out another's, if all sites leave room.
+        ensures apart { OnOk result
+            (TrimsApart self.old.rules limits now self.old.cookies self.new.cookies) }
         ensures err { OnErr result (self.new ≡ self.old) }
     {
-        self.store.trim(limits, now)
+        self.store.trim(self.suffixes, limits, now)
     }
 
     /// Removes the cookie of this name and this scope, as [`Store::remove`] says, and returns whether there was one.

@@ -1,27 +1,39 @@
 //! By what cookies are counted, and the order in which they go (RFC 6265bis, Storage Model).
 ghost use Rattle.std.specs.Prelude.{◌≡◌};
-ghost use Rattle.std.specs.Cmp.Lexicographic.{slice_cmp};
-ghost use Rattle.std.specs.Ordering.{bool_cmp, nat_cmp};
-ghost use Rattle.cookie_agent.specs.LimitsCode.{access_cmp, rank_cmp, rank_of, shares};
+ghost use Rattle.std.specs.Ordering.{bool_cmp};
+ghost use Rattle.cookie_agent.specs.LimitsCode.{access_cmp, rank_cmp, rank_of, shares, text_cmp, text_of};
 
 use crate::ranked::Ranked;
 use crate::stored::StoredCookie;
+use cookie_browser::Suffixes;
 use std::cmp::Ordering;
 
-// Which cookies are counted together: those of a domain, or all.
+// Which cookies are counted together: the cookies of a domain, of a site, or all.
 #[derive(Clone, Copy)]
 pub(crate) enum Group {
     Domain,
+    Site,
     Whole,
 }
 
 impl Group {
-    // Whether both are of one group.
+    // The text that the cookie is counted by.
+    pub(crate) fn text<'a>(self, suffixes: &Suffixes, cookie: &'a StoredCookie) -> &'a [u8]
+        ensures { result.now ≡ text_of suffixes.now self cookie.now }
+    {
+        match self {
+            Group::Domain => cookie.domain(),
+            Group::Site => suffixes.site(cookie.domain()),
+            Group::Whole => b"".as_slice(),
+        }
+    }
+
+    // Whether both are counted together.
     pub(crate) fn shares(self, left: &Ranked<'_>, right: &Ranked<'_>) -> bool
         ensures { result ≡ shares self (rank_of left.now) (rank_of right.now) }
     {
         match self {
-            Group::Domain => right.cookie.domain() == left.cookie.domain(),
+            Group::Domain | Group::Site => right.text == left.text,
             Group::Whole => true,
         }
     }
@@ -31,20 +43,19 @@ impl Group {
         ensures { result ≡ rank_cmp self (rank_of left.now) (rank_of right.now) }
     {
         match self {
-            Group::Domain => {
-                let by_secure = compare_secure(left.cookie, right.cookie);
-                let later = by_secure.then(compare_access(left, right));
-                compare_domains(left.cookie, right.cookie).then(later)
-            }
+            Group::Domain | Group::Site => compare_texts(left, right),
             Group::Whole => compare_access(left, right),
         }
     }
 }
 
-fn compare_domains(left: &StoredCookie, right: &StoredCookie) -> Ordering
-    ensures { result ≡ slice_cmp nat_cmp left.now.domain right.now.domain }
+// By the text, and then those that aren't secure-only first.
+fn compare_texts(left: &Ranked<'_>, right: &Ranked<'_>) -> Ordering
+    ensures { result ≡ text_cmp (rank_of left.now) (rank_of right.now) }
 {
-    left.domain().cmp(right.domain())
+    let by_secure = compare_secure(left.cookie, right.cookie);
+    let later = by_secure.then(compare_access(left, right));
+    left.text.cmp(right.text).then(later)
 }
 
 fn compare_secure(left: &StoredCookie, right: &StoredCookie) -> Ordering

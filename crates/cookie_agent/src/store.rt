@@ -4,6 +4,7 @@ ghost use Rattle.std.specs.List.{list_any};
 ghost use Rattle.cookie_browser.specs.Storage.{kept_with, lasting};
 ghost use Rattle.cookie_agent.specs.Limits.{IsWithin, trimmed};
 ghost use Rattle.cookie_agent.specs.Sent.{accessed};
+ghost use Rattle.cookie_agent.specs.Sites.{TrimsApart};
 ghost use Rattle.cookie_agent.specs.Stored.{IsApart, is_named_in, is_of_domain, kept_with_each};
 ghost use Rattle.cookie_agent.specs.StoredCode.{AreIndexed, IsFreshUntil, gives_place, hash_of};
 
@@ -14,6 +15,7 @@ use crate::scope::Scope;
 use crate::site::Site;
 use crate::stored::StoredCookie;
 use crate::trim::{keep, places_within};
+use cookie_browser::Suffixes;
 use jiff::civil::DateTime;
 use std::alloc::{AllocError, Global};
 use std::marker::Model;
@@ -146,21 +148,30 @@ impl Store {
 
     /// Drops what is expired at the time `now` in UTC, and then the cookies above the limits, as RFC 6265bis orders
     /// them (Storage Model). First, of each domain with too many cookies, those that aren't secure-only go before the
-    /// others. Then, if there are too many cookies in all, cookies of any domain go. If the order leaves a choice, the
-    /// cookie with the earliest last access goes.
+    /// others. Then they go so of each site with too many, which RFC 6265bis doesn't have. Then, if there are too many
+    /// cookies in all, cookies of any domain go. If the order leaves a choice, the cookie with the earliest last access
+    /// goes.
     ///
     /// The last access is when a cookie was last stored, or sent by [`retrieve`](crate::Agent::retrieve). Of cookies
     /// with the same last access, the one that was created first goes.
     ///
     /// For n cookies it makes about n log n comparisons. Fails only if out of memory, and then the store is as before.
-    pub fn trim(&mut self, limits: Limits, now: DateTime) -> Result<(), AllocError>
-        ensures value { OnOk result (self.new ≡ trimmed limits now self.old) }
-        ensures within { OnOk result (IsWithin limits self.new) }
-        ensures needed { OnOk result (IsWithin limits (lasting now self.old)
+    pub fn trim(
+        &mut self,
+        suffixes: &Suffixes,
+        limits: Limits,
+        now: DateTime,
+    ) -> Result<(), AllocError>
+        ensures value { OnOk result (self.new ≡ trimmed suffixes.now limits now self.old) }
+        ensures within { OnOk result (IsWithin suffixes.now limits self.new) }
+        ensures needed { OnOk result (IsWithin suffixes.now limits (lasting now self.old)
             → self.new ≡ lasting now self.old) }
+
+        // No site's cookies push out another's, if all sites leave room.
+        ensures apart { OnOk result (TrimsApart suffixes.now limits now self.old self.new) }
         ensures err { OnErr result (self.new ≡ self.old) }
     {
-        let places = places_within(self.alloc, &self.cookies, limits, now)?;
+        let places = places_within(self.alloc, suffixes, &self.cookies, limits, now)?;
         keep(&mut self.cookies, &places);
         renew(&mut self.hashes, &self.cookies);
         self.fresh_until = fresh_until(&self.cookies);

@@ -1,32 +1,57 @@
 //! Which cookies stay if there are too many (RFC 6265bis, Storage Model).
 ghost use Rattle.std.specs.Prelude.{◌≡◌, ◌<◌, ◌≤◌, [], All, filter, length, map, count_by, slice_index_or, IfOk};
 ghost use Rattle.std.specs.List.Sorted.{IsPermutation};
-ghost use Rattle.cookie_browser.specs.Storage.{lasting};
+ghost use Rattle.cookie_browser.specs.Storage.{KeptView, lasting};
 ghost use Rattle.cookie_agent.specs.Limits.{IsWithin, counts, staying, trimmed};
-ghost use Rattle.cookie_agent.specs.LimitsCode.{AreOnce, IsInOrder, Rank, Rises, comes_before, group_of, picked, rank_at, rank_of, ranks, stays};
+ghost use Rattle.cookie_agent.specs.LimitsCode.{AreOnce, IsInOrder, Rank, Rises, comes_before, counted_by, picked, rank_at, rank_of, ranks, stays, text_of};
 
 use crate::group::Group;
 use crate::limits::Limits;
 use crate::ranked::Ranked;
 use crate::stored::StoredCookie;
+use cookie_browser::Suffixes;
 use jiff::civil::DateTime;
 use std::alloc::{AllocError, Global};
 
 // The places of the cookies that stay, in their order.
 pub(crate) fn places_within(
     alloc: Global,
+    suffixes: &Suffixes,
     cookies: &[StoredCookie],
     limits: Limits,
     now: DateTime,
 ) -> Result<Vec<usize>, AllocError>
     ensures value { IfOk result (λ places.
-        picked cookies.now places.items ≡ trimmed limits now cookies.now) }
+        picked cookies.now places.items ≡ trimmed suffixes.now limits now cookies.now) }
     ensures in_order { IfOk result (λ places. IsInOrder (length cookies.now) places.items) }
-    ensures within { IfOk result (λ places. IsWithin limits (picked cookies.now places.items)) }
+    ensures within { IfOk result (λ places.
+        IsWithin suffixes.now limits (picked cookies.now places.items)) }
 {
     let places = lasting_places(alloc, cookies, now)?;
-    let places = within(alloc, cookies, &places, Group::Domain, limits.per_domain)?;
-    let places = within(alloc, cookies, &places, Group::Whole, limits.total)?;
+    let places = within(
+        alloc,
+        suffixes,
+        cookies,
+        &places,
+        Group::Domain,
+        limits.per_domain,
+    )?;
+    let places = within(
+        alloc,
+        suffixes,
+        cookies,
+        &places,
+        Group::Site,
+        limits.per_site,
+    )?;
+    let places = within(
+        alloc,
+        suffixes,
+        cookies,
+        &places,
+        Group::Whole,
+        limits.total,
+    )?;
     Ok(places)
 }
 
@@ -64,6 +89,7 @@ fn lasting_places(
 // Of the cookies at these places, the places of those that stay if no group has more than the limit.
 fn within(
     alloc: Global,
+    suffixes: &Suffixes,
     cookies: &[StoredCookie],
     places: &[usize],
     group: Group,
@@ -71,31 +97,40 @@ fn within(
 ) -> Result<Vec<usize>, AllocError>
     requires { IsInOrder (length cookies.now) places.now }
     ensures value { IfOk result (λ kept. picked cookies.now kept.items
-        ≡ staying (group_of group) limit [] (picked cookies.now places.now)) }
+        ≡ staying (counted_by suffixes.now group) limit [] (picked cookies.now places.now)) }
     ensures in_order { IfOk result (λ kept. IsInOrder (length cookies.now) kept.items) }
-    ensures few { IfOk result (λ kept. (rank : Rank)
-        → count_by (counts (group_of group rank.cookie)) (picked cookies.now kept.items) ≤ limit) }
+    ensures few { IfOk result (λ kept. (cookie : KeptView)
+        → count_by (counts (counted_by suffixes.now group) cookie) (picked cookies.now kept.items)
+        ≤ limit) }
 {
-    let ranked = sorted(ranked(alloc, cookies, places)?, group);
+    let ranked = sorted(ranked(alloc, suffixes, cookies, places, group)?, group);
     let mut kept = staying_places(alloc, &ranked, group, limit)?;
     kept.sort_unstable();
     Ok(kept)
 }
 
-// The cookies at these places.
+// The cookies at these places, with the texts that they are counted by.
 fn ranked<'a>(
     alloc: Global,
+    suffixes: &Suffixes,
     cookies: &'a [StoredCookie],
     places: &[usize],
+    group: Group,
 ) -> Result<Vec<Ranked<'a>>, AllocError>
     requires { All (λ place. place < length cookies.now) places.now }
-    ensures { IfOk result (λ made. ranks made.items ≡ map (rank_at cookies.now) places.now) }
+    ensures { IfOk result (λ made. ranks made.items
+        ≡ map (rank_at (text_of suffixes.now group) cookies.now) places.now) }
 {
     let mut made = Vec::new(alloc);
     for index in 0..places.len() {
         let place = places[index];
         let cookie = &cookies[place];
-        made.push(Ranked { place, cookie })?;
+        let text = group.text(suffixes, cookie);
+        made.push(Ranked {
+            place,
+            text,
+            cookie,
+        })?;
     }
     Ok(made)
 }

@@ -153,6 +153,13 @@ abbrev pub ChangesStore : (Status → CookieStore → CookieStore → Type 0) �
 ChangesStore Makes number old new =
     Tells (λ answer. Changes status.NoAgent Makes answer (store_of old) (store_of new)) number
 
+-- `ChangesStore` by the rules in a handle: a handle without a list refuses first
+abbrev pub ChangesBy : Option (List Rule)
+    → (List Rule → Status → CookieStore → CookieStore → Type 0) → ℕ → Handle → Handle → Type 0
+ChangesBy None Makes number old new =
+    (number ≡ code_of status.NoSuffixes) × (store_of new ≡ store_of old)
+ChangesBy (Some rules) Makes number old new = ChangesStore (Makes rules) number old new
+
 -- what is left of the cookies
 abbrev pub Leaves : CookieStore → Status → CookieStore → CookieStore → Type 0
 Leaves left answer old new = (answer ≡ status.Done) × (new ≡ left)
@@ -168,10 +175,10 @@ Evicts second answer old new =
     AtSecond second (λ now. Leaves (lasting now old) answer old new)
     (λ why. IsKept why answer old new)
 
--- what is expired in that second is dropped, and then what is above the limits; or memory ran out
-abbrev pub Trims : Limits → ℕ → Status → CookieStore → CookieStore → Type 0
-Trims limits second answer old new =
-    AtSecond second (λ now. LeavesInMemory (trimmed limits now old) answer old new)
+-- what is expired in that second is dropped, and then what is above the limits by these rules; or memory ran out
+abbrev pub Trims : Limits → ℕ → List Rule → Status → CookieStore → CookieStore → Type 0
+Trims limits second rules answer old new =
+    AtSecond second (λ now. LeavesInMemory (trimmed rules limits now old) answer old new)
     (λ why. IsKept why answer old new)
 
 -- the cookie of this name and scope is gone; `NotFound` if there was none; or memory ran out

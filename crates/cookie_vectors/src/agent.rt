@@ -223,9 +223,13 @@ impl Player for Agents<'_> {
             "clear_all" | "load" => self.change(step),
             "saved" => self.saved(step),
             "visits" => self.visits(step),
-            "least" => {
-                let least = Limits::least();
-                format!(in step.alloc; "{} {}", least.per_domain, least.total).ok()
+            "usual" => {
+                let Limits {
+                    per_domain,
+                    per_site,
+                    total,
+                } = Limits::usual();
+                format!(in step.alloc; "{per_domain} {per_site} {total}").ok()
             }
             "set" => {
                 let refusal = self.agent.read(&self.site, &step.bytes()?, self.now);

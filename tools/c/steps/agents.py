@@ -77,7 +77,10 @@ class Agents:
         elif step.call == "clear":
             made = b"clear " + step.words.encode()
         elif step.call in ("evict", "trim"):
-            made = step_of(step.call.encode(), [*map(int, step.words.split()), self.now])
+            numbers = [int(number) for number in step.words.split()]
+            # Without a limit of a site that of all is the limit.
+            numbers[1:1] = numbers[1:] if len(numbers) == 2 else []
+            made = step_of(step.call.encode(), [*numbers, self.now])
         else:
             return None
         return made, done("agent", b"", LIST, *self.steps, made)

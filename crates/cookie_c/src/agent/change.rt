@@ -1,11 +1,14 @@
 //! Dropping cookies of a user agent for C.
-ghost use Rattle.cookie_c.specs.Agents.{ChangesStore, Clears, Evicts, Removes, Trims};
+ghost use Rattle.std.specs.Prelude.{◌≡◌};
+ghost use Rattle.cookie_c.specs.Agents.{ChangesBy, ChangesStore, Clears, Evicts, Removes, Trims};
+ghost use Rattle.cookie_c.specs.Explanations.{suffixes_of};
 
 use super::Agent;
 use crate::handle::with_content;
 use crate::sessions::time::time_at;
 use crate::status::Status;
 use cookie_agent::{Limits, Scope, Store};
+use cookie_browser::Suffixes;
 use std::alloc::Global;
 
 /// Drops what is expired. `now` is the time in seconds since 1970 in UTC.
@@ -21,26 +24,50 @@ pub extern "C" fn cookie_agent_evict(alloc: Global, agent: &mut Agent, now: u64)
     )
 }
 
-/// Drops what is expired, and then the cookies above the limits: of a domain, and of all domains (RFC 6265bis, Storage
-/// Model). Of a domain's cookies those that aren't secure-only go first, and then those with the earliest last access.
-/// Of all cookies those with the earliest last access go. RFC 6265bis requires at least 50 of a domain and 3,000 in all.
-/// `now` is the time in seconds since 1970 in UTC.
+/// Drops what is expired, and then the cookies above the limits: of a domain, of a site, and of all (RFC 6265bis, Storage
+/// Model). A site is a registrable domain with all hosts below it, by the rules; a host that has none is its own site. Of
+/// a domain's and of a site's cookies those that aren't secure-only go first, and then those with the earliest last
+/// access. Of all cookies those with the earliest last access go. RFC 6265bis requires at least 50 of a domain and 3,000
+/// in all, and has no limit of a site: with `total` in its place there is none. `now` is the time in seconds since 1970
+/// in UTC. The rules are as before.
 ///
-/// Refuses a handle without an agent, and then a time after 9999-12-30 22:00:00. It may also run out of memory. After a
-/// refusal the agent is as before.
+/// As long as the cookies that the limits leave of each site are at most `total`, no site's cookies push out those of
+/// another.
+///
+/// Refuses a handle without rules, then a handle without an agent, and then a time after 9999-12-30 22:00:00. It may also
+/// run out of memory. After a refusal the agent is as before.
 #[unsafe(no_mangle)]
 pub extern "C" fn cookie_agent_trim(
     alloc: Global,
     agent: &mut Agent,
+    suffixes: &mut crate::suffixes::Suffixes,
     per_domain: usize,
+    per_site: usize,
     total: usize,
     now: u64,
 ) -> u32
-    ensures { ChangesStore (Trims (record { per_domain = per_domain; total = total }) now)
+    ensures kept { suffixes_of suffixes.new ≡ suffixes_of suffixes.old }
+    ensures trimmed { ChangesBy (suffixes_of suffixes.old)
+        (Trims (record { per_domain = per_domain; per_site = per_site; total = total }) now)
         result agent.old agent.new }
 {
+    let limits = Limits {
+        per_domain,
+        per_site,
+        total,
+    };
+    with_content!(alloc, suffixes.handle,
+        Suffixes(rules) => trim_by(alloc, agent, rules, limits, now),
+        _ => Status::NoSuffixes.code(),
+    )
+}
+
+// Trims the agent by these rules.
+fn trim_by(alloc: Global, agent: &mut Agent, rules: &Suffixes, limits: Limits, now: u64) -> u32
+    ensures { ChangesStore (Trims limits now rules.now) result agent.old agent.new }
+{
     with_content!(alloc, agent.handle,
-        Store(store) => trim(store, Limits { per_domain, total }, now).code(),
+        Store(store) => trim(store, rules, limits, now).code(),
         _ => Status::NoAgent.code(),
     )
 }
@@ -92,13 +119,13 @@ fn evict(store: &mut Store, now: u64) -> Status
     Status::Done
 }
 
-fn trim(store: &mut Store, limits: Limits, now: u64) -> Status
-    ensures { Trims limits now result store.old store.new }
+fn trim(store: &mut Store, rules: &Suffixes, limits: Limits, now: u64) -> Status
+    ensures { Trims limits now rules.now result store.old store.new }
 {
     let Some(now) = time_at(now) else {
         return Status::NoDate;
     };
-    match store.trim(limits, now) {
+    match store.trim(rules, limits, now) {
         Ok(()) => Status::Done,
         Err(_) => Status::OutOfMemory,
     }

@@ -20,7 +20,7 @@ loop-index-preserved c =
           = rank_there c.args.ranked.now i x (get_or_default c.args.ranked.now i w.index-ranked-index.result x c.loop-index-test.true) in
           rw (w.kept-is, w.in_ok-push.ensures.items) (kept_more st items i (rank_of x) c.loop-index.kept.items below here c.loop-index.invariant true (sym (c.stays.ensures (rank_of x) here) ∙ w.if-stays.true))
       | else-stays w ↦
-          let r : Rank = get_or items i (rank_at [] 0) in
-          let here : r ≡ get_or items i r = get_or_default items i (rank_at [] 0) r below in
+          let r : Rank = get_or items i (rank_at (λ c. []) [] 0) in
+          let here : r ≡ get_or items i r = get_or_default items i (rank_at (λ c. []) [] 0) r below in
           rw w.kept-is (kept_more st items i r c.loop-index.kept.items below here c.loop-index.invariant false (sym (c.stays.ensures r here) ∙ w.if-stays.false))
     ]
