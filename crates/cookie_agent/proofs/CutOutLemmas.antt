@@ -79,7 +79,7 @@ trim_ends t some =
     let n = length s - suffix_len is_wsp s in
     ends_dark s (omega (arith, some, length-take n s))
 
-trim_nil : trim_wsp [] ≡ []
+pub trim_nil : trim_wsp [] ≡ []
 unfolding trim_wsp
 trim_nil = refl
 

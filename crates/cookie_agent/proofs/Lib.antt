@@ -31,5 +31,6 @@ pub mod SentFieldLemmas
 pub mod SiteLemmas
 pub mod StorableLemmas
 pub mod StoreLemmas
+pub mod StoringLemmas
 pub mod TrimLemmas
 pub mod VerdictLemmas

@@ -1,6 +1,6 @@
 -- Cookies that a user agent could have stored (RFC 6265bis, Storage Model). A file that someone else wrote must not
 -- bring in others: a `;` in a value would be a second cookie in the next header.
-use Rattle.std.specs.Prelude.{ℕ, ℤ, ◌+◌, ◌-◌, ◌==◌, ◌&&◌, ◌||◌, not, nat_lt, nat_le, int_le, Bool, true, List, [], ◌∷◌, length, drop, take, codes, eqb, Option, Some, None, if◌then◌else◌}
+use Rattle.std.specs.Prelude.{◌≡◌, ℕ, ℤ, ◌+◌, ◌-◌, ◌==◌, ◌&&◌, ◌||◌, not, nat_lt, nat_le, int_le, Bool, true, false, All, List, [], ◌∷◌, length, drop, take, codes, eqb, Option, Some, None, if◌then◌else◌}
 use Rattle.std.specs.Char.{is_ascii_digit, is_ascii_lowercase}
 use Rattle.std.specs.List.{ends_with, list_all, starts_with}
 use Rattle.std.specs.Str.{bytes_eq}
@@ -12,7 +12,8 @@ use Rattle.cookie_core.specs.Size.{most_bytes}
 use Rattle.cookie_core.specs.Wsp.{trim_wsp}
 use Rattle.cookie_core.specs.declared.guards.Guards.{Guards}
 use Rattle.cookie_browser.specs.Received.{age_limit, is_control}
-use Rattle.cookie_browser.specs.Storage.{KeptView, is_site_bound, seconds_after}
+use Rattle.cookie_browser.specs.Request.{RequestView}
+use Rattle.cookie_browser.specs.Storage.{CookieStore, KeptView, is_site_bound, seconds_after}
 
 -- a byte that a received name or value can have: no control character but a tab, and no `;`
 abbrev pub is_received_byte : ℕ → Bool
@@ -75,11 +76,11 @@ is_six host =
 abbrev pub is_domain : List ℕ → Bool
 is_domain domain = is_host_name domain || is_six domain
 
--- the domain is that of a host, or can be the value of an attribute, of which one that is longer is passed over (The
--- Set-Cookie Header Field)
+-- an attribute's value has at most this length: a longer one is passed over (The Set-Cookie Header Field)
 abbrev pub is_attribute_length : ℕ → Bool
 is_attribute_length count = nat_le count 1024
 
+-- the domain is the host, or an attribute can name it
 abbrev pub can_be_set : KeptView → Bool
 can_be_set cookie = cookie.is_host_only || is_attribute_length (length cookie.domain)
 
@@ -98,13 +99,13 @@ is_path_value path =
     starts_with eqb path (codes "/")
     && (is_received_text path && is_attribute_length (length path))
 
--- a path that an attribute asks for, or a folder of a request's path, which may have a `;` (Paths and Path-Match)
+-- a path that an attribute can name, or a folder of a request's path, which may have a `;` (Paths and Path-Match)
 abbrev pub is_path : List ℕ → Bool
 is_path path = is_path_value path || is_request_path path
 
 -- ---- prefixes (Cookie Name Prefixes)
 
--- what the cookie has of that which prefixes require
+-- the guards that the cookie has
 abbrev pub guards_of : KeptView → Guards
 guards_of cookie =
     record {
@@ -153,3 +154,17 @@ abbrev pub is_storable_by : DateTime → KeptView → Bool
 is_storable_by now cookie =
     is_storable cookie
     && (is_limited now cookie.expiry && int_le cookie.last_access (civil_nanos now))
+
+-- ---- requests
+
+-- the request's host and path are as a URL has them, and a host in brackets is an IP address
+pub record IsOfUrl (request : RequestView) : Type 0 where
+  pub host : is_domain request.host ≡ true
+  pub address : is_host_name request.host ≡ false → request.is_address ≡ true
+  pub path : is_request_path request.path ≡ true
+
+-- What a response to such a request has an agent store could have been stored, and so could the rest, if it could before.
+abbrev pub StaysStorable : RequestView → DateTime → CookieStore → CookieStore → Type 0
+StaysStorable request now old new =
+    IsOfUrl request → All (λ cookie. is_storable_by now cookie ≡ true) old
+    → All (λ cookie. is_storable_by now cookie ≡ true) new

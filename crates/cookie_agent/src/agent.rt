@@ -10,6 +10,7 @@ ghost use Rattle.cookie_agent.specs.Limits.{IsWithin, trimmed};
 ghost use Rattle.cookie_agent.specs.Removals.{IsMissed, IsRemovedAsSet};
 ghost use Rattle.cookie_agent.specs.Sent.{IsOrderedHeader, accessed};
 ghost use Rattle.cookie_agent.specs.Sites.{ReadsApart, TrimsApart};
+ghost use Rattle.cookie_agent.specs.Storable.{StaysStorable};
 ghost use Rattle.cookie_agent.specs.Store.{agent_after_text, agent_verdict, refusal_of};
 ghost use Rattle.cookie_agent.specs.Stored.{is_named_in, is_of_domain};
 ghost use Rattle.cookie_agent.specs.VerdictCode.{verdict_result};
@@ -137,6 +138,10 @@ impl<'r> Agent<'r> {
         ensures err { OnErr result (self.new ≡ self.old) }
         ensures missed { OnOk result (IsMissed site.now now text.now self.old self.new) }
         ensures removed { OnOk result (IsRemovedAsSet site.now now text.now self.old self.new) }
+
+        // What is stored could be saved and loaded again.
+        ensures storable { OnOk result
+            (StaysStorable site.now now self.old.cookies self.new.cookies) }
 
         // The response of another site drops no cookie of this one.
         ensures apart { OnOk result (ReadsApart site.now now self.old self.new) }

@@ -112,7 +112,7 @@ fn is_domain(text: &[u8]) -> bool
     is_host_name(text) || is_six(text)
 }
 
-// Whether the domain is that of a host, or can be the value of an attribute.
+// Whether the domain is the host, or an attribute can name it.
 fn can_be_set(cookie: &KeptCookie<'_>) -> bool
     ensures { result ≡ spec.can_be_set (kept_view cookie.now) }
 {
@@ -143,7 +143,7 @@ fn is_path_value(path: &[u8]) -> bool
     path.starts_with(b"/") && is_received_text(path) && path.len() <= ATTRIBUTE_LIMIT
 }
 
-// Whether an attribute can ask for the path, or it is a folder of a request's path, which may have a `;`.
+// Whether an attribute can name the path, or it is a folder of a request's path, which may have a `;`.
 fn is_path(path: &[u8]) -> bool
     ensures { result ≡ spec.is_path path.now }
 {
