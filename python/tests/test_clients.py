@@ -471,7 +471,7 @@ class Files(unittest.TestCase):
         with Agent(per_domain=2, per_site=2, total=4, clock=lambda: now[0]) as agent:
             agent.read("https://bank.example/", "session=1")
             now[0] += 1
-            for site in ("one.example", "two.example"):
+            for site in ("one.example", "two.example", "three.example"):
                 agent.read(f"https://{site}/", "a=1")
                 agent.read(f"https://{site}/", "b=1")
             assert agent.header("https://bank.example/") == b""

@@ -27,7 +27,7 @@ outlasting text earlier cookie later =
     count_by (λ other. counts text cookie other && goes_first text cookie other) earlier
     + count_by (λ other. counts text cookie other && not (goes_first text other cookie)) later
 
--- the later ones without each that as many as the limit outlast, of those that are counted with it
+-- the later ones without each that the limit or more outlast, of the cookies that are counted with it
 abbrev pub staying : Option (KeptView → List ℕ) → ℕ → CookieStore → CookieStore → CookieStore
 staying text limit earlier [] = []
 staying text limit earlier (cookie ∷ later) =
@@ -48,8 +48,8 @@ within_sites rules limit store =
 abbrev pub within_total : ℕ → CookieStore → CookieStore
 within_total limit store = staying None limit [] store
 
--- what is left of each site: expired cookies go first, then those of domains that have too many, and then those of sites
--- that do
+-- what is left of each site: expired cookies go first, then cookies of domains that have too many, and then cookies of
+-- sites that have too many
 abbrev pub trimmed_sites : List Rule → Limits → DateTime → CookieStore → CookieStore
 trimmed_sites rules limits now store =
     within_sites rules limits.per_site (within_domains limits.per_domain (lasting now store))

@@ -1,4 +1,4 @@
--- That cookies of one site don't push out those of another.
+-- That one site's cookies don't push out another's.
 use Rattle.std.specs.Prelude.{◌≡◌, ◌≤◌, false, List, ℕ, filter, length}
 use Rattle.jiff.specs.Types.{DateTime}
 use Rattle.cookie_browser.specs.Request.{RequestView, is_in_domain}

@@ -209,7 +209,7 @@ impl<'r> Agent<'r> {
         ensures needed { OnOk result (IsWithin self.old.rules limits (lasting now self.old.cookies)
             → self.new.cookies ≡ lasting now self.old.cookies) }
 
-        // No site's cookies push out those of another, if all sites leave room.
+        // No site's cookies push out another's, if all sites leave room.
         ensures apart { OnOk result
             (TrimsApart self.old.rules limits now self.old.cookies self.new.cookies) }
         ensures err { OnErr result (self.new ≡ self.old) }

@@ -8,7 +8,7 @@ use crate::stored::StoredCookie;
 use cookie_browser::Suffixes;
 use std::cmp::Ordering;
 
-// Which cookies are counted together: those of a domain, those of a site, or all.
+// Which cookies are counted together: the cookies of a domain, of a site, or all.
 #[derive(Clone, Copy)]
 pub(crate) enum Group {
     Domain,

@@ -167,7 +167,7 @@ impl Store {
         ensures needed { OnOk result (IsWithin suffixes.now limits (lasting now self.old)
             → self.new ≡ lasting now self.old) }
 
-        // No site's cookies push out those of another, if all sites leave room.
+        // No site's cookies push out another's, if all sites leave room.
         ensures apart { OnOk result (TrimsApart suffixes.now limits now self.old self.new) }
         ensures err { OnErr result (self.new ≡ self.old) }
     {
