@@ -7,7 +7,7 @@ import pathlib
 import platform
 import struct
 from binascii import a2b_qp
-from typing import Any, Callable, NoReturn, Sequence
+from typing import Any, Callable, Iterator, NoReturn, Sequence
 
 from .errors import BufferTooShort, CookieError, KeyTooShort, error_of
 
@@ -294,15 +294,19 @@ def text_at(text: bytes, span: Span) -> str:
     return text[span.start : span.start + span.length].decode()
 
 
-def listed(texts: bytes) -> dict[str, str]:
-    """The texts by name of `SESSION_LIST`: each after the lengths of its name and itself."""
-    found, at = {}, 0
+def pairs_of(texts: bytes) -> Iterator[tuple[bytes, bytes]]:
+    """The names and texts of a list: each of the two after the lengths of both."""
+    at = 0
     while at < len(texts):
         name, text = LENGTHS.unpack_from(texts, at)
         middle = at + LENGTHS.size + name
-        found[texts[middle - name : middle].decode()] = texts[middle : middle + text].decode()
         at = middle + text
-    return found
+        yield texts[middle - name : middle], texts[middle:at]
+
+
+def listed(texts: bytes) -> dict[str, str]:
+    """The texts of a list by name."""
+    return {name.decode(): text.decode() for name, text in pairs_of(texts)}
 
 
 def unescaped(text: bytes) -> str:
