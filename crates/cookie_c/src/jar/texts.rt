@@ -50,8 +50,8 @@ pub extern "C" fn cookie_jar_delta(alloc: Global, jar: &mut Jar, out: &mut [u8])
 }
 
 /// The names and values of the cookies that the jar shows, as they are, for the buffer. Of each there is the number of
-/// bytes of its name, and that of its value, each as eight bytes of which the lowest is the first, and then the name and
-/// the value. The cookies are in any order. The jar is as before.
+/// bytes of its name, and that of its value, each as eight bytes of which the lowest is the first, and then the name
+/// and the value. The cookies are in any order. The jar is as before.
 ///
 /// Refuses a handle without a jar. Else it fails only when memory runs out.
 #[unsafe(no_mangle)]

@@ -14,9 +14,9 @@ use crate::status::Status;
 use cookie_session::Visit;
 use std::alloc::{AllocError, Global};
 
-/// The texts of the handle's session as they are, in byte order of the names, for the buffer. Of each there is the number
-/// of bytes of its name, and that of its own, each as eight bytes of which the lowest is the first, and then the name and
-/// the text. The session is as before.
+/// The texts of the handle's session as they are, in byte order of the names, for the buffer. Of each there is the
+/// number of bytes of its name, and that of its own, each as eight bytes of which the lowest is the first, and then the
+/// name and the text. The session is as before.
 ///
 /// Refuses a handle without a session. Else it fails only when memory runs out.
 #[unsafe(no_mangle)]
