@@ -7,7 +7,7 @@ import pathlib
 import platform
 import struct
 from binascii import a2b_qp
-from typing import Any, Callable, NoReturn, Sequence
+from typing import Any, Callable, Iterator, NoReturn, Sequence
 
 from .errors import BufferTooShort, CookieError, KeyTooShort, error_of
 
@@ -289,15 +289,19 @@ def bytes_at(text: bytes, span: Any) -> bytes:
     return text[span.start : span.start + span.length]
 
 
-def listed(texts: bytes) -> dict[str, str]:
-    """The texts by name of `SESSION_LIST`: each after the lengths of its name and itself."""
-    found, at = {}, 0
+def pairs_of(texts: bytes) -> Iterator[tuple[bytes, bytes]]:
+    """The names and texts of a list: each of the two after the lengths of both."""
+    at = 0
     while at < len(texts):
         name, text = LENGTHS.unpack_from(texts, at)
         middle = at + LENGTHS.size + name
-        found[texts[middle - name : middle].decode()] = texts[middle : middle + text].decode()
         at = middle + text
-    return found
+        yield texts[middle - name : middle], texts[middle:at]
+
+
+def listed(texts: bytes) -> dict[str, str]:
+    """The texts of a list by name."""
+    return {name.decode(): text.decode() for name, text in pairs_of(texts)}
 
 
 def unescaped(text: str) -> str:

@@ -6,7 +6,7 @@ from typing import Iterator
 
 from ._library import (
     JAR_ADD, JAR_ADD_ORIGINALS, JAR_COOKIES, JAR_DELTA, JAR_FREE, JAR_GET, JAR_NEW, JAR_REMOVE_SCOPED, RUN, OwnHandle,
-    Uncopied, bytes_from, header_of, perform, seeds, text_or_none, unescaped,
+    Uncopied, bytes_from, header_of, listed, perform, seeds, text_or_none,
 )
 from ._locks import Lock
 from .dates import print_date
@@ -72,9 +72,8 @@ class Jar(Uncopied):
     def items(self) -> list[tuple[str, str]]:
         """The names of the jar's cookies with their values, in any order."""
         with LOCK:
-            lines = bytes_from(JAR_COOKIES, self.handle, room=ROOM).decode().split("\n")[:-1]
-        pairs = (line.partition("=") for line in lines)
-        return [(unescaped(name), unescaped(value)) for name, _, value in pairs]
+            texts = bytes_from(JAR_COOKIES, self.handle, room=ROOM)
+        return list(listed(texts).items())
 
     def __iter__(self) -> Iterator[str]:
         """The names of the jar's cookies, in any order."""

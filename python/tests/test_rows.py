@@ -91,6 +91,11 @@ def play_jar(steps, out, length):
     return answer
 
 
+def list_in_order(texts):
+    """The list with its texts in their order, since a jar's may be in any."""
+    return b"".join(sorted(library.LENGTHS.pack(*map(len, pair)) + b"".join(pair) for pair in library.pairs_of(texts)))
+
+
 def in_order(text):
     """The text with its lines in their order, since a delta's may be in any."""
     return b"\n".join(sorted(text.split(b"\n")[:-1]) + [b""])
@@ -104,7 +109,8 @@ def played(call, inputs, length):
         answer = play_jar(inputs, out, length)
         given = answer.length if answer.status == library.DONE else 0
         text = buffer.raw[:given]
-        return answer.status, answer.length, (in_order(text) if inputs[-1] in (b"delta", b"cookies") else text) + buffer.raw[given:]
+        orders = {b"delta": in_order, b"cookies": list_in_order}
+        return answer.status, answer.length, orders.get(inputs[-1], bytes)(text) + buffer.raw[given:]
     if call == "explain":
         answer = play_explain(inputs, out, length)
         return answer.status, answer.length, buffer.raw

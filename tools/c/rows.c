@@ -141,6 +141,36 @@ static void sort_lines(uint8_t *bytes, size_t length) {
     }
 }
 
+/* The number in eight bytes, of which the lowest is the first. */
+static size_t listed(const uint8_t *bytes) {
+    size_t number = 0;
+    for (int i = 8; i > 0; i--)
+        number = number << 8 | bytes[i - 1];
+    return number;
+}
+
+/* Both lengths say where it ends, so none is the beginning of another one. */
+static int compare_listed(const void *one, const void *other) {
+    const text *a = one, *b = other;
+    return memcmp(a->bytes, b->bytes, a->length < b->length ? a->length : b->length);
+}
+
+/* Puts what a list has into its order, since a jar's may be in any. */
+static void sort_list(uint8_t *bytes, size_t length) {
+    uint8_t copy[8192];
+    text all[100];
+    size_t count = 0, at = 0;
+    if (length > sizeof copy)
+        return;
+    memcpy(copy, bytes, length);
+    for (; at < length && count < 100; at += all[count++].length)
+        all[count] = (text){copy + at, 16 + listed(copy + at) + listed(copy + at + 8)};
+    qsort(all, count, sizeof *all, compare_listed);
+    at = 0;
+    for (size_t i = 0; i < count; at += all[i++].length)
+        memcpy(bytes + at, all[i].bytes, all[i].length);
+}
+
 /* The lines of a text that has `count`. One that is empty is a null pointer. */
 static void cut_lines(text all, text *lines, size_t count) {
     for (size_t i = 0; i < count; i++) {
@@ -177,8 +207,10 @@ static cookie_answer play_step(cookie_jar *jar, text step, uint8_t *out, size_t 
     int is_delta = is_step("delta", step, &rest);
     if (is_delta || is_step("cookies", step, &rest)) {
         cookie_answer answer = is_delta ? cookie_jar_delta(jar, out, length) : cookie_jar_cookies(jar, out, length);
-        if (answer.status == COOKIE_DONE)
+        if (answer.status == COOKIE_DONE && is_delta)
             sort_lines(out, answer.length);
+        if (answer.status == COOKIE_DONE && !is_delta)
+            sort_list(out, answer.length);
         return answer;
     }
     fprintf(stderr, "no step %.*s\n", (int)step.length, (char *)step.bytes);
@@ -290,14 +322,6 @@ static uint32_t find_session(const text *in, uint64_t now, cookie_sessions *sess
     cookie_session_free(&first);
     cookie_opened_free(&opened);
     return status;
-}
-
-/* The number in eight bytes, of which the lowest is the first. */
-static size_t listed(const uint8_t *bytes) {
-    size_t number = 0;
-    for (int i = 8; i > 0; i--)
-        number = number << 8 | bytes[i - 1];
-    return number;
 }
 
 /* Whether the session's list has as many texts as its form, each as it is at its name. */

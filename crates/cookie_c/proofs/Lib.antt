@@ -5,7 +5,6 @@ mod DecodedLemmas
 mod ExplainLemmas
 mod HandleLemmas
 mod HeldBox
-mod JarLemmas
 mod KeyBytesLemmas
 mod KeyCallLemmas
 mod LogoutLemmas

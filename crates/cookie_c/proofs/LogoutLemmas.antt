@@ -1,14 +1,13 @@
 -- How what the user agent has is ended for C, by what the library's call does.
-use Rattle.std.proofs.Common.{◌≡◌, ◌↔◌, ◌<◌, ◌≤◌, ◌⊎◌, inl, inr, Bool, Option, Some, None, arith, ap, refl, subst, sym, true≢false, ◌∙◌}
+use Rattle.std.proofs.Common.{◌≡◌, ◌↔◌, ◌≤◌, inl, inr, Bool, Option, Some, None, arith, ap, refl, subst, sym, true≢false, ◌∙◌}
 use Rattle.std.proofs.lemmas.Option.{none-some, same_Some}
 use Rattle.jiff.specs.Types.{DateTime}
 use Rattle.cookie_session.specs.Endings.{IsEndedBy}
 use Rattle.cookie_session.specs.Seconds.{second_of}
 use Rattle.cookie_session.specs.Visit.{VisitState}
-use Rattle.cookie_session.specs.declared.ending.Ending.{Ending}
 use Rattle.cookie_session.specs.declared.ending.Ending.TheVariants as endings
 use Rattle.cookie_session.specs.declared.pass.Pass.{Pass}
-use Rattle.cookie_c.specs.SessionCalls.{EndsGiven, IsEnding, LogsOut, ReplacesHeld}
+use Rattle.cookie_c.specs.SessionCalls.{EndsGiven, LogsOut, ReplacesHeld}
 use Rattle.cookie_c.specs.declared.status.Status.{Status}
 use Rattle.cookie_c.specs.declared.status.Status.TheVariants as status
 

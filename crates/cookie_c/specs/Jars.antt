@@ -1,6 +1,6 @@
 -- The calls on a jar in a handle: what each answers, and what it leaves. `old` is the jar at the call, and `new` at
 -- the return; of a call that gives a text they are the buffer.
-use Rattle.std.specs.Prelude.{◌≡◌, ℕ, ◌⊎◌, true, false, List, [], ◌∷◌, ◌++◌, codes, map, IsUtf8, Option, Some, None, option_map}
+use Rattle.std.specs.Prelude.{◌≡◌, ℕ, ◌⊎◌, true, false, List, [], map, IsUtf8, Option, Some, None, option_map}
 use Rattle.std.specs.FinMap.{FinMap, get}
 use Rattle.jiff.specs.Types.{DateTime}
 use Rattle.cookie.specs.AttributeValues.{AllFitFields, FitsField}
@@ -16,6 +16,7 @@ use Rattle.cookie_c.specs.Answers.{IsGiven, IsRefused}
 use Rattle.cookie_c.specs.Codes.{refusal_status}
 use Rattle.cookie_c.specs.Decoded.{IsDecodingRefusal}
 use Rattle.cookie_c.specs.Handles.{Changes, IsKept, Tells, jar_in}
+use Rattle.cookie_c.specs.TextLists.{list_of}
 use Rattle.cookie_c.specs.declared.answer.Answer.{Answer}
 use Rattle.cookie_c.specs.declared.jar.Jar.{Jar}
 use Rattle.cookie_c.specs.declared.status.Status.{Status}
@@ -82,21 +83,16 @@ pub record IsDeltaGiven (jar : JarState) (answer : Answer) (old new : List ℕ) 
       → ((text : List ℕ) × HasLines jar.delta text × IsGiven text answer old new)
       ⊎ IsRefused status.OutOfMemory answer old new
 
--- a line for each text
-abbrev pub lines_of : List (List ℕ) → List ℕ
-lines_of [] = []
-lines_of (text ∷ texts) = text ++ (codes "\n" ++ lines_of texts)
-
--- the text has a line `name=value` for each cookie that the jar shows, each once, in any order
-pub record HasPairs (jar : JarState) (text : List ℕ) : Type 0 where
+-- the bytes are the list of the names and values that the jar shows, each once, in any order
+pub record HasPairs (jar : JarState) (list : List ℕ) : Type 0 where
   pub cookies : List Record
   pub are : Walks (view jar) cookies
-  pub lines : text ≡ lines_of (map (cookie_text true true) cookies)
+  pub listed : list ≡ list_of (map (λ cookie. (cookie.name, cookie.value)) cookies)
 
--- such a text is given, or memory was wanting
+-- such bytes are given, or memory was wanting
 abbrev pub ArePairsGiven : JarState → Answer → List ℕ → List ℕ → Type 0
 ArePairsGiven jar answer old new =
-    ((text : List ℕ) × HasPairs jar text × IsGiven text answer old new)
+    ((list : List ℕ) × HasPairs jar list × IsGiven list answer old new)
     ⊎ IsRefused status.OutOfMemory answer old new
 
 -- what a handle has as a jar

@@ -1,5 +1,5 @@
 -- The site that C's settings stand for, and a call on it in a second.
-use Rattle.std.specs.Prelude.{◌≡◌, ℕ, pos, ◌<◌, ◌≤◌, ◌%◌, ◌⊎◌, List, length, All, Option, Some, None, true, IsUtf8}
+use Rattle.std.specs.Prelude.{◌≡◌, ℕ, pos, ◌<◌, ◌≤◌, ◌⊎◌, Option, Some, None, true, IsUtf8}
 use Rattle.jiff.specs.Types.{DateTime}
 use Rattle.jiff.specs.Words.{civil_nanos, nanos_of_seconds}
 use Rattle.cookie.specs.AttributeValues.{FitsField}

@@ -20,11 +20,11 @@ pub struct Keys {
 }
 
 /// Puts keys into the handle, and frees those that it had, if it had some. `bytes` are 64 random bytes of each key, one
-/// key after the other, the newest first. The newest signs, seals and makes tokens, and each of them verifies, opens and
-/// reads.
+/// key after the other, the newest first. The newest signs, seals and makes tokens, and each of them verifies, opens
+/// and reads.
 ///
-/// Refuses with `KeyTooShort` bytes that aren't 64 of each key, or none. It may also run out of memory. After a refusal the
-/// handle is as before.
+/// Refuses with `KeyTooShort` bytes that aren't 64 of each key, or none. It may also run out of memory. After a refusal
+/// the handle is as before.
 #[unsafe(no_mangle)]
 pub extern "C" fn cookie_keys_new(alloc: Global, bytes: &[u8], keys: &mut Keys) -> u32
     ensures { Tells (λ answer. MakesKeys bytes.now answer

@@ -12,6 +12,7 @@ mod handle;
 mod jar;
 mod key;
 mod keys;
+mod listed;
 mod next_piece;
 mod pair;
 mod print;

@@ -18,8 +18,8 @@ use std::alloc::Global;
 /// encrypted value and tag. The nonce has twelve random bytes: no two values may be sealed under one key and one nonce,
 /// and under one key at most 2^32 random nonces may be drawn (SP 800-38D 8.3). The keys are as before.
 ///
-/// Refuses a handle without keys, then a name or a value that isn't UTF-8, then a nonce of another length, and then a name
-/// of more than 2^61 - 1 bytes or a value of more than 2^36 - 32. Else it fails only when memory runs out.
+/// Refuses a handle without keys, then a name or a value that isn't UTF-8, then a nonce of another length, and then a
+/// name of more than 2^61 - 1 bytes or a value of more than 2^36 - 32. Else it fails only when memory runs out.
 #[unsafe(no_mangle)]
 pub extern "C" fn cookie_seal(
     alloc: Global,
@@ -39,11 +39,11 @@ pub extern "C" fn cookie_seal(
     )
 }
 
-/// Opens a text that was sealed as `cookie_seal` does, under the same name by one of the keys. The value that was sealed
-/// is for the buffer. The keys are as before.
+/// Opens a text that was sealed as `cookie_seal` does, under the same name by one of the keys. The value that was
+/// sealed is for the buffer. The keys are as before.
 ///
-/// Refuses a handle without keys, then a name or a text that isn't UTF-8, and then a text that isn't sealed under one of
-/// the keys and the name. Else it fails only when memory runs out.
+/// Refuses a handle without keys, then a name or a text that isn't UTF-8, and then a text that isn't sealed under one
+/// of the keys and the name. Else it fails only when memory runs out.
 #[unsafe(no_mangle)]
 pub extern "C" fn cookie_open(
     alloc: Global,

@@ -38,8 +38,8 @@ pub extern "C" fn cookie_sign(
 /// Verifies a text that was signed as `cookie_sign` does, under the same name by one of the keys. The value that was
 /// signed is for the buffer. The keys are as before.
 ///
-/// Refuses a handle without keys, then a name or a text that isn't UTF-8, and then a text that isn't signed under one of
-/// the keys and the name. It doesn't allocate.
+/// Refuses a handle without keys, then a name or a text that isn't UTF-8, and then a text that isn't signed under one
+/// of the keys and the name. It doesn't allocate.
 #[unsafe(no_mangle)]
 pub extern "C" fn cookie_verify(
     alloc: Global,

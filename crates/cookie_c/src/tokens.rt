@@ -37,8 +37,8 @@ pub struct TokenSettings<'a> {
 /// they are. The nonce has twelve random bytes: under one key no nonce may be used twice, and at most 2^32 may be drawn
 /// (SP 800-38D 8.3). `now` is the time in seconds since 1970 in UTC. The keys are as before.
 ///
-/// Refuses a nonce of another length, then a handle without keys, then a purpose or a value that isn't UTF-8, then a time
-/// after 9999-12-30 22:00:00, and then what is too long to be sealed. It may also run out of memory.
+/// Refuses a nonce of another length, then a handle without keys, then a purpose or a value that isn't UTF-8, then a
+/// time after 9999-12-30 22:00:00, and then what is too long to be sealed. It may also run out of memory.
 #[unsafe(no_mangle)]
 pub extern "C" fn cookie_token_make(
     alloc: Global,
@@ -66,12 +66,12 @@ pub extern "C" fn cookie_token_make(
     )
 }
 
-/// Reads a token that `cookie_token_make` made for the same purpose by one of the keys. Its value is for the buffer, and
-/// its times and its id are told. It is over at the earlier of its end and the lifetime of these settings. `now` is the time
-/// in seconds since 1970 in UTC. The keys are as before.
+/// Reads a token that `cookie_token_make` made for the same purpose by one of the keys. Its value is for the buffer,
+/// and its times and its id are told. It is over at the earlier of its end and the lifetime of these settings. `now` is
+/// the time in seconds since 1970 in UTC. The keys are as before.
 ///
-/// Refuses a handle without keys, then a purpose or a token that isn't UTF-8, then a time after 9999-12-30 22:00:00, and
-/// then with `NotSealed` what isn't such a token, or is over. It may also run out of memory.
+/// Refuses a handle without keys, then a purpose or a token that isn't UTF-8, then a time after 9999-12-30 22:00:00,
+/// and then with `NotSealed` what isn't such a token, or is over. It may also run out of memory.
 #[unsafe(no_mangle)]
 pub extern "C" fn cookie_token_read(
     alloc: Global,

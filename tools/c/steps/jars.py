@@ -1,5 +1,6 @@
 """A jar. The inputs are steps on a handle, which has no jar at first. Each but the last is done, and the last one
-returns the text. The lines of a delta are in their order."""
+returns the text. The lines of a delta are in their order, and so is what a list of cookies has."""
+from struct import pack
 from urllib.parse import quote
 
 import rowfile
@@ -84,7 +85,7 @@ class Jar:
         """A call that returns the names and values of all cookies."""
         items = step.wanted.split(" | ") if step.wanted != "-" else []
         made = [rowfile.cookie(item) for item in items]
-        text = b"".join(sorted(escaped(one.name) + b"=" + escaped(one.value) + b"\n" for one in made))
+        text = b"".join(sorted(pack("<QQ", len(one.name), len(one.value)) + one.name + one.value for one in made))
         return done("jar", text, *self.steps, b"cookies")
 
     def look(self, step):

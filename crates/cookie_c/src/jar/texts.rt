@@ -8,6 +8,7 @@ ghost use Rattle.cookie_c.specs.declared.status.Status.TheVariants as status;
 use super::Jar;
 use crate::answer::Answer;
 use crate::handle::with_content;
+use crate::listed::push_listed;
 use crate::status::Status;
 use cookie::{Cookie, CookieJar};
 use std::alloc::{AllocError, Global};
@@ -48,8 +49,9 @@ pub extern "C" fn cookie_jar_delta(alloc: Global, jar: &mut Jar, out: &mut [u8])
     )
 }
 
-/// A line for each cookie that the jar shows, for the buffer: `name=value`, both escaped (RFC 6265 4.1.1), with a line
-/// feed at its end. The lines are in any order. The jar is as before.
+/// The names and values of the cookies that the jar shows, as they are, for the buffer. Of each there is the number of
+/// bytes of its name, and that of its value, each as eight bytes of which the lowest is the first, and then the name
+/// and the value. The cookies are in any order. The jar is as before.
 ///
 /// Refuses a handle without a jar. Else it fails only when memory runs out.
 #[unsafe(no_mangle)]
@@ -108,24 +110,17 @@ fn give_pairs(alloc: Global, jar: &CookieJar, out: &mut [u8]) -> Answer
     ensures { ArePairsGiven jar.now result out.old out.new }
 {
     match pairs(alloc, jar) {
-        Ok(text) => Answer::give(text.as_bytes(), out),
+        Ok(list) => Answer::give(list.as_slice(), out),
         Err(_) => Answer::refusal(Status::OutOfMemory),
     }
 }
 
-fn pairs(alloc: Global, jar: &CookieJar) -> Result<String, AllocError>
-    ensures { IfOk result (λ text. HasPairs jar.now (string_bytes text)) }
+fn pairs(alloc: Global, jar: &CookieJar) -> Result<Vec<u8>, AllocError>
+    ensures { IfOk result (λ list. HasPairs jar.now list.items) }
 {
-    let mut text = String::new(alloc);
+    let mut list = Vec::new(alloc);
     for cookie in jar.iter() {
-        push_pair(&mut text, cookie)?;
+        push_listed(&mut list, cookie.name(), cookie.value())?;
     }
-    Ok(text)
-}
-
-fn push_pair(text: &mut String, cookie: &Cookie<'_>) -> Result<(), AllocError>
-    ensures { OnOk result (string_bytes text.new ≡ string_bytes text.old
-        ++ (cookie_text true true cookie.now.fields ++ codes "\n")) }
-{
-    writeln!(text, "{}", cookie.encoded().stripped())
+    Ok(list)
 }

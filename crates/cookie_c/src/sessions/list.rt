@@ -1,21 +1,22 @@
 //! The texts of a session in a handle as they are, each after its length.
-ghost use Rattle.std.specs.Prelude.{◌≡◌, IfOk, OnOk};
+ghost use Rattle.std.specs.Prelude.{◌≡◌, IfOk};
 ghost use Rattle.cookie_c.specs.Answers.{IsGivenInMemory};
 ghost use Rattle.cookie_c.specs.Handles.{Reads};
 ghost use Rattle.cookie_c.specs.OpenedSessions.{session_of};
-ghost use Rattle.cookie_c.specs.TextLists.{list_of_texts, with_listed};
+ghost use Rattle.cookie_c.specs.TextLists.{list_of_texts};
 ghost use Rattle.cookie_c.specs.declared.status.Status.TheVariants as status;
 
 use super::Session;
 use crate::answer::Answer;
 use crate::handle::with_content;
+use crate::listed::push_listed;
 use crate::status::Status;
 use cookie_session::Visit;
 use std::alloc::{AllocError, Global};
 
-/// The texts of the handle's session as they are, in byte order of the names, for the buffer. Of each there is the number
-/// of bytes of its name, and that of its own, each as eight bytes of which the lowest is the first, and then the name and
-/// the text. The session is as before.
+/// The texts of the handle's session as they are, in byte order of the names, for the buffer. Of each there is the
+/// number of bytes of its name, and that of its own, each as eight bytes of which the lowest is the first, and then the
+/// name and the text. The session is as before.
 ///
 /// Refuses a handle without a session. Else it fails only when memory runs out.
 #[unsafe(no_mangle)]
@@ -49,18 +50,7 @@ fn list(alloc: Global, visit: &Visit) -> Result<Vec<u8>, AllocError>
 {
     let mut list = Vec::new(alloc);
     for (name, text) in visit.session().iter() {
-        push(&mut list, name, text)?;
+        push_listed(&mut list, name, text)?;
     }
     Ok(list)
-}
-
-// Adds a text, after both lengths and its name.
-fn push(list: &mut Vec<u8>, name: &str, text: &str) -> Result<(), AllocError>
-    ensures { OnOk result (list.new.items
-        ≡ with_listed list.old.items (name.now, text.now)) }
-{
-    list.extend_from_slice(&(name.len() as u64).to_le_bytes())?;
-    list.extend_from_slice(&(text.len() as u64).to_le_bytes())?;
-    list.extend_from_slice(name.as_bytes())?;
-    list.extend_from_slice(text.as_bytes())
 }

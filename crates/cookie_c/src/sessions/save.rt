@@ -22,14 +22,14 @@ use std::alloc::Global;
 const NONCE_LENGTH: usize = 12;
 
 /// Saves the handle's session. The value of the `Set-Cookie` header that sets its cookie, encrypted under the newest
-/// key, is for the buffer. Its lifetime goes on. `lasting` is 0 for a cookie with the session's `Max-Age`, 1 for one with
-/// `Expires` too, and 2 for one with neither, which the browser drops when it closes. `nonce` has twelve random bytes:
-/// under one key no nonce may be used twice, and at most 2^32 may be drawn (SP 800-38D 8.3). `now` is the time in seconds
-/// since 1970 in UTC. Both handles are as before.
+/// key, is for the buffer. Its lifetime goes on. `lasting` is 0 for a cookie with the session's `Max-Age`, 1 for one
+/// with `Expires` too, and 2 for one with neither, which the browser drops when it closes. `nonce` has twelve random
+/// bytes: under one key no nonce may be used twice, and at most 2^32 may be drawn (SP 800-38D 8.3). `now` is the time
+/// in seconds since 1970 in UTC. Both handles are as before.
 ///
-/// Refuses a nonce of another length, then another number as `lasting`, then a handle without sessions, then a time after
-/// 9999-12-30 22:00:00, and then a handle without a session. It then fails as `Sessions::save` does, with the size in bytes
-/// of a cookie that is too large. It may also run out of memory.
+/// Refuses a nonce of another length, then another number as `lasting`, then a handle without sessions, then a time
+/// after 9999-12-30 22:00:00, and then a handle without a session. It then fails as `Sessions::save` does, with the
+/// size in bytes of a cookie that is too large. It may also run out of memory.
 #[unsafe(no_mangle)]
 pub extern "C" fn cookie_session_save(
     alloc: Global,
