@@ -175,10 +175,10 @@ class FlaskSession(Opened, SecureCookieSession):
         return f"<FlaskSession {list(self.keys())!r}>"
 
 
-def mark_of(value: Any) -> bytes | None:
-    """The same bytes for a value as long as it is the same, or None if it has other types than Python's own."""
+def mark_of(value: Any) -> str | bytes | None:
+    """The same for a value as long as it is the same, or None if it has other types than Python's own."""
     try:
-        return marshal.dumps(value, MARSHAL_VERSION)
+        return value if type(value) is str else marshal.dumps(value, MARSHAL_VERSION)
     except ValueError:
         return None
 

@@ -41,10 +41,10 @@ class Generations:
         ('7', True, False)
         """
         kept = self.get("generation")
-        if type(kept) is not self.kind:
-            return None
-        is_number = self.kind is int or kept.isascii() and kept.isdigit() and len(kept) <= 20 and str(int(kept)) == kept
-        return int(kept) if is_number and (self.kind is int or int(kept) < 2**64) else None
+        if self.kind is str and isinstance(kept, str) and kept.isascii() and kept.isdigit() and len(kept) <= 20:
+            number = int(kept)
+            return number if number < 2**64 and str(number) == kept else None
+        return kept if type(kept) is int else None
 
     @generation.setter
     def generation(self: Any, number: int) -> None:
