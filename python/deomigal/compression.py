@@ -34,7 +34,7 @@ def form_of(texts: Mapping[str, str], compress: bool) -> bytes:
     form = escaped_form(texts)
     # What would be read as a compressed session is kept whole in one.
     is_taken = list(texts) == [COMPRESSED]
-    # No browser stores more than so many bytes.
+    # No browser stores more bytes.
     if not (compress or is_taken) or len(form) > MOST_BYTES:
         return form
     compressed = escaped_form({COMPRESSED: digits_of(deflate(form, 9 if compress else 0))})

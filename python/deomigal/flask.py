@@ -31,8 +31,7 @@ from .secrets import keys_of
 from .sessions import Session, Sessions
 from .values import CODER, FAILURES, Failure, Opened, checked_refresh, counted, log_failure, note_unsaved, with_expiry
 
-# Where a request's environment has its session, since to read `flask.session` counts as its use; and where the
-# application's extensions have the interface.
+# Where a request's environment has its session, and an application's extensions the interface.
 KEY = "deomigal.flask.session"
 # The version of marshal's format that says no more of a value than what it is.
 MARSHAL_VERSION = 2
@@ -72,17 +71,14 @@ class FlaskSession(Opened, SecureCookieSession):
     ) -> None:
         super().__init__(values)
         self.sessions, self.source, self.new, self.is_old = sessions, source, source.is_new and not is_old, is_old
-        # The texts of the cookie that it was opened from; and each value's text with what it was when that was its
-        # text.
+        # The texts that it was opened from; and each value's text with the mark that the value had then.
         self.serializer, self.opened = serializer, dict(source.texts)
         self.printed = {name: (mark_of(values[name]), text) for name, text in self.opened.items() if name in values}
         # The texts that were saved last, and the cookie's text, or None if it was too large.
         self.saved: tuple[dict[str, str], str | None] | None = None
-        # Whether the request has only revoked sessions. Then it drops no cookie: the browser may have another one by
-        # now.
+        # Whether the request has only revoked sessions. Then it drops no cookie: the browser may have another one.
         self.showed_revoked = source.shows_revoked
-        # Whether it couldn't be revoked, or was renewed or ended by another request. Then the browser keeps what it
-        # has.
+        # Whether a store failed, or another request renewed or ended it. Then the browser keeps what it has.
         self.is_failed = False
 
     # Flask's own don't count as a use.
@@ -268,7 +264,6 @@ class SessionInterface(FlaskSessionInterface):
         self.serializer = self.serializer if serializer is None else serializer
         self.salt = self.salt if salt is None else salt
         self.revocations, self.compress = revocations, compress
-        # The last settings, and the sessions that they make.
         self.latest: tuple[Any, Sessions] | None = None
         try:
             from flask_login import user_logged_in, user_logged_out

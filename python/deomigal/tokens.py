@@ -12,7 +12,6 @@ from .dates import whole_second
 from .errors import NotSealed, NotUtf8
 from .revocations import AnyRevocations, Ask, ask, ask_async, was_revoked
 
-# Room for most values.
 ROOM = 256
 
 
