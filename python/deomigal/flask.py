@@ -146,7 +146,8 @@ class FlaskSession(Opened, SecureCookieSession):
     def texts(self) -> dict[str, str]:
         """The texts of its values. What wasn't used has the texts that it was opened from."""
         if self.modified or self.accessed or self.is_old:
-            return {name_of(name): self.text_of(name, value) for name, value in dict.items(self)}
+            items = dict.items(self)
+            return {name if type(name) is str else name_of(name): self.text_of(name, value) for name, value in items}
         return self.opened
 
     def text_of(self, name: Any, value: Any) -> str:
