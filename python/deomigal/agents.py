@@ -34,8 +34,7 @@ OBSTACLES = {
     8: "the connection is insecure and the cookie Secure",
     16: "the request comes from another site, and SameSite forbids it",
 }
-# The forms of a file: a line of JSON for each cookie, and cookies.txt, as Netscape, curl and wget have it. FORMS has
-# their numbers in cookie.h.
+# The forms of a file: a line of JSON for each cookie, and cookies.txt, as curl has it; and their numbers in cookie.h.
 JSON, NETSCAPE = "json", "netscape"
 FORMS = {NETSCAPE: 0, JSON: 1}
 # More than most headers have, and than most cookies.
@@ -322,8 +321,7 @@ class Agent(Uncopied):
         """Reads the cookies of a file that `save`, curl or wget wrote. Returns the numbers, from 1, of the lines that
         hold no cookie, or one that no user agent could have stored. What is expired is left out, and none lasts for
         more than 400 days. Without `form` the file's first byte says which form it has. Raises `ValueError` if the file
-        has more than 64 MiB, and `OSError` if it is no regular file.
-        """
+        has more than 64 MiB, and `OSError` if it is no regular file."""
         with open(path, "rb", opener=file_opener) as file:
             text = file.read(MOST + 1)
         if len(text) > MOST:

@@ -37,7 +37,7 @@ def kept_of(texts: dict[str, str], compress: bool) -> dict[str, str]:
     if not (compress or is_taken):
         return texts
     form = escaped_form(texts)
-    # No browser stores more than so many bytes.
+    # No browser stores more bytes.
     if len(form) > MOST_BYTES:
         return texts
     compressed = {COMPRESSED: digits_of(deflate(form, 9 if compress else 0))}

@@ -8,10 +8,8 @@ from typing import Any
 from ._library import PRINT_DATE, READ_DATE, bytes_from, bytes_of, checked
 from .errors import NoDate, error_of
 
-# The first second that `datetime` has.
-FIRST = datetime.datetime(1, 1, 1, tzinfo=datetime.timezone.utc)
-# One more than the last second that a call takes.
-END = 2**64
+# The first second that `datetime` has, and one more than the last that a call takes.
+FIRST, END = datetime.datetime(1, 1, 1, tzinfo=datetime.timezone.utc), 2**64
 
 
 def whole_second(now: float | None) -> int:

@@ -172,8 +172,7 @@ class SessionStore(Generations, SessionBase):
 
 class SessionMiddleware(DjangoMiddleware):
     """Django's middleware, but it reads the request's header as `deomigal.Sessions` does. It answers with status 503 if
-    the revocations fail, and with 409 if another request has renewed or ended the session.
-    """
+    the revocations fail, and with 409 if another request has renewed or ended the session."""
 
     def __init__(self, *arguments: Any, **options: Any) -> None:
         super().__init__(*arguments, **options)

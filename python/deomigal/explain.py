@@ -28,8 +28,7 @@ LAST = 253402300799
 LONGEST = 34560000
 # More than a sentence and a title have.
 ROOM = 1000
-# Where Debian's package `publicsuffix` has the list of public suffixes, and where the project's own copy is: in the
-# wheel beside this file, in the project with the program cookie_explain.
+# Where Debian has the list of public suffixes, and where the project's copies are, in the wheel and in its tree.
 DEBIAN = pathlib.Path("/usr/share/publicsuffix/public_suffix_list.dat")
 HERE = pathlib.Path(__file__).resolve().parent
 COPIES = (HERE / "public_suffix_list.dat", HERE.parents[1] / "crates/cookie_explain/data/public_suffix_list.dat")
@@ -46,8 +45,7 @@ class Refusal(NamedTuple):
 class Stored(NamedTuple):
     """A cookie as a browser stores it, with name and value as the header has them. `lifetime` is how many seconds it
     lives from now, at most 400 days: None if it lives until the browser closes, and 0 if no whole second is left.
-    `same_site` is "Strict", "Lax", "None", or None if nothing is set.
-    """
+    `same_site` is "Strict", "Lax", "None", or None if nothing is set."""
 
     name: str
     value: str

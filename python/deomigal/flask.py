@@ -31,8 +31,7 @@ from .secrets import keys_of
 from .sessions import Session, Sessions
 from .values import CODER, FAILURES, Failure, Opened, checked_refresh, counted, log_failure, note_unsaved
 
-# Where a request's environment has its session, since to read `flask.session` counts as its use; and where the
-# application's extensions have the interface.
+# Where a request's environment has its session, and an application's extensions the interface.
 KEY = "deomigal.flask.session"
 # The version of marshal's format that says no more of a value than what it is.
 MARSHAL_VERSION = 2
@@ -72,18 +71,14 @@ class FlaskSession(Opened, SecureCookieSession):
     ) -> None:
         super().__init__(values)
         self.sessions, self.source, self.new, self.is_old = sessions, source, source.is_new and not is_old, is_old
-        # The texts of the cookie that it was opened from; and each value's text with what it was when that was its
-        # text.
+        # The texts that it was opened from; and each value's text with the mark that the value had then.
         self.serializer, self.opened = serializer, dict(source.texts)
         self.printed = {name: (mark_of(values[name]), text) for name, text in self.opened.items() if name in values}
-        # The texts that were saved last, how long the browser keeps them, and the cookie's text, or None if it was too
-        # large.
+        # The texts that were saved last, how long the browser keeps them, and the cookie, or None if it was too large.
         self.saved: tuple[dict[str, str], int, str | None] | None = None
-        # Whether the request has only revoked sessions. Then it drops no cookie: the browser may have another one by
-        # now.
+        # Whether the request has only revoked sessions. Then it drops no cookie: the browser may have another one.
         self.showed_revoked = source.shows_revoked
-        # Whether it couldn't be revoked, or was renewed or ended by another request. Then the browser keeps what it
-        # has.
+        # Whether a store failed, or another request renewed or ended it. Then the browser keeps what it has.
         self.is_failed = False
 
     # Flask's own don't count as a use.
@@ -152,7 +147,8 @@ class FlaskSession(Opened, SecureCookieSession):
     def texts(self) -> dict[str, str]:
         """The texts of its values. What wasn't used has the texts that it was opened from."""
         if self.modified or self.accessed or self.is_old:
-            return {name_of(name): self.text_of(name, value) for name, value in dict.items(self)}
+            items = dict.items(self)
+            return {name if type(name) is str else name_of(name): self.text_of(name, value) for name, value in items}
         return self.opened
 
     def text_of(self, name: Any, value: Any) -> str:
@@ -177,10 +173,10 @@ class FlaskSession(Opened, SecureCookieSession):
         return f"<FlaskSession {list(self.keys())!r}>"
 
 
-def mark_of(value: Any) -> bytes | None:
-    """The same bytes for a value as long as it is the same, or None if it has other types than Python's own."""
+def mark_of(value: Any) -> str | bytes | None:
+    """The same for a value as long as it is the same, or None if it has other types than Python's own."""
     try:
-        return marshal.dumps(value, MARSHAL_VERSION)
+        return value if type(value) is str else marshal.dumps(value, MARSHAL_VERSION)
     except ValueError:
         return None
 
@@ -270,7 +266,6 @@ class SessionInterface(FlaskSessionInterface):
         self.serializer = self.serializer if serializer is None else serializer
         self.salt = self.salt if salt is None else salt
         self.revocations, self.compress = revocations, compress
-        # The last settings, and the sessions that they make.
         self.latest: tuple[Any, Sessions] | None = None
         try:
             from flask_login import user_logged_in, user_logged_out

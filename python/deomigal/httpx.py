@@ -71,8 +71,7 @@ class Cookies(Generic[Transport]):
 
 class CookieTransport(Cookies[httpx.BaseTransport], httpx.BaseTransport):
     """A transport that sends the cookies of an agent, by default a new one, and has it read those that are set.
-    `transport` makes the requests, by default httpx's own. `context` says how they come about, by default same-site.
-    """
+    `transport` makes the requests, by default httpx's own. `context` says how they come about, by default same-site."""
 
     own = httpx.HTTPTransport
 

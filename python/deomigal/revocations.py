@@ -37,8 +37,7 @@ SLACK = 3600
 class Revocations(Protocol):
     """Where a site keeps which sessions are revoked. Threads share it. An id has sixteen bytes, and seconds count from
     1970. A call that fails raises an exception. With `are_revoked(ids)` too, a list of bools, a request needs one
-    look-up.
-    """
+    look-up."""
 
     def is_revoked(self, id: bytes) -> bool:
         """Whether the session with this id is revoked."""
@@ -378,8 +377,7 @@ class RedisRevocations(RedisCommands):
     """Keeps them in Redis 7 or Valkey, for many machines. `client` has redis-py's calls `mget`, `set`, `expireat` and
     `expiretime`. Give it a time limit, such as `redis.Redis(socket_timeout=2)`. Each key begins with `prefix`. Redis
     forgets it by its own clock, an hour after its second. Run it with `appendonly yes`, `appendfsync always` and
-    `maxmemory-policy noeviction`. What a primary hadn't yet copied to a replica is lost if the replica takes over.
-    """
+    `maxmemory-policy noeviction`. What a primary hadn't yet copied to a replica is lost if the replica takes over."""
 
     def is_revoked(self, id: bytes) -> bool:
         """Whether the session with this id is revoked."""

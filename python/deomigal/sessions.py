@@ -39,10 +39,10 @@ class Generations:
         ('7', True, False)
         """
         kept = self.get("generation")
-        if type(kept) is not self.kind:
-            return None
-        is_number = self.kind is int or kept.isascii() and kept.isdigit() and len(kept) <= 20 and str(int(kept)) == kept
-        return int(kept) if is_number and (self.kind is int or int(kept) < 2**64) else None
+        if self.kind is str and isinstance(kept, str) and kept.isascii() and kept.isdigit() and len(kept) <= 20:
+            number = int(kept)
+            return number if number < 2**64 and str(number) == kept else None
+        return kept if type(kept) is int else None
 
     @generation.setter
     def generation(self: Any, number: int) -> None:
@@ -81,8 +81,7 @@ class Session(Generations, MutableMapping[str, str]):
         """Makes it a new session without texts, of which the browser has none."""
         # What the library keeps of the session, once it is opened or saved: also which one the browser has.
         self.handle, self.place = OwnHandle(SESSION_FREE), cast("int | None", None)
-        # The header that it was opened from, or its cookie once it is saved; and the ids in it that are revoked, or
-        # None before they are looked up.
+        # The header that it was opened from, or its saved cookie; and the revoked ids in it, once they are looked up.
         self.header, self.revoked = b"", cast("bytes | None", None)
         self.texts: dict[str, str] = {}
         # The texts that the library has, and what it keeps of them, if it is known which.
@@ -204,7 +203,6 @@ class Sessions(Uncopied):
             name, "", path=path, domain=domain, secure=secure, http_only=http_only, same_site=same_site,
             partitioned=partitioned or None,
         ).encode()
-        # As the cookie has it.
         self.name = cookie.partition(b"=")[0].decode()
         self.handle = OwnHandle(SESSIONS_FREE)
         # Only one call at a time may use the handle and the buffer, which has room for the cookie's attributes too.

@@ -11,7 +11,6 @@ from .errors import NotSealed, NotUtf8
 from .revocations import AnyRevocations, Ask, ask, ask_async, was_revoked
 from .secrets import LOCK, Keys
 
-# Room for most values.
 ROOM = 256
 
 

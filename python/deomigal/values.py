@@ -15,12 +15,10 @@ from .revocations import AnyRevocations, Ask
 from .secrets import keys_of
 from .sessions import Generations, Session, Sessions
 
-# The names of the one text that a session of values has: as it is, or in base64url.
+# The names of the one text of a session of values: as it is, or in base64url.
 PLAIN, ENCODED = "j", "b"
-# The JSON of no values.
 EMPTY = b"{}"
-# What is answered if it can't be looked up whether a session is revoked (RFC 9110 15.6.4), and if another request has
-# renewed or ended the session that this one renews or ends (15.5.10).
+# What is answered if the revocations fail (RFC 9110 15.6.4), and if another request was first (15.5.10).
 PLAIN_TEXT = ("Content-Type", "text/plain")
 UNAVAILABLE = "503 Service Unavailable", [PLAIN_TEXT, ("Retry-After", "1")], b"Try again in a moment.\n"
 CONFLICT = "409 Conflict", [PLAIN_TEXT], b"Your session has changed meanwhile. Load the page again.\n"

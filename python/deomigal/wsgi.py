@@ -18,10 +18,8 @@ from .revocations import ask
 from .values import FAILURES, CookieSession, Middleware, answer_to, session_at
 
 __all__ = ["CookieSession", "SessionMiddleware", "session_of"]
-# The session's name in the environment.
 KEY = "deomigal.session"
 Start = Callable[..., Any]
-# What this answers in the place of the application.
 ANSWERED = (*FAILURES, TooLarge)
 
 

@@ -28,6 +28,7 @@ TRICKS = [
     "http://bank\uff0eexample/", "http://\uff42ank.example/", "http://bank.ex\u00adample/", "http://bank.example\t/",
     "http://evil.example\t@bank.example/", "http://0x7f.1/", "http://2130706433/", "http://017700000001/", "http://1.2.3/",
     "http://bank.example%252eevil.example/", "http://bank.example%20/", "HTTP://bank.example/", "ftp://bank.example/", "http://",
+    "http://127.0.0.1./", "http://0x/", "http://bank.example../", "http://.bank.example/",
 ]
 # Hosts that browsers read as an address or refuse, and that resolvers may read as a name or as another address.
 ODD_ADDRESSES = (
