@@ -3,7 +3,7 @@
 import re
 import sys
 
-import toolchain
+from bench import toolchain
 
 DOCS = toolchain.ROOT / "docs"
 KEPT = DOCS / "performance.tsv"
@@ -80,16 +80,16 @@ def tables_in(text):
 
 
 def goals(tables):
-    """The table of goals: each with what was counted last. Beside it, what the page has to say of those that aren't met."""
-    rows, unmet = [["Goal", "At most", "Counted"]], set()
+    """The table of goals, each with what was counted last, and which lines of the page are of goals that are met, or not."""
+    rows, lines = [["Goal", "At most", "Counted"]], {True: set(), False: set()}
     for line, title, most, name, key, head in GOALS:
         heads, *kept = tables.get(name, [["Ratio"]])
         found = next((row for row in kept if key_of(heads, row) == key), None)
         cell = found[heads.index(head)] if found else ""
         rows.append([title, f"{most}", cell])
-        if found and float(cell.replace(",", "")) > most:
-            unmet.add(line)
-    return rows, unmet
+        if found:
+            lines[float(cell.replace(",", "")) <= most].add(line)
+    return rows, lines[True] - lines[False], lines[False]
 
 
 def new_rows(heads, rows, tables):
@@ -109,7 +109,7 @@ def new_rows(heads, rows, tables):
 def write_page():
     """Puts the kept numbers into the tables of the page that have the heads of a kept one."""
     tables = kept_tables()
-    tables["goals"], unmet = goals(tables)
+    tables["goals"], met, unmet = goals(tables)
     text = PAGE.read_text()
 
     def written(found):
@@ -120,7 +120,7 @@ def write_page():
     lines = set(re.findall(r"\*\*(.*?)\*\*", text.partition("\n## Goals\n")[2].partition("\n## ")[0]))
     for line in sorted(unmet - lines):
         print(f"{PAGE.name}: no line says what takes the rest: {line}", file=sys.stderr)
-    for line in sorted(lines - unmet):
+    for line in sorted(lines & met):
         print(f"{PAGE.name}: the goal is met, but has a line: {line}", file=sys.stderr)
 
 

@@ -73,11 +73,7 @@ FOLLOWS = {
 }
 # What is done through child jars, so often with a value of each size. Taken off are a cookie and a jar that are made alone,
 # and the same with one line less, in which libraries are made ready.
-SIGNED_WORKS = {
-    "signed `add` and `get`": "signed",
-    "`add` and a signed `get` of what isn't signed": "not-signed",
-    "`Key::from`": "keys",
-}
+SIGNED_WORKS = {"signed `add` and `get`": "signed", "`Key::from`": "keys"}
 PRIVATE_WORKS = {"private `add` and `get`": "private", "`add` and a private `get` of what isn't sealed": "not-sealed"}
 CHILD_SIZES = (100, 4_096)
 # The calls whose memory is counted, on so many names of each of so many jars. The lines are fewer, too.
