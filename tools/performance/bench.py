@@ -237,9 +237,7 @@ class Bench:
 
     def child(self, measure, program, work, line):
         """What a work through child jars costs."""
-        # What makes a cookie and a jar hashes nothing, so it takes as much under valgrind.
-        made = self.count if measure == self.steps else measure
-        one, two = (less(measure(program, [work], it), made(program, ["made"], it)) for it in ([line], [line] * 2))
+        one, two = (less(measure(program, [work], it), measure(program, ["made"], it)) for it in ([line], [line] * 2))
         return shared(less(two, one), CHILD_TIMES)
 
     def request(self, measure, program, words, lines):

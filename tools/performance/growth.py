@@ -1,5 +1,6 @@
 """How the port's costs grow: each work at a count n and its doubles, up to 64 n."""
 
+import hashlib
 from typing import NamedTuple
 
 import printing
@@ -8,8 +9,8 @@ from bench import HERE
 # How often a count is doubled, and how much more the work may cost at the double of a count.
 DOUBLES = 6
 MOST = 2.3
-# The same where a jar begins to hash.
-HASHED = 2.7
+# The same where a jar begins to hash, where few cookies are sorted, and where a tree of ids gets a level more.
+HASHED, SORTED, IN_TREE = 2.7, 2.6, 2.4
 # How often a short work is done.
 TIMES = 20
 # A session's texts of 100 bytes with their names.
@@ -52,7 +53,7 @@ WORKS = {
     "`open_unrevoked`, by cookies under another key": Work("header", 10, "foreign {} 1", "foreign {} 0"),
     "`open_unrevoked`, by revoked cookies": Work("header", 10, "revoked {} 1", "revoked {} 0"),
     "`revoke`, by ids": Work("revoked", 1_000, "revoke", "ids", "ids"),
-    "`is_revoked`, by ids": Work("revoked", 1_000, "revoke,is-revoked", "revoke,ids", "ids"),
+    "`is_revoked`, by ids": Work("revoked", 1_000, "revoke,is-revoked", "revoke,ids", "ids", most=IN_TREE),
     "`forget`, by ids": Work("revoked", 1_000, "revoke,forget", "revoke,ids", "ids"),
     "`Suffixes::new`, by rules": Work("suffixes", 1_000, "walk", given="rules"),
     "`Agent::read` of new cookies of one site": Work("agent", 50, "nothing {} 0"),
@@ -62,7 +63,7 @@ WORKS = {
     "`Agent::read` of one more, by cookies, ten a site": Work("agent", 100, "read {} 20 10", "nothing {} 0 10", times=TIMES),
     "`Agent::header`, by cookies, ten a site": Work("agent", 100, "header {} 20 10", "nothing {} 0 10", times=TIMES),
     "`Agent::retrieve`, by cookies, ten a site": Work("agent", 100, "retrieve {} 20 10", "nothing {} 0 10", times=TIMES),
-    "`Agent::trim`, by cookies, ten a site": Work("agent", 100, "trim {} 1 10", "nothing {} 0 10"),
+    "`Agent::trim`, by cookies, ten a site": Work("agent", 100, "trim {} 1 10", "nothing {} 0 10", most=SORTED),
 }
 
 
@@ -83,7 +84,7 @@ def given_for(bench, given, count):
         "session": lambda: [session_line(count)],
         "texts": lambda: [f"{it}=value" for it in names],
         "session texts": lambda: SESSION_TEXTS,
-        "ids": lambda: names,
+        "ids": lambda: [hashlib.sha256(it.encode()).hexdigest()[:16] for it in names],
         "rules": lambda: [f"{it}.example" for it in names] + ["// HOSTS"],
     }[given]()
 

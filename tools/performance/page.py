@@ -16,6 +16,7 @@ KEYS += ("Token", "From C", "A session")
 # What is wanted: what the page's line about it begins with, the row, the most, and the table with its key and column. Of two
 # columns with one head the first counts.
 PRIVATE = "private `add` and `get`"
+NEW_COOKIES = "`Agent::read` of new cookies, ten a site"
 GOALS = [
     *(("A plain request", f"a plain request, {pairs} pair{'s' * (pairs > 1)}", 0.55, "request", ("plain", str(pairs)), "Ratio") for pairs in (1, 3, 10, 30)),
     ("Escapes", "a request with escapes, 10 pairs", 0.65, "request", ("with escapes", "10"), "Ratio"),
@@ -25,6 +26,7 @@ GOALS = [
     ("Sealing", "`seal_in_place` of 4,096 bytes, instructions a byte", 45, "cipher", ("`seal_in_place`", "4,096"), "a byte"),
     ("A session", "`open` of a session, one key", 1.6, "session", ("`open`, private `get`", "1"), "Ratio"),
     ("A session", "`save` of a session", 1.8, "session", ("`save`, private `add`", "1"), "Ratio"),
+    ("New cookies of an agent", f"{NEW_COOKIES}, twice as many", 2.3, "wider", (NEW_COOKIES, "100"), "most at a double"),
 ]
 CHART_HEAD = """<svg xmlns="http://www.w3.org/2000/svg" width="{width}" height="{height}" viewBox="0 0 {width} {height}" role="img">
 <title>Instructions of a request, against those of the crate cookie</title>
