@@ -11,8 +11,9 @@ from printing import print_head, print_row
 
 # The groups, by words in the names of functions: the first that fits counts. What is inlined counts for its caller.
 GROUPS = {
-    "AES": "encrypt_block|decrypt_block",
-    "the tag": "ghash|::product|gcm",
+    "AES": "encrypt_block|decrypt_block|::aes",
+    "the tag": "ghash|::product",
+    "the rest of the cipher": "cookie_crypt::",
     "SHA-256": "sha2::|signer",
     "base64": "base64",
     "to copy and to clear bytes": "mem(cpy|move|set)",
@@ -21,7 +22,7 @@ GROUPS = {
     "to split the header": "split|memchr|trim|skip_far|find_ascii|has_escape|with_originals|::field",
     "to decode and to look for disguised names": "::decode|sent_name|from_utf8",
     "the jar's table": "cookie::(table|jar|entries|entry)|indexmap",
-    "the form of a session": "form_urlencoded|cookie_session::|itoa",
+    "the form of a session": "form_urlencoded|cookie_session::|text_map|itoa|first_in|btree",
     "to print": "display|fmt|texts",
 }
 REST = "the rest"

@@ -1,7 +1,9 @@
-/* `steps PROGRAM WORD..`: runs the program one instruction after the other on the processor itself, and prints to the
- * standard error how many there were. */
+/* `steps PROGRAM WORD..`: runs the program one instruction after the other, on the processor itself, and prints to the
+ * standard error how many there were. One that repeats, such as `rep movsb`, counts once. */
+#include <stddef.h>
 #include <stdio.h>
 #include <sys/ptrace.h>
+#include <sys/user.h>
 #include <sys/wait.h>
 #include <unistd.h>
 
@@ -15,13 +17,16 @@ int main(int count, char **words) {
         _exit(127);
     }
     unsigned long steps = 0;
+    long before = 0;
     int status = 0;
     waitpid(child, &status, 0);
     while (WIFSTOPPED(status)) {
+        long at = ptrace(PTRACE_PEEKUSER, child, offsetof(struct user, regs.rip), NULL);
+        steps += at != before;
+        before = at;
         ptrace(PTRACE_SINGLESTEP, child, NULL, NULL);
         waitpid(child, &status, 0);
-        steps++;
     }
-    fprintf(stderr, "Collected : %lu\n", steps);
+    fprintf(stderr, "%lu\n", steps);
     return WIFEXITED(status) ? WEXITSTATUS(status) : 1;
 }

@@ -56,8 +56,6 @@ SMALL = {
     "`clone`": COPIES["clone"],
 }
 SMALL_COUNTS = (1, 3, 10)
-# How many names a large jar has, and how many jars there are.
-LARGE = {100: 100, 1_000: 100, 10_000: 10, 200_000: 1}
 # How many of the names that were chosen to collide, or of ordinary ones, are added to each jar.
 COUNTS = (100, 300, 1_000)
 # What is done with a session of 100 bytes of texts, and under how many keys, of which the oldest encrypted it.
@@ -73,11 +71,7 @@ FOLLOWS = {
 }
 # What is done through child jars, so often with a value of each size. Taken off are a cookie and a jar that are made alone,
 # and the same with one line less, in which libraries are made ready.
-SIGNED_WORKS = {
-    "signed `add` and `get`": "signed",
-    "`add` and a signed `get` of what isn't signed": "not-signed",
-    "`Key::from`": "keys",
-}
+SIGNED_WORKS = {"signed `add` and `get`": "signed"}
 PRIVATE_WORKS = {"private `add` and `get`": "private", "`add` and a private `get` of what isn't sealed": "not-sealed"}
 CHILD_SIZES = (100, 4_096)
 # The calls whose memory is counted, on so many names of each of so many jars. The lines are fewer, too.
@@ -261,16 +255,6 @@ def names(bench, kind, number):
     return bench.printed([HERE / "names.py", kind, number]).splitlines()
 
 
-def print_large(bench):
-    """A row for each call, with the port's count in jars of each size, and the original's in the largest."""
-    print_head(["Call"], [*(f"{number:,}" for number in LARGE), *sides(bench)[1:]])
-    for call, (steps, without) in {**CALLS, **COPIES}.items():
-        costs = []
-        for number, jars in LARGE.items():
-            costs.append([it[0] for it in bench.calls(bench.count, steps, without, names(bench, "ordinary", number), jars)])
-        print_row(call, *(f"{it[0]:,.0f}" for it in costs[:-1]), *cells(costs[-1]))
-
-
 def print_follow(bench):
     program = bench.program("follow")
     print_head(["Work"], ["Calls", "Instructions a call", "twice as many"])
@@ -311,11 +295,11 @@ def print_child(bench, kind, works):
     sides = bench.sides("child", kind)
     print_head(["Work"], ["Bytes", *heads_of(sides)])
     for title, work in works.items():
-        for size in CHILD_SIZES[: 1 if work == "keys" else None]:
+        for size in CHILD_SIZES:
             line = session_line(size)
             bench.agree("child", [work], [line])
             costs = [bench.child(it.count, it.program, work, line)[0] for it in sides]
-            print_row(title, f"{size:,}" if work != "keys" else "", *cells(costs))
+            print_row(title, f"{size:,}", *cells(costs))
 
 
 def print_signed(bench):
@@ -350,7 +334,6 @@ TABLES = {
     "values": print_values,
     "jar": print_jar,
     "small": print_small,
-    "large": print_large,
     "wider": growth.print_growth,
     "parts": parts.print_request_parts,
     "secret parts": parts.print_secret_parts,
