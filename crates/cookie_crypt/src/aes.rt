@@ -228,7 +228,6 @@ impl Aes256 {
     }
 
     /// The block, encrypted (FIPS 197 5.1).
-    #[inline(always)]
     pub fn encrypt_block(&self, block: [u8; 16]) -> [u8; 16]
         ensures value { result ≡ encrypt_block self.now block }
         ensures inverses { (b : ℕ) → b < 256 → IsInverse b (inverse b) }
