@@ -1,6 +1,6 @@
 -- Escaped texts.
 use Rattle.std.proofs.Common.{◌≡◌, Bool, true, false, cond, ◌&&◌, ◌||◌, ℕ, ◌/◌, ◌%◌, ◌<◌, List, [], ◌∷◌, ◌++◌, length, refl, sym, ap, ◌∙◌, ⊎_elim, nat_lt, arith}
-use Rattle.std.specs.List.{list_all}
+use Rattle.std.specs.List.{list_all, list_any}
 use Rattle.std.specs.Str.{IsUtf8, encode_utf8_all, all_scalars}
 use Rattle.std.specs.Fmt.{digit_glyph}
 use Rattle.std.proofs.lemmas.Bool.{and_parts, agree_below_at, cases_lt, cases_Bool, cond-true, cond-false, both_ways}
@@ -9,6 +9,7 @@ use Rattle.std.proofs.Math.Utf8.{encode, scalar, scalar_cases}
 use Rattle.percent_encoding.specs.Percent.{is_escape, percent_decode, percent_encode_byte}
 use Rattle.percent_encoding.proofs.PercentLemmas.{percent_decode-nil, percent_decode-percent_encode_byte, percent_decode_not_percent}
 use Rattle.cookie_core.specs.Escapes.{is_escaped, escape, unescape}
+use Rattle.cookie_core.proofs.EscapeLemmas.{or_false}
 use Rattle.cookie_core.proofs.ByteLemmas.{is_other, all-append}
 use mathlib.Core.Logic.{◌≢◌}
 
@@ -52,6 +53,13 @@ escape_escaped b t e = ap (λ x. x ++ escape t) (cond-true _ _ _ e)
 pub escape_kept : (b : ℕ) (t : List ℕ) → is_escaped b ≡ false → escape (b ∷ t) ≡ b ∷ escape t
 unfolding escape
 escape_kept b t e = ap (λ x. x ++ escape t) (cond-false _ _ _ e)
+
+-- a text without a byte that is escaped stays
+pub escape-same : (t : List ℕ) → list_any is_escaped t ≡ false → escape t ≡ t
+escape-same [] none = escape-nil
+escape-same (b ∷ t) none =
+    let both = or_false (is_escaped b) (list_any is_escaped t) none in
+    escape_kept b t both.0 ∙ ap (λ rest. b ∷ rest) (escape-same t both.1)
 
 pub escape_is_tokens : (t : List ℕ) → list_all is_token (escape t) ≡ true
 escape_is_tokens [] = rw escape-nil refl

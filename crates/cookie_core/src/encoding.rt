@@ -1,5 +1,6 @@
 //! The escapes of names and values (RFC 3986 2.1).
 ghost use Rattle.std.specs.Prelude.{◌≡◌, ◌≤◌, ◌++◌, Some, length, take, drop, nat_lt};
+ghost use Rattle.std.specs.List.{list_any};
 ghost use Rattle.cookie_core.specs.EscapeTest.{starts_with_escape, has_escape};
 ghost use Rattle.cookie_core.specs.Escapes.{escape, is_escaped, unescape};
 
@@ -36,12 +37,24 @@ const ESCAPED: AsciiSet = ascii_set!(
         .add(b'}')
 );
 
+// 1 at each byte that is escaped.
+const ARE_ESCAPED: [u8; 256] = [
+    1, 1, 1, 1, 1, 1, 1, 1, 1, 1, 1, 1, 1, 1, 1, 1, 1, 1, 1, 1, 1, 1, 1, 1, 1, 1, 1, 1, 1, 1, 1, 1,
+    1, 0, 1, 1, 0, 1, 0, 0, 1, 1, 0, 0, 1, 0, 0, 1, 0, 0, 0, 0, 0, 0, 0, 0, 0, 0, 1, 1, 1, 1, 1, 1,
+    1, 0, 0, 0, 0, 0, 0, 0, 0, 0, 0, 0, 0, 0, 0, 0, 0, 0, 0, 0, 0, 0, 0, 0, 0, 0, 0, 1, 1, 1, 1, 0,
+    1, 0, 0, 0, 0, 0, 0, 0, 0, 0, 0, 0, 0, 0, 0, 0, 0, 0, 0, 0, 0, 0, 0, 0, 0, 0, 0, 1, 1, 1, 0, 1,
+    1, 1, 1, 1, 1, 1, 1, 1, 1, 1, 1, 1, 1, 1, 1, 1, 1, 1, 1, 1, 1, 1, 1, 1, 1, 1, 1, 1, 1, 1, 1, 1,
+    1, 1, 1, 1, 1, 1, 1, 1, 1, 1, 1, 1, 1, 1, 1, 1, 1, 1, 1, 1, 1, 1, 1, 1, 1, 1, 1, 1, 1, 1, 1, 1,
+    1, 1, 1, 1, 1, 1, 1, 1, 1, 1, 1, 1, 1, 1, 1, 1, 1, 1, 1, 1, 1, 1, 1, 1, 1, 1, 1, 1, 1, 1, 1, 1,
+    1, 1, 1, 1, 1, 1, 1, 1, 1, 1, 1, 1, 1, 1, 1, 1, 1, 1, 1, 1, 1, 1, 1, 1, 1, 1, 1, 1, 1, 1, 1, 1,
+];
+
 /// Whether [`encode`] escapes the byte: a control, the space, a byte past ASCII, or a mark that a header or a URL gives a
 /// meaning (RFC 3986 2.1).
 pub fn is_escaped(byte: u8) -> bool
     ensures { result ≡ is_escaped byte }
 {
-    ESCAPED.should_percent_encode(byte)
+    ARE_ESCAPED[byte as usize] == 1
 }
 
 /// A text that is printed with its escapes.
@@ -72,9 +85,19 @@ impl<'a> fmt::Display for EncodedText<'a> {
     ghost output = { λ text. Some (escape text) };
 
     fn fmt<W: fmt::Write>(&self, f: &mut fmt::Formatter<W>) -> fmt::Result {
+        if !has_escaped_byte(self.text) {
+            return f.write_str(self.text);
+        }
         let encoded = utf8_percent_encode(self.text, ESCAPED);
         fmt::Display::fmt(&encoded, f)
     }
+}
+
+// Whether a byte of the text is escaped. Most texts have none.
+fn has_escaped_byte(text: &str) -> bool
+    ensures { result ≡ list_any is_escaped text.now }
+{
+    text.as_bytes().iter().any(|byte| is_escaped(*byte))
 }
 
 // Whether the text holds a `%` with two hexadecimal digits.

@@ -11,16 +11,14 @@ use Rattle.std.proofs.lemmas.Simd.{map-map, zip2_splat, get_or-zip2, get_or-chun
 use Rattle.cookie_crypt.specs.Aes.{cell, sub_bytes, shift_rows, mix_columns, mixed_cell, add_round_key, word}
 use Rattle.cookie_crypt.specs.ByteField.{byte_times_x}
 use Rattle.cookie_crypt.specs.Bytes.{IsBytes}
-use Rattle.cookie_crypt.specs.Lanes.{entry, IsLanes}
+use Rattle.cookie_crypt.specs.Lanes.{IsLanes}
 use Rattle.cookie_crypt.specs.Sbox.{s_box}
-use Rattle.cookie_crypt.specs.Turned.{first_half, second_half, key_byte, linear_part, schedule_of, turned_back}
-use Rattle.cookie_crypt.specs.declared.lanes.TheConstants.{FIRST, SECOND, ONCE_FIRST, ONCE_SECOND, TWICE_FIRST, TWICE_SECOND}
+use Rattle.cookie_crypt.specs.Turned.{key_byte, linear_part, schedule_of, turned_back}
 use Rattle.cookie_crypt.proofs.BytesLemmas.{bytes_shifted, bytes_substituted, xor_byte}
 use Rattle.cookie_crypt.proofs.LaneLemmas.{by_place, lanes_are_bytes, on_places}
 use Rattle.cookie_crypt.proofs.MixingLemmas.{mixed, mixed_at, on_pairs}
 use Rattle.cookie_crypt.proofs.ProductLemmas.{xor_swap}
 use Rattle.cookie_crypt.proofs.SboxLemmas.{on_bytes}
-use Rattle.cookie_crypt.proofs.TableLemmas.{looked_up, looked_up_from, looked_up-is, table}
 
 -- ---- a byte
 
@@ -38,25 +36,6 @@ unfolding turned_back
 turned_back-lt x h =
     let none : turned_back x / 256 ≡ 0 = on_bytes (λ b. turned_back b / 256) (λ b. 0) refl x h in
     omega arith
-
--- what is looked up for S once, twice, and not turned
-pub once_is : (x : ℕ) → x < 256 → turned_back (bit_xor (entry ONCE_FIRST (first_half x)) (entry ONCE_SECOND (second_half x))) ≡ linear_part (turned_back x)
-unfolding turned_back looked_up looked_up_from table
-once_is x h =
-    on_bytes (λ b. turned_back (bit_xor (entry ONCE_FIRST (first_half b)) (entry ONCE_SECOND (second_half b)))) (λ b. bit_xor (looked_up (turned_back b)) 0x63) refl x h
-    ∙ ap (λ s. bit_xor s 0x63) (looked_up-is (turned_back x))
-
-pub twice_is : (x : ℕ) → x < 256 → turned_back (bit_xor (entry TWICE_FIRST (first_half x)) (entry TWICE_SECOND (second_half x))) ≡ byte_times_x (linear_part (turned_back x))
-unfolding turned_back looked_up looked_up_from table byte_times_x
-twice_is x h =
-    on_bytes (λ b. turned_back (bit_xor (entry TWICE_FIRST (first_half b)) (entry TWICE_SECOND (second_half b)))) (λ b. byte_times_x (bit_xor (looked_up (turned_back b)) 0x63)) refl x h
-    ∙ ap (λ s. byte_times_x (bit_xor s 0x63)) (looked_up-is (turned_back x))
-
-pub back_is : (x : ℕ) → x < 256 → bit_xor (entry FIRST (first_half x)) (entry SECOND (second_half x)) ≡ linear_part (turned_back x)
-unfolding turned_back looked_up looked_up_from table
-back_is x h =
-    on_bytes (λ b. bit_xor (entry FIRST (first_half b)) (entry SECOND (second_half b))) (λ b. bit_xor (looked_up (turned_back b)) 0x63) refl x h
-    ∙ ap (λ s. bit_xor s 0x63) (looked_up-is (turned_back x))
 
 -- the constant added twice is gone
 pub xor_twice : (a k : ℕ) → bit_xor (bit_xor a k) k ≡ a

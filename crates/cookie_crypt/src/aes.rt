@@ -184,9 +184,7 @@ fn last_round(words: &[u8; 240], state: u8x16) -> u8x16
     add_round_key(words, 14, substitute_back(shift_rows(state)))
 }
 
-// The rounds are written one after the other, so that their tables stay in registers. They are inlined, so that a loop
-// over blocks keeps them there.
-#[inline(always)]
+// The rounds are written one after the other, so that their tables stay in registers.
 fn cipher(words: &[u8; 240], block: [u8; 16]) -> [u8; 16]
     ensures { result ≡ cipher (schedule_of words.now) block }
 {
@@ -230,7 +228,6 @@ impl Aes256 {
     }
 
     /// The block, encrypted (FIPS 197 5.1).
-    #[inline(always)]
     pub fn encrypt_block(&self, block: [u8; 16]) -> [u8; 16]
         ensures value { result ≡ encrypt_block self.now block }
         ensures inverses { (b : ℕ) → b < 256 → IsInverse b (inverse b) }

@@ -52,7 +52,6 @@ fn columns(h: u128) -> [[u8; 16]; 16]
 // The product of a block and the one whose columns are passed in. Byte `b` of what a byte of the block adds is looked
 // up for all sixteen at once. From the last `b` to the first, what has been summed moves one byte on, from `first` into
 // `rest`.
-#[inline(always)]
 fn product(upper: &[[u8; 16]; 16], lower: &[[u8; 16]; 16], block: u128) -> u128
     ensures { (h : ℕ) → h < 2 ^ 128 → upper.now ≡ columns h → lower.now ≡ columns (times_power 4 h)
         → result ≡ field_product block h }
@@ -110,7 +109,6 @@ impl Multiples {
     }
 
     /// The product of `block` and the block of these multiples.
-    #[inline(always)]
     pub fn product(&self, block: u128) -> u128
         ensures { result ≡ field_product block self.now }
     {

@@ -64,7 +64,6 @@ impl Steps {
     }
 
     // One block, encrypted.
-    #[inline(always)]
     pub(crate) fn encrypt_block(&mut self, cipher: &Aes256, block: [u8; 16]) -> [u8; 16]
         requires { self.old.blocks + 1 < 2 ^ 64 }
         ensures made { result ≡ encrypt_block cipher.now block }
@@ -75,7 +74,6 @@ impl Steps {
     }
 
     // The product of a block and the block whose multiples are passed in, four bits of each byte at a time.
-    #[inline(always)]
     pub(crate) fn product(&mut self, multiples: &Multiples, block: u128) -> u128
         requires room { self.old.products + 1 < 2 ^ 64 }
         requires room_for_steps { self.old.table_steps + 32 < 2 ^ 64 }

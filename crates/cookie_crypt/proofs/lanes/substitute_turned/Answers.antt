@@ -1,11 +1,13 @@
-use Rattle.std.proofs.Common.{ℕ, map, bit_xor, refl, sym, ap, ◌∙◌}
+use Rattle.std.proofs.Common.{◌≡◌, ◌<◌, ℕ, map, bit_xor, refl, sym, ap, ◌∙◌}
 use Rattle.std.proofs.lemmas.Simd.{map-map}
 use Rattle.cookie_crypt.specs.ByteField.{byte_times_x}
 use Rattle.cookie_crypt.specs.Lanes.{entry}
 use Rattle.cookie_crypt.specs.Turned.{first_half, second_half, linear_part, turned_back}
 use Rattle.cookie_crypt.specs.declared.lanes.TheConstants.{ONCE_FIRST, ONCE_SECOND, TWICE_FIRST, TWICE_SECOND}
 use Rattle.cookie_crypt.proofs.LaneLemmas.{are_places}
-use Rattle.cookie_crypt.proofs.TurnedLemmas.{on_fitting, once_is, twice_is}
+use Rattle.cookie_crypt.proofs.SboxLemmas.{on_bytes}
+use Rattle.cookie_crypt.proofs.TableLemmas.{looked_up, looked_up_from, looked_up-is, table}
+use Rattle.cookie_crypt.proofs.TurnedLemmas.{on_fitting}
 use Rattle.cookie_crypt.proofs.lanes.substitute_turned.Goals as goal
 
 pub look_up_halves-requires-clause-first : goal.look_up_halves-requires-clause-first
@@ -19,6 +21,19 @@ look_up_halves-requires-2-clause-first c = are_places first_half refl c.args.byt
 
 pub look_up_halves-requires-2-clause-second : goal.look_up_halves-requires-2-clause-second
 look_up_halves-requires-2-clause-second c = are_places second_half refl c.args.bytes _ c.fits-bytes.1 c.halves.ensures.second
+
+-- what is looked up for S once and twice, by computing over all bytes
+once_is : (x : ℕ) → x < 256 → turned_back (bit_xor (entry ONCE_FIRST (first_half x)) (entry ONCE_SECOND (second_half x))) ≡ linear_part (turned_back x)
+unfolding turned_back looked_up looked_up_from table
+once_is x h =
+    on_bytes (λ b. turned_back (bit_xor (entry ONCE_FIRST (first_half b)) (entry ONCE_SECOND (second_half b)))) (λ b. bit_xor (looked_up (turned_back b)) 0x63) refl x h
+    ∙ ap (λ s. bit_xor s 0x63) (looked_up-is (turned_back x))
+
+twice_is : (x : ℕ) → x < 256 → turned_back (bit_xor (entry TWICE_FIRST (first_half x)) (entry TWICE_SECOND (second_half x))) ≡ byte_times_x (linear_part (turned_back x))
+unfolding turned_back looked_up looked_up_from table byte_times_x
+twice_is x h =
+    on_bytes (λ b. turned_back (bit_xor (entry TWICE_FIRST (first_half b)) (entry TWICE_SECOND (second_half b)))) (λ b. byte_times_x (bit_xor (looked_up (turned_back b)) 0x63)) refl x h
+    ∙ ap (λ s. byte_times_x (bit_xor s 0x63)) (looked_up-is (turned_back x))
 
 abbrev once : ℕ → ℕ
 once b = bit_xor (entry ONCE_FIRST (first_half b)) (entry ONCE_SECOND (second_half b))
