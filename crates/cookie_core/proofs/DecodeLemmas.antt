@@ -149,7 +149,7 @@ no_raw_forms-decoded t (Err e) h = tt
 
 -- ---- texts of its own
 
-HasPair-record : (decode : Bool) (t : List ℕ) (r : Record) → Reads decode t (Ok r) → HasPair t
+pub HasPair-record : (decode : Bool) (t : List ℕ) (r : Record) → Reads decode t (Ok r) → HasPair t
 HasPair-record decode t r (p, ps, pieces, (n, v, pair, filled, _, _, _)) = (p, ps, n, v, pieces, pair, filled)
 
 pub ReadsInMemory-own : (decode : Bool) (t : List ℕ) (o o' : Result CookieView ParseError) → ReadsInMemory decode t (record_or_refusal o) → IsMadeOwn o o' → ReadsInMemory decode t (record_or_refusal o') × IfOk o' (λ c. c.raw ≡ no_raw_forms)
