@@ -7,7 +7,7 @@ import pathlib
 import platform
 import struct
 from binascii import a2b_qp
-from typing import Any, Callable, Iterator, NoReturn, Sequence
+from typing import Any, Callable, NoReturn, Sequence
 
 from .errors import BufferTooShort, CookieError, KeyTooShort, error_of
 
@@ -289,19 +289,16 @@ def bytes_at(text: bytes, span: Any) -> bytes:
     return text[span.start : span.start + span.length]
 
 
-def pairs_of(texts: bytes) -> Iterator[tuple[bytes, bytes]]:
-    """The names and texts of a list: each of the two after the lengths of both."""
-    at = 0
-    while at < len(texts):
-        name, text = LENGTHS.unpack_from(texts, at)
-        middle = at + LENGTHS.size + name
-        at = middle + text
-        yield texts[middle - name : middle], texts[middle:at]
-
-
-def listed(texts: bytes) -> dict[str, str]:
-    """The texts of a list by name."""
-    return {name.decode(): text.decode() for name, text in pairs_of(texts)}
+def listed(texts: bytes) -> list[tuple[str, str]]:
+    """The names and texts of a list: each pair after the lengths of both."""
+    found, at, end = [], LENGTHS.size, len(texts)
+    while at <= end:
+        name, text = LENGTHS.unpack_from(texts, at - LENGTHS.size)
+        middle = at + name
+        last = middle + text
+        found.append((texts[at:middle].decode(), texts[middle:last].decode()))
+        at = last + LENGTHS.size
+    return found
 
 
 def unescaped(text: str) -> str:

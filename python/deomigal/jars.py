@@ -72,8 +72,7 @@ class Jar(Uncopied):
     def items(self) -> list[tuple[str, str]]:
         """The names of the jar's cookies with their values, in any order."""
         with LOCK:
-            texts = bytes_from(JAR_COOKIES, self.handle, room=ROOM)
-        return list(listed(texts).items())
+            return listed(bytes_from(JAR_COOKIES, self.handle, room=ROOM))
 
     def __iter__(self) -> Iterator[str]:
         """The names of the jar's cookies, in any order."""

@@ -249,7 +249,7 @@ class Sessions(Uncopied):
         session.describe()
         session.is_renewed = False
         with self.lock:
-            session.kept = listed(bytes_from(SESSION_LIST, session.handle, buffer=self.buffer))
+            session.kept = dict(listed(bytes_from(SESSION_LIST, session.handle, buffer=self.buffer)))
         try:
             session.texts = dict(texts_of(session.kept))
         except ValueError:
@@ -410,7 +410,7 @@ class Sessions(Uncopied):
             raise error_of(NotUtf8.status) from None
         kept, session.known, session.kept = session.kept, None, None
         if kept is None:
-            kept = listed(bytes_from(SESSION_LIST, session.handle, room=ROOM))
+            kept = dict(listed(bytes_from(SESSION_LIST, session.handle, room=ROOM)))
         for name in kept.keys() - texts.keys():
             perform(SESSION_REMOVE, session.handle, name)
         for name, text in texts.items():

@@ -93,7 +93,8 @@ def play_jar(steps, out, length):
 
 def list_in_order(texts):
     """The list with its texts in their order, since a jar's may be in any."""
-    return b"".join(sorted(library.LENGTHS.pack(*map(len, pair)) + b"".join(pair) for pair in library.pairs_of(texts)))
+    pairs = [tuple(text.encode() for text in pair) for pair in library.listed(texts)]
+    return b"".join(sorted(library.LENGTHS.pack(*map(len, pair)) + b"".join(pair) for pair in pairs))
 
 
 def in_order(text):

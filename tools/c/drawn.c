@@ -45,7 +45,7 @@ typedef struct drawing {
 } drawing;
 
 /* The calls, and the statuses that the header has for each, beside COOKIE_DONE and COOKIE_OUT_OF_MEMORY. */
-#define S(status) ((uint32_t)1 << COOKIE_##status)
+#define S(status) ((uint64_t)1 << COOKIE_##status)
 #define CALLS(X) \
     X(derive_key, S(BUFFER_TOO_SHORT) | S(MASTER_TOO_SHORT)) \
     X(keys_new, S(KEY_TOO_SHORT)) \
@@ -128,7 +128,7 @@ typedef struct drawing {
 #define MASK(name, statuses) statuses,
 enum { CALLS(NUMBER) COUNT };
 static const char *const NAMES[] = {CALLS(NAME)};
-static const uint32_t MASKS[] = {CALLS(MASK)};
+static const uint64_t MASKS[] = {CALLS(MASK)};
 
 /* Which request for memory of this thread's call is refused; 0 if none is. */
 static _Thread_local size_t refused_at = 0;
@@ -417,7 +417,7 @@ static void look(drawing *d, int call, uint32_t status, size_t written, bool was
 }
 
 /* Whether a handle with nothing, and only that, is refused as having nothing, if no other refusal comes first. */
-static void look_at_handle(drawing *d, int call, uint32_t status, bool has, uint32_t refusal, uint32_t first) {
+static void look_at_handle(drawing *d, int call, uint32_t status, bool has, uint32_t refusal, uint64_t first) {
     if (has ? status == refusal : status != refusal && (first >> status & 1) == 0)
         fault(d, call, has ? "a handle with something is refused" : "a handle with nothing is taken");
 }
@@ -765,7 +765,8 @@ static void play_session(drawing *d, int call) {
     cookie_session *session = &d->sessions[i];
     bool *has = &d->has_session[i];
     cookie_answer answer;
-    uint32_t status, first = 0;
+    uint32_t status;
+    uint64_t first = 0;
     bool starved;
     uint64_t now = draw_now(d);
     text name = draw_text(d, A_NAME);
@@ -839,8 +840,8 @@ static void play_session(drawing *d, int call) {
     case session_renew_call: {
         text id = draw_bytes(d, 16);
         STATUS(session_renew, cookie_session_renew(&d->sites[j], session, IN(id), now));
-        look_at_handle(d, call, status, d->has_site[j], COOKIE_NO_SESSIONS, S(BAD_NONCE) | S(BAD_ATTRIBUTE));
-        first = S(BAD_NONCE) | S(BAD_ATTRIBUTE) | S(NO_SESSIONS) | S(NO_DATE);
+        look_at_handle(d, call, status, d->has_site[j], COOKIE_NO_SESSIONS, S(BAD_NONCE));
+        first = S(BAD_NONCE) | S(NO_SESSIONS) | S(NO_DATE);
         break;
     }
     case session_must_save_call: {
@@ -897,7 +898,8 @@ static void play_agent(drawing *d, int call) {
     cookie_suffixes *list = &d->lists[j];
     bool *has = &d->has_agent[i];
     cookie_answer answer;
-    uint32_t status, first = 0;
+    uint32_t status;
+    uint64_t first = 0;
     bool starved;
     uint64_t now = draw_now(d);
     cookie_request request = draw_request(d);

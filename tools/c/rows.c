@@ -698,16 +698,15 @@ static cookie_answer play_agent(const text *in, uint8_t *out, size_t length) {
     return answer;
 }
 
-static bool is_one_of(const char *name, const char *const *names) {
-    while (*names != NULL && strcmp(name, *names) != 0)
-        names++;
-    return *names != NULL;
+static bool takes_keys(const char *name) {
+    return strcmp(name, "sign") == 0 || strcmp(name, "verify") == 0 || strcmp(name, "seal") == 0
+        || strcmp(name, "open") == 0 || strcmp(name, "token_make") == 0 || strcmp(name, "token_read") == 0;
 }
 
 static cookie_answer call(const char *name, const text *in, uint8_t *out, size_t length) {
     if (strcmp(name, "derive_key") == 0)
         return cookie_derive_key(IN(0), out, length);
-    if (is_one_of(name, (const char *[]){"sign", "verify", "seal", "open", "token_make", "token_read", NULL}))
+    if (takes_keys(name))
         return play_keys(name, in, out, length);
     if (strcmp(name, "run") == 0)
         return cookie_run(1, 2, IN(0), IN(1), out, length);
