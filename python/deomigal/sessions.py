@@ -16,7 +16,7 @@ from ._steps import run
 from .compression import form_of, texts_of
 from .cookies import print_cookie
 from .dates import whole_second
-from .errors import BufferTooShort, Gone, NoSession, NotUtf8, Replaces, RevocationsError, error_of
+from .errors import BufferTooShort, CookieError, Gone, NoSession, NotUtf8, Replaces, RevocationsError, error_of
 from .revocations import ID_LENGTH, AnyRevocations, Ask, ask, ask_async, was_revoked
 
 # The name of the one text that a session of values has, unless that is encoded, and how its form begins.
@@ -251,6 +251,8 @@ class Sessions(Uncopied):
         session.is_renewed = False
         try:
             session.texts = self.texts_in(session.handle)
+        except CookieError:
+            raise
         except ValueError:
             # Another program saved it, under the same key.
             return self.start(session.now)
