@@ -30,7 +30,7 @@ from .errors import Gone, RevocationsError
 from .revocations import Revocations
 from .secrets import keys_of
 from .sessions import Session, Sessions
-from .values import CODER, FAILURES, Failure, Opened, checked_refresh, counted, log_failure, note_unsaved, with_expiry
+from .values import CODER, FAILURES, Failure, Opened, answer_to, checked_refresh, counted, note_unsaved, with_expiry
 
 # Where a request's environment has its session, and an application's extensions the interface.
 KEY = "deomigal.flask.session"
@@ -58,7 +58,7 @@ class Changed(Gone, Conflict):
 
 def http_error_of(error: Failure) -> Failure:
     """The error as one that Flask answers. It is logged."""
-    log_failure(error)
+    answer_to(error)
     return Changed(error) if isinstance(error, Gone) else Unavailable(error)
 
 
