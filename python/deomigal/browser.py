@@ -23,24 +23,18 @@ class Line(NamedTuple):
     text: bytes
 
 
-def line_of(line: bytes) -> tuple[bool, Line]:
-    """Whether the line is a `Set-Cookie` field, and what it says."""
-    line = (line[:-1] if line.endswith(b"\r") else line).strip(BLANKS)
-    field = line[2:] if line.startswith(b"< ") else line
-    if field[:11].lower() == b"set-cookie:":
-        return True, Line(b"", field[11:].strip(BLANKS))
-    if re.match(rb"(URL|GET) https?://|NOW ", line):
-        return False, Line(line[:3], line[4:].strip(BLANKS))
-    return False, Line(b"", line)
-
-
 def counted_lines(paste: bytes) -> Iterator[Line]:
     """The lines that count: `Set-Cookie` fields, or else all that aren't blank, and those with an address or a time."""
-    lines = [(line, *line_of(line)) for line in paste.split(b"\n")]
-    has_fields = any(is_field for _, is_field, _ in lines)
-    for _, is_field, line in lines:
-        if is_field or line.word or (line.text and not has_fields):
-            yield line
+    lines = [line.removesuffix(b"\r").strip(BLANKS) for line in paste.split(b"\n")]
+    fields = [re.fullmatch(rb"(?is)(?:< )?set-cookie:(.*)", line) for line in lines]
+    has_fields = any(fields)
+    for line, field in zip(lines, fields):
+        if field:
+            yield Line(b"", field[1].strip(BLANKS))
+        elif re.match(rb"(URL|GET) https?://|NOW ", line):
+            yield Line(line[:3], line[4:].strip(BLANKS))
+        elif line and not has_fields:
+            yield Line(b"", line)
 
 
 def site_of(text: bytes) -> Address:

@@ -60,10 +60,11 @@ class CookieJar(http.cookiejar.CookieJar):
         try:
             parts = urlsplit(request.get_full_url())
             # The stand-in of requests names the host of the header `Host`, which is also sent where a redirect goes.
-            is_of_requests, is_of_httpx = hasattr(request, "get_new_headers"), hasattr(request, "request")
+            is_of_requests = hasattr(request, "get_new_headers")
             netloc = request.get_host() if is_of_requests else parts.netloc
             # requests and httpx don't connect to what is before an `@`. http.client does.
-            authority = netloc.rpartition("@")[2] if is_of_requests or is_of_httpx else netloc
+            is_cut = is_of_requests or type(request).__module__.startswith("httpx.")
+            authority = netloc.rpartition("@")[2] if is_cut else netloc
             named = re.fullmatch(r"(\[[^][]*\]|[^][@:]*)(:[0-9]*)?", authority)
             # A proxy may read a `/` where there is a backslash.
             if not named or "\\" in unquote(netloc) or urlsplit(f"//{authority}").port == 0:

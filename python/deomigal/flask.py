@@ -8,6 +8,7 @@
 """
 from __future__ import annotations
 
+import contextlib
 import copy
 import json
 import marshal
@@ -29,7 +30,7 @@ from .errors import Gone, RevocationsError
 from .revocations import Revocations
 from .secrets import keys_of
 from .sessions import Session, Sessions
-from .values import CODER, FAILURES, Failure, Opened, checked_refresh, counted, log_failure, note_unsaved
+from .values import CODER, FAILURES, Failure, Opened, answer_to, checked_refresh, counted, note_unsaved
 
 # Where a request's environment has its session, and an application's extensions the interface.
 KEY = "deomigal.flask.session"
@@ -57,7 +58,7 @@ class Changed(Gone, Conflict):
 
 def http_error_of(error: Failure) -> Failure:
     """The error as one that Flask answers. It is logged."""
-    log_failure(error)
+    answer_to(error)
     return Changed(error) if isinstance(error, Gone) else Unavailable(error)
 
 
@@ -267,14 +268,12 @@ class SessionInterface(FlaskSessionInterface):
         self.salt = self.salt if salt is None else salt
         self.revocations, self.compress = revocations, compress
         self.latest: tuple[Any, Sessions] | None = None
-        try:
+        # There may be no Flask-Login, or no blinker, which its signals need.
+        with contextlib.suppress(ImportError, RuntimeError):
             from flask_login import user_logged_in, user_logged_out
 
             user_logged_in.connect(self.renew_at_login)
             user_logged_out.connect(self.end_at_logout)
-        except (ImportError, RuntimeError):
-            # There is no Flask-Login, or no blinker, which its signals need.
-            pass
 
     def init_app(self, app: Flask) -> None:
         """Has the application keep its sessions so, and check after each view that a browser would store what it left.
@@ -370,10 +369,8 @@ class SessionInterface(FlaskSessionInterface):
         if signer is None:
             return None
         for text in (text for found, text in pairs(header_of(header)) if found == name):
-            try:
+            with contextlib.suppress(BadData, TypeError, ValueError):
                 return dict(signer.loads(text, max_age=lifetime))
-            except (BadData, TypeError, ValueError):
-                pass
         return None
 
     def should_set_cookie(self, app: Flask, session: SessionMixin) -> bool:

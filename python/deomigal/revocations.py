@@ -36,8 +36,7 @@ SLACK = 3600
 
 class Revocations(Protocol):
     """Where a site keeps which sessions are revoked. Threads share it. An id has sixteen bytes, and seconds count from
-    1970. A call that fails raises an exception. With `are_revoked(ids)` too, a list of bools, a request needs one
-    look-up."""
+    1970. A call that fails raises an exception. With `are_revoked(ids)`, a list of bools, a request asks once."""
 
     def is_revoked(self, id: bytes) -> bool:
         """Whether the session with this id is revoked."""

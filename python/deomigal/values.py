@@ -31,14 +31,6 @@ CODER = json.JSONEncoder(separators=(",", ":"), ensure_ascii=False)
 ASCII_CODER = json.JSONEncoder(separators=(",", ":"))
 
 
-def log_failure(error: Failure) -> None:
-    """Logs why a request is answered with status 503, or with 409."""
-    if isinstance(error, Gone):
-        LOG.warning("a request is answered with status 409: %s", error)
-    else:
-        LOG.error("a request is answered with status 503: %s", error)
-
-
 def note_unsaved() -> None:
     """Logs that a session isn't saved that shows a revoked one."""
     LOG.info("a session isn't saved, since the request has a revoked one: renew it on a page that needs it")
@@ -46,8 +38,9 @@ def note_unsaved() -> None:
 
 def answer_to(error: Failure) -> tuple[str, list[tuple[str, str]], bytes]:
     """The status, the fields and the page of the answer, which sets no cookie. It is logged."""
-    log_failure(error)
-    return CONFLICT if isinstance(error, Gone) else UNAVAILABLE
+    answer, level = (CONFLICT, logging.WARNING) if isinstance(error, Gone) else (UNAVAILABLE, logging.ERROR)
+    LOG.log(level, "a request is answered with status %s: %s", answer[0][:3], error)
+    return answer
 
 
 def pack(data: bytes) -> dict[str, str]:

@@ -1,18 +1,16 @@
 """Facts about the drop-ins, each over a local server of both schemes, with TLS."""
 import os
 import socket
-import sys
 import tempfile
 import threading
 import time
 import unittest
 from pathlib import Path
 from unittest import mock
-from urllib.parse import urlsplit
 
 import pytest
-from clients import CLIENTS, Aiohttp, AsyncHttpx, Httpx, Mechanize, Requests, Urllib
-from deomigal import Agent, cookiejar, explain
+from clients import CLIENTS, Aiohttp, Httpx, Mechanize, Requests, Urllib
+from deomigal import Agent, cookiejar
 from deomigal.agents import CROSS_SITE
 from server import Servers, resolved
 
