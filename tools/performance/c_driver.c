@@ -16,16 +16,6 @@ typedef struct lines {
 
 static uint8_t key[64], out[1 << 20], again[1 << 20];
 
-/* What a call takes for the keys: a handle, or the bytes of a key for a library that has none. */
-#ifdef HAS_KEYS
-static cookie_keys keys;
-#define KEYS &keys
-#define READY (cookie_keys_new(key, sizeof key, &keys) == COOKIE_DONE)
-#else
-#define KEYS key, sizeof key
-#define READY 1
-#endif
-
 /* The next line, and what is left behind it. */
 static int next(lines *rest, lines *line, lines *name) {
     if (rest->length == 0)
@@ -88,10 +78,10 @@ static size_t of_jar(const char *work, lines all, lines header) {
 static size_t of_value(const char *work, lines line, lines name) {
     const uint8_t *value = name.bytes + name.length + 1;
     size_t length = line.length - name.length - 1;
-    cookie_answer made = cookie_sign(KEYS, name.bytes, name.length, value, length, out, sizeof out);
+    cookie_answer made = cookie_sign(key, sizeof key, name.bytes, name.length, value, length, out, sizeof out);
     if (strcmp(work, "sign") == 0)
         return made.length;
-    return cookie_verify(KEYS, name.bytes, name.length, out, made.length, again, sizeof again).length;
+    return cookie_verify(key, sizeof key, name.bytes, name.length, out, made.length, again, sizeof again).length;
 }
 
 static size_t of_values(const char *work, lines all) {
@@ -149,8 +139,6 @@ static size_t of_session(const char *work, size_t times) {
 
 int main(int count, char **arguments) {
     memset(key, 7, sizeof key);
-    if (!READY)
-        return 2;
     if (count == 3) {
         printf("%zu\n", of_session(arguments[1], strtoull(arguments[2], NULL, 10)));
         return 0;

@@ -33,10 +33,8 @@ def c_driver(bench):
         if not shutil.which("gcc"):
             sys.exit("gcc isn't on the path")
         prefix = installed(bench)
-        # A library from before the handle of keys takes a key in each call.
-        words = ["-DHAS_KEYS"] if "cookie_keys_new" in (prefix / "include/cookie.h").read_text() else []
         sources = [HERE / "c_driver.c", prefix / "lib/libcookie_c.a"]
-        build(["gcc", "-O2", *words, "-I", prefix / "include", *sources, "-o", program], bench.work)
+        build(["gcc", "-O2", "-I", prefix / "include", *sources, "-o", program], bench.work)
     return program
 
 
