@@ -67,11 +67,12 @@ def words_of(crate):
 
 
 def is_built(crate):
-    """Whether the crate's library is in its folder out/, and no older than what it is made from."""
+    """Whether the crate's library is in its folder out/, and was put there after the last change of what it is made from.
+    `rt ci` links libraries that it made before, which changes the time of their status and no other."""
     folder = ROOT / "crates" / crate
     rlib = folder / "out/rlib" / f"{crate}.rlib/format"
     files = [path for part in PARTS for path in (folder / part).rglob("*") if path.is_file()]
-    return rlib.exists() and all(path.stat().st_mtime <= rlib.stat().st_mtime for path in files)
+    return rlib.exists() and all(path.stat().st_mtime <= rlib.stat().st_ctime for path in files)
 
 
 def sum_of(*paths):

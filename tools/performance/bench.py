@@ -89,13 +89,14 @@ class Original:
             package.mkdir(parents=True)
             copy = ["cp", "-r", "--no-preserve=mode"]
             subprocess.run([*copy, self.folder, package / "crate"], check=True)
-            if CIPHERS.get(cipher):
-                shutil.rmtree(package / "crate" / STAND_IN)
-                shutil.copytree(CIPHERS[cipher], package / "crate" / STAND_IN)
-            (package / "Cargo.toml").write_text(self.manifest() + (PROFILE if is_equal else ""))
             for kept in (".cargo", "Cargo.lock"):
                 if (self.folder / kept).exists():
                     subprocess.run([*copy, self.folder / kept, package], check=True)
+            (package / "Cargo.toml").write_text(self.manifest() + (PROFILE if is_equal else ""))
+        # What is ours may have changed since. The times of files stay, so that cargo sees what didn't.
+        if CIPHERS.get(cipher):
+            shutil.rmtree(package / "crate" / STAND_IN)
+            shutil.copytree(CIPHERS[cipher], package / "crate" / STAND_IN)
         (package / "src/bin").mkdir(parents=True, exist_ok=True)
         for driver in (HERE / "original").glob("*.rs"):
             shutil.copy2(driver, package / "src/bin")

@@ -11,7 +11,7 @@ from printing import print_head, print_row
 
 # The groups, by words in the names of functions: the first that fits counts. What is inlined counts for its caller.
 GROUPS = {
-    "AES": "encrypt_block|decrypt_block|::aes",
+    "AES": "encrypt_block|decrypt_block|cookie_crypt::(aes|lanes)",
     "the tag": "ghash|::product",
     "the rest of the cipher": "cookie_crypt::",
     "SHA-256": "sha2::|signer",

@@ -47,7 +47,7 @@ COPIES = {
     "clone": ("add-original,clone", "add-original"),
     "reset_delta, once more": ("add,reset-delta,reset-delta", "add,reset-delta,names"),
 }
-JARS = 100
+JARS = 20
 NAMES = 1_000
 # What a request does with a small jar, in the same way.
 SMALL = {
@@ -55,7 +55,7 @@ SMALL = {
     "`add` and `delta`": ("add,delta", "cookies-kept"),
     "`clone`": COPIES["clone"],
 }
-SMALL_COUNTS = (1, 3, 10)
+SMALL_COUNTS, SMALL_JARS = (1, 3, 10), 100
 # How many of the names that were chosen to collide, or of ordinary ones, are added to each jar.
 COUNTS = (100, 300, 1_000)
 # What is done with a session of 100 bytes of texts, and under how many keys, of which the oldest encrypted it.
@@ -244,8 +244,8 @@ def print_small(bench):
     for title, (steps, without) in SMALL.items():
         for number in SMALL_COUNTS:
             lines = bench.named(number)
-            fixed = [it[0] for it in bench.calls(bench.count, steps, without, lines, JARS)]
-            drawn = [it[0] for it in bench.calls(bench.count, "drawn," + steps, "drawn," + without, lines, JARS)]
+            fixed = [it[0] for it in bench.calls(bench.count, steps, without, lines, SMALL_JARS)]
+            drawn = [it[0] for it in bench.calls(bench.count, "drawn," + steps, "drawn," + without, lines, SMALL_JARS)]
             ratios = [f"{it[0] / fixed[1]:.2f}" for it in (fixed, drawn)] if bench.ciphers else []
             costs = [fixed[0], drawn[0], *fixed[1:]]
             print_row(title, str(number), *(f"{cost:,.0f}" for cost in costs), *ratios)
