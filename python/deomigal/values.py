@@ -296,6 +296,7 @@ class Middleware:
             return None
         if is_changed:
             source.texts = pack(data)
+        # What was changed must be saved.
         if not (is_changed or self.refresh or self.sessions.must_save(source)):
             return None
         return await self.sessions.saving(source, ask, self.lasting)
