@@ -17,6 +17,7 @@ mod reading;
 mod refusal;
 mod removal;
 mod requests;
+mod resetting;
 mod responding;
 mod runtime;
 mod sealing;

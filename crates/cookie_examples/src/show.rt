@@ -2,14 +2,15 @@
 use crate::acting::{self, Action};
 use crate::{
     agents, answer, carrying, counting, dates, flash, following, handler, headers, logout,
-    printing, reading, refusal, removal, requests, responding, runtime, sealing, session, team,
+    printing, reading, refusal, removal, requests, resetting, responding, runtime, sealing,
+    session, team,
 };
 use anyhow::{Context, Result};
 use cookie::{Cookie, CookieBuilder, CookieJar, DateText, JarError, Key, SameSite};
 use cookie_agent::Site;
 use cookie_browser::{KeptCookie, Received, Suffixes};
 use cookie_client::{ChildCall, Client, ClientError, JarCall, Played};
-use cookie_session::{KeyRing, NeverRevoked, Sessions, Visit};
+use cookie_session::{KeyRing, NeverRevoked, Sessions, Tokens, Visit};
 use http_header::{HeaderMap, HeaderValue};
 use jiff::civil::DateTime;
 use rand::SeedableRng;
@@ -83,6 +84,7 @@ pub fn handler(rt: &HostRuntime, now: DateTime) -> Result<()> {
     };
     print_login(rt, &sessions, now, &mut rng)?;
     print_actions(rt, &sessions, now, &mut rng)?;
+    print_reset(rt, &keys, now, &mut rng)?;
     print_visit(rt, &sessions, now)
 }
 
@@ -145,6 +147,22 @@ fn print_ending(
     let (alloc, mut revocations) = (rt.alloc(), NeverRevoked);
     let page = logout::log_out(alloc, sessions, cookies, jar, now, rng, &mut revocations)?;
     println!(rt; "{} {}", page.0, page.1)?;
+    Ok(())
+}
+
+// A link that resets a password is followed, and then another text in its place.
+fn print_reset(rt: &HostRuntime, keys: &KeyRing, now: DateTime, rng: &mut StdRng) -> Result<()> {
+    let resets = resetting::resets(keys);
+    let token = resets.make(rt.alloc(), "ann", now, rng)?;
+    print_owner(rt, &resets, token.as_str(), now)?;
+    print_owner(rt, &resets, "ann", now)
+}
+
+fn print_owner(rt: &HostRuntime, resets: &Tokens<'_>, token: &str, now: DateTime) -> Result<()> {
+    match resetting::user_of(rt.alloc(), resets, token, now, &mut NeverRevoked)? {
+        Some(user) => println!(rt; "resets the password of {user}")?,
+        None => println!(rt; "resets no password")?,
+    }
     Ok(())
 }
 
