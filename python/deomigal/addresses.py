@@ -66,8 +66,7 @@ def address_at(scheme: str, host: str, path: str, is_localhost_secure: bool = Tr
     # Browsers read an escape and each form of an address, and clients connect to a host with this name.
     if "%" in host or host.startswith(".") or ".." in host or is_address and not name.startswith("[") and name != host:
         raise ValueError("the host isn't the same to all readers")
-    is_secure = scheme in ("https", "wss") or is_local and is_localhost_secure
-    return Address(name, path_of(path), is_address, is_secure)
+    return Address(name, path_of(path), is_address, scheme in ("https", "wss") or is_local and is_localhost_secure)
 
 
 def ascii_host(host: str) -> str:

@@ -109,8 +109,7 @@ class SessionStore(Generations, SessionBase):
         sessions = site()
         self.source = self.source or sessions.start()
         self.source.texts = pack(self.serializer().dumps(values))
-        text = sessions.save(self.source)
-        self._session_key = text.partition(";")[0].partition("=")[2]
+        self._session_key = sessions.save(self.source).partition(";")[0].partition("=")[2]
         self.modified = True
 
     def clear(self) -> None:

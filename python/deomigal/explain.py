@@ -88,8 +88,7 @@ def verdict(
     >>> verdict("https://shop.example/", "lang=en; Domain=other.example").step
     'ForeignDomain'
     """
-    address = address_of(url, is_cross_site)
-    found = found_at(address, bytes_of(text), list_text(suffixes), second_of(now))
+    found = found_at(address_of(url, is_cross_site), bytes_of(text), list_text(suffixes), second_of(now))
     if found.refusal:
         return Refusal(STEPS[found.refusal - 1], shown(found.sentence), shown(found.section))
     return Stored(*fields_of(found.cookie, map(shown, found[3:7]), found.cookie.lifetime))
@@ -155,8 +154,7 @@ def explain(
     "refused: the host isn't in the domain: set the host or a domain above it, or none (RFC 6265bis, Storage Model)"
     """
     second, line = second_of(now), bytes_of(text)
-    found = found_at(address_of(url, is_cross_site), line, list_text(suffixes), second)
-    return shown(report_of(found, line, second))
+    return shown(report_of(found_at(address_of(url, is_cross_site), line, list_text(suffixes), second), line, second))
 
 
 def report_of(found: Found, text: bytes, now: int, removal: bytes = b"would remove, if it were stored: ") -> bytes:

@@ -269,9 +269,7 @@ class Middleware:
             source = self.sessions.start(source.now)
         return CookieSession(self.sessions, source, {}, EMPTY)
 
-    async def fields(
-        self, session: CookieSession, values: Mapping[str, Any] | None, ask: Ask
-    ) -> list[tuple[str, str]]:
+    async def fields(self, session: CookieSession, values: Mapping[str, Any] | None, ask: Ask) -> list[tuple[str, str]]:
         """The fields that the response needs: the cookie of a session that is to be saved or dropped, and that the page
         depends on cookies. `values` is what the application left in the session's place."""
         if values is not session:
