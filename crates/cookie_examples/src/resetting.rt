@@ -1,5 +1,5 @@
 //! A link that resets a password, and works once.
-ghost use Rattle.std.specs.Prelude.{◌≡◌, List, ℕ, Some, IfOk};
+ghost use Rattle.std.specs.Prelude.{◌≡◌, List, ℕ, Some, IfOk, option_map, string_bytes};
 ghost use Rattle.cookie_session.specs.Tokens.{IsToken, TokenState};
 
 use cookie_session::{KeyRing, OpenError, Revocations, Tokens};
@@ -24,8 +24,8 @@ pub fn user_of<R: Revocations>(
     now: DateTime,
     revocations: &mut R,
 ) -> Result<Option<String>, OpenError<R::Error>>
-    ensures { IfOk result (λ user. (name : List ℕ) → user ≡ Some name → (read : TokenState)
-        × IsToken resets.now now token.now read × (read.value ≡ name)) }
+    ensures { IfOk result (λ user. (name : List ℕ) → option_map string_bytes user ≡ Some name
+        → (read : TokenState) × IsToken resets.now now token.now read × (read.value ≡ name)) }
 {
     match resets.read_once(alloc, token, now, revocations)? {
         Some(token) => Ok(Some(token.value)),
