@@ -75,6 +75,24 @@ no_percent (b ∷ []) h = refl
 no_percent (b ∷ c ∷ []) h = refl
 no_percent (b ∷ high ∷ low ∷ rest) h = grind (arith, nat_tests)
 
+-- ---- a part of a text without a byte has none
+
+any-take : (p : ℕ → Bool) (t : List ℕ) (n : ℕ) → list_any p t ≡ false → list_any p (take n t) ≡ false
+any-take p t zero none = refl
+any-take p [] (suc n) none = refl
+any-take p (b ∷ t) (suc n) none =
+    let both = or_false (p b) (list_any p t) none in
+    rw (both.0, any-take p t n both.1) refl
+
+any-drop : (p : ℕ → Bool) (t : List ℕ) (n : ℕ) → list_any p t ≡ false → list_any p (drop n t) ≡ false
+any-drop p t zero none = none
+any-drop p [] (suc n) none = refl
+any-drop p (b ∷ t) (suc n) none = any-drop p t n (or_false (p b) (list_any p t) none).1
+
+pub no_percent_no_escape_within : (t : List ℕ) (m n : ℕ) → list_any (λ b. nat_eq b 37) t ≡ false → has_escape (take n (drop m t)) ≡ false
+no_percent_no_escape_within t m n none =
+    no_percent_no_escape (take n (drop m t)) (any-take (λ b. nat_eq b 37) (drop m t) n (any-drop (λ b. nat_eq b 37) t m none))
+
 -- no escape begins in the first n bytes of t
 pub record IsPlainTo (t : List ℕ) (n : ℕ) : Type 0 where
   pub kept : unescape t ≡ take n t ++ unescape (drop n t)

@@ -1,5 +1,5 @@
 //! The escapes of names and values (RFC 3986 2.1).
-ghost use Rattle.std.specs.Prelude.{◌≡◌, ◌≤◌, ◌++◌, Some, length, take, drop, nat_lt};
+ghost use Rattle.std.specs.Prelude.{◌≡◌, ◌≤◌, ◌==◌, ◌++◌, Some, length, take, drop, nat_lt};
 ghost use Rattle.std.specs.List.{list_any};
 ghost use Rattle.cookie_core.specs.EscapeTest.{starts_with_escape, has_escape};
 ghost use Rattle.cookie_core.specs.Escapes.{escape, is_escaped, unescape};
@@ -86,6 +86,13 @@ fn has_escaped_byte(text: &str) -> bool
     ensures { result ≡ list_any is_escaped text.now }
 {
     text.as_bytes().iter().any(|byte| is_escaped(*byte))
+}
+
+// Whether the text holds a `%`. Most texts hold none.
+pub(crate) fn has_percent(text: &str) -> bool
+    ensures { result ≡ list_any (λ byte. byte == 37) text.now }
+{
+    text.as_bytes().contains(&b'%')
 }
 
 // Whether the text holds a `%` with two hexadecimal digits.
