@@ -10,7 +10,7 @@ use Rattle.cookie_browser.specs.Storage.{KeptView, CookieStore, is_same_cookie}
 use Rattle.cookie_agent.specs.Limits.{counts, goes_first, outlasting, staying}
 use Rattle.cookie_agent.specs.LimitsCode.{Ascends}
 use Rattle.cookie_agent.specs.Stored.{IsApart}
-use Rattle.cookie_agent.proofs.RankLemmas.{AreGroups, after, counted-append, counted-cons, counted-map, counted-same, stays}
+use Rattle.cookie_agent.proofs.RankLemmas.{AreGroups, after, counted-append, counted-cons, counted-le, counted-map, counted-same, stays}
 
 -- ---- counts
 
@@ -106,6 +106,10 @@ count-every c (x ∷ xs) = let h = count-every c xs in let next = counted-cons (
 pub few_of_each : (text : Option (KeptView → List ℕ)) (limit : ℕ) (xs : CookieStore) → ((c : KeptView) → count_by (counts text c) xs ≤ limit)
     → All (λ c. count_by (counts text c) xs ≤ limit) xs
 few_of_each text limit xs few k d below = few (get_or xs k d)
+
+-- so few cookies that no limit is exceeded
+pub few_at_all : (text : Option (KeptView → List ℕ)) (limit : ℕ) (xs : CookieStore) → length xs ≤ limit → (c : KeptView) → count_by (counts text c) xs ≤ limit
+few_at_all text limit xs fits c = let most = counted-le (counts text c) xs in omega (arith, most, fits)
 
 pub few_in_all : (limit : ℕ) (xs : CookieStore) → length xs ≤ limit → (c : KeptView) → count_by (counts None c) xs ≤ limit
 few_in_all limit xs few c = let h = count-every c xs in omega (arith, h, few)

@@ -15,7 +15,7 @@ use Rattle.cookie_agent.specs.declared.group.Group.TheVariants.{Domain, Site, Wh
 use Rattle.cookie_agent.specs.declared.limits.Limits.{Limits}
 use Rattle.cookie_agent.specs.declared.ranked.Ranked.{Ranked}
 use Rattle.cookie_agent.proofs.GroupLemmas.{are_groups, before, behind}
-use Rattle.cookie_agent.proofs.LimitLemmas.{count-every, count-staying, staying-kept}
+use Rattle.cookie_agent.proofs.LimitLemmas.{count-every, count-staying, few_at_all, few_of_each, of_text, staying-all, staying-kept}
 use Rattle.cookie_agent.proofs.RankLemmas.{ascends-filter, ascends-push, counted-map, counted-same, few-kept, kept_places, kept_places-sorted, once-placed}
 
 -- ---- the element at a place
@@ -73,6 +73,25 @@ in_order_more places i order true = (
       (All-cons (λ p. p < i + 1) i [] (omega arith) (All-nil (λ p. p < i + 1))),
 )
 in_order_more places i order false = (order.0, All-weaker (λ p. p < i) (λ p. p < i + 1) (λ p lt. omega (arith, lt)) places order.1)
+
+-- ---- few places
+
+counted_itself : (rules : List Rule) (group : Group) (c : KeptView) → counts (counted_by rules group) c c ≡ true
+counted_itself rules Domain c = of_text (text_of rules Domain) c
+counted_itself rules Site c = of_text (text_of rules Site) c
+counted_itself rules Whole c = refl
+
+module _ (rules : List Rule) (group : Group) (limit : ℕ) (store : CookieStore) (places : List ℕ) (fits : length places ≤ limit) where
+  picked_fits : length (picked store places) ≤ limit
+  picked_fits = let long = length-map places (λ n. get_or store n blank) in omega (arith, long, fits)
+
+  pub all-stay : picked store places ≡ staying (counted_by rules group) limit [] (picked store places)
+  all-stay =
+      sym (staying-all (counted_by rules group) (counted_itself rules group) limit (picked store places)
+      (few_of_each (counted_by rules group) limit (picked store places) (few_at_all (counted_by rules group) limit (picked store places) picked_fits)))
+
+  pub all-few : (c : KeptView) → count_by (counts (counted_by rules group) c) (picked store places) ≤ limit
+  all-few = few_at_all (counted_by rules group) limit (picked store places) picked_fits
 
 -- ---- the places that are found
 

@@ -32,7 +32,7 @@ pub(crate) fn places_within(
         alloc,
         suffixes,
         cookies,
-        &places,
+        places,
         Group::Domain,
         limits.per_domain,
     )?;
@@ -40,18 +40,11 @@ pub(crate) fn places_within(
         alloc,
         suffixes,
         cookies,
-        &places,
+        places,
         Group::Site,
         limits.per_site,
     )?;
-    let places = within(
-        alloc,
-        suffixes,
-        cookies,
-        &places,
-        Group::Whole,
-        limits.total,
-    )?;
+    let places = within(alloc, suffixes, cookies, places, Group::Whole, limits.total)?;
     Ok(places)
 }
 
@@ -86,24 +79,28 @@ fn lasting_places(
     Ok(places)
 }
 
-// Of the cookies at these places, the places of those that stay if no group has more than the limit.
+// Of the cookies at these places, the places of those that stay if no group has more than the limit. If there are no
+// more than the limit in all, all stay.
 fn within(
     alloc: Global,
     suffixes: &Suffixes,
     cookies: &[StoredCookie],
-    places: &[usize],
+    places: Vec<usize>,
     group: Group,
     limit: usize,
 ) -> Result<Vec<usize>, AllocError>
-    requires { IsInOrder (length cookies.now) places.now }
+    requires { IsInOrder (length cookies.now) places.items }
     ensures value { IfOk result (λ kept. picked cookies.now kept.items
-        ≡ staying (counted_by suffixes.now group) limit [] (picked cookies.now places.now)) }
+        ≡ staying (counted_by suffixes.now group) limit [] (picked cookies.now places.items)) }
     ensures in_order { IfOk result (λ kept. IsInOrder (length cookies.now) kept.items) }
     ensures few { IfOk result (λ kept. (cookie : KeptView)
         → count_by (counts (counted_by suffixes.now group) cookie) (picked cookies.now kept.items)
         ≤ limit) }
 {
-    let ranked = sorted(ranked(alloc, suffixes, cookies, places, group)?, group);
+    if places.len() <= limit {
+        return Ok(places);
+    }
+    let ranked = sorted(ranked(alloc, suffixes, cookies, &places, group)?, group);
     let mut kept = staying_places(alloc, &ranked, group, limit)?;
     kept.sort_unstable();
     Ok(kept)

@@ -1,9 +1,6 @@
 -- No domain, no site and not the whole has more than its limit.
-use Rattle.std.proofs.Common.{◌≡◌, [], subst}
 use Rattle.cookie_browser.specs.Storage.{CookieStore}
-use Rattle.cookie_agent.specs.Limits.{staying}
-use Rattle.cookie_agent.specs.LimitsCode.{counted_by, picked}
-use Rattle.cookie_agent.specs.declared.group.Group.TheVariants.{Site, Whole}
+use Rattle.cookie_agent.specs.LimitsCode.{picked}
 use Rattle.cookie_agent.proofs.TrimLemmas.{is_within}
 use Rattle.cookie_agent.proofs.trim.places_within.Goals as goal
 
@@ -13,7 +10,7 @@ returns-clause-within c =
     let rules = c.args.suffixes.now in
     is_within rules c.args.limits (picked store c.in_ok-places-2.places.items) (picked store c.in_ok-places-3.places.items) (picked store c.in_ok-places-4.places.items)
     c.in_ok-places-2.ensures.few
-    (subst (λ l. picked store c.in_ok-places-3.places.items ≡ staying (counted_by rules Site) c.args.limits.per_site [] (picked store l)) c.deref-2.ensures.value c.in_ok-places-3.ensures.value)
+    c.in_ok-places-3.ensures.value
     c.in_ok-places-3.ensures.few
-    (subst (λ l. picked store c.in_ok-places-4.places.items ≡ staying (counted_by rules Whole) c.args.limits.total [] (picked store l)) c.deref-3.ensures.value c.in_ok-places-4.ensures.value)
+    c.in_ok-places-4.ensures.value
     c.in_ok-places-4.ensures.few
