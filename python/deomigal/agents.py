@@ -115,7 +115,7 @@ class Agent(Uncopied):
         self.title, found = suffix_list() if suffixes is None else ("the caller's", suffixes)
         if suffixes is None and not found:
             raise FileNotFoundError("there is no list of public suffixes: install Debian's publicsuffix, or pass one")
-        per_site = 3 * per_domain if per_site is None else per_site
+        per_site = min(3 * per_domain, 2**32 - 1) if per_site is None else per_site
         if not all(0 < limit < 2**32 for limit in (per_domain, per_site, total)):
             raise OverflowError("a limit is 1 at least, and has at most 32 bits")
         self.suffixes = bytes_of(found)
@@ -175,7 +175,7 @@ class Agent(Uncopied):
 
     def trim(self, second: int) -> None:
         """Drops what is expired, and the cookies above the limits (RFC 6265bis, Storage Model)."""
-        perform(AGENT_TRIM, self.handle, self.rules.handle, *self.limits, second)
+        perform(AGENT_TRIM, self.handle, self.rules, *self.limits, second)
         self.stored, self.enough = 0, max(min(self.limits), AGENT_COUNT(self.handle).length // 4)
 
     def header(self, url: str, now: datetime.datetime | None = None, context: Context = SAME_SITE) -> bytes:

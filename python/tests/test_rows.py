@@ -167,7 +167,7 @@ def agent_step(agent, step):
     elif word == b"evict":
         library.perform(library.AGENT_EVICT, agent.handle, *numbers)
     elif word == b"trim":
-        library.perform(library.AGENT_TRIM, agent.handle, agent.rules.handle, *numbers)
+        library.perform(library.AGENT_TRIM, agent.handle, agent.rules, *numbers)
     elif word == b"remove":
         name, domain, path = (text.decode() for text in texts)
         is_found = agent.remove(agents.AgentCookie(name, "", domain, path, None, None, numbers[0] == 1, False, False))
