@@ -2,18 +2,19 @@
 use Rattle.std.proofs.Common.{◌≡◌, ◌==◌, ◌<◌, ◌≤◌, ◌+◌, ◌-◌, Bool, true, false, cond, not, ◌&&◌, ℕ, List, [], ◌∷◌, ◌++◌, map, length, take, take_all, drop, length-drop, get_or, All, Option, Some, None, refl, sym, ap, subst, ◌∙◌, arith}
 use Rattle.std.proofs.Math.Dec.{ltb}
 use Rattle.std.proofs.Math.Seq.{take-append_seam, drop-append-add, get_or-append_seam}
-use Rattle.std.proofs.lemmas.Bool.{and_parts, false_from_ne_true, ltb-true}
+use Rattle.std.proofs.lemmas.Bool.{and_parts, eqb-true, false_from_ne_true, ltb-true}
 use Rattle.std.proofs.lemmas.Bool.Decides.{nat_tests}
 use Rattle.std.proofs.lemmas.List.{append-nil, append_assoc, length-append, nil_from_length}
 use Rattle.std.proofs.lemmas.List.Elements.{All-cons, All-filter, All-head, All-tail, filter-append, filter_map-append}
 use Rattle.std.proofs.lemmas.List.Folds.{list_all-append}
+use Rattle.std.proofs.lemmas.List.Quantifiers.{position-Some}
 use Rattle.std.proofs.lemmas.List.Splits.{slice_split_first, slice_split_none, join_with_byte-slice_split}
 use Rattle.std.proofs.lemmas.List.Sums.{fails_before_first}
 use Rattle.std.proofs.lemmas.Option.{none-some, same_Some}
 use Rattle.std.proofs.lemmas.Str.{IsCharBoundary-after_ascii, IsCharBoundary-before_ascii, IsUtf8-drop, IsUtf8-from_is_utf8, IsUtf8-take, is_utf8-from_IsUtf8}
 use Rattle.std.specs.List.{cons_option, filter, filter_map, flat_map, join_with_byte, list_all, position, position_or_len}
 use Rattle.std.specs.Option.{option_to_list}
-use Rattle.std.specs.Str.{IsUtf8, is_utf8, trim}
+use Rattle.std.specs.Str.{IsCharBoundary, IsUtf8, is_utf8, trim}
 use Rattle.cookie_core.specs.BareNames.{is_plain_byte}
 use Rattle.cookie_core.specs.CookieOf.{cookie_of, header_cookies}
 use Rattle.cookie_core.specs.Header.{joined_texts, kept_texts}
@@ -168,16 +169,23 @@ cookies_last rest read whole none all =
     ∙ ap (λ ps. read ++ flat_map cookies_of_piece ps) (sym (pieces-None rest none))
     ∙ all
 
--- ---- the pieces of a text, cut at each `;`
+-- ---- the pieces of a text that is UTF-8, cut at each `;`
 
--- the first, and those after it
-pub named-cut : (rest piece after : List ℕ) → rest ≡ piece ++ 59 ∷ after → Lacks 59 piece
-    → list_all is_named_as_sent (pieces rest) ≡ (is_named_as_sent piece && list_all is_named_as_sent (pieces after))
-named-cut rest piece after whole lacks = ap (list_all is_named_as_sent) (pieces-cut rest piece (Some after) whole lacks)
+-- the first ends between characters, and so does its `;`
+pub piece_boundaries : (t : List ℕ) (end : ℕ) → IsUtf8 t → position is_mark t ≡ Some end → IsCharBoundary t end × IsCharBoundary t (end + 1)
+piece_boundaries t end utf8 found =
+    let at = position-Some is_mark t end 0 found in
+    let mark : get_or t end 0 < 128 = omega (arith, eqb-true (get_or t end 0) 59 at.1) in
+    (IsCharBoundary-before_ascii t end at.0 mark, IsCharBoundary-after_ascii t end utf8 at.0 mark)
 
--- the last
-pub named-last : (rest : List ℕ) → Lacks 59 rest → list_all is_named_as_sent (pieces rest) ≡ is_named_as_sent rest
-named-last rest lacks = ap (list_all is_named_as_sent) (pieces-cut rest rest None (sym (append-nil rest)) lacks) ∙ and_true (is_named_as_sent rest)
+-- whether the first is named as it was sent, and then the others
+pub named-found : (t : List ℕ) (end : ℕ) → position is_mark t ≡ Some end
+    → list_all is_named_as_sent (pieces t) ≡ (is_named_as_sent (take end t) && list_all is_named_as_sent (pieces (drop (end + 1) t)))
+named-found t end found = ap (list_all is_named_as_sent) (pieces-Some t end found).1
+
+-- or the only one
+pub named-whole : (t : List ℕ) → position is_mark t ≡ None → list_all is_named_as_sent (pieces t) ≡ is_named_as_sent t
+named-whole t none = ap (list_all is_named_as_sent) (pieces-None t none) ∙ and_true (is_named_as_sent t)
   where
     and_true : (b : Bool) → (b && true) ≡ b
     and_true true = refl
@@ -198,7 +206,7 @@ plain_header header plain = plain_pieces (pieces header) (ap (list_all is_plain_
 
 -- ---- a field that is UTF-8
 
-pub seam : (p rest : List ℕ) → IsUtf8 (p ++ 59 ∷ rest) → IsUtf8 p × IsUtf8 rest
+seam : (p rest : List ℕ) → IsUtf8 (p ++ 59 ∷ rest) → IsUtf8 p × IsUtf8 rest
 seam p rest utf8 =
     let t = p ++ 59 ∷ rest in
     let within : length p < length t = omega (arith, length-append p (59 ∷ rest)) in

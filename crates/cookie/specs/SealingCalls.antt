@@ -22,7 +22,8 @@ pub record IsNoncedCall {T : Type 0} (Fits : Type 0) (IsMade : List ℕ → T �
 pub record IsDrawnCall {T : Type 0} (Fits : Type 0) (IsMade : List ℕ → T → Type 0)
     (IsDrawn : List ℕ → Type 0) (IsUndrawn CanFail : Type 0) (result : Result T JarError)
     : Type 0 where
-  pub ok : IfOk result (λ made. (nonce : List ℕ) × IsNonce nonce × IsDrawn nonce × IsMade nonce made)
+  pub ok : IfOk result (λ made.
+      (nonce : List ℕ) × IsNonce nonce × IsDrawn nonce × IsMade nonce made)
   pub within : OnOk result Fits
   -- out of memory comes only after the nonce was drawn
   pub drawn : result ≡ Err refusal.OutOfMemory

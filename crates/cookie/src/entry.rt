@@ -8,7 +8,6 @@ use crate::delta::DeltaCookie;
 use crate::name_key::NameKey;
 use crate::original::Original;
 use std::alloc::AllocError;
-use std::sync::Arc;
 
 // The entry under a cookie's name.
 pub(crate) trait Entry: Drop {
@@ -41,7 +40,7 @@ impl Entry for Original {
     }
 
     fn copy(&self) -> Result<Original, AllocError> {
-        let cookie = Arc::try_clone(&self.cookie)?;
+        let cookie = self.cookie.share()?;
         Ok(Original { cookie })
     }
 }
@@ -58,7 +57,7 @@ impl Entry for DeltaCookie {
     }
 
     fn copy(&self) -> Result<DeltaCookie, AllocError> {
-        let cookie = Arc::try_clone(&self.cookie)?;
+        let cookie = self.cookie.share()?;
         Ok(DeltaCookie {
             cookie,
             removed: self.removed,

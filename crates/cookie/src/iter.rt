@@ -49,7 +49,7 @@ impl<'a> Iterator for Delta<'a> {
 
     fn next(&mut self) -> Option<&'a Cookie<'static>> {
         let entry = self.entries.next()?;
-        Some(&*entry.cookie)
+        Some(entry.cookie.cookie())
     }
 }
 
@@ -114,7 +114,7 @@ fn next_added<'a>(changes: &mut Entries<'a, DeltaCookie>) -> Option<&'a Cookie<'
 {
     while let Some(entry) = changes.next() {
         if !entry.removed {
-            return Some(&*entry.cookie);
+            return Some(entry.cookie.cookie());
         }
     }
     None
@@ -131,8 +131,9 @@ fn next_uncovered<'a>(
         (uncovered (by_name delta_mark delta.now.entries) (map original_fields originals.new)) }
 {
     while let Some(original) = originals.next() {
-        if delta.find(original.cookie.name()).is_none() {
-            return Some(&*original.cookie);
+        let cookie = original.cookie.cookie();
+        if delta.find(cookie.name()).is_none() {
+            return Some(cookie);
         }
     }
     None

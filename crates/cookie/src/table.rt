@@ -11,14 +11,14 @@ ghost use Rattle.cookie.specs.Table.{by_name, key_eq, key_name, with_first, IsKe
 use crate::entries::Entries;
 use crate::entry::Entry;
 use crate::name_hash::NameHash;
-use crate::name_key::NameKey;
+use crate::name_key::{NameKey, last_byte};
 use indexmap::IndexMap;
 use std::alloc::{AllocError, Global};
 use std::marker::Model;
 use std::{fmt, mem};
 
 // A table keeps up to this many entries in a row, and compares each name. That costs less than to hash one with drawn keys.
-const FEW: usize = 16;
+const FEW: usize = 32;
 
 // For how many entries a table that hashes has room at first.
 const FIRST_ROOM: usize = 36;
@@ -227,8 +227,9 @@ impl<X: Entry> Table<X> {
 fn place_of<X: Entry>(pairs: &[(NameKey, X)], name: &str) -> Option<usize>
     ensures { result ≡ position (λ key. bytes_eq name.now (key_name key)) (keys_of pairs.now) }
 {
+    let last = last_byte(name);
     for i in 0..pairs.len() {
-        if name == pairs[i].0.as_str() {
+        if pairs[i].0.is(name, last) {
             return Some(i);
         }
     }

@@ -1,14 +1,16 @@
 -- Reading with decoding, and with memory that can be wanting.
-use Rattle.std.proofs.Common.{◌≡◌, ℕ, List, [], Bool, cond, true, false, Some, None, Ok, Err, Result, refl, sym, ap, ◌∙◌, subst, inl, inr, option_map, IfOk, IfErr, if◌then◌else◌}
+use Rattle.std.proofs.Common.{◌≡◌, ℕ, ◌-◌, List, [], Bool, cond, true, false, Some, None, Ok, Err, Result, refl, sym, ap, ◌∙◌, subst, inl, inr, option_map, IfOk, IfErr, if◌then◌else◌, take, drop, length, length-drop, slice_range, arith}
+use Rattle.std.proofs.Math.Seq.{take-append_seam, drop-append_seam}
 use Rattle.std.proofs.lemmas.Bool.{false≢true}
+use Rattle.std.proofs.lemmas.List.{take_all}
 use Rattle.std.proofs.lemmas.Option.{none-some, same_Some}
-use Rattle.std.proofs.lemmas.Str.{is_utf8-from_IsUtf8, IsUtf8-from_is_utf8}
+use Rattle.std.proofs.lemmas.Str.{is_utf8-from_IsUtf8, IsUtf8-from_is_utf8, IsUtf8-take, IsUtf8-drop}
 use Rattle.std.specs.Str.{IsUtf8, is_utf8}
 use mathlib.Core.Logic.{◌≢◌}
 use Rattle.cookie_core.specs.Attributes.{IsPair, SetsAttributes}
 use Rattle.cookie_core.specs.CookieOf.{cookie_of}
 use Rattle.cookie_core.specs.Decoding.{HasPair, ReadsInMemory, AgreesInMemory, are_decoded, decoded_forms, LendsDecoded, NamesFault, IsCertain, blamed_text}
-use Rattle.cookie_core.specs.DecodingCode.{IsRefusedFor, IsRefusedForPair, Decodes, IsDecodedOutcome}
+use Rattle.cookie_core.specs.DecodingCode.{IsRefusedFor, IsRefusedForPair, IsJoined, Decodes, IsDecodedOutcome}
 use Rattle.cookie_core.specs.EscapeTest.{has_escape}
 use Rattle.cookie_core.specs.Escapes.{unescape}
 use Rattle.cookie_core.specs.OwnedCode.{IsMadeOwn}
@@ -20,6 +22,7 @@ use Rattle.cookie_core.specs.declared.parse_error.ParseError.TheVariants as refu
 use Rattle.cookie_core.proofs.CookieOfLemmas.{cookie_of-Reads, cookie_of-refused, cookie_of-result}
 use Rattle.cookie_core.proofs.EscapeLemmas.{or_false, unescape-same}
 use Rattle.cookie_core.proofs.ReadingLemmas.{SetsAttributes-named}
+use Rattle.cookie_core.proofs.SpanLemmas.{slice_range-front}
 
 -- the bytes that are blamed are those of the name or of the value
 if_false : (b : Bool) → ¬ (b ≡ true) → b ≡ false
@@ -63,6 +66,17 @@ Decodes-same c none (n, v) =
 pub Decodes-own : (c d : CookieView) (n v : List ℕ) → are_decoded c.fields ≡ true → n ≡ unescape c.fields.name → v ≡ unescape c.fields.value → IsUtf8 n → IsUtf8 v → d.fields ≡ record c.fields { name = n; value = v } → d.raw ≡ record c.raw { name = None; value = None } → Decodes c (Ok d)
 Decodes-own c d n v some name value n_utf8 v_utf8 fields raw =
     (fields ∙ rw (name, value) refl, raw ∙ ap (λ b. cond b (record c.raw { name = None; value = None }) c.raw) (sym some), subst IsUtf8 name n_utf8, subst IsUtf8 value v_utf8)
+
+-- a text of the decoded name and the decoded value holds both, which are UTF-8
+pub joined-texts : (n v t : List ℕ) (m : ℕ) → IsJoined n v t m → IsUtf8 t → (slice_range t 0 m ≡ unescape n) × (slice_range t m (length t) ≡ unescape v) × IsUtf8 (unescape n) × IsUtf8 (unescape v)
+joined-texts n v t m j u =
+    let first : take m t ≡ unescape n = rw (j.joined, j.place) (take-append_seam (unescape n) (unescape v)) in
+    let last : drop m t ≡ unescape v = rw (j.joined, j.place) (drop-append_seam (unescape n) (unescape v)) in (
+      slice_range-front t m ∙ first,
+      take_all (length t - m) (drop m t) (omega (arith, length-drop m t)) ∙ last,
+      subst IsUtf8 first (IsUtf8-take t m u j.apart),
+      subst IsUtf8 last (IsUtf8-drop t m u j.apart),
+    )
 
 -- ---- a text that was read as it stands, and then decoded
 

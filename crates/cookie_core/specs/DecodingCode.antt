@@ -1,5 +1,5 @@
 -- Mirrors private code: what the decoder's own answers mean.
-use Rattle.std.specs.Prelude.{◌≡◌, ℕ, List, IsUtf8, true, Result, Ok, Err}
+use Rattle.std.specs.Prelude.{◌≡◌, ◌++◌, ℕ, List, IsUtf8, IsCharBoundary, length, true, Result, Ok, Err}
 use Rattle.std.specs.Str.{valid_up_to, error_len}
 use Rattle.cookie_core.specs.Decoding.{are_decoded, decoded_forms, IsFaultOf, blamed_text}
 use Rattle.cookie_core.specs.Escapes.{unescape}
@@ -20,6 +20,12 @@ IsRefusedForPair name value (refusal.Utf8Error error) =
     IsFaultOf (blamed_text name value) (valid_up_to error) (error_len error)
 IsRefusedForPair name value refusal.OutOfMemory = Unit {0}
 IsRefusedForPair name value _ = ⊥
+
+-- the text is the decoded name and, from this offset on, the decoded value
+pub record IsJoined (name value text : List ℕ) (middle : ℕ) : Type 0 where
+  pub joined : text ≡ unescape name ++ unescape value
+  pub place : middle ≡ length (unescape name)
+  pub apart : IsCharBoundary text middle
 
 -- the record with the name and the value that its own stand for
 abbrev pub decoded_record : Record → Record

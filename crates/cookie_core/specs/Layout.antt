@@ -57,4 +57,5 @@ laid_out text outcome = result_map_both (layout_record text) (λ error. error) o
 -- the record of a name and a value at these spans of the text, or the refusal
 abbrev pub pair_laid_out : List ℕ → Result (Span × Span) ParseError → Result Record ParseError
 pair_laid_out text outcome =
-    result_map_both (λ spans. plain (span_text text spans.0) (span_text text spans.1)) (λ error. error) outcome
+    result_map_both (λ spans. plain (span_text text spans.0) (span_text text spans.1))
+    (λ error. error) outcome

@@ -10,6 +10,7 @@ mod decode;
 mod display;
 mod encoding;
 mod enforced_prefix;
+mod escaped_text;
 mod expiration;
 mod guards;
 mod layout;

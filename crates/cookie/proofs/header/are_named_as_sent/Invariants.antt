@@ -7,11 +7,11 @@ use denote.Shadow.{shadow}
 use denote.Text.{Utf8}
 
 -- the pieces that are left decide
-abbrev pub invariant-loop-piece : goal.invariant-loop-piece
-invariant-loop-piece l = record {
+abbrev pub invariant-loop-end : goal.invariant-loop-end
+invariant-loop-end l = record {
   decide : list_all is_named_as_sent (pieces l.rest) ≡ list_all is_named_as_sent (pieces l.header);
   text : shadow (Utf8 l.rest);
 }
 
-abbrev pub decreases-loop-piece : goal.decreases-loop-piece
-decreases-loop-piece l = length l.rest
+abbrev pub decreases-loop-end : goal.decreases-loop-end
+decreases-loop-end l = length l.rest

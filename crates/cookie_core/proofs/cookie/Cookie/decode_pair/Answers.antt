@@ -1,33 +1,30 @@
-use Rattle.std.proofs.Common.{None, ap, subst, ◌∙◌, string_bytes}
-use Rattle.std.proofs.lemmas.Result.{err_from_is_err_and}
-use Rattle.std.specs.Str.{IsUtf8}
-use Rattle.cookie_core.specs.DecodingCode.{IsRefusedFor}
+use Rattle.std.proofs.Common.{◌≡◌, rules, refl, ap, subst, ◌∙◌, length, slice_range, string_bytes, arith}
+use Rattle.std.proofs.lemmas.Str.{IsUtf8-string_bytes, IsCharBoundary-start}
+use Rattle.cookie_core.specs.DecodingCode.{IsJoined}
 use Rattle.cookie_core.specs.Escapes.{unescape}
 use Rattle.cookie_core.specs.Record.{CookieView, no_raw_forms, plain}
-use Rattle.cookie_core.proofs.DecodeLemmas.{Decodes-own, blamed-name, blamed-value}
+use Rattle.cookie_core.proofs.DecodeLemmas.{Decodes-own, joined-texts}
 use Rattle.cookie_core.proofs.cookie.Cookie.decode_pair.Goals as goal
 
-pub returns-in_err-name : goal.returns-in_err-name
-returns-in_err-name c =
-    let p = err_from_is_err_and c.from_residual.result c.from_residual.ensures.1 in
-    let error = c.in_err-name.field-0.0 in
-    rw (p.1, p.2) (
-      c.requires,
-      blamed-name c.args.name.now c.args.value.now error c.in_err-name.ensures.refused,
-    )
+pub at_spans-requires-clause-name : goal.at_spans-requires-clause-name
+at_spans-requires-clause-name c =
+    let joined : IsJoined c.args.name.text.now c.args.value.text.now (string_bytes c.in-Some.text) c.in-Some.middle = search rules in
+    (omega arith, IsCharBoundary-start (string_bytes c.in-Some.text) (IsUtf8-string_bytes c.in-Some.text), joined.apart)
 
-pub returns-in_err-value : goal.returns-in_err-value
-returns-in_err-value c =
-    let p = err_from_is_err_and c.from_residual-in_err-value.result c.from_residual-in_err-value.ensures.1 in
-    let error = c.in_err-value.field-0.0 in
-    rw (p.1, p.2) (
-      c.requires,
-      blamed-value c.args.name.now c.args.value.now error (subst IsUtf8 c.in_ok-name.ensures.bytes c.in_ok-name.ensures.utf8) c.in_err-value.ensures.refused,
-    )
+pub at_spans-requires-clause-text : goal.at_spans-requires-clause-text
+at_spans-requires-clause-text c = IsUtf8-string_bytes c.in-Some.text
 
 pub returns : goal.returns
 returns c =
-    let cookie : CookieView = record { fields = plain c.args.name.now c.args.value.now; raw = no_raw_forms } in
-    let made = c.new_owned.ensures in
-    Decodes-own cookie c.new_owned.result (string_bytes c.in_ok-name.name) (string_bytes c.in_ok-value.value) c.requires c.in_ok-name.ensures.bytes c.in_ok-value.ensures.bytes c.in_ok-name.ensures.utf8 c.in_ok-value.ensures.utf8
-    (ap (λ (view : CookieView). view.fields) made) (ap (λ (view : CookieView). view.raw) made)
+    let name = c.args.name.text.now in
+    let value = c.args.value.text.now in
+    let text = string_bytes c.in-Some.text in
+    let middle = c.in-Some.middle in
+    let cookie : CookieView = record { fields = plain name value; raw = no_raw_forms } in
+    let joined : IsJoined name value text middle = search rules in
+    let (first, last, name_utf8, value_utf8) = joined-texts name value text middle joined (IsUtf8-string_bytes c.in-Some.text) in
+    let end : length text ≡ c.len.result = search rules in
+    let rest : slice_range text middle c.len.result ≡ unescape value = subst (λ k. slice_range text middle k ≡ unescape value) end last in
+    let made = c.at_spans.ensures in
+    Decodes-own cookie c.at_spans.result (unescape name) (unescape value) c.requires refl refl name_utf8 value_utf8
+    (ap (λ (view : CookieView). view.fields) made ∙ rw (first, rest) refl) (ap (λ (view : CookieView). view.raw) made)

@@ -18,19 +18,23 @@ decoded text name value outcome reads is =
     let both = ReadsInMemory-outcome text (Ok cookie) outcome reads is in
     (both.0, both.1)
 
-pub returns-then-hold_escape-clause-reads : goal.returns-then-hold_escape-clause-reads
-returns-then-hold_escape-clause-reads c =
+pub returns-in-Some-clause-reads : goal.returns-in-Some-clause-reads
+returns-in-Some-clause-reads c =
     let text = c.range-text.result.now in
     let same : text ≡ span_text (string_bytes (arc_value c.args.whole.now)) c.args.piece = search rules in
-    let is = rw (c.range.ensures.value, c.range-then-hold_escape.ensures.value) at c.decode_pair.ensures in
+    let name : c.in-Some.name.text.now ≡ span_text text c.in-Ok.spans.0 = search rules in
+    let value : c.in-Some.value.text.now ≡ span_text text c.in-Ok.spans.1 = search rules in
+    let is = rw (name, value) at c.decode_pair.ensures in
     subst (λ t. ReadsInMemory true t (record_or_refusal c.decode_pair.result)) same
     (decoded text (span_text text c.in-Ok.spans.0) (span_text text c.in-Ok.spans.1) c.decode_pair.result c.in-Ok.ensures.reads is).0
 
-pub returns-then-hold_escape-clause-fault : goal.returns-then-hold_escape-clause-fault
-returns-then-hold_escape-clause-fault c =
+pub returns-in-Some-clause-fault : goal.returns-in-Some-clause-fault
+returns-in-Some-clause-fault c =
     let text = c.range-text.result.now in
     let same : text ≡ span_text (string_bytes (arc_value c.args.whole.now)) c.args.piece = search rules in
-    let is = rw (c.range.ensures.value, c.range-then-hold_escape.ensures.value) at c.decode_pair.ensures in
+    let name : c.in-Some.name.text.now ≡ span_text text c.in-Ok.spans.0 = search rules in
+    let value : c.in-Some.value.text.now ≡ span_text text c.in-Ok.spans.1 = search rules in
+    let is = rw (name, value) at c.decode_pair.ensures in
     subst (λ t. IfErr c.decode_pair.result (NamesFault t)) same
     (decoded text (span_text text c.in-Ok.spans.0) (span_text text c.in-Ok.spans.1) c.decode_pair.result c.in-Ok.ensures.reads is).1
 
@@ -47,8 +51,8 @@ returns-in-Ok-shared-clause-reads c =
     let reads : Reads false whole (Ok (plain (span_text whole name) (span_text whole value))) =
     subst (λ (t : List ℕ). Reads false t (Ok (plain (span_text t name) (span_text t value)))) same c.in-Ok.ensures.reads in
     let none : are_decoded (plain (span_text whole name) (span_text whole value)) ≡ false =
-    subst (λ (t : List ℕ). are_decoded (plain (span_text t name) (span_text t value)) ≡ false) same (sym c.hold_escape.ensures.escape ∙ c.if-hold_escape.false) in
-    let utf8 = subst (λ (t : List ℕ). IsUtf8 (span_text t name) × IsUtf8 (span_text t value)) same c.hold_escape.ensures.texts in
+    subst (λ (t : List ℕ). are_decoded (plain (span_text t name) (span_text t value)) ≡ false) same (sym c.in_default.ensures.escape) in
+    let utf8 = subst (λ (t : List ℕ). IsUtf8 (span_text t name) × IsUtf8 (span_text t value)) same c.escaped_pair.ensures.texts in
     let unchanged = Decodes-same cookie (subst (λ (r : Record). are_decoded r ≡ false) fields none) (subst (λ (r : Record). IsUtf8 r.name × IsUtf8 r.value) fields utf8) in
     (ReadsInMemory-outcome whole (Ok cookie) (Ok cookie) (subst (λ (r : Record). Reads false whole (Ok r)) fields reads) unchanged).0
 

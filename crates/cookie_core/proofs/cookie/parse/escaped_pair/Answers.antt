@@ -1,7 +1,7 @@
 use Rattle.std.proofs.Common.{◌≡◌, ◌-◌, false, nat_eq, refl, sym, ◌∙◌}
 use Rattle.std.specs.List.{list_any}
 use Rattle.cookie_core.proofs.EscapeLemmas.{no_percent_no_escape_within}
-use Rattle.cookie_core.proofs.cookie.parse.hold_escape.Goals as goal
+use Rattle.cookie_core.proofs.cookie.parse.escaped_pair.Goals as goal
 
 pub returns-then-not-has_percent-clause-escape : goal.returns-then-not-has_percent-clause-escape
 returns-then-not-has_percent-clause-escape c =
