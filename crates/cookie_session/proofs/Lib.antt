@@ -9,6 +9,7 @@ pub mod ReadLemmas
 pub mod RotateLemmas
 pub mod SaveLemmas
 pub mod SessionLemmas
+pub mod SignedLemmas
 pub mod TextLemmas
 pub mod TokenLemmas
 pub mod UnrevokedLemmas

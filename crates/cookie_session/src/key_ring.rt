@@ -6,7 +6,7 @@ ghost use Rattle.cookie.specs.Keys.{encryption_half};
 ghost use Rattle.cookie.specs.Memory.{Gives};
 ghost use Rattle.cookie.specs.Sealing.{CanSeal, IsNonce, sealed_cookie};
 ghost use Rattle.cookie.specs.declared.jar_error.JarError.TheVariants as refusal;
-ghost use Rattle.cookie_session.specs.KeyRing.{KeepsOpening, LeavesOpening, OpensExactly, OpensNewest, OpensTextAt, newest};
+ghost use Rattle.cookie_session.specs.KeyRing.{IsSignedBy, KeepsOpening, LeavesOpening, OpensExactly, OpensNewest, OpensTextAt, newest};
 ghost use Rattle.cookie_session.specs.OpenedText.{purpose_of, text_of, text_opened_at};
 
 use crate::decoded_text::DecodedText;
@@ -233,8 +233,24 @@ impl KeyRing {
         Ok(())
     }
 
-    /// The key at a place: 0 is the newest.
-    pub fn at(&self, place: usize) -> &Key
+    /// The value that a key of the ring signed under this name, if the text is such a value as a signed jar stores it
+    /// (RFC 2104). It doesn't allocate.
+    pub fn verify_text<'t>(&self, name: &str, text: &'t str) -> Option<&'t str>
+        ensures some { IfSome result (λ value.
+            IsSignedBy self.now name.now text.now value.now) }
+        ensures none { result ≡ None
+            → (value : List ℕ) → ¬ IsSignedBy self.now name.now text.now value }
+    {
+        for place in 0..self.len() {
+            if let Some(value) = self.at(place).signer().verify(name, text) {
+                return Some(value);
+            }
+        }
+        None
+    }
+
+    // The key at a place: 0 is the newest.
+    fn at(&self, place: usize) -> &Key
         requires { place < length self.now }
         ensures { slice_get self.now place ≡ Some result.now }
     {

@@ -88,7 +88,8 @@ session_of visit = option_map (λ v. v.session) visit
 
 -- the user agent has the session of the visit, if there is one
 abbrev pub IsHeld : Option VisitState → Type 0
-IsHeld found = (visit : VisitState) → found ≡ Some visit → visit.given ≡ Some (pass_of visit.session)
+IsHeld found =
+    (visit : VisitState) → found ≡ Some visit → visit.given ≡ Some (pass_of visit.session)
 
 -- what is shown and saved is what the site makes of the request and of the session that it finds there
 pub record IsPlan (IsRevoked IsDrawn : List ℕ → Type 0) (site : LoginSite) (request : Request)
