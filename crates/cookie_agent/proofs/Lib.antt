@@ -1,12 +1,14 @@
 pub mod ApartLemmas
+pub mod BeyondLemmas
 pub mod CookiesTxtLemmas
 pub mod CutOutLemmas
+pub mod DomainIndexLemmas
+pub mod FreshLemmas
 pub mod GroupLemmas
 pub mod HistoryLemmas
 pub mod HostJarLemmas
 pub mod HostLemmas
 pub mod HostSetLemmas
-pub mod IndexLemmas
 pub mod JsonLinesLemmas
 pub mod JsonReadLemmas
 pub mod KeptLemmas
@@ -14,6 +16,7 @@ pub mod KeyLemmas
 pub mod LimitLemmas
 pub mod LoadedLemmas
 pub mod MissLemmas
+pub mod NumberLemmas
 pub mod ObstacleLemmas
 pub mod OrderLemmas
 pub mod PairLemmas
@@ -25,6 +28,7 @@ pub mod PutLemmas
 pub mod RankLemmas
 pub mod RefusalLemmas
 pub mod RemovalLemmas
+pub mod RowLemmas
 pub mod SavedFormLemmas
 pub mod SavedLemmas
 pub mod SentFieldLemmas

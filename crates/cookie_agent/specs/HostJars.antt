@@ -104,7 +104,8 @@ own_left site name (Clears domain before) =
     if_passing (λ cookie. not (is_of_domain domain cookie)) (own_left site name before)
 own_left site name (Trims rules limits now before) =
     if_passing
-    (λ cookie. list_any (λ left. is_same_cookie left cookie) (trimmed rules limits now (kept_after before)))
+    (λ cookie. list_any (λ left. is_same_cookie left cookie)
+    (trimmed rules limits now (kept_after before)))
     (own_left site name before)
 own_left site name (Loads loading saved before) =
     option_or (if_loaded loading (own_left site name saved)) (own_left site name before)

@@ -1,8 +1,11 @@
+pub mod Beyond
+pub mod BeyondCode
 pub mod CookiesTxt
 pub mod CookiesTxtCode
 pub mod Histories
 pub mod HostJars
 pub mod Hosts
+pub mod IndexCode
 pub mod JsonLines
 pub mod JsonLinesCode
 pub mod Limits
@@ -10,6 +13,7 @@ pub mod LimitsCode
 pub mod Obstacles
 pub mod Prefixes
 pub mod Removals
+pub mod RowsCode
 pub mod Saved
 pub mod SavedForms
 pub mod SavedFormsCode
@@ -18,6 +22,7 @@ pub mod Sent
 pub mod SentCode
 pub mod Site
 pub mod Sites
+pub mod StandardChoices
 pub mod Storable
 pub mod Store
 pub mod Stored

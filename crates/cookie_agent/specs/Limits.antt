@@ -61,7 +61,8 @@ trimmed rules limits now store =
 
 -- the cookie is of the site that the domain is in
 abbrev pub is_of_site : List Rule → List ℕ → KeptView → Bool
-is_of_site rules domain cookie = bytes_eq (site_domain rules cookie.domain) (site_domain rules domain)
+is_of_site rules domain cookie =
+    bytes_eq (site_domain rules cookie.domain) (site_domain rules domain)
 
 -- no domain, no site and not the whole has more than its limit
 pub record IsWithin (rules : List Rule) (limits : Limits) (store : CookieStore) : Type 0 where

@@ -42,7 +42,8 @@ line_read form.JsonLines now line = json.json_line_read now line
 
 -- what is taken of the lines of a text
 abbrev pub lines_taken : SavedForm → List Rule → DateTime → List ℕ → List Line
-lines_taken form rules now text = map (λ line. taken rules (line_read form now line)) (lines_of text)
+lines_taken form rules now text =
+    map (λ line. taken rules (line_read form now line)) (lines_of text)
 
 -- the cookies of the text, and the numbers, from 1, of its bad lines
 abbrev pub loaded_cookies : SavedForm → List Rule → DateTime → List ℕ → CookieStore

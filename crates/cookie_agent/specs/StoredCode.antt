@@ -1,13 +1,15 @@
 -- Mirrors private code: where a cookie is put among stored ones.
-use Rattle.std.specs.Prelude.{◌≡◌, ◌&&◌, ◌+◌, ◌*◌, ◌%◌, ◌^◌, ℕ, ℤ, int_lt, Bool, true, false, pos, List, [], All, None, fold, map}
+use Rattle.std.specs.Prelude.{◌≡◌, ◌&&◌, ℕ, ℤ, int_lt, Bool, true, false, pos, [], All, None}
 use Rattle.std.specs.BTreeMap.{BTreeMap, get}
 use Rattle.std.specs.List.{position_from}
 use Rattle.jiff.specs.Types.{DateTime}
 use Rattle.jiff.specs.Words.{civil_nanos}
 use Rattle.cookie_browser.specs.Storage.{KeptView, CookieStore, is_same_cookie, lasts}
 use Rattle.cookie_browser.specs.declared.enforcement.Enforcement.TheVariants as enforcement
+use Rattle.cookie_agent.specs.RowsCode.{AreRows}
 use Rattle.cookie_agent.specs.Stored.{IsApart}
 use Rattle.cookie_agent.specs.declared.key.Key.{Key}
+use Rattle.cookie_agent.specs.declared.rows.Rows.{Rows}
 use Rattle.cookie_agent.specs.contracts.key.KeyOrd.TheImpl as key_ord
 
 -- the old one isn't expired, and is the same cookie as the new one
@@ -41,16 +43,8 @@ abbrev pub IsFreshUntil : ℤ → KeptView → Type 0
 IsFreshUntil end cookie =
     (now : DateTime) → int_lt (civil_nanos now) end ≡ true → lasts cookie.expiry now ≡ true
 
--- a number of the bytes, after the number of others
-unfoldable pub hash_after : ℕ → List ℕ → ℕ
-hash_after hash bytes = fold (λ m byte. (m * 31 % 2 ^ 64 + byte) % 2 ^ 64) hash bytes
-
--- a number of the name and the domain
-abbrev pub hash_of : KeptView → ℕ
-hash_of cookie = hash_after (hash_after 0 cookie.name) cookie.domain
-
--- what a store knows of its cookies: no two are the same, these are their hashes, and none is expired before the time
-pub record AreIndexed (cookies : CookieStore) (numbers : List ℕ) (fresh_until : ℤ) : Type 0 where
-  pub apart : IsApart cookies
-  pub hashes : numbers ≡ map hash_of cookies
-  pub fresh : All (IsFreshUntil fresh_until) cookies
+-- what a store knows of its cookies: no two are the same, each is found, and none is expired before the time
+pub record AreStored (stored : Rows) (fresh_until : ℤ) : Type 0 where
+  pub apart : IsApart stored.cookies.items
+  pub rows : AreRows stored
+  pub fresh : All (IsFreshUntil fresh_until) stored.cookies.items

@@ -180,7 +180,8 @@ impl<'r> Agent<'r> {
         ensures only_own { AreOnlyOwn }
         ensures own_originals { AreOwnOriginals }
     {
-        let sent = visible(self.store.alloc(), self.store.cookies(), site, now)?;
+        let places = self.store.places(site.host())?;
+        let sent = visible(self.store.alloc(), self.store.cookies(), &places, site, now)?;
         let sent = by_path(sent)?;
         joined_pairs(self.store.alloc(), &sent)
     }

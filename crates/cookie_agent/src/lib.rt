@@ -2,26 +2,35 @@
 #![tactic(auto)]
 
 mod agent;
+mod browser_agent;
+mod browser_cookie;
+mod browser_refusal;
 mod bytes;
 mod context;
+mod domain_index;
 mod group;
-mod hash;
 mod header;
 mod in_turn;
 mod key;
 mod limits;
 mod nanos;
 mod obstacle;
+mod place;
 mod ranked;
+mod rows;
 mod saved;
 mod scope;
 mod site;
 mod store;
 mod stored;
+mod sweep;
 mod trim;
 mod verdict;
 
 pub use agent::Agent;
+pub use browser_agent::BrowserAgent;
+pub use browser_cookie::BrowserCookie;
+pub use browser_refusal::BrowserRefusal;
 pub use context::RequestContext;
 pub use limits::Limits;
 pub use obstacle::Obstacle;

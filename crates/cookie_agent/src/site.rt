@@ -144,6 +144,13 @@ impl Site {
             && is_under_path(self.path.as_bytes(), scope.path())
     }
 
+    // Its host.
+    pub(crate) fn host(&self) -> &[u8]
+        ensures { result.now ≡ self.now.host }
+    {
+        self.host.as_bytes()
+    }
+
     // Whether the host gets a cookie of this domain, which may be for the domain itself only.
     pub(crate) fn is_host_reached(&self, domain: &[u8], is_host_only: bool) -> bool
         ensures { result ≡ (if is_host_only then bytes_eq self.now.host domain.now

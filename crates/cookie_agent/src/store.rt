@@ -1,21 +1,27 @@
 //! A store of cookies (RFC 6265bis, Storage Model).
-ghost use Rattle.std.specs.Prelude.{◌≡◌, ◌≤◌, ◌≤ℤ◌, ◌++◌, ℤ, not, [], All, filter, length, map, IfOk, OnOk, OnErr};
+ghost use Rattle.std.specs.Prelude.{◌≡◌, ◌<◌, ◌≤ℤ◌, ◌++◌, ◌&&◌, ℕ, not, true, false, [], All, Contains, filter, length, map, slice_index_or, IfOk, OnOk, OnErr, MatchOption};
 ghost use Rattle.std.specs.List.{list_any};
+ghost use Rattle.cookie_browser.specs.Request.{is_in_domain};
 ghost use Rattle.cookie_browser.specs.Storage.{kept_with, lasting};
 ghost use Rattle.cookie_agent.specs.Limits.{IsWithin, trimmed};
 ghost use Rattle.cookie_agent.specs.Sent.{accessed};
 ghost use Rattle.cookie_agent.specs.Sites.{TrimsApart};
 ghost use Rattle.cookie_agent.specs.Stored.{IsApart, is_named_in, is_of_domain, kept_with_each};
-ghost use Rattle.cookie_agent.specs.StoredCode.{AreIndexed, IsFreshUntil, gives_place, hash_of};
+ghost use Rattle.cookie_agent.specs.LimitsCode.{IsInOrder, blank};
+ghost use Rattle.cookie_agent.specs.RowsCode.{AreRows};
+ghost use Rattle.cookie_agent.specs.StoredCode.{AreStored, IsFreshUntil};
 
+use crate::domain_index::reversed;
 use crate::in_turn::stored_in_turn;
 use crate::limits::Limits;
 use crate::nanos::nanos_of;
+use crate::rows::Rows;
 use crate::scope::Scope;
 use crate::site::Site;
 use crate::stored::StoredCookie;
-use crate::trim::{keep, places_within};
-use cookie_browser::Suffixes;
+use crate::sweep::Sweep;
+use crate::trim::places_within;
+use cookie_browser::{Enforcement, KeptCookie, Suffixes};
 use jiff::civil::DateTime;
 use std::alloc::{AllocError, Global};
 use std::marker::Model;
@@ -25,22 +31,20 @@ use std::marker::Model;
 #[derive(Drop)]
 pub struct Store {
     alloc: Global,
-    cookies: Vec<StoredCookie>,
-    // The hash of each cookie, so that most of those which differ from a new one needn't be looked at.
-    hashes: Vec<u64>,
+    rows: Rows,
     // Nanoseconds since 1970 before which no cookie is expired.
     fresh_until: i128,
 }
 
 impl Model for Store {
     ghost use Rattle.cookie_browser.specs.Storage.{CookieStore};
-    ghost use Rattle.cookie_agent.specs.StoredCode.{AreIndexed};
+    ghost use Rattle.cookie_agent.specs.StoredCode.{AreStored};
 
     ghost Value = { CookieStore };
 
-    ghost view = { λ s. s.cookies.items };
+    ghost view = { λ s. s.rows.cookies.items };
 
-    ghost invariant = { λ s. AreIndexed s.cookies.items s.hashes.items s.fresh_until };
+    ghost invariant = { λ s. AreStored s.rows s.fresh_until };
 }
 
 impl Store {
@@ -50,8 +54,7 @@ impl Store {
     {
         Store {
             alloc,
-            cookies: Vec::new(alloc),
-            hashes: Vec::new(alloc),
+            rows: Rows::new(alloc),
             fresh_until: i128::MAX,
         }
     }
@@ -63,20 +66,19 @@ impl Store {
         ensures in_turn { IfOk result (λ store. store ≡ kept_with_each cookies.items []) }
         ensures same { IsApart cookies.items → IfOk result (λ store. store ≡ cookies.items) }
     {
-        Store::indexed(alloc, stored_in_turn(alloc, cookies)?)
+        Store::of_different(alloc, stored_in_turn(alloc, cookies)?)
     }
 
     // A store of different cookies.
-    fn indexed(alloc: Global, cookies: Vec<StoredCookie>) -> Result<Store, AllocError>
+    fn of_different(alloc: Global, cookies: Vec<StoredCookie>) -> Result<Store, AllocError>
         requires { IsApart cookies.items }
         ensures { IfOk result (λ store. store ≡ cookies.items) }
     {
-        let hashes = hashes_of(alloc, &cookies)?;
         let fresh_until = fresh_until(&cookies);
+        let rows = Rows::of(alloc, cookies)?;
         Ok(Store {
             alloc,
-            cookies,
-            hashes,
+            rows,
             fresh_until,
         })
     }
@@ -88,12 +90,12 @@ impl Store {
         ensures ok { OnOk result (self.new ≡ kept_with_each (lasting now cookies.items) self.old) }
         ensures err { OnErr result (self.new ≡ self.old) }
     {
-        let mut all = copies(self.alloc, &self.cookies)?;
+        let mut all = copies(self.alloc, self.cookies())?;
         push_lasting(&mut all, cookies, now)?;
-        let cookies = stored_in_turn(self.alloc, all)?;
-        self.hashes = hashes_of(self.alloc, &cookies)?;
-        self.fresh_until = fresh_until(&cookies);
-        self.cookies = cookies;
+        let all = stored_in_turn(self.alloc, all)?;
+        let fresh_until = fresh_until(&all);
+        self.rows = Rows::of(self.alloc, all)?;
+        self.fresh_until = fresh_until;
         Ok(())
     }
 
@@ -102,7 +104,7 @@ impl Store {
         ensures value { result.now ≡ self.now }
         ensures apart { IsApart self.now }
     {
-        self.cookies.as_slice()
+        self.rows.cookies.as_slice()
     }
 
     /// Removes the cookie of this name and this scope, expired or not, and returns whether there was one.
@@ -111,14 +113,13 @@ impl Store {
             ≡ filter (λ cookie. not (is_named_in name.now scope.now cookie)) self.old }
         ensures found { result ≡ list_any (is_named_in name.now scope.now) self.old }
     {
-        let found = self
-            .cookies
-            .iter()
-            .any(|cookie| cookie.is_named_in(name, scope));
-        self.cookies
-            .retain(|cookie| !cookie.is_named_in(name, scope));
-        renew(&mut self.hashes, &self.cookies);
-        found
+        match self.place(name, scope) {
+            Some(place) => {
+                self.rows.remove(place);
+                true
+            }
+            None => false,
+        }
     }
 
     /// Removes the cookies of this domain and of the domains below it, expired or not: what a browser clears for a site,
@@ -127,23 +128,21 @@ impl Store {
     pub fn clear_domain(&mut self, domain: &[u8])
         ensures { self.new ≡ filter (λ cookie. not (is_of_domain domain.now cookie)) self.old }
     {
-        self.cookies.retain(|cookie| !cookie.is_of_domain(domain));
-        renew(&mut self.hashes, &self.cookies);
+        self.rows.sweep(&Sweep::Domain(domain));
     }
 
     /// Removes all cookies.
     pub fn clear(&mut self)
         ensures { self.new ≡ [] }
     {
-        self.cookies.clear();
-        self.hashes.clear();
+        self.rows = Rows::new(self.alloc);
     }
 
     /// Drops the cookies that are expired at the time `now` in UTC.
     pub fn evict(&mut self, now: DateTime)
         ensures { self.new ≡ lasting now self.old }
     {
-        self.fresh_until = drop_expired(&mut self.cookies, &mut self.hashes, self.fresh_until, now);
+        self.fresh_until = drop_expired(&mut self.rows, self.fresh_until, now);
     }
 
     /// Drops what is expired at the time `now` in UTC, and then the cookies above the limits, as RFC 6265bis orders
@@ -171,10 +170,8 @@ impl Store {
         ensures apart { OnOk result (TrimsApart suffixes.now limits now self.old self.new) }
         ensures err { OnErr result (self.new ≡ self.old) }
     {
-        let places = places_within(self.alloc, suffixes, &self.cookies, limits, now)?;
-        keep(&mut self.cookies, &places);
-        renew(&mut self.hashes, &self.cookies);
-        self.fresh_until = fresh_until(&self.cookies);
+        let places = places_within(self.alloc, suffixes, self.cookies(), limits, now)?;
+        self.rows.keep(&places);
         Ok(())
     }
 
@@ -182,7 +179,7 @@ impl Store {
     pub fn clone(&self) -> Result<Store, AllocError>
         ensures { IfOk result (λ made. made ≡ self.now) }
     {
-        Store::indexed(self.alloc, copies(self.alloc, &self.cookies)?)
+        Store::of_different(self.alloc, copies(self.alloc, self.cookies())?)
     }
 
     // Where it allocates.
@@ -197,38 +194,55 @@ impl Store {
         ensures err { OnErr result (self.new ≡ self.old) }
     {
         let fresh_until = sooner(self.fresh_until, cookie.fresh_until());
-        put_in_place(&mut self.cookies, &mut self.hashes, cookie, now)?;
-        self.fresh_until = drop_expired(&mut self.cookies, &mut self.hashes, fresh_until, now);
+        self.rows.put(self.alloc, cookie, now)?;
+        self.fresh_until = drop_expired(&mut self.rows, fresh_until, now);
         Ok(())
+    }
+
+    // The place of the cookie of this name and this scope.
+    fn place(&self, name: &[u8], scope: &Scope) -> Option<usize>
+        ensures { MatchOption result
+            (All (λ cookie. is_named_in name.now scope.now cookie ≡ false) self.now)
+            (λ place. (place < length self.now)
+            × (is_named_in name.now scope.now (slice_index_or self.now place blank) ≡ true)) }
+    {
+        // Without memory for the key it looks at each cookie.
+        let Ok(key) = reversed(self.alloc, scope.domain()) else {
+            return self
+                .cookies()
+                .iter()
+                .position(|cookie| cookie.is_named_in(name, scope));
+        };
+        self.rows.find(
+            &key,
+            &KeptCookie {
+                name,
+                value: b"",
+                domain: scope.domain(),
+                is_host_only: scope.is_host_only(),
+                path: scope.path(),
+                is_secure_only: false,
+                is_http_only: false,
+                same_site: Enforcement::None,
+            },
+        )
+    }
+
+    // The places of the cookies that may be sent to a host, and of others.
+    pub(crate) fn places(&self, host: &[u8]) -> Result<Vec<usize>, AllocError>
+        ensures in_order { IfOk result (λ places. IsInOrder (length self.now) places.items) }
+        ensures found { IfOk result (λ places. (place : ℕ) → place < length self.now
+            → is_in_domain host.now false (slice_index_or self.now place blank).domain ≡ true
+            → Contains places.items place) }
+    {
+        self.rows.places(self.alloc, host)
     }
 
     // Sets the last access of each cookie that is sent.
     pub(crate) fn access(&mut self, site: &Site, now: DateTime)
         ensures { self.new ≡ map (accessed site.now now) self.old }
     {
-        access(&mut self.cookies, site, now);
-    }
-}
-
-// The hashes of the cookies.
-fn hashes_of(alloc: Global, cookies: &[StoredCookie]) -> Result<Vec<u64>, AllocError>
-    ensures { IfOk result (λ hashes. hashes.items ≡ map hash_of cookies.now) }
-{
-    let mut hashes = Vec::new(alloc);
-    for cookie in cookies {
-        hashes.push(cookie.hash())?;
-    }
-    Ok(hashes)
-}
-
-// Makes these the hashes of the cookies that are left.
-fn renew(hashes: &mut Vec<u64>, cookies: &[StoredCookie])
-    requires { length cookies.now ≤ length hashes.now.items }
-    ensures { hashes.new.items ≡ map hash_of cookies.now }
-{
-    hashes.truncate(cookies.len());
-    for index in 0..cookies.len() {
-        hashes[index] = cookies[index].hash();
+        self.rows.access(site, now);
     }
 }
 
@@ -252,80 +266,18 @@ fn fresh_until(cookies: &[StoredCookie]) -> i128
 }
 
 // Drops the cookies that are expired. None is before the time `fresh_until`, nor are the others before the result.
-fn drop_expired(
-    cookies: &mut Vec<StoredCookie>,
-    hashes: &mut Vec<u64>,
-    fresh_until: i128,
-    now: DateTime,
-) -> i128
-    requires hashes { hashes.now.items ≡ map hash_of cookies.now.items }
-    requires fresh { All (IsFreshUntil fresh_until) cookies.now.items }
-    ensures cookies { cookies.new.items ≡ lasting now cookies.old.items }
-    ensures hashes { hashes.new.items ≡ map hash_of cookies.new.items }
-    ensures fresh { All (IsFreshUntil result) cookies.new.items }
+fn drop_expired(rows: &mut Rows, fresh_until: i128, now: DateTime) -> i128
+    requires rows { AreRows rows.old }
+    requires fresh { All (IsFreshUntil fresh_until) rows.old.cookies.items }
+    ensures cookies { rows.new.cookies.items ≡ lasting now rows.old.cookies.items }
+    ensures rows { AreRows rows.new }
+    ensures fresh { All (IsFreshUntil result) rows.new.cookies.items }
 {
     if nanos_of(now) < fresh_until {
         return fresh_until;
     }
-    cookies.retain(|cookie| cookie.lasts(now));
-    renew(hashes, cookies);
-    self::fresh_until(cookies)
-}
-
-// Sets the last access of each cookie that is sent.
-fn access(cookies: &mut Vec<StoredCookie>, site: &Site, now: DateTime)
-    ensures { cookies.new.items ≡ map (accessed site.now now) cookies.old.items }
-{
-    for cookie in cookies.iter_mut() {
-        cookie.access(site, now);
-    }
-}
-
-// Puts a cookie in the place of the one with its key that isn't expired, or last. After an error the cookies are as
-// before.
-fn put_in_place(
-    cookies: &mut Vec<StoredCookie>,
-    hashes: &mut Vec<u64>,
-    cookie: StoredCookie,
-    now: DateTime,
-) -> Result<(), AllocError>
-    requires apart { IsApart cookies.now.items }
-    requires hashes { hashes.now.items ≡ map hash_of cookies.now.items }
-    ensures ok { OnOk result (lasting now cookies.new.items
-        ≡ lasting now (kept_with cookie (lasting now cookies.old.items))) }
-    ensures err { OnErr result (cookies.new.items ≡ cookies.old.items) }
-    ensures hashes { hashes.new.items ≡ map hash_of cookies.new.items }
-    ensures fresh { (end : ℤ) → All (IsFreshUntil end) cookies.old.items
-        → IsFreshUntil end cookie → All (IsFreshUntil end) cookies.new.items }
-{
-    let hash = cookie.hash();
-    for index in 0..cookies.len() {
-        if gives_place(&cookies[index], hashes[index], &cookie, hash, now) {
-            cookies[index] = cookie;
-            return Ok(());
-        }
-    }
-    cookies.push(cookie)?;
-    if hashes.push(hash).is_err() {
-        let _last = cookies.pop();
-        return Err(AllocError);
-    }
-    Ok(())
-}
-
-// Whether the first cookie isn't expired, and the other one replaces it. Each has this hash.
-fn gives_place(
-    cookie: &StoredCookie,
-    hash: u64,
-    other: &StoredCookie,
-    other_hash: u64,
-    now: DateTime,
-) -> bool
-    requires hash { hash ≡ hash_of cookie.now }
-    requires other { other_hash ≡ hash_of other.now }
-    ensures { result ≡ gives_place other.now now cookie.now }
-{
-    hash == other_hash && cookie.gives_place(other, now)
+    rows.sweep(&Sweep::Expired(now));
+    self::fresh_until(&rows.cookies)
 }
 
 // Copies of the cookies.

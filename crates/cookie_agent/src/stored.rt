@@ -6,10 +6,9 @@ ghost use Rattle.cookie_browser.specs.RefusedCode.{kept_view};
 ghost use Rattle.cookie_browser.specs.Storage.{is_same_cookie, is_sent, lasts};
 ghost use Rattle.cookie_agent.specs.Sent.{accessed, path_length, sent_pair};
 ghost use Rattle.cookie_agent.specs.Stored.{is_named_in, is_of_domain};
-ghost use Rattle.cookie_agent.specs.StoredCode.{IsFreshUntil, gives_place, key_view, hash_of};
+ghost use Rattle.cookie_agent.specs.StoredCode.{IsFreshUntil, key_view};
 
 use crate::bytes::copied;
-use crate::hash::hash_after;
 use crate::key::Key;
 use crate::nanos::expiry_nanos;
 use crate::scope::Scope;
@@ -135,18 +134,11 @@ impl StoredCookie {
         expiry_nanos(self.expiry).unwrap_or(i128::MAX)
     }
 
-    // A number that it has in common with those which it can replace.
-    pub(crate) fn hash(&self) -> u64
-        ensures { result ≡ hash_of self.now }
+    // Whether it has the same name, domain, host-only flag and path.
+    pub(crate) fn is_same(&self, kept: &KeptCookie<'_>) -> bool
+        ensures { result ≡ is_same_cookie self.now (kept_view kept.now) }
     {
-        hash_after(hash_after(0, &self.name), &self.domain)
-    }
-
-    // Whether it isn't expired at the time `now`, and the other one replaces it.
-    pub(crate) fn gives_place(&self, other: &StoredCookie, now: DateTime) -> bool
-        ensures { result ≡ gives_place other.now now self.now }
-    {
-        self.as_kept().is_same(&other.as_kept()) && self.lasts(now)
+        self.as_kept().is_same(kept)
     }
 
     /// Whether it is sent to the site at the time `now` in UTC (RFC 6265bis, Retrieval Algorithm).
@@ -197,8 +189,15 @@ impl StoredCookie {
         ensures { self.new ≡ accessed site.now now self.old }
     {
         if self.is_sent(site, now) {
-            self.last_access = now;
+            self.touch(now);
         }
+    }
+
+    // Makes the time its last access.
+    pub(crate) fn touch(&mut self, now: DateTime)
+        ensures { self.new ≡ record self.old { last_access = civil_nanos now } }
+    {
+        self.last_access = now;
     }
 
     // The length of its path, in bytes.

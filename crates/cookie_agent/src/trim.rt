@@ -48,16 +48,15 @@ pub(crate) fn places_within(
     Ok(places)
 }
 
-// Keeps the cookies at these places only.
-pub(crate) fn keep(cookies: &mut Vec<StoredCookie>, places: &[usize])
-    requires { IsInOrder (length cookies.now.items) places.now }
-    ensures picked { cookies.new.items ≡ picked cookies.old.items places.now }
-    ensures fewer { length cookies.new.items ≤ length cookies.old.items }
+// Keeps the elements at these places only.
+pub(crate) fn keep<T: Drop>(items: &mut Vec<T>, places: &[usize])
+    requires { IsInOrder (length items.now.items) places.now }
+    ensures { (d : T) → items.new.items ≡ map (λ place. slice_index_or items.old.items place d) places.now }
 {
     for index in 0..places.len() {
-        cookies.swap(index, places[index]);
+        items.swap(index, places[index]);
     }
-    cookies.truncate(places.len());
+    items.truncate(places.len());
 }
 
 // The places of the cookies that aren't expired.

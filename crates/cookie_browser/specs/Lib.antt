@@ -1,3 +1,4 @@
+pub mod Beyond
 pub mod Bytes
 pub mod Received
 pub mod Request

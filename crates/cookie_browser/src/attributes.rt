@@ -38,7 +38,7 @@ pub struct ReceivedAttributes<'t> {
 }
 
 // Whether the text is the word, in any ASCII case.
-fn spells(text: &[u8], word: &[u8]) -> bool
+pub(crate) fn spells(text: &[u8], word: &[u8]) -> bool
     requires { str_to_ascii_lowercase word.now ≡ word.now }
     ensures { result ≡ spec.spells text.now word.now }
 {
@@ -165,7 +165,7 @@ impl<'t> ReceivedAttributes<'t> {
 }
 
 // The value of an attribute, empty if there is no `=`.
-fn value_of(value: Option<&[u8]>) -> &[u8]
+pub(crate) fn value_of(value: Option<&[u8]>) -> &[u8]
     ensures { result.now ≡ spec.value_after (option_copied value.entry) }
 {
     match value {

@@ -2,6 +2,8 @@
 #![tactic(auto)]
 
 mod attributes;
+mod beyond;
+mod browser_choices;
 mod bytes;
 mod enforcement;
 mod expiry;
@@ -13,6 +15,8 @@ mod request;
 mod suffixes;
 
 pub use attributes::ReceivedAttributes;
+pub use beyond::{Beyond, is_partitioned, refused_beyond};
+pub use browser_choices::BrowserChoices;
 pub use enforcement::Enforcement;
 pub use expiry::Expiry;
 pub use kept_cookie::{KeptCookie, allows};

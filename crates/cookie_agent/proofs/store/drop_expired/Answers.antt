@@ -1,12 +1,10 @@
 -- What is left is what lasts: all, before the time until when none is expired.
 use Rattle.std.proofs.Common.{◌≡◌, true, FitsSigned, rules, sym}
-use Rattle.std.proofs.lemmas.Fn.{filter_same}
 use Rattle.std.proofs.lemmas.Int.{to_z-of_z}
 use Rattle.std.specs.Prelude.{int_lt}
 use mir.Syntax.{w128}
 use Rattle.jiff.specs.Words.{civil_nanos}
-use Rattle.cookie_browser.specs.Storage.{lasts}
-use Rattle.cookie_agent.proofs.IndexLemmas.{all_last}
+use Rattle.cookie_agent.proofs.FreshLemmas.{all_last}
 use Rattle.cookie_agent.proofs.store.drop_expired.Goals as goal
 
 pub returns-then-nanos_of-fresh_until-clause-cookies : goal.returns-then-nanos_of-fresh_until-clause-cookies
@@ -16,7 +14,4 @@ returns-then-nanos_of-fresh_until-clause-cookies c =
     let other : FitsSigned w128 end = search rules in
     let told : int_lt c.nanos_of.result end ≡ true = simp to_z-of_z at c.if-nanos_of-fresh_until.true in
     let before : int_lt (civil_nanos c.args.now) end ≡ true = rw c.nanos_of.ensures.value at told in
-    sym (all_last end c.args.now c.args.cookies.now.items before c.requires.fresh)
-
-pub returns-clause-cookies : goal.returns-clause-cookies
-returns-clause-cookies c = filter_same _ (λ d. lasts d.expiry c.args.now) _ (λ x b f h. search rules) _ _ c.retain.ensures.filtered
+    sym (all_last end c.args.now c.args.rows.now.cookies.items before c.requires.fresh)

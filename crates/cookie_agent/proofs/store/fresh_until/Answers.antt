@@ -7,7 +7,7 @@ use mir.Syntax.{w128}
 use mir.Val.{to_z}
 use Rattle.cookie_browser.specs.Storage.{CookieStore}
 use Rattle.cookie_agent.specs.StoredCode.{IsFreshUntil}
-use Rattle.cookie_agent.proofs.IndexLemmas.{all_sooner, sooner_fresh}
+use Rattle.cookie_agent.proofs.FreshLemmas.{all_sooner, sooner_fresh}
 use Rattle.cookie_agent.proofs.store.fresh_until.Goals as goal
 
 pub loop-cookie-preserved : goal.loop-cookie-preserved

@@ -1,12 +1,18 @@
--- An access leaves what is stored apart, the hashes, and until when none is expired.
-use Rattle.std.proofs.Common.{sym, subst}
+-- An access leaves what is stored apart, and until when none is expired.
+use Rattle.std.proofs.Common.{All, sym, subst}
 use Rattle.cookie_browser.specs.Storage.{CookieStore}
-use Rattle.cookie_agent.specs.StoredCode.{AreIndexed}
-use Rattle.cookie_agent.proofs.IndexLemmas.{indexed-accessed}
+use Rattle.cookie_agent.specs.Stored.{IsApart}
+use Rattle.cookie_agent.specs.StoredCode.{IsFreshUntil}
+use Rattle.cookie_agent.proofs.FreshLemmas.{all_accessed}
+use Rattle.cookie_agent.proofs.PutLemmas.{apart-accessed}
 use Rattle.cookie_agent.proofs.store.Store.access.Goals as goal
 
 pub invariant_of-self : goal.invariant_of-self
 invariant_of-self c =
     let inside = c.self.inside in
-    subst (λ (s : CookieStore). AreIndexed s inside.hashes.items inside.fresh_until) (sym c.access.ensures)
-    (indexed-accessed c.args.site.now c.args.now inside.cookies.items inside.hashes.items inside.fresh_until c.self.invariant)
+    let after = c.access.ensures in
+    record {
+      apart = subst IsApart (sym after.cookies) (apart-accessed c.args.site.now c.args.now inside.rows.cookies.items c.self.invariant.apart);
+      rows = after.rows;
+      fresh = subst (λ (s : CookieStore). All (IsFreshUntil inside.fresh_until) s) (sym after.cookies) (all_accessed c.args.site.now c.args.now inside.fresh_until inside.rows.cookies.items c.self.invariant.fresh);
+    }

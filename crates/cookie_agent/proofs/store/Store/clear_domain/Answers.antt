@@ -1,21 +1,18 @@
--- What is left is what the test doesn't find, with its hashes.
-use Rattle.std.proofs.Common.{◌≡◌, Bool, not, filter, map, rules, ap, ◌∙◌}
-use Rattle.std.proofs.lemmas.Fn.{filter_same}
+-- What is left is what isn't of the domain, and is apart.
+use Rattle.std.proofs.Common.{All, Bool, not, sym, subst}
+use Rattle.std.proofs.lemmas.List.Elements.{All-filter}
 use Rattle.cookie_browser.specs.Storage.{CookieStore, KeptView}
-use Rattle.cookie_agent.specs.Stored.{is_of_domain}
-use Rattle.cookie_agent.specs.StoredCode.{hash_of}
-use Rattle.cookie_agent.proofs.IndexLemmas.{indexed-left}
+use Rattle.cookie_agent.specs.Stored.{IsApart, is_of_domain}
+use Rattle.cookie_agent.specs.StoredCode.{IsFreshUntil}
+use Rattle.cookie_agent.proofs.PutLemmas.{apart-filter}
 use Rattle.cookie_agent.proofs.store.Store.clear_domain.Goals as goal
-
-pub returns : goal.returns
-returns c =
-    filter_same _ (λ d. not (is_of_domain c.args.domain.now d)) _ (λ x b f h. search rules) _ _ c.retain.ensures.filtered
-    ∙ ap (λ (s : CookieStore). filter (λ d. not (is_of_domain c.args.domain.now d)) s) c.self.view_is
 
 pub invariant_of-self : goal.invariant_of-self
 invariant_of-self c =
+    let inside = c.self.inside in
     let test : KeptView → Bool = λ d. not (is_of_domain c.args.domain.now d) in
-    let left : c.retain.new.self.items ≡ filter test c.self.inside.cookies.items
-    = filter_same _ test _ (λ x b f h. search rules) _ _ c.retain.ensures.filtered in
-    indexed-left test c.self.inside.cookies.items c.retain.new.self.items c.self.inside.hashes.items c.renew.new.hashes.items c.self.inside.fresh_until left
-    (c.renew.ensures ∙ ap (map hash_of) c.deref.ensures.value) c.self.invariant
+    record {
+      apart = subst IsApart (sym c.sweep.ensures.cookies) (apart-filter test inside.rows.cookies.items c.self.invariant.apart);
+      rows = c.sweep.ensures.rows;
+      fresh = subst (λ (s : CookieStore). All (IsFreshUntil inside.fresh_until) s) (sym c.sweep.ensures.cookies) (All-filter test (IsFreshUntil inside.fresh_until) inside.rows.cookies.items c.self.invariant.fresh);
+    }

@@ -12,7 +12,7 @@ invariant_of-self c =
     let dropped = c.drop_expired-self-inside.ensures in
     let fits : FitsSigned w128 c.drop_expired-self-inside.result = search rules in
     simp to_z-of_z (record {
-      apart = subst IsApart (sym dropped.cookies) (apart-filter (λ d. lasts d.expiry c.args.now) c.self.inside.cookies.items c.self.invariant.apart);
-      hashes = dropped.hashes;
+      apart = subst IsApart (sym dropped.cookies) (apart-filter (λ d. lasts d.expiry c.args.now) c.self.inside.rows.cookies.items c.self.invariant.apart);
+      rows = dropped.rows;
       fresh = dropped.fresh;
     })

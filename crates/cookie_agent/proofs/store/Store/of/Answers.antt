@@ -6,4 +6,4 @@ use Rattle.cookie_agent.proofs.store.Store.of.Goals as goal
 
 pub returns-clause-same : goal.returns-clause-same
 returns-clause-same c apart =
-    IfOk-weaker c.indexed.result _ _ (λ store h. h ∙ c.in_ok-stored_in_turn.ensures.value ∙ kept_with_each-apart c.args.cookies.items apart) c.indexed.ensures
+    IfOk-weaker c.of_different.result _ _ (λ store h. h ∙ c.in_ok-stored_in_turn.ensures.value ∙ kept_with_each-apart c.args.cookies.items apart) c.of_different.ensures

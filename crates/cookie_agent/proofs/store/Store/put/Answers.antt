@@ -1,9 +1,11 @@
 -- What is stored stays apart.
-use Rattle.std.proofs.Common.{◌≤ℤ◌, FitsSigned, rules, sym, ◌∙◌, subst, arith}
+use Rattle.std.proofs.Common.{◌≤ℤ◌, All, FitsSigned, rules, sym, ◌∙◌, subst, arith}
 use Rattle.std.proofs.lemmas.Int.{ints, to_z-of_z}
 use mir.Syntax.{w128}
+use Rattle.cookie_browser.specs.Storage.{CookieStore}
 use Rattle.cookie_agent.specs.Stored.{IsApart}
-use Rattle.cookie_agent.proofs.IndexLemmas.{all_sooner, sooner_fresh}
+use Rattle.cookie_agent.specs.StoredCode.{IsFreshUntil}
+use Rattle.cookie_agent.proofs.FreshLemmas.{all_sooner, sooner_fresh}
 use Rattle.cookie_agent.proofs.PutLemmas.{apart-stored}
 use Rattle.cookie_agent.proofs.store.Store.put.Goals as goal
 
@@ -14,7 +16,7 @@ drop_expired-self-inside-requires-clause-fresh c =
     let fits : FitsSigned w128 new = search rules in
     let first : new ≤ℤ inside.fresh_until = omega (arith, ints) in
     let second : new ≤ℤ c.fresh_until.result = omega (arith, ints) in
-    simp to_z-of_z (c.put_in_place.ensures.fresh new (all_sooner new inside.fresh_until inside.cookies.items first c.self.invariant.fresh)
+    simp to_z-of_z (c.put.ensures.fresh new (all_sooner new inside.fresh_until inside.rows.cookies.items first c.self.invariant.fresh)
     (sooner_fresh new c.fresh_until.result c.args.cookie second c.fresh_until.ensures))
 
 pub invariant_of-self-2 : goal.invariant_of-self-2
@@ -22,7 +24,18 @@ invariant_of-self-2 c =
     let dropped = c.drop_expired-self-inside.ensures in
     let fits : FitsSigned w128 c.drop_expired-self-inside.result = search rules in
     simp to_z-of_z (record {
-      apart = subst IsApart (sym (dropped.cookies ∙ c.in_ok-put_in_place.ensures.ok)) (apart-stored c.args.now c.args.cookie c.self.inside.cookies.items c.self.invariant.apart);
-      hashes = dropped.hashes;
+      apart = subst IsApart (sym (dropped.cookies ∙ c.in_ok-put.ensures.ok)) (apart-stored c.args.now c.args.cookie c.self.inside.rows.cookies.items c.self.invariant.apart);
+      rows = dropped.rows;
       fresh = dropped.fresh;
     })
+
+-- after an error the cookies are as before
+pub invariant_of-self : goal.invariant_of-self
+invariant_of-self c =
+    let inside = c.self.inside in
+    let failed = c.in_err-put.ensures in
+    record {
+      apart = subst IsApart (sym failed.err) c.self.invariant.apart;
+      rows = failed.rows;
+      fresh = subst (λ (s : CookieStore). All (IsFreshUntil inside.fresh_until) s) (sym failed.err) c.self.invariant.fresh;
+    }

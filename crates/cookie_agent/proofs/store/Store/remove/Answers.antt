@@ -1,21 +1,31 @@
--- What is left is what the test doesn't find, with its hashes.
-use Rattle.std.proofs.Common.{◌≡◌, Bool, not, filter, map, rules, ap, ◌∙◌}
-use Rattle.std.proofs.lemmas.Fn.{filter_same}
-use Rattle.cookie_browser.specs.Storage.{CookieStore, KeptView}
-use Rattle.cookie_agent.specs.Stored.{is_named_in}
-use Rattle.cookie_agent.specs.StoredCode.{hash_of}
-use Rattle.cookie_agent.proofs.IndexLemmas.{indexed-left}
+-- The one of the name and the scope goes.
+use Rattle.std.proofs.Common.{All, sym, ap, subst, ◌∙◌}
+use Rattle.std.proofs.lemmas.List.Folds.{list_any_none}
+use Rattle.std.specs.List.{remove}
+use Rattle.cookie_browser.specs.Storage.{CookieStore}
+use Rattle.cookie_agent.specs.Stored.{IsApart, is_named_in}
+use Rattle.cookie_agent.specs.StoredCode.{IsFreshUntil}
+use Rattle.cookie_agent.proofs.RowLemmas.{All-remove, apart-remove, named-none, named-removed}
 use Rattle.cookie_agent.proofs.store.Store.remove.Goals as goal
-
-pub returns-clause-value : goal.returns-clause-value
-returns-clause-value c =
-    filter_same _ (λ d. not (is_named_in c.args.name.now c.args.scope.now d)) _ (λ x b f h. search rules) _ _ c.retain.ensures.filtered
-    ∙ ap (λ (s : CookieStore). filter (λ d. not (is_named_in c.args.name.now c.args.scope.now d)) s) c.self.view_is
 
 pub invariant_of-self : goal.invariant_of-self
 invariant_of-self c =
-    let test : KeptView → Bool = λ d. not (is_named_in c.args.name.now c.args.scope.now d) in
-    let left : c.retain.new.self.items ≡ filter test c.self.inside.cookies.items
-    = filter_same _ test _ (λ x b f h. search rules) _ _ c.retain.ensures.filtered in
-    indexed-left test c.self.inside.cookies.items c.retain.new.self.items c.self.inside.hashes.items c.renew.new.hashes.items c.self.inside.fresh_until left
-    (c.renew.ensures ∙ ap (map hash_of) c.deref-2.ensures.value) c.self.invariant
+    let inside = c.self.inside in
+    let after = c.remove.ensures in
+    record {
+      apart = subst IsApart (sym after.cookies) (apart-remove inside.rows.cookies.items c.in-Some.place c.self.invariant.apart);
+      rows = after.rows;
+      fresh = subst (λ (s : CookieStore). All (IsFreshUntil inside.fresh_until) s) (sym after.cookies) (All-remove (IsFreshUntil inside.fresh_until) inside.rows.cookies.items c.in-Some.place c.self.invariant.fresh);
+    }
+
+pub returns-in-Some-clause-value : goal.returns-in-Some-clause-value
+returns-in-Some-clause-value c =
+    let place = c.in-Some.place in
+    c.remove.ensures.cookies ∙ ap (λ (s : CookieStore). remove s place) c.self.view_is
+    ∙ sym (named-removed c.args.name.now c.args.scope.now c.args.self.now (subst IsApart c.self.view_is c.self.invariant.apart) place c.in-Some.ensures.0 c.in-Some.ensures.1)
+
+pub returns-in-None-clause-value : goal.returns-in-None-clause-value
+returns-in-None-clause-value c = sym (named-none c.args.name.now c.args.scope.now c.args.self.now c.in-None.ensures)
+
+pub returns-in-None-clause-found : goal.returns-in-None-clause-found
+returns-in-None-clause-found c = sym (list_any_none (is_named_in c.args.name.now c.args.scope.now) c.args.self.now c.in-None.ensures)

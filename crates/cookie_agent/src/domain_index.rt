@@ -1,0 +1,93 @@
+//! The numbers of stored cookies by their domains.
+ghost use Rattle.std.specs.Prelude.{◌≡◌, ℕ, List, true, false, Contains, reverse, IfOk, OnOk};
+ghost use Rattle.cookie_browser.specs.Request.{is_in_domain};
+ghost use Rattle.cookie_agent.specs.IndexCode.{IsNumberAt, Lists, numbers_at};
+ghost use Rattle.cookie_agent.specs.LimitsCode.{Ascends};
+
+use crate::bytes::copied;
+use crate::place::is_among;
+use std::alloc::{AllocError, Global};
+use std::collections::BTreeMap;
+
+// The numbers of cookies by the domain's bytes in the reverse order, so that what is below a domain follows it. Numbers
+// of cookies that are gone may stay.
+#[derive(Drop)]
+pub(crate) struct DomainIndex {
+    numbers: BTreeMap<Vec<u8>, Vec<usize>>,
+}
+
+impl DomainIndex {
+    pub(crate) fn new(alloc: Global) -> DomainIndex {
+        DomainIndex {
+            numbers: BTreeMap::new(alloc),
+        }
+    }
+
+    // The numbers at the domain whose reverse this is.
+    pub(crate) fn at(&self, key: &[u8]) -> &[usize]
+        ensures { result.now ≡ numbers_at self.now key.now }
+    {
+        match self.numbers.get(key) {
+            Some(numbers) => numbers.as_slice(),
+            None => &[],
+        }
+    }
+
+    // Adds a number at the domain whose reverse this is.
+    pub(crate) fn add(
+        &mut self,
+        alloc: Global,
+        key: Vec<u8>,
+        number: usize,
+    ) -> Result<(), AllocError>
+        ensures added { OnOk result (IsNumberAt self.new key.items number) }
+        ensures stay { (other : List ℕ) (n : ℕ)
+            → IsNumberAt self.old other n → IsNumberAt self.new other n }
+    {
+        if let Some(numbers) = self.numbers.get_mut(key.as_slice()) {
+            numbers.push(number)?;
+            return Ok(());
+        }
+        let mut numbers = Vec::new(alloc);
+        numbers.push(number)?;
+        self.numbers.insert(key, numbers)?;
+        Ok(())
+    }
+
+    // Drops the numbers at the domain whose reverse this is that aren't among the live ones.
+    pub(crate) fn prune(&mut self, key: &[u8], live: &[usize])
+        requires { Ascends 0 live.now }
+        ensures { (other : List ℕ) (n : ℕ)
+            → Contains live.now n → IsNumberAt self.old other n → IsNumberAt self.new other n }
+    {
+        if let Some(numbers) = self.numbers.get_mut(key) {
+            numbers.retain(|&number| is_among(live, number));
+        }
+    }
+
+    // The numbers of the domain and of those above it.
+    pub(crate) fn above(&self, alloc: Global, domain: &[u8]) -> Result<Vec<usize>, AllocError>
+        ensures { IfOk result (λ found. (other : List ℕ) (n : ℕ)
+            → is_in_domain domain.now false other ≡ true → Lists self.now other n
+            → Contains found.items n) }
+    {
+        let key = reversed(alloc, domain)?;
+        let mut found = Vec::new(alloc);
+        found.extend_from_slice(self.at(&key))?;
+        for end in 0..key.len() {
+            if key[end] == b'.' {
+                found.extend_from_slice(self.at(&key[..end]))?;
+            }
+        }
+        Ok(found)
+    }
+}
+
+// The bytes in the reverse order.
+pub(crate) fn reversed(alloc: Global, text: &[u8]) -> Result<Vec<u8>, AllocError>
+    ensures { IfOk result (λ made. made.items ≡ reverse text.now) }
+{
+    let mut made = copied(alloc, text)?;
+    made.reverse();
+    Ok(made)
+}

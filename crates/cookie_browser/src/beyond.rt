@@ -1,0 +1,160 @@
+//! What browsers refuse beyond the standard.
+ghost use Rattle.std.specs.Prelude.{◌≡◌, ◌&&◌, not, option_copied};
+ghost use Rattle.std.specs.List.{list_any};
+ghost use Rattle.cookie_browser.specs.Beyond as spec;
+ghost use Rattle.cookie_browser.specs.Beyond.{has_byte};
+ghost use Rattle.cookie_browser.specs.Received.{attribute_name, attribute_value, pieces_after, spells};
+ghost use Rattle.cookie_browser.specs.ReceivedCode.{received_view};
+
+use crate::attributes::{spells, value_of};
+use crate::browser_choices::BrowserChoices;
+use crate::bytes::cut;
+use crate::received::Received;
+use cookie_core::{begins_in_any_case, trim_wsp};
+
+/// Why [`BrowserChoices`] refuse a cookie that the standard may store.
+#[derive(Clone, Copy, Debug, PartialEq, Eq)]
+pub enum Beyond {
+    /// A tab is inside the name, the value or an attribute.
+    Tab,
+    /// There is no name, and the value has `=`.
+    NamelessPair,
+    /// The domain is a dot.
+    DotDomain,
+    /// The name begins with `__Host-`, and the text lacks `Path=/` or has a domain.
+    UnwrittenHostPrefix,
+    /// `Partitioned` came without `Secure`.
+    PartitionedWithoutSecure,
+}
+
+fn has_byte(text: &[u8], mark: u8) -> bool
+    ensures { result ≡ has_byte mark text.now }
+{
+    text.iter().any(|&byte| byte == mark)
+}
+
+// The name and the value that a piece has.
+fn attribute_of(piece: &[u8]) -> (&[u8], &[u8])
+    ensures name { result.0.now ≡ attribute_name piece.now }
+    ensures value { result.1.now ≡ attribute_value piece.now }
+{
+    let (name, value) = cut(piece, b'=');
+    (trim_wsp(name), value_of(value))
+}
+
+fn has_inner_tab(piece: &[u8]) -> bool
+    ensures { result ≡ spec.has_inner_tab piece.now }
+{
+    let (name, value) = attribute_of(piece);
+    has_byte(name, b'\t') || has_byte(value, b'\t')
+}
+
+fn has_tab(text: &[u8]) -> bool
+    ensures { result ≡ spec.has_tab text.now }
+{
+    any_inner_tab(Some(text))
+}
+
+// Whether a piece of the text, if there is one, has a tab inside.
+fn any_inner_tab(rest: Option<&[u8]>) -> bool
+    ensures { result ≡ list_any spec.has_inner_tab (pieces_after (option_copied rest.entry)) }
+{
+    let mut rest = rest;
+    while let Some(text) = rest {
+        let (piece, after) = cut(text, b';');
+        if has_inner_tab(piece) {
+            return true;
+        }
+        rest = after;
+    }
+    false
+}
+
+fn is_nameless_pair(received: &Received<'_>) -> bool
+    ensures { result ≡ spec.is_nameless_pair (received_view received.now) }
+{
+    received.name.is_empty() && has_byte(received.value, b'=')
+}
+
+fn is_dot_domain(received: &Received<'_>) -> bool
+    ensures { result ≡ spec.is_dot_domain (received_view received.now) }
+{
+    received.attributes.domain == b".".as_slice()
+}
+
+fn is_written_host_bound(received: &Received<'_>) -> bool
+    ensures { result ≡ spec.is_written_host_bound (received_view received.now) }
+{
+    received.attributes.path == b"/".as_slice() && received.attributes.domain.is_empty()
+}
+
+fn is_unwritten_host_prefix(received: &Received<'_>) -> bool
+    ensures { result ≡ spec.is_unwritten_host_prefix (received_view received.now) }
+{
+    begins_in_any_case(b"__Host-", received.name) && !is_written_host_bound(received)
+}
+
+fn is_partition_mark(piece: &[u8]) -> bool
+    ensures { result ≡ spec.is_partition_mark piece.now }
+{
+    let (name, value) = attribute_of(piece);
+    spells(name, b"partitioned") && value.len() <= 1024
+}
+
+/// Whether the text of a `Set-Cookie` header has the attribute `Partitioned`, which keeps a cookie by the top-level site
+/// (CHIPS). The standard doesn't know it.
+pub fn is_partitioned(text: &[u8]) -> bool
+    ensures { result ≡ spec.is_partitioned text.now }
+{
+    let (_pair, rest) = cut(text, b';');
+    any_partition_mark(rest)
+}
+
+// Whether a piece of the text, if there is one, is the attribute `Partitioned`.
+fn any_partition_mark(rest: Option<&[u8]>) -> bool
+    ensures { result ≡ list_any spec.is_partition_mark (pieces_after (option_copied rest.entry)) }
+{
+    let mut rest = rest;
+    while let Some(text) = rest {
+        let (piece, after) = cut(text, b';');
+        if is_partition_mark(piece) {
+            return true;
+        }
+        rest = after;
+    }
+    false
+}
+
+/// The first of the choices that refuses the text of a `Set-Cookie` header, or `None`. `received` is what it is received
+/// as. With the standard's choices it is `None`.
+#[tactic(auto, unfolding(crate::specs::Beyond::refusal_beyond))]
+pub fn refused_beyond(
+    choices: BrowserChoices,
+    text: &[u8],
+    received: &Received<'_>,
+) -> Option<Beyond>
+    ensures { result ≡ spec.refusal_beyond choices text.now (received_view received.now) }
+{
+    if choices.refuses_tabs && has_tab(text) {
+        return Some(Beyond::Tab);
+    }
+    if choices.refuses_nameless_pairs && is_nameless_pair(received) {
+        return Some(Beyond::NamelessPair);
+    }
+    if choices.refuses_dot_domains && is_dot_domain(received) {
+        return Some(Beyond::DotDomain);
+    }
+    if choices.asks_written_host_prefix && is_unwritten_host_prefix(received) {
+        return Some(Beyond::UnwrittenHostPrefix);
+    }
+    if choices.partitions && is_insecure_partition(text, received) {
+        return Some(Beyond::PartitionedWithoutSecure);
+    }
+    None
+}
+
+fn is_insecure_partition(text: &[u8], received: &Received<'_>) -> bool
+    ensures { result ≡ (spec.is_partitioned text.now && not received.now.attributes.secure) }
+{
+    is_partitioned(text) && !received.attributes.secure
+}
