@@ -16,12 +16,12 @@ from .dates import print_date, read_date
 from .errors import CookieError
 from .jars import Jar, run
 from .secrets import Keys, derive_key, keys_of, open_sealed, seal, sign, verify
-from .sessions import Session, Sessions
+from .sessions import MAX_AGE, MAX_AGE_AND_EXPIRES, UNTIL_CLOSED, Session, Sessions
 from .tokens import Tokens
 
-__version__ = "0.3.0"
+__version__ = "0.4.0"
 __all__ = [
-    "Agent", "CookieError", "Jar", "Keys", "Session", "Sessions", "Tokens", "decoded_pairs", "derive_key", "errors",
-    "explain", "keys_of", "open_sealed", "pairs", "print_cookie", "print_date", "read_cookie", "read_date",
-    "read_decoded_cookie", "revocations", "run", "seal", "sign", "verify",
+    "MAX_AGE", "MAX_AGE_AND_EXPIRES", "UNTIL_CLOSED", "Agent", "CookieError", "Jar", "Keys", "Session", "Sessions",
+    "Tokens", "decoded_pairs", "derive_key", "errors", "explain", "keys_of", "open_sealed", "pairs", "print_cookie",
+    "print_date", "read_cookie", "read_date", "read_decoded_cookie", "revocations", "run", "seal", "sign", "verify",
 ]

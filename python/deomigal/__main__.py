@@ -2,32 +2,28 @@
 from __future__ import annotations
 
 import argparse
+import datetime
 import pathlib
 import sys
 
-from .addresses import address_of
-from .browser import Browser, counted_lines, moment
-from .explain import second_of, suffix_list
+from .dates import read_date
+from .explain import report, suffix_list
 
 
-def date(text: str) -> int:
-    """The second of the date, for the command line."""
-    try:
-        return moment(text.encode())
-    except ValueError as error:
-        raise argparse.ArgumentTypeError(str(error)) from None
+def date(text: str) -> datetime.datetime:
+    """The date, for the command line."""
+    moment = read_date(text.encode())
+    if moment is None or not 1970 <= moment.year <= 9998:
+        raise argparse.ArgumentTypeError("no date of the years 1970 to 9998")
+    return moment
 
 
 def explain(arguments: argparse.Namespace) -> None:
     """Prints what a browser makes of the lines of standard input."""
-    address, path = address_of(arguments.url, arguments.cross_site), arguments.suffixes
+    out, path = sys.stdout.buffer, arguments.suffixes
     title, suffixes = (path, pathlib.Path(path).read_bytes()) if path else suffix_list()
-    out, paste = sys.stdout.buffer, sys.stdin.buffer.read()
     out.write(f"public suffixes: {title}\n".encode())
-    browser = Browser(suffixes, address, second_of(None) if arguments.now is None else arguments.now)
-    for line in counted_lines(paste):
-        out.write(browser.answer(line) + b"\n")
-    out.write(browser.header(browser.address._replace(is_same_site=True, is_top_level=True)) + b"\n")
+    out.write(report(arguments.url, sys.stdin.buffer.read(), suffixes, arguments.cross_site, arguments.now))
 
 
 def main() -> None:

@@ -7,6 +7,7 @@ from __future__ import annotations
 import ctypes
 import datetime
 import errno
+import itertools
 import os
 import stat
 import tempfile
@@ -15,13 +16,13 @@ from typing import Any, Callable, Iterable, Iterator, NamedTuple
 
 from ._library import (
     AGENT_CLEAR, AGENT_COOKIE, AGENT_COUNT, AGENT_FREE, AGENT_LOAD, AGENT_NEW, AGENT_OBSTACLES, AGENT_READ,
-    AGENT_REMOVE, AGENT_RETRIEVE, AGENT_SAVE, AGENT_TRIM, SIZE, OwnHandle, Uncopied, answer_and_bytes, bytes_at,
+    AGENT_REMOVE, AGENT_RETRIEVE, AGENT_SAVE, AGENT_TRIM, SIZE, OwnHandle, Uncopied, answer_and_bytes, bytes_from,
     bytes_of, checked, perform,
 )
 from ._locks import Lock
 from .addresses import Address, address_at, address_of
 from .dates import whole_second
-from .errors import BufferTooShort, NotFound
+from .errors import NotFound
 from .explain import ROOM, Refusal, fields_of, refusal_of, request_of, rules_of, second_of, suffix_list
 
 # The methods that are safe (RFC 9110 9.2.1).
@@ -103,14 +104,8 @@ class Agent(Uncopied):
     """
 
     def __init__(
-        self,
-        suffixes: str | bytes | None = None,
-        *,
-        is_localhost_secure: bool = True,
-        per_domain: int = 50,
-        per_site: int | None = None,
-        total: int = 3000,
-        clock: Callable[[], float] = time.time,
+        self, suffixes: str | bytes | None = None, *, is_localhost_secure: bool = True, per_domain: int = 50,
+        per_site: int | None = None, total: int = 3000, clock: Callable[[], float] = time.time,
     ) -> None:
         self.title, found = suffix_list() if suffixes is None else ("the caller's", suffixes)
         if suffixes is None and not found:
@@ -125,7 +120,7 @@ class Agent(Uncopied):
         # Only one call at a time may use the handle.
         self.lock, self.handle, (self.rules, self.rules_lock) = Lock(), OwnHandle(AGENT_FREE), rules_of(self.suffixes)
         # Where headers are written to.
-        self.room = ctypes.create_string_buffer(HEADER_ROOM)
+        self.room: Any = ctypes.create_string_buffer(HEADER_ROOM)
         perform(AGENT_NEW, self.handle)
 
     def __enter__(self) -> Agent:
@@ -168,10 +163,12 @@ class Agent(Uncopied):
                 self.trim(second)
         return refusal_of(found) if found else None
 
-    def read_all(self, address: Address, texts: Iterable[bytes]) -> None:
-        """Reads the values of all `Set-Cookie` headers of a response from the address. The drop-ins call it."""
-        for text in texts:
-            self.read_at(address, text)
+    def read_all(self, address: Address | None, texts: Iterable[bytes]) -> None:
+        """Reads the values of all `Set-Cookie` headers of a response from the address, or none if there is none. The
+        drop-ins call it."""
+        if address is not None:
+            for text in texts:
+                self.read_at(address, text)
 
     def trim(self, second: int) -> None:
         """Drops what is expired, and the cookies above the limits (RFC 6265bis, Storage Model)."""
@@ -198,31 +195,17 @@ class Agent(Uncopied):
     ) -> bytes:
         """The value of the `Cookie` header of a request to the address. The drop-ins call it."""
         second = self.second(None) if second is None else whole_second(second)
-        request = request_of(address, is_safe)
         with self.lock:
-            answer = call(self.handle, request, second, self.room, len(self.room))
-            if answer.status == BufferTooShort.status:
-                self.room = ctypes.create_string_buffer(answer.length)
-                answer = call(self.handle, request, second, self.room, len(self.room))
-            return ctypes.string_at(self.room, checked(answer).length)
+            return bytes_from(call, self.handle, request_of(address, is_safe), second, buffer=self.room)
 
     def cookies(self, second: int) -> Iterator[AgentCookie]:
         """The stored cookies. Some may be expired at that second: such a one has it as its expiry."""
-        index, room = 0, ROOM
-        while True:
-            buffer = ctypes.create_string_buffer(room)
-            found = AGENT_COOKIE(self.handle, index, second, buffer, room)
-            stored = found.stored
+        for index in itertools.count():
+            found, texts = answer_and_bytes(AGENT_COOKIE, self.handle, index, second, room=ROOM)
             if found.status == NotFound.status:
                 return
-            if found.status == BufferTooShort.status:
-                room = stored.path.start + stored.path.length
-                continue
-            checked(found)
-            spans = stored.name, stored.value, stored.domain, stored.path
-            texts = (text_of(bytes_at(buffer.raw, span)) for span in spans)
-            yield AgentCookie(*fields_of(stored, texts, second + stored.lifetime))
-            index += 1
+            stored = checked(found).stored
+            yield AgentCookie(*fields_of(stored, texts, "surrogateescape", second + stored.lifetime))
 
     def unsent(
         self, url: str, now: datetime.datetime | None = None, context: Context = SAME_SITE
@@ -235,17 +218,14 @@ class Agent(Uncopied):
         >>> [(cookie.name, why) for cookie, why in agent.unsent("http://shop.example/cart/1")]
         [('session', ['the connection is insecure and the cookie Secure'])]
         """
-        address, second = self.address_of(url, context), self.second(now)
+        request, second = request_of(self.address_of(url, context), context.is_safe), self.second(now)
+        found = []
         with self.lock:
-            return list(self.unsent_at(address, context.is_safe, second))
-
-    def unsent_at(self, address: Address, is_safe: bool, second: int) -> Iterator[tuple[AgentCookie, list[str]]]:
-        """The stored cookies that a request to the address doesn't send, each with why it doesn't."""
-        request = request_of(address, is_safe)
-        for index, cookie in enumerate(self.cookies(second)):
-            bits = checked(AGENT_OBSTACLES(self.handle, index, request, second)).obstacles
-            if bits:
-                yield cookie, [why for bit, why in OBSTACLES.items() if bits & bit]
+            for index, cookie in enumerate(self.cookies(second)):
+                bits = checked(AGENT_OBSTACLES(self.handle, index, request, second)).obstacles
+                if bits:
+                    found.append((cookie, [why for bit, why in OBSTACLES.items() if bits & bit]))
+        return found
 
     def __iter__(self) -> Iterator[AgentCookie]:
         """The cookies that are stored and not expired, in the order of their creation.
@@ -347,9 +327,11 @@ class Agent(Uncopied):
         except ValueError:
             return None
 
-    def header_for(self, address: Address, method: str, context: Context) -> bytes:
-        """The value of the `Cookie` header of a request that a client makes with the method in this context."""
-        return self.header_at(address, context.is_safe and method.upper() in SAFE_METHODS)
+    def header_for(self, address: Address | None, method: str, context: Context) -> bytes:
+        """The value of the `Cookie` header of a request that a client makes with the method in this context, empty if
+        there is no address."""
+        is_safe = context.is_safe and method.upper() in SAFE_METHODS
+        return b"" if address is None else self.header_at(address, is_safe)
 
     def second(self, now: datetime.datetime | None) -> int:
         """The time in whole seconds since 1970, by default the clock's. Raises `NoDate` if no call takes it."""
@@ -396,8 +378,3 @@ def replace(path: str, text: bytes) -> None:
 def header_bytes(text: str | bytes) -> bytes:
     """The bytes of a text of a header. A lone surrogate stands for a byte that isn't UTF-8 (PEP 383)."""
     return text.encode(errors="surrogateescape") if isinstance(text, str) else bytes_of(text)
-
-
-def text_of(text: bytes) -> str:
-    """The text of the bytes, from which `header_bytes` makes them again."""
-    return text.decode(errors="surrogateescape")

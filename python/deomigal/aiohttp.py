@@ -22,8 +22,7 @@ from yarl import URL
 
 from .addresses import Address
 from .agents import SAFE_METHODS, SAME_SITE, Agent, AgentCookie, Context, header_bytes
-from .dates import print_date
-from .explain import date_after
+from .dates import date_at, print_date
 
 EMPTY = URL()
 
@@ -60,7 +59,7 @@ class SentCookies(Cookies):
         """The text of the header of a request with the method, with the caller's own header after it. A cookie of the
         caller takes the place of those of its name."""
         is_as_safe = self.jar.context.is_same_site or method in SAFE_METHODS
-        header = self.header if is_as_safe else self.jar.header(self.url, is_safe=False)
+        header = self.header if is_as_safe else self.jar.header(self.url, method)
         pieces = [f"{name}={value}" if name else value for name, value in pairs_of(header) if name not in self.added]
         pieces += [f"{name}={morsel.coded_value}" for name, morsel in self.added.items()]
         return "; ".join([*pieces, own] if own else pieces)
@@ -86,14 +85,11 @@ class CookieJar(AbstractCookieJar):
 
     def read(self, texts: Sequence[bytes], url: URL) -> None:
         """Reads the values of the `Set-Cookie` headers of a response from the URL."""
-        address = self.address_of(url)
-        if address is not None:
-            self.agent.read_all(address, texts)
+        self.agent.read_all(self.address_of(url), texts)
 
-    def header(self, url: URL, is_safe: bool = True) -> bytes:
+    def header(self, url: URL, method: str = "GET") -> bytes:
         """The value of the `Cookie` header of a request to the URL."""
-        address = self.address_of(url)
-        return b"" if address is None else self.agent.header_at(address, self.context.is_safe and is_safe)
+        return self.agent.header_for(self.address_of(url), method, self.context)
 
     def update_cookies(self, cookies: LooseCookies, response_url: URL = EMPTY) -> None:
         """Stores the cookies as if the URL's response had set them. Raises `ValueError` for a cookie without a domain,
@@ -213,7 +209,7 @@ def morsel_with_attributes(cookie: AgentCookie) -> Morsel[str]:
     attributes: Any = {
         "domain": cookie.domain, "path": cookie.path, "samesite": cookie.same_site or "",
         "secure": cookie.is_secure or "", "httponly": cookie.is_http_only or "",
-        "expires": "" if cookie.expiry is None else print_date(date_after(0, cookie.expiry)),
+        "expires": "" if cookie.expiry is None else print_date(date_at(cookie.expiry)),
     }
     morsel.update(attributes)
     return morsel

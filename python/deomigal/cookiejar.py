@@ -40,16 +40,13 @@ class CookieJar(http.cookiejar.CookieJar):
 
     def extract_cookies(self, response: Any, request: Any) -> None:
         """Reads the `Set-Cookie` headers of the response to the request."""
-        address = self.address_of(request)
-        if address is not None:
-            self.agent.read_all(address, texts_of(response.info().get_all("Set-Cookie", [])))
+        self.agent.read_all(self.address_of(request), texts_of(response.info().get_all("Set-Cookie", [])))
 
     def add_cookie_header(self, request: Any) -> None:
         """Sets the request's `Cookie` header, unless it has one."""
-        address = self.address_of(request)
-        if address is not None and not request.has_header("Cookie"):
+        if not request.has_header("Cookie"):
             method = request.get_method() if hasattr(request, "get_method") else "GET"
-            header = self.agent.header_for(address, method, self.context)
+            header = self.agent.header_for(self.address_of(request), method, self.context)
             if header:
                 # http.client prints a character as the byte of Latin-1.
                 request.add_unredirected_header("Cookie", header.decode("latin-1"))

@@ -8,8 +8,8 @@ from typing import Any
 from ._library import PRINT_DATE, READ_DATE, bytes_from, bytes_of, checked
 from .errors import NoDate, error_of
 
-# The first second that `datetime` has, and one more than the last that a call takes.
-FIRST, END = datetime.datetime(1, 1, 1, tzinfo=datetime.timezone.utc), 2**64
+# The first second that `datetime` has, the last one since 1970, and one more than the last that a call takes.
+FIRST, LAST, END = datetime.datetime(1, 1, 1, tzinfo=datetime.timezone.utc), 253402300799, 2**64
 
 
 def whole_second(now: float | None) -> int:
@@ -32,6 +32,11 @@ def date_of(moment: Any) -> datetime.datetime | None:
     if moment.status == NoDate.status or checked(moment).year < 1:
         return None
     return FIRST.replace(moment.year, moment.month, moment.day, moment.hour, moment.minute, moment.second)
+
+
+def date_at(second: float) -> datetime.datetime:
+    """The date and time of the second since 1970, and the last one if it is later."""
+    return datetime.datetime.fromtimestamp(min(second, LAST), datetime.timezone.utc)
 
 
 def numbers_of(moment: datetime.datetime) -> tuple[int, ...]:

@@ -1,61 +1,48 @@
 """Why a call is refused."""
 from __future__ import annotations
 
+from ._header import STATUSES
+
 
 class CookieError(ValueError):
     """A refusal. `status` is its number in cookie.h."""
 
     status = 0
 
-    def __init_subclass__(cls, status: int | None = None) -> None:
-        cls.status = cls.status if status is None else status
 
-
-class BufferTooShort(CookieError, status=1):
-    """The text is longer than the buffer. The calls of this package choose their buffers, so none of them raises it."""
-
-
-class OutOfMemory(CookieError, MemoryError, status=2):
+class OutOfMemory(CookieError, MemoryError):
     """Memory ran out."""
 
 
-class NotUtf8(CookieError, status=3):
+class NotUtf8(CookieError):
     """A text isn't UTF-8."""
 
 
-class KeyTooShort(CookieError, status=4):
+class KeyTooShort(CookieError):
     """The key has fewer than 64 bytes."""
 
 
-class MasterTooShort(CookieError, status=5):
+class MasterTooShort(CookieError):
     """The master key has fewer than 32 bytes."""
 
 
-class BadNonce(CookieError, status=6):
+class BadNonce(CookieError):
     """The nonce doesn't have twelve bytes, or the id of a session sixteen."""
 
 
-class NotSigned(CookieError, status=7):
-    """The value isn't signed under the key and the name. `verify` returns None instead."""
-
-
-class NotSealed(CookieError, status=8):
-    """The value isn't sealed under the key and the name. `open_sealed` returns None instead."""
-
-
-class TooLong(CookieError, status=9):
+class TooLong(CookieError):
     """The name or the value is too long to be sealed (SP 800-38D 5.2.1.1)."""
 
 
-class NoDate(CookieError, status=10):
+class NoDate(CookieError):
     """The text isn't a date, or there is no such date."""
 
 
-class BadMoment(CookieError, status=11):
+class BadMoment(CookieError):
     """The time isn't a date of the year 100 or later."""
 
 
-class BadLine(CookieError, status=12):
+class BadLine(CookieError):
     """A line isn't a call. `number` is the line's number, counted from 1."""
 
     def __init__(self, *arguments: object, number: int = 0) -> None:
@@ -63,47 +50,35 @@ class BadLine(CookieError, status=12):
         self.number = number
 
 
-class MissingPair(CookieError, status=13):
+class MissingPair(CookieError):
     """There is no `=` before the first `;`."""
 
 
-class EmptyName(CookieError, status=14):
+class EmptyName(CookieError):
     """The name is empty."""
 
 
-class BadEscape(CookieError, status=15):
+class BadEscape(CookieError):
     """The name or the value, decoded, isn't UTF-8."""
 
 
-class NoPair(CookieError, status=16):
-    """The header has no more pairs."""
-
-
-class NoJar(CookieError, status=17):
+class NoJar(CookieError):
     """The jar was freed."""
 
 
-class NotFound(CookieError, status=18):
-    """The jar has no cookie of that name. `Jar.get` returns None instead."""
-
-
-class BadAttribute(CookieError, status=19):
+class BadAttribute(CookieError):
     """An attribute has an undefined value."""
 
 
-class NoSession(CookieError, status=20):
-    """The request has no open session. `Sessions.open` returns a new one instead."""
-
-
-class BadPrefix(CookieError, status=21):
+class BadPrefix(CookieError):
     """The cookie lacks what a browser requires for the prefix of its name (RFC 6265bis 4.1.3)."""
 
 
-class Over(CookieError, status=22):
+class Over(CookieError):
     """The session would be over as soon as it is saved. A limit is 0."""
 
 
-class TooLarge(CookieError, status=23):
+class TooLarge(CookieError):
     """No browser would store the cookie (RFC 6265bis 5.7). `size` is the bytes of its name and value, above 4,096."""
 
     def __init__(self, *arguments: object, size: int = 0) -> None:
@@ -111,37 +86,17 @@ class TooLarge(CookieError, status=23):
         self.size = size
 
 
-class InvalidValue(CookieError, status=24):
+class InvalidValue(CookieError):
     """A path or a domain holds a control character, such as a line break, or a `;` (RFC 6265 4.1.1)."""
 
 
-class BadIds(CookieError, status=25):
-    """The ids of the revoked sessions don't have sixteen bytes each. No call of this package raises it."""
-
-
-class NoSessions(CookieError, status=26):
-    """The handle has no sessions of a site. No call of this package raises it."""
-
-
-class NoSuffixes(CookieError, status=27):
-    """The handle has no list of public suffixes. No call of this package raises it."""
-
-
-class NoAgent(CookieError, status=28):
-    """The handle has no user agent. No call of this package raises it."""
-
-
-class Replaces(CookieError, status=29):
-    """The session replaces what the browser has, which must be revoked first. `Sessions.save` does so."""
-
-
-class Gone(CookieError, status=30):
+class Gone(CookieError):
     """The session was over or revoked already: another request renewed or ended it. Set no cookie, don't say that a
     logout is done, and answer the request with an error, such as status 409 (RFC 9110 15.5.10)."""
 
 
-class NoKeys(CookieError, status=31):
-    """The handle has no keys. No call of this package raises it."""
+class NoUrl(CookieError):
+    """The text isn't a URL of http or https with a host, or the host isn't the same to all readers."""
 
 
 class RevocationsError(RuntimeError):
@@ -149,7 +104,27 @@ class RevocationsError(RuntimeError):
     such as status 503 (RFC 9110 15.6.4), and never as that of a visitor without a session."""
 
 
-ERRORS = {error.status: error for error in CookieError.__subclasses__()}
+# What this package's calls answer otherwise, such as by None, or never meet: with the header's sentence.
+BadIds: type[CookieError]
+BufferTooShort: type[CookieError]
+NoAgent: type[CookieError]
+NoKeys: type[CookieError]
+NoPair: type[CookieError]
+NoSession: type[CookieError]
+NoSessions: type[CookieError]
+NoSuffixes: type[CookieError]
+NotFound: type[CookieError]
+NotSealed: type[CookieError]
+NotSigned: type[CookieError]
+Replaces: type[CookieError]
+NAMED = {error.__name__: error for error in CookieError.__subclasses__()}
+ERRORS: dict[int, type[CookieError]] = {
+    number: NAMED.get(name) or type(name, (CookieError,), {"__doc__": f"{meaning[0].upper()}{meaning[1:]}."})
+    for number, name, meaning in STATUSES
+}
+for _number, _error in ERRORS.items():
+    _error.status = _number
+globals().update((error.__name__, error) for error in ERRORS.values())
 
 
 def error_of(status: int, number: int = 0) -> CookieError:

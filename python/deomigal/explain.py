@@ -2,35 +2,31 @@
 from __future__ import annotations
 
 import contextlib
-import ctypes
 import datetime
 import functools
 import pathlib
-from typing import Any, Iterable, NamedTuple
+import re
+from typing import Any, NamedTuple
 
+from ._header import HERE
 from ._library import (
-    EXPLAIN, REFUSAL_SECTION, REFUSAL_SENTENCE, SUFFIXES_FREE, SUFFIXES_NEW, OwnHandle, Request, bytes_at, bytes_from,
-    bytes_of, checked, perform,
+    EXPLAIN, EXPLAIN_LINES, REFUSAL_SECTION, REFUSAL_SENTENCE, SUFFIXES_FREE, SUFFIXES_NEW, OwnHandle, Request,
+    answer_and_bytes, bytes_at, bytes_from, bytes_of, checked, perform,
 )
 from ._locks import Lock
 from .addresses import Address, address_of
 from .cookies import RULES
-from .dates import print_date, whole_second
+from .dates import whole_second
 
 # The steps that refuse a cookie, in the order of their numbers in cookie.h.
 STEPS = (
     "ControlCharacter", "TooLong", "Empty", "NonAsciiDomain", "PublicSuffix", "ForeignDomain", "InsecureConnection",
     "OverlaysSecure", "CrossSite", "NoneWithoutSecure", "SecurePrefix", "HostPrefix", "NamelessPrefix", "HttpPrefix",
 )
-# The last second that has a date, since 1970.
-LAST = 253402300799
-# The longest that a browser keeps a cookie: 400 days (RFC 6265bis, Cookie Lifetime Limits).
-LONGEST = 34560000
-# More than a sentence and a title have.
+# More than a sentence and a title have, and than most reports.
 ROOM = 1000
 # Where Debian has the list of public suffixes, and where the project's copies are, in the wheel and in its tree.
 DEBIAN = pathlib.Path("/usr/share/publicsuffix/public_suffix_list.dat")
-HERE = pathlib.Path(__file__).resolve().parent
 COPIES = (HERE / "public_suffix_list.dat", HERE.parents[1] / "crates/cookie_explain/data/public_suffix_list.dat")
 
 
@@ -58,19 +54,6 @@ class Stored(NamedTuple):
     is_http_only: bool
 
 
-class Found(NamedTuple):
-    """What the library finds: the number of the step that refuses, or 0, its texts, and the cookie that is stored."""
-
-    refusal: int
-    sentence: bytes
-    section: bytes
-    name: bytes
-    value: bytes
-    domain: bytes
-    path: bytes
-    cookie: Any
-
-
 def verdict(
     url: str, text: str | bytes, suffixes: str | bytes | None = None, is_cross_site: bool = False,
     now: datetime.datetime | None = None,
@@ -88,17 +71,21 @@ def verdict(
     >>> verdict("https://shop.example/", "lang=en; Domain=other.example").step
     'ForeignDomain'
     """
-    found = found_at(address_of(url, is_cross_site), bytes_of(text), list_text(suffixes), second_of(now))
+    request, (rules, lock) = request_of(address_of(url, is_cross_site)), rules_of(list_text(suffixes))
+    with lock:
+        found, texts = answer_and_bytes(EXPLAIN, rules, request, text, second_of(now), room=ROOM)
+    cookie = checked(found).stored
     if found.refusal:
-        return Refusal(STEPS[found.refusal - 1], shown(found.sentence), shown(found.section))
-    return Stored(*fields_of(found.cookie, map(shown, found[3:7]), found.cookie.lifetime))
+        return refusal_of(found.refusal)
+    return Stored(*fields_of(cookie, texts, "replace", cookie.lifetime))
 
 
-def fields_of(cookie: Any, texts: Iterable[str], end: int) -> tuple[Any, ...]:
+def fields_of(cookie: Any, texts: bytes, errors: str, end: int) -> tuple[Any, ...]:
     """The fields of a `Stored`, or of an agent's cookie, whose end is the second of its expiry."""
+    spans = cookie.name, cookie.value, cookie.domain, cookie.path
     return (
-        *texts, end if cookie.is_persistent else None, RULES[cookie.same_site], cookie.is_host_only, cookie.is_secure,
-        cookie.is_http_only,
+        *(bytes_at(texts, span).decode(errors=errors) for span in spans), end if cookie.is_persistent else None,
+        RULES[cookie.same_site], cookie.is_host_only, cookie.is_secure, cookie.is_http_only,
     )
 
 
@@ -107,18 +94,6 @@ def request_of(address: Address, is_safe: bool = True) -> Any:
     """The request to the address, for C."""
     host, path = bytes_of(address.host), bytes_of(address.path)
     return Request(host, len(host), path, len(path), *address[2:], is_safe)
-
-
-def found_at(address: Address, text: bytes, suffixes: bytes, now: int) -> Found:
-    """What a browser without cookies makes of the text that comes from the address."""
-    # The texts of a stored cookie come from these three.
-    room = ROOM + len(bytes_of(address.host)) + len(bytes_of(address.path)) + len(text)
-    buffer, (rules, lock) = ctypes.create_string_buffer(room), rules_of(suffixes)
-    with lock:
-        answer = checked(EXPLAIN(rules, request_of(address), text, len(text), now, buffer, room))
-    cookie, texts = answer.stored, buffer.raw
-    spans = answer.sentence, answer.section, cookie.name, cookie.value, cookie.domain, cookie.path
-    return Found._make((answer.refusal, *(bytes_at(texts, span) for span in spans), cookie))
 
 
 @functools.lru_cache(maxsize=None)
@@ -153,38 +128,24 @@ def explain(
     >>> explain("https://shop.example/", "lang=en; Domain=other.example")
     "refused: the host isn't in the domain: set the host or a domain above it, or none (RFC 6265bis, Storage Model)"
     """
-    second, line = second_of(now), bytes_of(text)
-    return shown(report_of(found_at(address_of(url, is_cross_site), line, list_text(suffixes), second), line, second))
+    # A line break would end the line. It is refused as any control character is.
+    line = b"Set-Cookie:" + re.sub(rb"[\r\n]", b"\0", bytes_of(text))
+    return report(url, line, suffixes, is_cross_site, now).partition(b"\n")[0].decode(errors="replace")
 
 
-def report_of(found: Found, text: bytes, now: int, removal: bytes = b"would remove, if it were stored: ") -> bytes:
-    """The line on what was found of the text. It begins with `removal` if the cookie is expired."""
-    if found.refusal:
-        return b"refused: %b (RFC 6265bis, %b)" % (found.sentence, found.section)
-    cookie = found.cookie
-    hosts = b" only" if cookie.is_host_only else b" and the hosts below it"
-    scope = b"; for %b%b; path %b" % (found.domain, hosts, found.path)
-    if cookie.is_persistent and cookie.lifetime == 0:
-        return removal + found.name + scope + partition_of(text, cookie.is_secure)
-    end = b"; until the browser closes"
-    if cookie.is_persistent:
-        end = f"; until {print_date(date_after(now, cookie.lifetime))}".encode()
-        end += b" (400 days, the most that a browser allows)" * (cookie.lifetime == LONGEST)
-    flags: bytes = b"; Secure" * cookie.is_secure + b"; HttpOnly" * cookie.is_http_only
-    site = f"; SameSite={RULES[cookie.same_site]}".encode() if cookie.same_site else b""
-    pair = b"stored: %b=%b" % (found.name, found.value)
-    return pair + scope + end + flags + site + partition_of(text, cookie.is_secure)
+def report(
+    url: str, paste: str | bytes, suffixes: str | bytes | None = None, is_cross_site: bool = False,
+    now: datetime.datetime | None = None,
+) -> bytes:
+    """What a browser makes of lines, one after the other, as the program cookie_explain says it: of each line that
+    counts, and last the `Cookie` header of the next request. The other arguments are as for `verdict`.
 
-
-def partition_of(text: bytes, is_secure: bool) -> bytes:
-    """What is said of the attribute `Partitioned`, which RFC 6265bis doesn't know (CHIPS)."""
-    for piece in text.split(b";")[1:]:
-        name, _, value = (part.strip(b" \t") for part in piece.partition(b"="))
-        if name.lower() == b"partitioned" and len(value) <= 1024:
-            refused = b"browsers that know it refuse it without Secure"
-            note = b"kept apart for each top-level site" if is_secure else refused
-            return b"; Partitioned (not in RFC 6265bis: %b)" % note
-    return b""
+    >>> report("https://shop.example/", "Set-Cookie: a=1; Path=/\\nNOW Wed, 21 Oct 2015 07:28:00 GMT").splitlines()[1:]
+    [b'NOW Wed, 21 Oct 2015 07:28:00 GMT', b'Cookie: a=1']
+    """
+    rules, lock = rules_of(list_text(suffixes))
+    with lock:
+        return bytes_from(EXPLAIN_LINES, rules, url, is_cross_site, second_of(now), paste, room=ROOM)
 
 
 @functools.lru_cache(maxsize=1)
@@ -216,13 +177,3 @@ def second_of(now: datetime.datetime | None) -> int:
         raise TypeError("a time is a datetime.datetime")
     now = now or datetime.datetime.now(datetime.timezone.utc)
     return whole_second(now.replace(microsecond=0, tzinfo=now.tzinfo or datetime.timezone.utc).timestamp())
-
-
-def date_after(second: int, lifetime: int) -> datetime.datetime:
-    """When what lives that long ends, and the last date if it ends later."""
-    return datetime.datetime.fromtimestamp(min(second + lifetime, LAST), datetime.timezone.utc)
-
-
-def shown(text: bytes) -> str:
-    """The text, with U+FFFD for what isn't UTF-8."""
-    return text.decode(errors="replace")

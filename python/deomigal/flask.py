@@ -24,12 +24,12 @@ from flask.sessions import session_json_serializer as tagged
 from itsdangerous import BadData
 from werkzeug.exceptions import Conflict, ServiceUnavailable
 
-from ._library import MAX_AGE_AND_EXPIRES, UNTIL_CLOSED, header_of
+from ._library import header_of
 from .cookies import pairs
 from .errors import Gone, RevocationsError
 from .revocations import Revocations
 from .secrets import keys_of
-from .sessions import Session, Sessions
+from .sessions import MAX_AGE_AND_EXPIRES, UNTIL_CLOSED, Session, Sessions
 from .values import CODER, FAILURES, Failure, Opened, answer_to, checked_refresh, counted, note_unsaved
 
 # Where a request's environment has its session, and an application's extensions the interface.

@@ -56,17 +56,14 @@ class Cookies(Generic[Transport]):
         url = request.url
         path = url.raw_path.partition(b"?")[0].decode("latin-1")
         address = self.agent.address_at(url.scheme, url.raw_host.decode(), path, self.context)
-        if address is not None:
-            header = self.agent.header_for(address, request.method, self.context)
-            fields += [(b"Cookie", header)] * bool(header)
-        request.headers = httpx.Headers(fields)
+        header = self.agent.header_for(address, request.method, self.context)
+        request.headers = httpx.Headers(fields + [(b"Cookie", header)] * bool(header))
         return address
 
     def read(self, address: Address | None, response: httpx.Response) -> None:
         """Reads the cookies of the response."""
-        if address is not None:
-            texts = [value for name, value in response.headers.raw if name.lower() == b"set-cookie"]
-            self.agent.read_all(address, texts)
+        fields = response.headers.raw
+        self.agent.read_all(address, (value for name, value in fields if name.lower() == b"set-cookie"))
 
 
 class CookieTransport(Cookies[httpx.BaseTransport], httpx.BaseTransport):

@@ -95,8 +95,6 @@ class CookieAdapter(Uncopied, HTTPAdapter):
         """Sends the request with the agent's cookies, and reads the cookies of the response."""
         request.headers.pop("Cookie", None)
         address = self.address_of(request.url or "")
-        if address is None:
-            return super().send(request, *arguments, **options)
         header = self.agent.header_for(address, request.method or "", self.context)
         if header:
             # http.client prints a character as the byte of Latin-1.

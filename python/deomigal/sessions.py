@@ -2,14 +2,15 @@
 from __future__ import annotations
 
 import ctypes
+import enum
 import os
 from typing import Any, Callable, Iterator, MutableMapping, Sequence, cast
 
 from ._library import (
-    DONE, MAX_AGE, OPENED_FREE, OPENED_IDS, OPENED_NEW, OPENED_TAKE, SESSION_DESCRIBE, SESSION_END, SESSION_FREE,
+    DONE, OPENED_FREE, OPENED_IDS, OPENED_NEW, OPENED_TAKE, SESSION_DESCRIBE, SESSION_END, SESSION_FREE,
     SESSION_GIVEN, SESSION_LIST, SESSION_LOG_OUT, SESSION_MUST_SAVE, SESSION_OPEN, SESSION_REMOVE, SESSION_RENEW,
-    SESSION_REPLACE, SESSION_SAVE, SESSION_SET, SESSION_START, SESSIONS_FREE, SESSIONS_NEW, OwnHandle, Settings,
-    Uncopied, bytes_from, checked, header_of, listed, perform, ring_of,
+    SESSION_REPLACE, SESSION_SAVE, SESSION_SET, SESSION_START, SESSIONS_FREE, SESSIONS_NEW, OwnHandle,
+    SessionSettings, Uncopied, bytes_from, checked, header_of, listed, perform, ring_of,
 )
 from ._locks import Lock
 from ._steps import run
@@ -21,6 +22,20 @@ from .revocations import ID_LENGTH, AnyRevocations, Ask, ask, ask_async, was_rev
 
 # Room for a cookie that a browser stores, and for its texts.
 ROOM = 10000
+
+
+class Lasting(enum.IntEnum):
+    """How long a browser keeps the cookie of a saved session (RFC 6265 4.1.2.1, 4.1.2.2), for `Sessions.save`: by
+    `MAX_AGE` as long as the session lives; by `MAX_AGE_AND_EXPIRES` too, for clients that know only one of these
+    attributes; or, by `UNTIL_CLOSED`, until it closes."""
+
+    MAX_AGE = 0
+    MAX_AGE_AND_EXPIRES = 1
+    UNTIL_CLOSED = 2
+
+
+MAX_AGE, MAX_AGE_AND_EXPIRES = Lasting.MAX_AGE, Lasting.MAX_AGE_AND_EXPIRES
+UNTIL_CLOSED = Lasting.UNTIL_CLOSED
 
 
 class Generations:
@@ -176,20 +191,9 @@ class Sessions(Uncopied):
     """
 
     def __init__(
-        self,
-        keys: Sequence[bytes],
-        name: str,
-        lifetime: int,
-        idle: int,
-        *,
-        path: str | None = "/",
-        domain: str | None = None,
-        secure: bool = True,
-        http_only: bool = True,
-        same_site: str | None = "Lax",
-        partitioned: bool = False,
-        revocations: AnyRevocations | None = None,
-        compress: bool = False,
+        self, keys: Sequence[bytes], name: str, lifetime: int, idle: int, *, path: str | None = "/",
+        domain: str | None = None, secure: bool = True, http_only: bool = True, same_site: str | None = "Lax",
+        partitioned: bool = False, revocations: AnyRevocations | None = None, compress: bool = False,
     ) -> None:
         ring = ring_of(keys)
         if not isinstance(lifetime, int) or not isinstance(idle, int):
@@ -207,7 +211,7 @@ class Sessions(Uncopied):
         self.handle = OwnHandle(SESSIONS_FREE)
         # Only one call at a time may use the handle and the buffer, which has room for the cookie's attributes too.
         self.lock, self.buffer = Lock(), cast(Any, ctypes.create_string_buffer(ROOM + len(cookie)))
-        perform(SESSIONS_NEW, Settings(ring, len(ring), cookie, len(cookie), lifetime, idle), self.handle)
+        perform(SESSIONS_NEW, SessionSettings(ring, len(ring), cookie, len(cookie), lifetime, idle), self.handle)
         self.save(self.start())
 
     def start(self, now: float | None = None) -> Session:

@@ -26,8 +26,8 @@ class Token(NamedTuple):
 class Tokens(Uncopied):
     """How a site makes tokens for one purpose. A token is a value, such as a user's name, encrypted for the purpose
     and `lifetime` seconds. It has only letters, digits, `-` and `_`, so a link can have it as it is. Threads may share
-    it. `keys` are as those of `Sessions`, or `Keys` of them. Raises `KeyTooShort`, or `OverflowError` for a lifetime past 32
-    bits.
+    it. `keys` are as those of `Sessions`, or `Keys` of them. Raises `KeyTooShort`, or `OverflowError` for a lifetime
+    past 32 bits.
 
     >>> from deomigal import derive_key
     >>> keys = [derive_key(b"a master key of at least 32 bytes")]
@@ -76,8 +76,9 @@ class Tokens(Uncopied):
         ('ann', 1445412480, 1445416080)
         """
         settings = self.settings if max_age is None else self.settings_for(min(max_age, self.settings.lifetime))
+        words = self.keys.handle, settings, token, whole_second(now)
         with LOCK:
-            reading, value = answer_and_bytes(TOKEN_READ, self.keys.handle, settings, token, whole_second(now), room=ROOM)
+            reading, value = answer_and_bytes(TOKEN_READ, *words, room=ROOM)
         if reading.status in (NotSealed.status, NotUtf8.status):
             return None
         return Token(value.decode(), checked(reading).made, reading.end, bytes(reading.id))

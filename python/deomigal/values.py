@@ -8,12 +8,11 @@ import logging
 import time
 from typing import TYPE_CHECKING, Any, Callable, Dict, Iterable, Mapping, MutableMapping, Union
 
-from ._library import MAX_AGE_AND_EXPIRES, UNTIL_CLOSED
 from .compression import MARKS
 from .errors import Gone, RevocationsError
 from .revocations import AnyRevocations, Ask
 from .secrets import keys_of
-from .sessions import Generations, Session, Sessions
+from .sessions import MAX_AGE_AND_EXPIRES, UNTIL_CLOSED, Generations, Session, Sessions
 
 # The names of the one text of a session of values: as it is, or in base64url.
 PLAIN, ENCODED = "j", "b"
@@ -222,26 +221,12 @@ class Middleware:
     """
 
     def __init__(
-        self,
-        app: Callable[..., Any],
-        secret_key: Any,
-        session_cookie: str = "session",
-        max_age: int | None = FORTNIGHT,
-        path: str = "/",
-        same_site: str = "lax",
-        https_only: bool = False,
-        domain: str | None = None,
-        *,
-        http_only: bool = True,
-        partitioned: bool = False,
-        fallbacks: Iterable[str | bytes] = (),
-        salt: str | bytes = "deomigal.middleware",
-        idle: int | None = None,
-        refresh: bool = False,
-        clock: Callable[[], float] = time.time,
-        revocations: AnyRevocations | None = None,
-        too_large: Callable[..., Any] | None = None,
-        compress: bool = False,
+        self, app: Callable[..., Any], secret_key: Any, session_cookie: str = "session",
+        max_age: int | None = FORTNIGHT, path: str = "/", same_site: str = "lax", https_only: bool = False,
+        domain: str | None = None, *, http_only: bool = True, partitioned: bool = False,
+        fallbacks: Iterable[str | bytes] = (), salt: str | bytes = "deomigal.middleware", idle: int | None = None,
+        refresh: bool = False, clock: Callable[[], float] = time.time, revocations: AnyRevocations | None = None,
+        too_large: Callable[..., Any] | None = None, compress: bool = False,
     ) -> None:
         # Starlette's `Secret` shows its text only by `str`.
         newest: str | bytes = secret_key if isinstance(secret_key, bytes) else str(secret_key)

@@ -17,9 +17,8 @@ from werkzeug.datastructures import MultiDict
 
 from ._library import wire_bytes
 from .cookies import pairs, print_cookie
-from .dates import read_date
+from .dates import date_at, read_date
 from .errors import BadAttribute, EmptyName, NoDate, error_of
-from .explain import LAST
 
 # What a value is printed with as it is: the characters that RFC 6265 4.1.1 allows, but for `%`.
 ALLOWED = "!#$&'()*+-./:<=>?@[]^_`{|}~"
@@ -30,18 +29,9 @@ Expiry = Union[str, datetime.datetime, float, None]
 
 
 def dump_cookie(
-    key: str,
-    value: str = "",
-    max_age: datetime.timedelta | int | None = None,
-    expires: Expiry = None,
-    path: str | None = "/",
-    domain: str | None = None,
-    secure: bool = False,
-    httponly: bool = False,
-    sync_expires: bool = True,
-    max_size: int = 4093,
-    samesite: str | None = None,
-    partitioned: bool = False,
+    key: str, value: str = "", max_age: datetime.timedelta | int | None = None, expires: Expiry = None,
+    path: str | None = "/", domain: str | None = None, secure: bool = False, httponly: bool = False,
+    sync_expires: bool = True, max_size: int = 4093, samesite: str | None = None, partitioned: bool = False,
 ) -> str:
     """The value of a `Set-Cookie` header. `parse_cookie` reads name and value back as they were.
 
@@ -82,7 +72,7 @@ def expiry(expires: Expiry, age: int | None) -> datetime.datetime | None:
     if expires is None and age is not None:
         expires = time.time() + age
     if isinstance(expires, (int, float)):
-        return datetime.datetime.fromtimestamp(min(max(expires, 0), LAST), datetime.timezone.utc)
+        return date_at(max(expires, 0))
     if not isinstance(expires, str):
         return expires
     moment = read_date(expires)
@@ -92,10 +82,8 @@ def expiry(expires: Expiry, age: int | None) -> datetime.datetime | None:
 
 
 def parse_cookie(
-    header: Mapping[str, Any] | str | bytes | None = None,
-    cls: Callable[[list[tuple[str, str]]], Any] | None = None,
-    *,
-    keep_quotes: bool = False,
+    header: Mapping[str, Any] | str | bytes | None = None, cls: Callable[[list[tuple[str, str]]], Any] | None = None,
+    *, keep_quotes: bool = False,
 ) -> Any:
     """The names and values in a `Cookie` header, or in that of a WSGI environment, in their order, by default in a
     `MultiDict`. A `str` has a byte in each character, as WSGI has it (PEP 3333).

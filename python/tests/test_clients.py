@@ -12,6 +12,7 @@ import pytest
 from clients import CLIENTS, Aiohttp, Httpx, Mechanize, Requests, Urllib
 from deomigal import Agent, cookiejar
 from deomigal.agents import CROSS_SITE
+from deomigal.errors import NoUrl
 from server import Servers, resolved
 
 HOSTS = "shop.example www.shop.example other.example bank.example evil.example localhost xn--bcher-kva.example 127.0.0.1".split()
@@ -238,12 +239,17 @@ class Facts(unittest.TestCase):
                     assert [cookie.domain for cookie in agent] == ["shop.example"]
                     client.close()
 
-    def test_refused_by_idna(self):
-        """A host that browsers take and `idna` refuses raises an error that says so."""
-        pytest.importorskip("idna")
+    def test_hosts_of_browsers(self):
+        """A host that browsers take is read as they read it, though the package `idna` refuses it. What they refuse raises
+        `NoUrl` (URL Standard, Host Parsing; the Punycode is that of RFC 3492 in Python)."""
         for host in ("\u2615.example", "a\u00b7b.example", "\u30fb.example"):
-            with Agent() as agent, pytest.raises(ValueError, match="IDNA refuses the host .*: pass its Punycode"):
-                agent.header(f"https://{host}/")
+            labels = [label if label.isascii() else f"xn--{label.encode('punycode').decode()}" for label in host.split(".")]
+            with Agent() as agent:
+                agent.read(f"https://{host}/", "a=1")
+                assert agent.header(f"https://{'.'.join(labels)}/") == b"a=1"
+        for url in ("", "ftp://a.example/", "https://", "https://a b/", "https://\u00ad/", "https://1.2.3.256/", "a.example"):
+            with Agent() as agent, pytest.raises(NoUrl):
+                agent.header(url)
 
     def test_two_readings(self):
         """An address that requests and urllib3 could read otherwise is none."""

@@ -10,7 +10,7 @@ import sys
 from functools import partial
 
 import pytest
-from deomigal import agents, errors, explain
+from deomigal import agents, errors, explain, sessions
 from deomigal import _library as library
 from deomigal.addresses import Address
 from helpers import TOP
@@ -245,7 +245,7 @@ def start_session(random, now, limits, handle, session):
 
 def site_of(keys, cookie, limits, handle):
     """Makes a site's sessions with these limits."""
-    return library.SESSIONS_NEW(library.Settings(keys, len(keys), cookie, len(cookie), *limits), handle)
+    return library.SESSIONS_NEW(library.SessionSettings(keys, len(keys), cookie, len(cookie), *limits), handle)
 
 
 def make_session(inputs, now, starts, handle, session):
@@ -288,7 +288,7 @@ def play_session(call, inputs, out, length):
     elif answer.status == library.DONE and call == "session_save":
         answer.status = make_session(inputs, now, [*starts, lifetime, idle][:3], handle, session)
         if answer.status == library.DONE:
-            answer = library.SESSION_SAVE(handle, session, library.MAX_AGE, rest[-1][:12], 12, now, out, length)
+            answer = library.SESSION_SAVE(handle, session, sessions.MAX_AGE, rest[-1][:12], 12, now, out, length)
             library.SESSION_SET_GENERATION(session, 7)
             if [library.SESSION_IS_SINCE(session, number) for number in (6, 7, 8)] != [True, True, False]:
                 fault("a session keeps another generation")

@@ -76,6 +76,7 @@ CALLS = [
     (AGENT.header, ["https://a.example/", NOW], "01"),
     (explain.verdict, ["https://a.example/", "a=1", "", False, NOW], "0124"),
     (explain.refusal, ["https://a.example/", "a=1", ""], "012"),
+    (explain.report, ["https://a.example/", "a=1", "", False, NOW], "0124"),
     (explain.explain, ["https://a.example/", "a=1", "", False, NOW], "0124"),
 ]
 # Calls with a wrong argument of another kind.

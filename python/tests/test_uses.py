@@ -170,6 +170,17 @@ def test_must_save():
     assert sessions.must_save(session)
 
 
+def test_lasting():
+    """A browser keeps a saved session by its age, by its expiry too, or until it closes (RFC 6265 4.1.2.1, 4.1.2.2)."""
+    sessions = deomigal.Sessions([KEY], "s", 3600, 60)
+    for lasting, wanted in (
+        (deomigal.MAX_AGE, {"max_age": 60}), (deomigal.UNTIL_CLOSED, {}),
+        (deomigal.MAX_AGE_AND_EXPIRES, {"max_age": 60, "expires": MOMENT + datetime.timedelta(seconds=60)}),
+    ):
+        attributes = deomigal.read_cookie(sessions.save(sessions.start(NOW), lasting))[2]
+        assert {name: value for name, value in attributes.items() if name in ("max_age", "expires")} == wanted
+
+
 def test_planted():
     """What another host of the domain can plant is no session and no cookie of the jar, first or last in the header. A
     header is a str, its bytes, or as WSGI passes it (PEP 3333)."""

@@ -512,6 +512,42 @@ static void lists_and_times(void) {
     MUST(why.status == COOKIE_DONE && why.stored.path.length == 1);
 }
 
+/* Where a request to the URL goes, for a buffer of that length. */
+static cookie_url_reading read_url(const char *url, size_t room) {
+    return cookie_read_url((const uint8_t *)url, strlen(url), ROOM(room));
+}
+
+/* A host is in lower case and in Punycode, and the path without steps (URL Standard). */
+static void urls(void) {
+    cookie_url_reading reading = read_url("HTTPS://B\xc3\xbc" "cher.example:81/a/../b?c", 23);
+    MUST(reading.status == COOKIE_DONE && lies(reading.host, 0, 21) && lies(reading.path, 21, 2));
+    MUST(reading.is_https && !reading.is_address && !reading.is_local && holds("xn--bcher-kva.example/b"));
+    reading = read_url("http://0x7f.1", 9);
+    MUST(reading.status == COOKIE_BUFFER_TOO_SHORT && lies(reading.path, 9, 1) && holds(""));
+    MUST(!reading.is_https && reading.is_address && reading.is_local);
+    const char *const others[] = {"", "ftp://a.example/", "https://", "https://a b/", "a.example"};
+    for (size_t i = 0; i < sizeof others / sizeof *others; i++)
+        MUST(read_url(others[i], 23).status == COOKIE_NO_URL && holds(""));
+    MUST(read_url("https://\xff/", 23).status == COOKIE_NOT_UTF8 && holds(""));
+}
+
+/* What is said of lines, or why nothing is. */
+static void reports(void) {
+    cookie_suffixes none = {0}, suffixes = {0};
+    const uint64_t LAST = 253402207200;
+    MUST(is(cookie_explain_lines(&none, T("x"), false, LAST + 1, T(""), OUT), COOKIE_NO_SUFFIXES, 0));
+    MUST(cookie_suffixes_new(NULL, 0, &suffixes) == COOKIE_DONE);
+    MUST(is(cookie_explain_lines(&suffixes, T("\xff"), false, LAST + 1, T(""), OUT), COOKIE_NO_DATE, 0));
+    MUST(is(cookie_explain_lines(&suffixes, T("\xff"), false, LAST, T(""), OUT), COOKIE_NOT_UTF8, 0));
+    MUST(is(cookie_explain_lines(&suffixes, T("x"), false, LAST, T(""), OUT), COOKIE_NO_URL, 0));
+    MUST(is(cookie_explain_lines(&suffixes, T("https://a.b/"), true, NOW, T("GET http://a.b/ x"), OUT), COOKIE_NO_URL, 0));
+    MUST(is(cookie_explain_lines(&suffixes, T("https://a.b/"), true, NOW, T("NOW then"), OUT), COOKIE_NO_DATE, 0) && holds(""));
+    MUST(is(cookie_explain_lines(&suffixes, T("https://a.b/"), false, NOW, T(""), OUT), COOKIE_DONE, 17));
+    MUST(holds("no Cookie header\n"));
+    MUST(is(cookie_explain_lines(&suffixes, T("https://a.b/"), false, NOW, T(""), ROOM(16)), COOKIE_BUFFER_TOO_SHORT, 17));
+    cookie_suffixes_free(&suffixes);
+}
+
 /* A token's times and its id are told, also where its value has no room, and of no other text. */
 static void tokens(void) {
     cookie_token_settings settings = {T("password reset"), 1200};
@@ -617,6 +653,8 @@ int main(void) {
     opened_sessions();
     short_buffers_of_explanations();
     lists_and_times();
+    urls();
+    reports();
     tokens();
     agents();
     obstacles();

@@ -14,7 +14,7 @@
 #include <sys/mman.h>
 #include <unistd.h>
 
-enum { ROOM = 1 << 16, SLOTS = 8, KEPT = 4, MARGIN = 64, LONGEST = 6000, STATUSES = 32, PAIR = 2 };
+enum { ROOM = 1 << 16, SLOTS = 8, KEPT = 4, MARGIN = 64, LONGEST = 6000, STATUSES = 33, PAIR = 2 };
 
 typedef struct text {
     const uint8_t *bytes;
@@ -105,6 +105,8 @@ typedef struct drawing {
     X(suffixes_new, 0) \
     X(suffixes_free, 0) \
     X(explain, S(BUFFER_TOO_SHORT) | S(NO_SUFFIXES) | S(NO_DATE)) \
+    X(explain_lines, S(BUFFER_TOO_SHORT) | S(NO_SUFFIXES) | S(NO_DATE) | S(NOT_UTF8) | S(NO_URL)) \
+    X(read_url, S(BUFFER_TOO_SHORT) | S(NOT_UTF8) | S(NO_URL)) \
     X(refusal_sentence, S(BUFFER_TOO_SHORT) | S(NOT_FOUND)) \
     X(refusal_section, S(BUFFER_TOO_SHORT) | S(NOT_FOUND)) \
     X(agent_new, 0) \
@@ -261,7 +263,7 @@ static const char *const SAVED[] = {
 
 #define ONE_OF(d, list) list[below(d, sizeof list / sizeof *list)]
 
-typedef enum kind { A_NAME, A_VALUE, A_PATH, A_COOKIE, A_HEADER, A_FORM, A_DATE, A_HOST, A_LIST, A_RUN, A_FILE } kind;
+typedef enum kind { A_NAME, A_VALUE, A_PATH, A_COOKIE, A_HEADER, A_FORM, A_DATE, A_HOST, A_URL, A_LIST, A_PASTE, A_RUN, A_FILE } kind;
 
 static void append(char *made, const char *piece) { strncat(made, piece, LONGEST - 1 - strlen(made)); }
 
@@ -297,8 +299,20 @@ static text draw_text(drawing *d, kind it) {
     case A_HOST:
         append(made, ONE_OF(d, HOSTS));
         break;
+    case A_URL:
+        append(made, one_in(d, 3) ? "http://" : "https://");
+        append(made, ONE_OF(d, HOSTS));
+        append(made, ONE_OF(d, PATHS));
+        break;
     case A_LIST:
         append(made, ONE_OF(d, LISTS));
+        break;
+    case A_PASTE:
+        for (size_t left = below(d, 6); left > 0; left--) {
+            append(made, one_in(d, 3) ? "GET https://" : one_in(d, 9) ? "NOW " : "Set-Cookie: ");
+            append(made, one_in(d, 9) ? DATES[0] : ONE_OF(d, NAME_TEXTS));
+            append(made, "=1\n");
+        }
         break;
     case A_COOKIE:
         append_pair(d, made);
@@ -438,6 +452,11 @@ static cookie_answer answer_of_token(cookie_token_reading token) {
     return (cookie_answer){token.status, token.length};
 }
 
+/* What is told of a URL's host and path. */
+static cookie_answer answer_of_url(cookie_url_reading url) {
+    return (cookie_answer){url.status, url.path.start + url.path.length};
+}
+
 /* Makes a call that writes a text, and again with a buffer of the length that it needs. */
 #define WRITES(it, expression) \
     do { \
@@ -573,6 +592,11 @@ static void play_plain(drawing *d, int call) {
         uint32_t number = (uint32_t)(one_in(d, 9) ? draw(d) : below(d, 16));
         WRITES(refusal_sentence, cookie_refusal_sentence(number, d->out, d->length));
         WRITES(refusal_section, cookie_refusal_section(number, d->out, d->length));
+        break;
+    }
+    case read_url_call: {
+        text url = draw_text(d, A_URL);
+        WRITES(read_url, answer_of_url(cookie_read_url(IN(url), d->out, d->length)));
         break;
     }
     default:
@@ -921,6 +945,13 @@ static void play_agent(drawing *d, int call) {
         EXPLAINS(explain, cookie_explain(list, &request, IN(made), now, d->out, d->length));
         look_at_handle(d, call, status, d->has_list[j], COOKIE_NO_SUFFIXES, 0);
         return;
+    case explain_lines_call: {
+        text url = draw_text(d, A_URL), paste = draw_text(d, A_PASTE);
+        bool is_cross_site = one_in(d, 2);
+        WRITES(explain_lines, cookie_explain_lines(list, IN(url), is_cross_site, now, IN(paste), d->out, d->length));
+        look_at_handle(d, call, status, d->has_list[j], COOKIE_NO_SUFFIXES, 0);
+        return;
+    }
     case agent_new_call:
         STATUS(agent_new, cookie_agent_new(agent));
         *has |= status == COOKIE_DONE;
@@ -1024,7 +1055,8 @@ static void play(drawing *d) {
         play_opened(d, call);
     else if (strncmp(NAMES[call], "session", 7) == 0)
         play_session(d, call);
-    else if (strncmp(NAMES[call], "agent", 5) == 0 || strncmp(NAMES[call], "suffixes", 8) == 0 || call == explain_call)
+    else if (strncmp(NAMES[call], "agent", 5) == 0 || strncmp(NAMES[call], "suffixes", 8) == 0 || call == explain_call
+             || call == explain_lines_call)
         play_agent(d, call);
     else
         play_plain(d, call);

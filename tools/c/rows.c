@@ -553,6 +553,18 @@ static int are_joined(const cookie_span *spans, int count, const long long *leng
     return 1;
 }
 
+/* Where a request to a URL goes, and a report by the row's rules that tells where its lines come from. */
+static void report(cookie_suffixes *suffixes) {
+    static const uint8_t URL[] = "HTTPS://a.example:81/b/../c?d", SAID[] = "URL https://a.example/\nno Cookie header\n";
+    uint8_t out[sizeof SAID];
+    cookie_url_reading reading = cookie_read_url(URL, sizeof URL - 1, out, sizeof out);
+    if (reading.status != COOKIE_DONE || reading.host.length != 9 || memcmp(out, "a.example/c", 11) != 0)
+        fault("another host or path");
+    cookie_answer answer = cookie_explain_lines(suffixes, URL, sizeof URL - 1, false, 0, SAID, 22, out, sizeof out);
+    if (answer.status != COOKIE_DONE || answer.length != sizeof SAID - 1 || memcmp(out, SAID, answer.length) != 0)
+        fault("another report");
+}
+
 /* What a browser makes of a cookie: the row's last numbers are the step, the lengths of the texts, and what is stored. */
 static cookie_answer explain(const text *in, uint8_t *out, size_t length) {
     long long n[5], told[13];
@@ -564,6 +576,7 @@ static cookie_answer explain(const text *in, uint8_t *out, size_t length) {
     if (cookie_suffixes_new(IN(3), &suffixes) != COOKIE_DONE)
         fault("the list isn't read");
     cookie_explanation why = cookie_explain(&suffixes, &request, IN(4), (uint64_t)n[4], out, length);
+    report(&suffixes);
     cookie_suffixes_free(&suffixes);
     cookie_stored it = why.stored;
     const cookie_span refused[] = {why.sentence, why.section}, stored[] = {it.name, it.value, it.domain, it.path};

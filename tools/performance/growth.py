@@ -32,7 +32,7 @@ class Work(NamedTuple):
 
 WORKS = {
     "a plain request, by pairs": Work("request", 1, "plain drawn", given="headers"),
-    # From the seventeenth name on a jar hashes names, and first those that it has.
+    # From the 33rd name on a jar hashes names, and first those that it has.
     "`with_field`, by pairs": Work("request", 10, "field drawn 1", "lines drawn 1", "pairs", most=HASHED),
     "`with_field` of pairs with escapes": Work("request", 100, "field drawn 1", "lines drawn 1", "escaped pairs"),
     "`with_field` of bad pieces": Work("request", 1_000, "field drawn 1", "lines drawn 1", "bad pieces"),

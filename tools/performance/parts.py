@@ -20,7 +20,7 @@ GROUPS = {
     "to allocate, to free and to drop": "alloc|free|unlink_chunk|::drop|::grow|reserve",
     "to hash names": "sip::|name_hash",
     "to split the header": "split|memchr|trim|skip_far|find_ascii|has_escape|with_originals|::field",
-    "to decode and to look for disguised names": "::decode|sent_name|from_utf8",
+    "to decode and to look for disguised names": "::decode|escaped_text|sent_name|from_utf8|percent",
     "the jar's table": "cookie::(table|jar|entries|entry)|indexmap",
     "the form of a session": "form_urlencoded|cookie_session::|text_map|itoa|first_in|btree",
     "to print": "display|fmt|texts",

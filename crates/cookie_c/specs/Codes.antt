@@ -39,6 +39,7 @@ code_of status.NoAgent = 28
 code_of status.Replaces = 29
 code_of status.Gone = 30
 code_of status.NoKeys = 31
+code_of status.NoUrl = 32
 
 -- the status of a text that is refused as no cookie
 abbrev pub refusal_status : ParseError → Status

@@ -1,21 +1,12 @@
 -- What the keys of a handle sign and seal for C: `old` is the buffer at the call and `new` at the return.
-use Rattle.std.specs.Prelude.{◌≡◌, ◌≢◌, ℕ, List, length, IsUtf8, MatchOption, None, slice_get}
+use Rattle.std.specs.Prelude.{◌≡◌, ◌≢◌, ℕ, List, length, IsUtf8, None}
 use Rattle.cookie.specs.Keys.{encryption_half, signing_half}
 use Rattle.cookie.specs.Sealing.{IsSealable, sealing}
-use Rattle.cookie.specs.Signing.{IsSigned, signing}
-use Rattle.cookie_session.specs.KeyRing.{OpensTextAt, newest}
+use Rattle.cookie.specs.Signing.{signing}
+use Rattle.cookie_session.specs.KeyRing.{IsSignedBy, OpensTextAt, newest}
 use Rattle.cookie_c.specs.Answers.{IsGivenInMemory, IsRead, IsReadInMemory, IsRefused}
 use Rattle.cookie_c.specs.declared.answer.Answer.{Answer}
 use Rattle.cookie_c.specs.declared.status.Status.TheVariants as status
-
--- the text is the signing of the value under the name and the key at this place (RFC 2104)
-abbrev pub IsSignedAt : List (List ℕ) → List ℕ → List ℕ → ℕ → List ℕ → Type 0
-IsSignedAt keys name text place value =
-    MatchOption (slice_get keys place) ⊥ (λ key. IsSigned (signing_half key) name text value)
-
--- the text is the signing of the value under the name and one of the keys
-abbrev pub IsSignedBy : List (List ℕ) → List ℕ → List ℕ → List ℕ → Type 0
-IsSignedBy keys name text value = (place : ℕ) × IsSignedAt keys name text place value
 
 -- the text is a sealing of the value under the name and one of the keys, the newest that opens it (SP 800-38D 7)
 abbrev pub IsSealedBy : List (List ℕ) → List ℕ → List ℕ → List ℕ → Type 0

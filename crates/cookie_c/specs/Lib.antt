@@ -28,3 +28,4 @@ pub mod Sites
 pub mod Spans
 pub mod TextLists
 pub mod Tokens
+pub mod Urls

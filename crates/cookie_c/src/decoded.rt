@@ -99,7 +99,7 @@ fn give_next(alloc: Global, text: &str, next: usize, out: &mut [u8]) -> Pair
 }
 
 // A name and a value for the buffer, with their spans there.
-fn give_pair(name: &str, value: &str, next: usize, out: &mut [u8]) -> Pair
+pub(crate) fn give_pair(name: &str, value: &str, next: usize, out: &mut [u8]) -> Pair
     ensures texts { AreGiven name.now value.now result.status result.name result.value
         out.old out.new }
     ensures next { result.next ≡ next }

@@ -1,8 +1,9 @@
 //! Signed values for C (RFC 2104).
-ghost use Rattle.std.specs.Prelude.{◌≡◌, ℕ, List, MatchOption};
+ghost use Rattle.std.specs.Prelude.{◌≡◌};
+ghost use Rattle.cookie_session.specs.KeyRing.{IsSignedBy};
 ghost use Rattle.cookie_c.specs.Answers.{IsRead};
 ghost use Rattle.cookie_c.specs.Handles.{Reads};
-ghost use Rattle.cookie_c.specs.KeyCalls.{IsSignedBy, Signs, Verifies};
+ghost use Rattle.cookie_c.specs.KeyCalls.{Signs, Verifies};
 ghost use Rattle.cookie_c.specs.Keys.{keys_of};
 ghost use Rattle.cookie_c.specs.declared.status.Status.TheVariants as status;
 
@@ -92,22 +93,8 @@ fn give_verified(keys: &KeyRing, name: &str, text: &str, out: &mut [u8]) -> Answ
     ensures { IsRead (IsSignedBy keys.now name.now text.now) status.NotSigned
         result out.old out.new }
 {
-    match signed_value(keys, name, text) {
+    match keys.verify_text(name, text) {
         Some(value) => Answer::give(value.as_bytes(), out),
         None => Answer::refusal(Status::NotSigned),
     }
-}
-
-// The value that one of the keys signed.
-fn signed_value<'t>(keys: &KeyRing, name: &str, text: &'t str) -> Option<&'t str>
-    ensures { MatchOption result
-        ((value : List ℕ) → ¬ IsSignedBy keys.now name.now text.now value)
-        (λ value. IsSignedBy keys.now name.now text.now value.now) }
-{
-    for place in 0..keys.len() {
-        if let Some(value) = keys.at(place).signer().verify(name, text) {
-            return Some(value);
-        }
-    }
-    None
 }

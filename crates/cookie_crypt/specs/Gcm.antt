@@ -92,7 +92,8 @@ pub record IsSealing (key nonce aad plain text tag : List ℕ) : Type 0 where
   pub tag_is : tag ≡ tag_of key nonce aad text
 
 -- what a `Gcm` makes of a plain text: its sealing, counted
-pub record IsCountedSealing (key nonce aad plain text tag : List ℕ) (steps : StepCounts) : Type 0 where
+pub record IsCountedSealing (key nonce aad plain text tag : List ℕ) (steps : StepCounts)
+    : Type 0 where
   pub sealing : IsSealing key nonce aad plain text tag
   pub steps_are : steps ≡ sealing_steps (length aad) (length plain)
 

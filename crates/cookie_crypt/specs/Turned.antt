@@ -10,8 +10,10 @@ use Rattle.cookie_crypt.specs.declared.lanes.TheConstants.{INVERSES, FIVE_OVER}
 unfoldable pub turned_back : ℕ → ℕ
 turned_back byte =
     bit_xor
-    (slice_index (0 ∷ 18 ∷ 15 ∷ 29 ∷ 89 ∷ 75 ∷ 86 ∷ 68 ∷ 215 ∷ 197 ∷ 216 ∷ 202 ∷ 142 ∷ 156 ∷ 129 ∷ 147 ∷ []) (bit_and byte 15))
-    (slice_index (0 ∷ 1 ∷ 92 ∷ 93 ∷ 224 ∷ 225 ∷ 188 ∷ 189 ∷ 80 ∷ 81 ∷ 12 ∷ 13 ∷ 176 ∷ 177 ∷ 236 ∷ 237 ∷ []) (byte / 16))
+    (slice_index (0 ∷ 18 ∷ 15 ∷ 29 ∷ 89 ∷ 75 ∷ 86 ∷ 68
+    ∷ 215 ∷ 197 ∷ 216 ∷ 202 ∷ 142 ∷ 156 ∷ 129 ∷ 147 ∷ []) (bit_and byte 15))
+    (slice_index (0 ∷ 1 ∷ 92 ∷ 93 ∷ 224 ∷ 225 ∷ 188 ∷ 189
+    ∷ 80 ∷ 81 ∷ 12 ∷ 13 ∷ 176 ∷ 177 ∷ 236 ∷ 237 ∷ []) (byte / 16))
 
 -- the sum of a turned byte's halves
 abbrev pub both : ℕ → ℕ
@@ -46,4 +48,5 @@ key_byte place byte =
 
 -- the words that prepared words stand for
 unfoldable pub schedule_of : List ℕ → List ℕ
-schedule_of prepared = map (λ place. key_byte place (slice_index prepared place)) (range_with_len 0 240)
+schedule_of prepared =
+    map (λ place. key_byte place (slice_index prepared place)) (range_with_len 0 240)

@@ -2,30 +2,20 @@
 //! it, and then writes the `Cookie` header of the next request to the address.
 #![tactic(auto)]
 
-mod attribute;
-mod bytes;
 mod command;
 mod list;
-mod moment;
-mod paste;
-mod report;
-mod session;
-mod target;
 
 use anyhow::{Context, Result};
 use clap::ArgMatches;
 use command::command;
+use cookie_report::{moment, report};
 use jiff::Timestamp;
 use jiff::civil::DateTime;
 use jiff::tz::Offset;
 use list::suffix_list;
-use moment::moment;
-use paste::counted_lines;
-use session::Session;
 use std::env;
 use std::io::{Read, Write};
 use std::process::ExitCode;
-use target::{from_frame, site};
 
 // The time of the response: the argument's, or the clock's whole second.
 fn moment_of(rt: &HostRuntime, matches: &ArgMatches<'_>) -> Result<DateTime> {
@@ -42,22 +32,16 @@ fn moment_of(rt: &HostRuntime, matches: &ArgMatches<'_>) -> Result<DateTime> {
 fn explain(rt: &HostRuntime, matches: &ArgMatches<'_>) -> Result<()> {
     let alloc = rt.alloc();
     let now = moment_of(rt, matches)?;
-    let mut response = site(alloc, matches.get_str("url").unwrap_or(""))?;
-    if matches.get_flag("cross-site") {
-        response = response.with_context(from_frame());
-    }
+    let url = matches.get_str("url").unwrap_or("");
     let list = suffix_list(rt, matches.get_str("suffixes"))?;
     let mut paste = Vec::new(alloc);
     rt.stdin()
         .read_to_end(&mut paste)
         .context("the standard input can't be read")?;
+    let is_cross_site = matches.get_flag("cross-site");
     let mut out = rt.stdout();
     out.write_all(format!(in alloc; "public suffixes: {}\n", list.title)?.as_bytes())?;
-    let mut session = Session::new(alloc, &list.suffixes, response, now);
-    for line in &counted_lines(alloc, &paste)? {
-        out.write_all(&session.answer(line)?)?;
-    }
-    out.write_all(&session.next_header()?)?;
+    out.write_all(&report(alloc, &list.suffixes, url, is_cross_site, now, &paste)?)?;
     Ok(())
 }
 

@@ -21,6 +21,8 @@ mod raw_forms;
 #[cfg(test)]
 mod revocations;
 #[cfg(test)]
+mod rings;
+#[cfg(test)]
 mod streams;
 #[cfg(test)]
 mod values;

@@ -6,6 +6,7 @@ mod agent;
 mod answers;
 mod browser;
 mod browsing;
+mod choices;
 mod cipher;
 mod clients;
 mod cookie_words;
@@ -34,7 +35,7 @@ use std::process::ExitCode;
 // The files, in the order in which they are played.
 const FILES: &str = "\
 dates cookies cookie_fields cut_cookies jars prefixes secrets headers refusals cipher sessions http browser suffixes \
-agent clients runs login";
+agent choices clients runs login";
 
 // The public suffixes of the rows on browsers, user agents and sessions.
 const SUFFIXES: &[u8] = b"com\nco.uk\ngithub.io\n*.ck\n!www.ck\nexample\n";
@@ -52,6 +53,7 @@ fn wrong<'t>(alloc: Global, suffixes: &Suffixes, file: &str, row: &Row<'t>) -> O
         "browser" => row.wrong(Some(browser::Browser(suffixes))),
         "suffixes" => row.wrong(Some(browser::SuffixList(Suffixes::empty(alloc)))),
         "agent" => row.wrong(agent::Agents::new(alloc, suffixes)),
+        "choices" => row.wrong(choices::Choosers::new(alloc, suffixes)),
         "clients" => row.wrong(Some(clients::Clients::new(alloc))),
         "runs" => row.wrong(Some(runs::Runs)),
         _ => row.wrong(login::Logins::new(alloc)),

@@ -1,6 +1,6 @@
 use Rattle.std.proofs.Common.{List, ℕ, subst}
+use Rattle.cookie_session.specs.KeyRing.{IsSignedBy}
 use Rattle.cookie_c.specs.Answers.{IsRead}
-use Rattle.cookie_c.specs.KeyCalls.{IsSignedBy}
 use Rattle.cookie_c.specs.declared.status.Status.TheVariants as status
 use Rattle.cookie_c.proofs.signing.verify.Goals as goal
 
