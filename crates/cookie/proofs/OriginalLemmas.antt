@@ -17,13 +17,6 @@ module _ (reading : List ℕ → Option Record) where
   with_originals-next t ts None jar e = ap (λ o. with_originals (cons_option o (filter_map reading ts)) jar) e
   with_originals-next t ts (Some c) jar e = ap (λ o. with_originals (cons_option o (filter_map reading ts)) jar) e
 
-  read_next : (o : Option Record) (rest : List Record) → option_to_list o ++ rest ≡ cons_option o rest
-  read_next None rest = refl
-  read_next (Some c) rest = refl
-
-  pub filter_map-next : (t : List ℕ) (ts : List (List ℕ)) → option_to_list (reading t) ++ filter_map reading ts ≡ filter_map reading (t ∷ ts)
-  filter_map-next t ts = read_next (reading t) (filter_map reading ts)
-
 -- the first cookies, and then the others
 pub with_originals-more : (first later : List Record) (jar : JarState) → with_originals later (with_originals first jar) ≡ with_originals (first ++ later) jar
 with_originals-more [] later jar = refl

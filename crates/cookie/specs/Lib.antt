@@ -13,7 +13,6 @@ pub mod KeyHalves
 pub mod KeyedJars
 pub mod Keys
 pub mod LastBytes
-pub mod Listed
 pub mod NameHash
 pub mod Opening
 pub mod Originals
@@ -22,7 +21,6 @@ pub mod Purposes
 pub mod SealedAdditions
 pub mod SealingCalls
 pub mod Sealing
-pub mod SharedCookies
 pub mod Shown
 pub mod Signing
 pub mod Table

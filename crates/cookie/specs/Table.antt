@@ -1,10 +1,10 @@
 -- Mirrors private code: a table of cookies by their names, seen as a finite map from names.
 use Rattle.std.specs.Prelude.{◌≡◌, Bool, List, IfSome, is_some, map, if◌then◌else◌}
+use Rattle.std.specs.Arc.{arc_value}
 use Rattle.std.specs.FinMap.{FinMap, from_entries, get, insert}
 use Rattle.std.specs.Str.{bytes_eq}
 use Rattle.cookie_core.specs.Record.{Record}
 use Rattle.cookie.specs.Jar.{Name, name_cmp, JarState, Marked}
-use Rattle.cookie.specs.SharedCookies.{cookie_in}
 use Rattle.cookie.specs.declared.delta.DeltaCookie.{DeltaCookie}
 use Rattle.cookie.specs.declared.name_hash.NameHash.{NameHash}
 use Rattle.cookie.specs.declared.name_key.NameKey.{NameKey}
@@ -12,7 +12,7 @@ use Rattle.cookie.specs.declared.original.Original.{Original}
 
 -- the name of a key's cookie
 abbrev pub key_name : NameKey → Name
-key_name key = (cookie_in key.cookie).fields.name
+key_name key = (arc_value key.cookie).fields.name
 
 -- both keys have one name
 abbrev pub key_eq : NameKey → NameKey → Bool
@@ -33,11 +33,11 @@ with_first table name z = if is_some (get table name) then table else insert tab
 
 -- what an original shows
 abbrev pub original_fields : Original → Record
-original_fields entry = (cookie_in entry.cookie).fields
+original_fields entry = (arc_value entry.cookie).fields
 
 -- what a cookie of the delta shows
 abbrev pub delta_mark : DeltaCookie → Marked
-delta_mark entry = record { cookie = (cookie_in entry.cookie).fields; removed = entry.removed }
+delta_mark entry = record { cookie = (arc_value entry.cookie).fields; removed = entry.removed }
 
 -- each value is under its own name
 abbrev pub IsKeyedByName : {Z : Type 0} → (Z → Name) → FinMap name_cmp Z → Type 0

@@ -4,15 +4,15 @@ ghost use Rattle.cookie.specs.Jar.{added_mark, dropped_mark};
 ghost use Rattle.cookie.specs.Table.{delta_mark};
 ghost use Rattle.cookie_core.specs.Removal.{removal};
 
-use crate::shared_cookie::SharedCookie;
 use cookie_core::Cookie;
 use jiff::civil::DateTime;
 use std::alloc::{AllocError, Global};
+use std::sync::Arc;
 
 // A cookie that was added, or one that tells the client to drop its name. Its key shares it, and so do copies of the jar.
 #[derive(Debug, Drop)]
 pub(crate) struct DeltaCookie {
-    pub(crate) cookie: SharedCookie,
+    pub(crate) cookie: Arc<Cookie<'static>, Global>,
     pub(crate) removed: bool,
 }
 
@@ -23,7 +23,7 @@ impl DeltaCookie {
     ) -> Result<DeltaCookie, AllocError>
         ensures { IfOk result (λ made. delta_mark made ≡ added_mark cookie.entry.fields) }
     {
-        let cookie = SharedCookie::alone(alloc, cookie)?;
+        let cookie = Arc::new(alloc, cookie)?;
         Ok(DeltaCookie {
             cookie,
             removed: false,
@@ -39,7 +39,7 @@ impl DeltaCookie {
             delta_mark made ≡ dropped_mark (removal now cookie.entry.fields)) }
     {
         cookie.make_removal(now);
-        let cookie = SharedCookie::alone(alloc, cookie)?;
+        let cookie = Arc::new(alloc, cookie)?;
         Ok(DeltaCookie {
             cookie,
             removed: true,

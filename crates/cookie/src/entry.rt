@@ -8,6 +8,7 @@ use crate::delta::DeltaCookie;
 use crate::name_key::NameKey;
 use crate::original::Original;
 use std::alloc::AllocError;
+use std::sync::Arc;
 
 // The entry under a cookie's name.
 pub(crate) trait Entry: Drop {
@@ -40,7 +41,7 @@ impl Entry for Original {
     }
 
     fn copy(&self) -> Result<Original, AllocError> {
-        let cookie = self.cookie.share()?;
+        let cookie = Arc::try_clone(&self.cookie)?;
         Ok(Original { cookie })
     }
 }
@@ -57,7 +58,7 @@ impl Entry for DeltaCookie {
     }
 
     fn copy(&self) -> Result<DeltaCookie, AllocError> {
-        let cookie = self.cookie.share()?;
+        let cookie = Arc::try_clone(&self.cookie)?;
         Ok(DeltaCookie {
             cookie,
             removed: self.removed,

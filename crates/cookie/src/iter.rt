@@ -49,7 +49,7 @@ impl<'a> Iterator for Delta<'a> {
 
     fn next(&mut self) -> Option<&'a Cookie<'static>> {
         let entry = self.entries.next()?;
-        Some(entry.cookie.cookie())
+        Some(&*entry.cookie)
     }
 }
 
@@ -114,7 +114,7 @@ fn next_added<'a>(changes: &mut Entries<'a, DeltaCookie>) -> Option<&'a Cookie<'
 {
     while let Some(entry) = changes.next() {
         if !entry.removed {
-            return Some(entry.cookie.cookie());
+            return Some(&*entry.cookie);
         }
     }
     None
@@ -131,9 +131,8 @@ fn next_uncovered<'a>(
         (uncovered (by_name delta_mark delta.now.entries) (map original_fields originals.new)) }
 {
     while let Some(original) = originals.next() {
-        let cookie = original.cookie.cookie();
-        if delta.find(cookie.name()).is_none() {
-            return Some(cookie);
+        if delta.find(original.cookie.name()).is_none() {
+            return Some(&*original.cookie);
         }
     }
     None

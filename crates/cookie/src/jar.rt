@@ -6,7 +6,6 @@ ghost use Rattle.cookie_core.specs.Memory.{Gives};
 ghost use Rattle.cookie.specs.History.{LooksBack, after_all};
 ghost use Rattle.cookie.specs.Jar.{Add, AddOriginal, Change, ForceRemove, Name, Remove, ResetDelta, after, empty_jar, view};
 ghost use Rattle.cookie.specs.Originals.{with_original};
-ghost use Rattle.cookie.specs.SharedCookies.{cookie_in};
 ghost use Rattle.cookie.specs.Walk.{Walks};
 ghost use Rattle.cookie.specs.declared.jar_error.JarError.TheVariants as refusal;
 
@@ -15,7 +14,6 @@ use crate::iter::{Delta, Iter};
 use crate::jar_error::JarError;
 use crate::name_hash::NameHash;
 use crate::original::Original;
-use crate::shared_cookie::SharedCookie;
 use crate::table::Table;
 use cookie_core::Cookie;
 use jiff::civil::DateTime;
@@ -100,7 +98,7 @@ impl CookieJar {
     {
         match self.delta.find(name) {
             Some(entry) if entry.removed => None,
-            Some(entry) => Some(entry.cookie.cookie()),
+            Some(entry) => Some(&*entry.cookie),
             None => self.original(name),
         }
     }
@@ -110,7 +108,7 @@ impl CookieJar {
         ensures { option_map (λ c. c.now.fields) result ≡ get self.now.originals name.now }
     {
         let entry = self.originals.find(name)?;
-        Some(entry.cookie.cookie())
+        Some(&*entry.cookie)
     }
 
     /// Adds an original cookie, in place of the original of its name. This isn't a change: the delta stays as it is.
@@ -127,11 +125,12 @@ impl CookieJar {
     }
 
     // Puts a cookie among the originals, if there is none of its name. On an error the jar stays as it was.
-    pub(crate) fn put_first(&mut self, cookie: SharedCookie) -> Result<(), AllocError>
-        ensures ok { OnOk result (self.new ≡ with_original (cookie_in cookie).fields self.old) }
+    pub(crate) fn put_first(&mut self, cookie: Cookie<'static>) -> Result<(), AllocError>
+        ensures ok { OnOk result (self.new ≡ with_original cookie.entry.fields self.old) }
         ensures err { OnErr result (self.new ≡ self.old) }
     {
-        self.originals.put_first(Original { cookie })
+        let original = Original::new(self.allocator(), cookie)?;
+        self.originals.put_first(original)
     }
 
     /// Adds a cookie, in place of the one that the jar shows under its name.

@@ -1,35 +1,36 @@
 //! The keys of a jar's tables.
 ghost use Rattle.std.specs.Prelude.{◌≡◌};
+ghost use Rattle.std.specs.Arc.{arc_value};
 ghost use Rattle.cookie.specs.LastBytes.{last_byte};
-ghost use Rattle.cookie.specs.SharedCookies.{cookie_in};
 
-use crate::shared_cookie::SharedCookie;
+use cookie_core::Cookie;
 use indexmap::Equivalent;
-use std::alloc::AllocError;
+use std::alloc::{AllocError, Global};
 use std::fmt;
 use std::hash::{Hash, Hasher};
+use std::sync::Arc;
 
 // The name of a cookie, read in the cookie itself, which the key shares.
 #[derive(Drop)]
 pub(crate) struct NameKey {
-    cookie: SharedCookie,
+    cookie: Arc<Cookie<'static>, Global>,
     // Most names differ in it, so that they aren't compared.
     last: u8,
-    ghost ends: { last ≡ last_byte (cookie_in cookie).fields.name },
+    ghost ends: { last ≡ last_byte (arc_value cookie).fields.name },
 }
 
 impl NameKey {
     ghost use Rattle.std.specs.Prelude.{◌≡◌, IfOk, bytes_eq};
-    ghost use Rattle.cookie.specs.SharedCookies.{cookie_in};
+    ghost use Rattle.std.specs.Arc.{arc_value};
     ghost use Rattle.cookie.specs.Table.{key_name};
 
     // The name of this cookie.
-    pub(crate) fn of(cookie: &SharedCookie) -> Result<NameKey, AllocError>
-        ensures { IfOk result (λ key. key_name key ≡ (cookie_in cookie.now).fields.name) }
+    pub(crate) fn of(cookie: &Arc<Cookie<'static>, Global>) -> Result<NameKey, AllocError>
+        ensures { IfOk result (λ key. key_name key ≡ (arc_value cookie.now).fields.name) }
     {
-        let last = last_byte(cookie.cookie().name());
+        let last = last_byte(cookie.name());
         Ok(NameKey {
-            cookie: cookie.share()?,
+            cookie: Arc::try_clone(cookie)?,
             last,
         })
     }
@@ -46,7 +47,7 @@ impl NameKey {
     pub(crate) fn as_str(&self) -> &str
         ensures { result.now ≡ key_name self.now }
     {
-        self.cookie.cookie().name()
+        self.cookie.name()
     }
 
     // The same name, in the same cookie.

@@ -2,7 +2,7 @@ use Rattle.std.proofs.Common.{◌≡◌, true}
 use Rattle.std.specs.List.{filter_map}
 use Rattle.cookie_core.specs.CookieOf.{cookie_of, header_cookies}
 use Rattle.cookie.specs.Originals.{with_originals}
-use Rattle.cookie.proofs.jar.CookieJar.with_short_header.Given as goal
+use Rattle.cookie.proofs.jar.CookieJar.with_header.Given as goal
 
 -- the jar so far, with the cookies of the rest, is the whole
 abbrev pub invariant-loop-outcome : goal.invariant-loop-outcome

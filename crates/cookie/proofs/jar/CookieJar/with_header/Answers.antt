@@ -5,7 +5,7 @@ use Rattle.cookie_core.proofs.SplitLemmas.{NextCookie-decodes}
 use Rattle.cookie_core.specs.CookieOf.{cookie_of, header_cookies}
 use Rattle.cookie.specs.Originals.{with_originals}
 use Rattle.cookie.proofs.OriginalLemmas.{with_originals-next}
-use Rattle.cookie.proofs.jar.CookieJar.with_short_header.Goals as goal
+use Rattle.cookie.proofs.jar.CookieJar.with_header.Goals as goal
 
 pub loop-outcome-init : goal.loop-outcome-init
 loop-outcome-init c =
