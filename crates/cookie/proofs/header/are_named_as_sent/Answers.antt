@@ -1,5 +1,4 @@
-use Rattle.std.proofs.Common.{◌≡◌, ◌+◌, true, false, ◌&&◌, List, ℕ, None, Some, drop, length, take, position, slice_range, ap, rules, subst, sym, ◌∙◌}
-use Rattle.std.proofs.lemmas.Option.{none-some}
+use Rattle.std.proofs.Common.{◌≡◌, ◌+◌, true, false, ◌&&◌, None, Some, drop, take, position, ap, rules, sym, ◌∙◌}
 use Rattle.std.specs.List.{list_all}
 use Rattle.cookie_core.specs.BareNames.{is_plain_byte}
 use Rattle.cookie_core.specs.Pieces.{pieces}
