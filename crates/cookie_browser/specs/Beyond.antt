@@ -1,14 +1,13 @@
 -- What Chromium does beyond RFC 6265bis, as the caller chooses: how it reads a domain, which cookies it refuses, and which
 -- it keeps by top-level site.
-use Rattle.std.specs.Prelude.{ℕ, ◌==◌, ◌&&◌, ◌||◌, not, Bool, nat_le, List, [], ◌∷◌, length, codes, Option, Some, None, unwrap_or, if◌then◌else◌}
+use Rattle.std.specs.Prelude.{ℕ, ◌==◌, ◌&&◌, ◌||◌, not, Bool, nat_le, List, [], ◌∷◌, length, drop, codes, Option, Some, None, unwrap_or, if◌then◌else◌}
 use Rattle.std.specs.List.{list_any}
 use Rattle.std.specs.Str.{bytes_eq}
 use Rattle.idna.specs.Uts46.{domain_to_ascii}
 use Rattle.idna.specs.declared.deny_list.TheConstants.AsciiDenyList.{URL}
 use Rattle.cookie_core.specs.Pieces.{pieces}
-use Rattle.cookie_core.specs.Separators.{equals_sign, semicolon}
-use Rattle.cookie_browser.specs.Bytes.{cut}
-use Rattle.cookie_browser.specs.Received.{ReceivedView, attribute_name, attribute_value, pieces_after, spells}
+use Rattle.cookie_core.specs.Separators.{equals_sign}
+use Rattle.cookie_browser.specs.Received.{ReceivedView, attribute_name, attribute_value, spells}
 use Rattle.cookie_browser.specs.Storage.{has_host_prefix, is_ascii}
 use Rattle.cookie_browser.specs.declared.browser_choices.BrowserChoices.{BrowserChoices}
 use Rattle.cookie_browser.specs.declared.beyond.Beyond.{Beyond}
@@ -76,9 +75,9 @@ is_partition_mark piece =
     spells (attribute_name piece) (codes "partitioned")
     && nat_le (length (attribute_value piece)) 1024
 
--- the text has the attribute `Partitioned`, which the standard doesn't know (CHIPS)
+-- the text has the attribute `Partitioned` after its first piece, which the standard doesn't know (CHIPS)
 abbrev pub is_partitioned : List ℕ → Bool
-is_partitioned text = list_any is_partition_mark (pieces_after (cut semicolon text).1)
+is_partitioned text = list_any is_partition_mark (drop 1 (pieces text))
 
 -- the refusal if the test holds, and else the later one
 abbrev pub beyond_if : Bool → Beyond → Option Beyond → Option Beyond
